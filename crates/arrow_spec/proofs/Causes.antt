@@ -1,0 +1,43 @@
+-- Causes that are joined: what refuses a part refuses the whole, and nothing is wrong with the whole where nothing is with its parts.
+use Rattle.std.proofs.Common.{◌≡◌, List, [], ◌∷◌, ◌++◌, Ok, refl, inl, inr}
+use Rattle.arrow_spec.specs.declared.error.IpcError.{IpcError}
+use Rattle.arrow_spec.specs.declared.error.IpcError.TheVariants as errors
+use Rattle.arrow_spec.specs.Readings.{place, IsAmong, Refuses, refusals}
+
+among_first : (xs ys : List IpcError) (e : IpcError) → IsAmong xs e → IsAmong (xs ++ ys) e
+among_first (x ∷ xs) ys e (inl h) = inl h
+among_first (x ∷ xs) ys e (inr h) = inr (among_first xs ys e h)
+among_first [] ys e h = absurd h
+
+among_second : (xs ys : List IpcError) (e : IpcError) → IsAmong ys e → IsAmong (xs ++ ys) e
+among_second [] ys e h = h
+among_second (x ∷ xs) ys e h = inr (among_second xs ys e h)
+
+refuses_mono : (xs ys : List IpcError) (e : IpcError) → (IsAmong xs e → IsAmong ys e) → Refuses e xs → Refuses e ys
+refuses_mono xs ys errors.Memory f h = tt
+refuses_mono xs ys errors.ReadFault f h = tt
+refuses_mono xs ys errors.WriteFault f h = tt
+refuses_mono xs ys (errors.OutOfSpec k) f h = f h
+refuses_mono xs ys (errors.Unsupported k) f h = f h
+refuses_mono xs ys errors.TooDeep f h = f h
+refuses_mono xs ys (errors.TooMany k) f h = f h
+refuses_mono xs ys (errors.Projection i) f h = f h
+refuses_mono xs ys errors.TooLarge f h = f h
+refuses_mono xs ys errors.SchemaMismatch f h = f h
+refuses_mono xs ys (errors.DictionaryReplaced id) f h = f h
+refuses_mono xs ys errors.NotRepresentable f h = f h
+refuses_mono xs ys errors.State f h = f h
+
+pub refusals-place : (xs : List IpcError) → refusals (place xs) ≡ xs
+refusals-place [] = refl
+refusals-place (x ∷ xs) = refl
+
+pub refuses_first : (xs ys : List IpcError) (e : IpcError) → Refuses e (refusals (place xs)) → Refuses e (refusals (place (xs ++ ys)))
+refuses_first xs ys e h = rw (refusals-place (xs ++ ys)) (refuses_mono xs (xs ++ ys) e (among_first xs ys e) (rw (refusals-place xs) at h))
+
+pub refuses_second : (xs ys : List IpcError) (e : IpcError) → Refuses e (refusals (place ys)) → Refuses e (refusals (place (xs ++ ys)))
+refuses_second xs ys e h = rw (refusals-place (xs ++ ys)) (refuses_mono ys (xs ++ ys) e (among_second xs ys e) (rw (refusals-place ys) at h))
+
+pub place_both : (xs ys : List IpcError) → place xs ≡ Ok tt → place ys ≡ Ok tt → place (xs ++ ys) ≡ Ok tt
+place_both [] ys h k = k
+place_both (x ∷ xs) ys h k = cc

@@ -1,0 +1,61 @@
+-- What the first path refuses, and which schemas are regular.
+use Rattle.std.proofs.Common.{◌≡◌, ℕ, List, [], ◌∷◌, Some, None, refl, true, false}
+use Rattle.std.specs.Prelude.{pos, codes}
+use Rattle.arrow_spec.proofs.Vectors.{F1}
+use Rattle.arrow_spec.proofs.Worked.{F3, BIG, R15}
+use Rattle.arrow_spec.proofs.F1Table.{computed}
+use Rattle.arrow_spec.specs.declared.types.IntegerType.TheVariants.{Int32}
+use Rattle.arrow_spec.specs.declared.error.IpcError.{IpcError}
+use Rattle.arrow_spec.specs.declared.error.IpcError.TheVariants.{Unsupported}
+use Rattle.arrow_spec.specs.declared.error.Feature.TheVariants.{NotYet}
+use Rattle.arrow_spec.specs.Readings.{refusals}
+use Rattle.arrow_spec.specs.Built.{so_far}
+use Rattle.arrow_spec.specs.declared.types.TimeUnit.TheVariants.{Second}
+use Rattle.arrow_spec.specs.Kinds as kind
+use Rattle.arrow_spec.specs.Kinds.{Kind, Fields, none, field}
+use Rattle.arrow_spec.specs.Regular.{regular}
+use Rattle.arrow_spec.specs.Files.{file_reading, «all», to_send, Request}
+
+abbrev pub why : List ℕ → Request → List IpcError
+why b r = refusals (file_reading so_far to_send b r None)
+
+pub other_kinds : why F3 «all» ≡ Unsupported NotYet ∷ []
+unfolding computed
+other_kinds = refl
+
+pub dictionary : why R15 «all» ≡ Unsupported NotYet ∷ []
+unfolding computed
+dictionary = refl
+
+pub big_endian : why BIG «all» ≡ Unsupported NotYet ∷ []
+unfolding computed
+big_endian = refl
+
+pub columns : why F1 (record { columns = Some []; limit = None }) ≡ Unsupported NotYet ∷ []
+unfolding computed
+columns = refl
+
+pub limit : why F1 (record { columns = None; limit = Some 3 }) ≡ Unsupported NotYet ∷ []
+unfolding computed
+limit = refl
+
+abbrev pub one : Kind → Fields
+one k = field (codes "a") true [] k none
+
+pub regular_list : regular (one (kind.«list» kind.small (one (kind.integer Int32)))) [] ≡ true
+regular_list = refl
+
+pub seconds_in_64 : regular (one (kind.time64 Second)) [] ≡ false
+seconds_in_64 = refl
+
+pub no_size : regular (one (kind.fixed_size_binary 0)) [] ≡ false
+no_size = refl
+
+pub map_of_numbers : regular (one (kind.map false (one (kind.integer Int32)))) [] ≡ false
+map_of_numbers = refl
+
+pub extension_in_extension : regular (one (kind.extension (codes "e") None (kind.extension (codes "f") None (kind.integer Int32)))) [] ≡ false
+extension_in_extension = refl
+
+pub extension_in_dictionary : regular (one (kind.dictionary Int32 false (pos 1) (kind.extension (codes "e") None (kind.utf8 kind.small)))) [] ≡ true
+extension_in_dictionary = refl

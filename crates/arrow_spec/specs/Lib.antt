@@ -1,0 +1,17 @@
+pub mod Names
+pub mod Readings
+pub mod Flat
+pub mod Kinds
+pub mod Built
+pub mod Cells
+pub mod Schema
+pub mod Regular
+pub mod Messages
+pub mod Counts
+pub mod Columns
+pub mod Layout
+pub mod Sent
+pub mod Files
+pub mod Streams
+pub mod Words
+pub mod Needed

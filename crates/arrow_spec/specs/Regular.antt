@@ -1,0 +1,63 @@
+-- Schemas that are written and read back as they are.
+use Rattle.std.specs.Prelude.{ℕ, suc, ◌+◌, List, [], ◌∷◌, ◌++◌, length, Bool, true, false, Some, None, nat_le, nat_lt, nat_eq, ◌&&◌, sum_by}
+use Rattle.arrow_spec.specs.Kinds.{Kind, Fields, none, field, Metadata, time32, time64, fixed_size_binary, «list», fixed_size_list, struct, map, union, dictionary, extension, width, unit_number}
+use Rattle.arrow_spec.specs.Schema.{first_is_struct_of_two, has_distinct_names}
+
+-- a field of the schema: its level, its own pairs and its kind
+pub record Standing : Type 0 where
+  pub level : ℕ
+  pub metadata : Metadata
+  pub kind : Kind
+
+-- the fields in preorder, those of a level and below; a dictionary and an extension add no level
+abbrev mutual
+  pub fields_below : ℕ → Kind → List Standing
+  fields_below level («list» o fs) = fields_from (suc level) fs
+  fields_below level (fixed_size_list n fs) = fields_from (suc level) fs
+  fields_below level (struct fs) = fields_from (suc level) fs
+  fields_below level (map sorted fs) = fields_from (suc level) fs
+  fields_below level (union mode stated ids fs) = fields_from (suc level) fs
+  fields_below level (dictionary index ordered id k) = fields_below level k
+  fields_below level (extension name metadata k) = fields_below level k
+  fields_below level k = []
+
+  pub fields_from : ℕ → Fields → List Standing
+  fields_from level none = []
+  fields_from level (field name nullable metadata k others) = record { level = level; metadata = metadata; kind = k } ∷ fields_below level k ++ fields_from level others
+
+-- the pairs that are written for an extension
+abbrev pub extension_pairs : Kind → ℕ
+extension_pairs (extension name None k) = 1
+extension_pairs (extension name (Some metadata) k) = 2
+extension_pairs (dictionary index ordered id k) = extension_pairs k
+extension_pairs k = 0
+
+abbrev pub pairs_of_field : Standing → ℕ
+pairs_of_field f = length f.metadata + extension_pairs f.kind
+
+abbrev pub is_no_extension : Kind → Bool
+is_no_extension (extension name metadata k) = false
+is_no_extension k = true
+
+-- No size is 0, a unit goes with its width, a list has one child, a map's is a struct of two fields, and no extension stands directly in an extension.
+abbrev pub is_regular_kind : Kind → Bool
+is_regular_kind (time32 u) = nat_le (unit_number u) 1
+is_regular_kind (time64 u) = nat_le 2 (unit_number u)
+is_regular_kind (fixed_size_binary n) = nat_lt 0 n
+is_regular_kind («list» o fs) = nat_eq (width fs) 1
+is_regular_kind (fixed_size_list n fs) = nat_lt 0 n && nat_eq (width fs) 1
+is_regular_kind (map sorted fs) = nat_eq (width fs) 1 && first_is_struct_of_two fs
+is_regular_kind (dictionary index ordered id k) = is_regular_kind k
+is_regular_kind (extension name metadata k) = is_no_extension k && is_regular_kind k
+is_regular_kind k = true
+
+abbrev pub is_regular_field : Standing → Bool
+is_regular_field f = nat_le f.level 64 && is_regular_kind f.kind
+
+abbrev pub are_regular : List Standing → Bool
+are_regular [] = true
+are_regular (f ∷ fs) = is_regular_field f && are_regular fs
+
+-- with the pairs that are written with the schema
+abbrev pub regular : Fields → Metadata → Bool
+regular fs pairs = nat_le (length (fields_from 1 fs)) 65536 && nat_le (length pairs + sum_by (λ f. pairs_of_field f) (fields_from 1 fs)) 1048576 && are_regular (fields_from 1 fs) && has_distinct_names fs

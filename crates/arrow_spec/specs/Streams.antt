@@ -1,0 +1,117 @@
+-- What a stream means: its table, and what is left where no further message begins.
+use Rattle.std.specs.Prelude.{◌≡◌, ℕ, zero, suc, ◌+◌, ◌-◌, List, [], ◌∷◌, ◌++◌, length, take, drop, true, false, Option, Some, None, Ok, nat_le, nat_lt, nat_eq, ◌||◌, if◌then◌else◌, MatchResult}
+use Rattle.std.specs.Int.{w32}
+use Rattle.arrow_spec.specs.declared.error.OutOfSpecKind.TheVariants as kinds
+use Rattle.arrow_spec.specs.Readings.{◌>>=◌, Reading, damaged, only_if, meaning, place}
+use Rattle.arrow_spec.specs.Flat.{signed_at}
+use Rattle.arrow_spec.specs.Kinds.{bare, width}
+use Rattle.arrow_spec.specs.Schema.{Schema, schema_of}
+use Rattle.arrow_spec.specs.Built.{everything}
+use Rattle.arrow_spec.specs.Messages.{Message, natural, as_kind, is_mark, message_of, version_of, batch_at, dictionary_at}
+use Rattle.arrow_spec.specs.Files.{ArrowTable, TableBatch, batch_of_tables, to_read, dictionary_of, columns_right, fields_as_asked}
+use Rattle.arrow_spec.specs.Columns.{Dictionaries, HeldDictionary, chosen_floats}
+
+-- a message of a stream: its metadata, and the bytes behind it
+pub record Framed : Type 0 where
+  pub metadata : List ℕ
+  pub behind : List ℕ
+
+-- where the metadata begins, and how long it is
+unfoldable pub stream_prefix : List ℕ → Reading (ℕ × ℕ)
+stream_prefix b = do
+  let start = if is_mark (take 4 b) then 8 else 4
+  n ← as_kind (λ f. kinds.Truncated) (signed_at w32 b (start - 4))
+  length ← natural n
+  Ok (start, length)
+
+unfoldable pub framed : List ℕ → ℕ × ℕ → Reading Framed
+framed b prefix = do
+  whole ← only_if (nat_le (prefix.0 + prefix.1) (length b)) kinds.Truncated
+  Ok (record { metadata = take prefix.1 (drop prefix.0 b); behind = drop (prefix.0 + prefix.1) b })
+
+-- a message's body lies in the bytes behind its metadata
+unfoldable pub body_in : Framed → Message → Reading (List ℕ)
+body_in f m = only_if (nat_le m.body (length f.behind)) kinds.Truncated >>= λ whole. Ok (take m.body f.behind)
+
+-- the next message; none at an end mark or where fewer than four bytes are left
+unfoldable pub next_message : List ℕ → Reading (Option Framed)
+next_message b = elim (nat_lt (length b) 4) [ true ↦ Ok None | false ↦ stream_prefix b >>= λ prefix. elim (nat_eq prefix.1 0) [ true ↦ Ok None | false ↦ framed b prefix >>= λ m. Ok (Some m) ] ]
+
+-- what a stream has: the batches, and the bytes at which no further message begins
+pub record Read : Type 0 where
+  pub batches : List TableBatch
+  pub left : List ℕ
+
+-- what a stream is read with: its schema, and the columns asked for
+pub record Reader : Type 0 where
+  pub schema : Schema
+  pub columns : Option (List ℕ)
+
+unfoldable pub stream_batch : Reader → Dictionaries → Framed → Message → Reading TableBatch
+stream_batch s d f m = do
+  tables ← batch_at f.metadata m.header
+  version ← version_of f.metadata m
+  body ← body_in f m
+  batch_of_tables to_read (record { order = s.schema.order; fields = s.schema.fields; columns = s.columns; dictionaries = d; most = length body }) version tables body None
+
+unfoldable pub stream_dictionary : Reader → Dictionaries → Framed → Message → Reading HeldDictionary
+stream_dictionary s d f m = do
+  x ← dictionary_at f.metadata m.header
+  version ← version_of f.metadata m
+  body ← body_in f m
+  dictionary_of s.schema d (length body) x version body true
+
+-- what a message leaves: the dictionaries, its batch if it is one, and the bytes behind its body
+pub record Step : Type 0 where
+  pub dictionaries : Dictionaries
+  pub batch : List TableBatch
+  pub rest : List ℕ
+
+-- A message is a dictionary, which replaces the one before it under its id, or a batch. The features of chosen kinds stand at the first one.
+unfoldable pub stream_step : Reader → Dictionaries → Framed → Reading Step
+stream_step s d f = do
+  floats ← place (chosen_floats s.columns s.schema.fields 0)
+  m ← message_of f.metadata (λ tag. nat_eq tag 2 || nat_eq tag 3)
+  elim (nat_eq m.tag 2) [
+    | true ↦ stream_dictionary s d f m >>= λ x. Ok (record { dictionaries = x ∷ d; batch = []; rest = drop m.body f.behind })
+    | false ↦ stream_batch s d f m >>= λ rows. Ok (record { dictionaries = d; batch = rows ∷ []; rest = drop m.body f.behind })
+  ]
+
+-- A message takes four bytes at least, so no stream has more messages than bytes.
+unfoldable pub stream_batches : ℕ → Reader → Dictionaries → List ℕ → Reading Read
+stream_batches zero s d b = Ok (record { batches = []; left = b })
+stream_batches (suc most) s d b = do
+  next ← next_message b
+  elim next [
+    | None ↦ Ok (record { batches = []; left = b })
+    | Some f ↦ stream_step s d f >>= λ step. stream_batches most s step.dictionaries step.rest >>= λ others. Ok (record { batches = step.batch ++ others.batches; left = others.left })
+  ]
+
+pub record Stream : Type 0 where
+  pub table : ArrowTable
+  pub left : List ℕ
+
+unfoldable pub first_message : Option Framed → Reading Framed
+first_message None = damaged kinds.MissingSchema
+first_message (Some m) = Ok m
+
+unfoldable pub stream_reading : List ℕ → Option (List ℕ) → Reading Stream
+stream_reading b columns = do
+  f ← next_message b >>= first_message
+  m ← message_of f.metadata (λ tag. nat_eq tag 1)
+  version ← version_of f.metadata m
+  schema ← schema_of everything f.metadata m.header
+  body ← body_in f m
+  right ← columns_right columns (width schema.fields)
+  read ← stream_batches (length b) (record { schema = schema; columns = columns }) [] (drop m.body f.behind)
+  Ok (record { table = record { metadata = schema.metadata; fields = bare (fields_as_asked columns schema.fields); batches = read.batches }; left = read.left })
+
+unfoldable pub stream_table : List ℕ → Option (List ℕ) → Option ArrowTable
+stream_table b columns = meaning (stream_reading b columns >>= λ s. Ok s.table)
+
+abbrev pub end_mark : List ℕ
+end_mark = 255 ∷ 255 ∷ 255 ∷ 255 ∷ 0 ∷ 0 ∷ 0 ∷ 0 ∷ []
+
+-- after whole messages exactly the end mark is left
+abbrev pub closed : List ℕ → Type 0
+closed b = MatchResult (stream_reading b None) (λ s. s.left ≡ end_mark) (λ es. ⊥)
