@@ -56,7 +56,7 @@ sliced = refl
 
 -- a view column of one 13-byte row over a buffer of so many bytes
 abbrev pub viewed : ℕ → RecordBatch
-viewed n = record { order = little; version = V5; nodes = node 1 0 ∷ []; buffers = buffer 0 0 ∷ buffer 0 16 ∷ node 64 n ∷ []; views = pos 1 ∷ []; body = 13 ∷ 0 ∷ 0 ∷ 0 ∷ 97 ∷ 97 ∷ 97 ∷ 97 ∷ 0 ∷ 0 ∷ 0 ∷ 0 ∷ 0 ∷ 0 ∷ 0 ∷ 0 ∷ [] }
+viewed n = record { order = little; version = V5; nodes = node 1 0 ∷ []; buffers = buffer 0 0 ∷ buffer 0 16 ∷ buffer 64 n ∷ []; variadic = pos 1 ∷ []; body = 13 ∷ 0 ∷ 0 ∷ 0 ∷ 97 ∷ 97 ∷ 97 ∷ 97 ∷ 0 ∷ 0 ∷ 0 ∷ 0 ∷ 0 ∷ 0 ∷ 0 ∷ 0 ∷ [] }
 
 pub row_19_kept : top_written (viewed 25) kind.utf8_view first_place 1 ≡ record { nodes = node 1 0 ∷ []; lengths = 0 ∷ 16 ∷ 25 ∷ []; views = 1 ∷ [] }
 unfolding computed

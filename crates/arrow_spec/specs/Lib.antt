@@ -10,6 +10,7 @@ pub mod Messages
 pub mod Counts
 pub mod Columns
 pub mod Layout
+pub mod Held
 pub mod Sent
 pub mod Files
 pub mod Streams
