@@ -5,6 +5,7 @@ use Rattle.arrow_spec.specs.declared.types.IntegerType.TheVariants.{Int32}
 use Rattle.arrow_spec.specs.Flat.{Order}
 use Rattle.arrow_spec.specs.Kinds.{Kind, Fields, integer}
 
+-- what is asked at each place
 pub record Built : Type 0 where
   -- at a field of the schema: the tags of its type, and then its kind with no children
   pub tag : ℕ → Bool
@@ -20,9 +21,11 @@ pub record Built : Type 0 where
   -- before the size: columns or a limit
   pub requests : Bool
 
+-- nothing is refused as not built
 abbrev pub everything : Built
 everything = record { tag = λ n. true; field = λ k. true; pairs = true; big_endian = true; chosen = λ o fs. true; dictionaries = true; requests = true }
 
+-- the one integer type of the first path
 abbrev pub is_int_32 : IntegerType → Bool
 is_int_32 Int32 = true
 is_int_32 t = false

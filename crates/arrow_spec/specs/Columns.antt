@@ -1,4 +1,4 @@
--- The columns of a record batch: what must hold of their arrays, and their cells.
+-- The columns of a record batch: what must hold of their arrays, and their cells. (Arrow Columnar Format, "Physical Memory Layout".)
 use Rattle.std.specs.Prelude.{ℕ, zero, suc, ◌+◌, ◌-◌, ◌*◌, ◌/◌, ◌%◌, List, [], ◌∷◌, ◌++◌, length, take, drop, Bool, true, false, Option, Some, None, Ok, nat_le, nat_lt, nat_eq, not, ◌&&◌, ◌||◌, if◌then◌else◌, ℤ, pos, slice_get, slice_index}
 use Rattle.std.specs.Int.{Width, w8, w16, w32, w64, w128, bit_at, cast_signed, byte_len}
 use Rattle.std.specs.Str.{is_utf8, bytes_eq}
@@ -30,30 +30,37 @@ pub record HeldDictionary : Type 0 where
 abbrev pub Dictionaries : Type 0
 Dictionaries = List HeldDictionary
 
+-- the dictionary under an id
 abbrev pub held : Dictionaries → ℤ → Option HeldDictionary
 held [] id = None
 held (x ∷ xs) id = if same x.id id then Some x else held xs id
 
+-- its cells
 abbrev pub cells_held : Option HeldDictionary → Option (List Cell)
 cells_held None = None
 cells_held (Some x) = Some x.cells
 
+-- the cells under an id
 abbrev pub found : Dictionaries → ℤ → Option (List Cell)
 found d id = cells_held (held d id)
 
 -- ── parts of an array ──
 
+-- a node, or one of no rows
 abbrev pub node_or_none : Option FieldNode → FieldNode
 node_or_none None = record { length = pos 0; null_count = pos 0 }
 node_or_none (Some x) = x
 
+-- a buffer, or an empty one
 abbrev pub range_or_none : Option IpcBuffer → IpcBuffer
 range_or_none None = record { offset = pos 0; length = pos 0 }
 range_or_none (Some x) = x
 
+-- the i-th node
 abbrev pub node_of : RecordBatch → ℕ → FieldNode
 node_of m i = node_or_none (slice_get m.nodes i)
 
+-- the i-th buffer's range
 abbrev pub range_of : RecordBatch → ℕ → IpcBuffer
 range_of m i = range_or_none (slice_get m.buffers i)
 
@@ -61,9 +68,11 @@ range_of m i = range_or_none (slice_get m.buffers i)
 unfoldable pub buf : RecordBatch → ℕ → List ℕ
 buf m i = take (magnitude (range_of m i).length) (drop (magnitude (range_of m i).offset) m.body)
 
+-- bit i of a bitmap: the lowest bit of a byte comes first ("Validity bitmaps")
 abbrev pub bit : List ℕ → ℕ → Bool
 bit bytes row = nat_eq (bit_at (slice_index bytes (row / 8)) (row % 8)) 1
 
+-- a validity is looked at where nulls are counted ("Validity bitmaps")
 abbrev pub has_nulls : RecordBatch → Place → Bool
 has_nulls m p = nat_lt 0 (magnitude (node_of m p.node).null_count)
 
@@ -71,6 +80,7 @@ has_nulls m p = nat_lt 0 (magnitude (node_of m p.node).null_count)
 unfoldable pub valid : RecordBatch → Place → ℕ → Bool
 valid m p row = if has_nulls m p then bit (buf m p.buffer) row else true
 
+-- a number, 0 where there is none
 abbrev pub or_0 : Option ℕ → ℕ
 or_0 None = 0
 or_0 (Some n) = n
@@ -79,16 +89,20 @@ or_0 (Some n) = n
 unfoldable pub unsigned_in : RecordBatch → Width → ℕ → ℕ → ℕ
 unsigned_in m w i j = or_0 (num (buf m i) (byte_len w * j) w m.order)
 
+-- the same in two's complement
 abbrev pub signed_in : RecordBatch → Width → ℕ → ℕ → ℤ
 signed_in m w i j = cast_signed w (unsigned_in m w i j)
 
+-- the width of an offset
 abbrev pub offset_width : Offsets → Width
 offset_width small = w32
 offset_width large = w64
 
+-- offset j of the i-th buffer
 abbrev pub offset : RecordBatch → Offsets → ℕ → ℕ → ℕ
 offset m o i j = magnitude (signed_in m (offset_width o) i j)
 
+-- bytes between two places
 abbrev pub slice : List ℕ → ℕ → ℕ → List ℕ
 slice bytes from to = take (to - from) (drop from bytes)
 
@@ -100,12 +114,15 @@ row_bytes m o p row = slice (buf m (p.buffer + 2)) (offset m o (p.buffer + 1) ro
 abbrev pub u32_of : List ℕ → ℕ → ℕ
 u32_of bytes at = or_0 (num bytes at w32 little)
 
+-- the 16 bytes of a row's view ("Variable-size Binary View Layout")
 abbrev pub view_of : RecordBatch → Place → ℕ → List ℕ
 view_of m p row = take 16 (drop (16 * row) (buf m (p.buffer + 1)))
 
+-- a view's bytes: in itself up to 12, else in a buffer
 abbrev pub view_bytes : RecordBatch → Place → List ℕ → List ℕ
 view_bytes m p view = if nat_le (u32_of view 0) 12 then take (u32_of view 0) (drop 4 view) else take (u32_of view 0) (drop (u32_of view 12) (buf m (p.buffer + 2 + u32_of view 8)))
 
+-- the width of an integer type
 abbrev pub integer_width : IntegerType → Width
 integer_width Int8 = w8
 integer_width Int16 = w16
@@ -117,6 +134,7 @@ integer_width UInt16 = w16
 integer_width UInt32 = w32
 integer_width UInt64 = w64
 
+-- no sign
 abbrev pub is_unsigned : IntegerType → Bool
 is_unsigned UInt8 = true
 is_unsigned UInt16 = true
@@ -146,29 +164,36 @@ id_place (x ∷ xs) t = if same x t then Some 0 else next (id_place xs t)
 abbrev pub types_buffer : RecordBatch → Place → ℕ
 types_buffer m p = if has_union_validity m.version then suc p.buffer else p.buffer
 
+-- a dense union has its row in its offsets, a sparse one in order ("Union Layout")
 abbrev pub child_row : RecordBatch → UnionMode → Place → ℕ → ℕ
 child_row m Sparse p row = row
 child_row m Dense p row = offset m small (suc (types_buffer m p)) row
 
+-- a cell, null where there is none
 abbrev pub cell_or_null : Option Cell → Cell
 cell_or_null None = cells.null
 cell_or_null (Some x) = x
 
+-- the cell at a key ("Dictionary-encoded Layout")
 abbrev pub keyed : Option (List Cell) → ℤ → Cell
 keyed None key = cells.null
 keyed (Some xs) key = cell_or_null (slice_get xs (magnitude key))
 
+-- null where the row is not valid
 abbrev pub if_valid : RecordBatch → Place → ℕ → Cell → Cell
 if_valid m p row x = if valid m p row then x else cells.null
 
+-- a number of a width ("Fixed-size Primitive Layout")
 abbrev pub number_in : RecordBatch → Place → Width → ℕ → Cell
 number_in m p w row = if_valid m p row (cells.number (signed_in m w (p.buffer + 1) row))
 
+-- a number inside a row's bytes
 abbrev pub part_of_row : RecordBatch → Place → ℕ → ℕ → Width → ℕ → ℤ
 part_of_row m p stride at w row = cast_signed w (or_0 (num (buf m (p.buffer + 1)) (stride * row + at) w m.order))
 
 -- ── the cell of a row ──
 
+-- the cell of a row, by the layout of its kind
 abbrev mutual
   pub cell : RecordBatch → Dictionaries → Kind → Place → ℕ → Cell
   cell m d null p row = cells.null
@@ -212,6 +237,7 @@ abbrev mutual
 
 -- ── what must hold ──
 
+-- a refusal where something holds
 abbrev pub cause : Bool → IpcError → List IpcError
 cause true e = e ∷ []
 cause false e = []
@@ -226,6 +252,7 @@ abbrev pub some_row : (ℕ → Bool) → ℕ → Bool
 some_row bad zero = false
 some_row bad (suc n) = some_row bad n || bad n
 
+-- a test fails at a row that is not null
 abbrev pub some_valid_row : RecordBatch → Place → (ℕ → Bool) → ℕ → Bool
 some_valid_row m p bad n = some_row (λ row. valid m p row && bad row) n
 
@@ -234,6 +261,7 @@ abbrev pub some_negative : List ℤ → Bool
 some_negative [] = false
 some_negative (x ∷ xs) = is_negative x || some_negative xs
 
+-- the view counts of an array are there, and none is negative
 abbrev pub view_count_faults : RecordBatch → Kind → Place → List IpcError
 view_count_faults m k p = cause (nat_lt (length m.variadic) (p.view + views k)) (OutOfSpec kinds.MissingVariadicCount) ++ cause (some_negative (take (views k) (drop p.view m.variadic))) (OutOfSpec kinds.UnexpectedNegativeInteger)
 
@@ -241,6 +269,7 @@ view_count_faults m k p = cause (nat_lt (length m.variadic) (p.view + views k)) 
 abbrev pub counts_faults : RecordBatch → Place → List IpcError
 counts_faults m q = cause (nat_lt (length m.nodes) q.node || nat_lt (length m.buffers) q.buffer) (OutOfSpec kinds.ExpectedBuffer)
 
+-- the counts of a column that is read or passed over
 unfoldable pub count_faults : RecordBatch → Kind → Place → List IpcError
 count_faults m k p = counts_faults m (after m k p) ++ view_count_faults m k p
 
@@ -249,6 +278,7 @@ abbrev pub node_causes : Option FieldNode → ℕ → List IpcError
 node_causes None rows = OutOfSpec kinds.ExpectedBuffer ∷ []
 node_causes (Some node) rows = cause (is_negative node.length) (OutOfSpec kinds.UnexpectedNegativeInteger) ++ cause (nat_lt (magnitude node.length) rows) (OutOfSpec kinds.NodeLength)
 
+-- an array's node
 unfoldable pub node_faults : RecordBatch → Place → ℕ → List IpcError
 node_faults m p rows = node_causes (slice_get m.nodes p.node) rows
 
@@ -257,6 +287,7 @@ abbrev pub range_causes : Option IpcBuffer → ℕ → List IpcError
 range_causes None body = OutOfSpec kinds.ExpectedBuffer ∷ []
 range_causes (Some range) body = cause (is_negative range.offset || is_negative range.length) (OutOfSpec kinds.UnexpectedNegativeInteger) ++ cause (nat_lt body (magnitude range.offset + magnitude range.length)) (OutOfSpec kinds.BufferRange)
 
+-- a range lies in the body
 unfoldable pub range_faults : RecordBatch → ℕ → List IpcError
 range_faults m i = range_causes (slice_get m.buffers i) (length m.body)
 
@@ -273,6 +304,7 @@ validity_faults m p (suc n) = if has_nulls m p then bitmap_faults m p.buffer (su
 unfoldable pub numbers_faults : RecordBatch → ℕ → ℕ → ℕ → List IpcError
 numbers_faults m i width count = if_sound (range_faults m i) (cause (nat_lt (magnitude (range_of m i).length) (width * count)) (OutOfSpec (kinds.InvalidBuffer count (width * count) (magnitude (range_of m i).length))))
 
+-- a validity, and values of a width
 abbrev pub fixed_faults : RecordBatch → Place → ℕ → ℕ → List IpcError
 fixed_faults m p width rows = validity_faults m p rows ++ numbers_faults m (p.buffer + 1) width rows
 
@@ -284,12 +316,15 @@ offsets_buffer_faults m o i rows = numbers_faults m i (byte_len (offset_width o)
 unfoldable pub offsets_faults : RecordBatch → Offsets → ℕ → ℕ → ℕ → List IpcError
 offsets_faults m o i rows most = cause (some_row (λ j. is_negative (signed_in m (offset_width o) i j)) (suc rows) || some_row (λ j. nat_lt (offset m o i (suc j)) (offset m o i j)) rows || nat_lt most (offset m o i rows)) (OutOfSpec kinds.InvalidOffsets)
 
+-- binaries and texts but for the text ("Variable-size Binary Layout")
 unfoldable pub bytes_faults : RecordBatch → Offsets → Place → ℕ → List IpcError
 bytes_faults m o p rows = if_sound (validity_faults m p rows ++ offsets_buffer_faults m o (p.buffer + 1) rows ++ range_faults m (p.buffer + 2)) (offsets_faults m o (p.buffer + 1) rows (magnitude (range_of m (p.buffer + 2)).length))
 
+-- rows that are not null are UTF-8
 unfoldable pub utf8_faults : RecordBatch → Offsets → Place → ℕ → List IpcError
 utf8_faults m o p rows = cause (some_valid_row m p (λ row. not (is_utf8 (row_bytes m o p row))) rows) (OutOfSpec kinds.InvalidUtf8)
 
+-- zeros
 abbrev pub all_zero : List ℕ → Bool
 all_zero [] = true
 all_zero (b ∷ bs) = nat_eq b 0 && all_zero bs
@@ -306,6 +341,7 @@ abbrev pub ranges_faults : RecordBatch → ℕ → ℕ → List IpcError
 ranges_faults m i zero = []
 ranges_faults m i (suc n) = range_faults m i ++ ranges_faults m (suc i) n
 
+-- big-endian
 abbrev pub is_big : Order → Bool
 is_big little = false
 is_big big = true
@@ -314,12 +350,15 @@ is_big big = true
 abbrev pub data_faults : RecordBatch → Place → ℕ → List IpcError
 data_faults m p count = elim (nat_le (p.buffer + 2 + count) (length m.buffers)) [ true ↦ ranges_faults m (p.buffer + 2) count | false ↦ OutOfSpec kinds.ExpectedBuffer ∷ [] ]
 
+-- a view array's parts
 unfoldable pub view_parts_faults : RecordBatch → Place → ℕ → List IpcError
 view_parts_faults m p rows = cause (is_big m.order) (Unsupported features.ViewBigEndian) ++ fixed_faults m p 16 rows ++ if_sound (view_count_faults m binary_view p) (data_faults m p (count_at m p.view))
 
+-- a view of a row that is not null is good
 abbrev pub bad_view_faults : RecordBatch → Place → ℕ → List IpcError
 bad_view_faults m p rows = cause (some_valid_row m p (λ row. not (is_good_view m p (view_of m p row))) rows) (OutOfSpec kinds.InvalidView)
 
+-- a view array
 unfoldable pub views_faults : RecordBatch → Place → ℕ → List IpcError
 views_faults m p rows = if_sound (view_parts_faults m p rows) (bad_view_faults m p rows)
 
@@ -327,6 +366,7 @@ views_faults m p rows = if_sound (view_parts_faults m p rows) (bad_view_faults m
 abbrev pub is_no_text_view : RecordBatch → Place → List ℕ → Bool
 is_no_text_view m p view = is_good_view m p view && not (is_utf8 (view_bytes m p view))
 
+-- a view array of texts
 unfoldable pub view_text_faults : RecordBatch → Place → ℕ → List IpcError
 view_text_faults m p rows = if_sound (view_parts_faults m p rows) (bad_view_faults m p rows ++ cause (some_valid_row m p (λ row. is_no_text_view m p (view_of m p row)) rows) (OutOfSpec kinds.InvalidUtf8))
 
@@ -335,6 +375,7 @@ unfoldable pub key_faults : RecordBatch → Option (List Cell) → IntegerType �
 key_faults m None t id p rows = cause (some_valid_row m p (λ row. true) rows) (OutOfSpec (kinds.InvalidId id))
 key_faults m (Some xs) t id p rows = cause (some_valid_row m p (λ row. is_negative (integer_in m t (p.buffer + 1) row) || nat_le (length xs) (magnitude (integer_in m t (p.buffer + 1) row))) rows) (OutOfSpec kinds.InvalidKey)
 
+-- a type that is none of the ids
 abbrev pub is_no_id : Option ℕ → Bool
 is_no_id None = true
 is_no_id (Some i) = false
@@ -355,6 +396,7 @@ abbrev pub dense_buffer_faults : RecordBatch → UnionMode → Place → ℕ →
 dense_buffer_faults m Sparse p rows = []
 dense_buffer_faults m Dense p rows = numbers_faults m (suc (types_buffer m p)) 4 rows
 
+-- each offset of a dense union is a row of its child
 abbrev pub dense_faults : RecordBatch → UnionMode → List ℤ → Fields → Place → ℕ → List IpcError
 dense_faults m Sparse ids fs p rows = []
 dense_faults m Dense ids fs p rows = cause (some_row (λ row. is_bad_row m fs (inside (union_buffers m.version Dense) p) (id_place ids (signed_in m w8 (types_buffer m p) row)) (signed_in m w32 (suc (types_buffer m p)) row)) rows) (OutOfSpec kinds.InvalidOffsets)
@@ -408,6 +450,7 @@ abbrev mutual
   child_faults m d none p rows = []
   child_faults m d (field name nullable metadata k others) p rows = array_faults m d k p (rows p) ++ elim (view_count_faults m k p) [ [] ↦ child_faults m d others (after m k p) rows | e ∷ es ↦ e ∷ es ]
 
+-- a top column's node has the batch's length
 abbrev pub top_node_faults : Option FieldNode → ℕ → List IpcError
 top_node_faults None rows = []
 top_node_faults (Some node) rows = cause (not (nat_eq (magnitude node.length) rows)) (OutOfSpec kinds.NodeLength)
@@ -421,6 +464,7 @@ abbrev pub stands_in : List ℕ → ℕ → Bool
 stands_in [] c = false
 stands_in (x ∷ xs) c = nat_eq x c || stands_in xs c
 
+-- a column is asked for
 abbrev pub is_chosen : Option (List ℕ) → ℕ → Bool
 is_chosen None c = true
 is_chosen (Some cs) c = stands_in cs c
@@ -430,6 +474,7 @@ abbrev pub chosen_faults : Bool → RecordBatch → Dictionaries → Kind → Pl
 chosen_faults true m d k p rows few = column_faults m d k p rows few
 chosen_faults false m d k p rows few = count_faults m k p
 
+-- the cells of a column that is asked for
 abbrev pub chosen_cells : Bool → RecordBatch → Dictionaries → Kind → Place → ℕ → List Cell
 chosen_cells true m d k p few = from_on (cell m d k p) 0 few
 chosen_cells false m d k p few = []
@@ -444,6 +489,7 @@ columns_at m d asked (field name nullable metadata kind others) c p rows few = d
 
 -- ── features of kinds ──
 
+-- floats and wide decimals are never read
 abbrev mutual
   pub float_faults : Kind → List IpcError
   float_faults (float t) = Unsupported features.Float ∷ []
@@ -461,6 +507,7 @@ abbrev mutual
   floats_in none = []
   floats_in (field name nullable metadata k others) = float_faults k ++ floats_in others
 
+-- the same of the columns asked for
 abbrev pub chosen_floats : Option (List ℕ) → Fields → ℕ → List IpcError
 chosen_floats asked none c = []
 chosen_floats asked (field name nullable metadata k others) c = (if is_chosen asked c then float_faults k else []) ++ chosen_floats asked others (suc c)

@@ -1,4 +1,4 @@
--- How many nodes, buffers and view counts the arrays of a kind take, by adding over its tree.
+-- How many nodes, buffers and view counts the arrays of a kind take, by adding over its tree. (Arrow Columnar Format, "RecordBatch message", "Buffer Listing for Each Layout", "Variadic buffers".)
 use Rattle.std.specs.Prelude.{ℕ, suc, ◌+◌, List, if◌then◌else◌, Bool, true, false, Option, Some, None, ℤ, pos, negsuc, slice_get}
 use Rattle.arrow_spec.specs.Flat.{Order}
 use Rattle.arrow_spec.specs.declared.types.UnionMode.{UnionMode}
@@ -24,17 +24,21 @@ pub record Place : Type 0 where
   pub buffer : ℕ
   pub view : ℕ
 
+-- the place of the first column
 abbrev pub first_place : Place
 first_place = record { node = 0; buffer = 0; view = 0 }
 
+-- a number, 0 where it is negative
 abbrev pub magnitude : ℤ → ℕ
 magnitude (pos n) = n
 magnitude (negsuc n) = 0
 
+-- below 0
 abbrev pub is_negative : ℤ → Bool
 is_negative (pos n) = false
 is_negative (negsuc n) = true
 
+-- a number, 0 where there is none
 abbrev pub magnitude_or_0 : Option ℤ → ℕ
 magnitude_or_0 None = 0
 magnitude_or_0 (Some x) = magnitude x
@@ -43,6 +47,7 @@ magnitude_or_0 (Some x) = magnitude x
 abbrev pub count_at : RecordBatch → ℕ → ℕ
 count_at m i = magnitude_or_0 (slice_get m.variadic i)
 
+-- one node an array, in preorder
 abbrev mutual
   pub nodes : Kind → ℕ
   nodes («list» o fs) = suc (nodes_of fs)
@@ -57,6 +62,7 @@ abbrev mutual
   nodes_of none = 0
   nodes_of (field name nullable metadata k others) = nodes k + nodes_of others
 
+-- one count a view array
 abbrev mutual
   pub views : Kind → ℕ
   views binary_view = 1
@@ -78,6 +84,7 @@ abbrev pub has_union_validity : MetadataVersion → Bool
 has_union_validity V5 = false
 has_union_validity v = true
 
+-- types, and offsets where it is dense
 abbrev pub union_parts : UnionMode → ℕ
 union_parts Sparse = 1
 union_parts Dense = 2
@@ -110,6 +117,7 @@ abbrev mutual
 abbrev pub after : RecordBatch → Kind → Place → Place
 after m k p = record { node = p.node + nodes k; buffer = p.buffer + buffers m k p.view; view = p.view + views k }
 
+-- an array's first child stands behind its node and its own buffers
 abbrev pub inside : ℕ → Place → Place
 inside own p = record { node = suc p.node; buffer = p.buffer + own; view = p.view }
 

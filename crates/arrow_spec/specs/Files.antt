@@ -1,4 +1,4 @@
--- What a file means: its table, or the refusals at the first place where one holds.
+-- What a file means: its table, or the refusals at the first place where one holds. (Arrow Columnar Format, "IPC File Format".)
 use Rattle.std.specs.Prelude.{ℕ, zero, suc, ◌+◌, ◌-◌, ◌*◌, List, [], ◌∷◌, ◌++◌, length, take, drop, min, Bool, true, false, Option, Some, None, Result, Ok, nat_le, nat_lt, nat_eq, not, ◌&&◌, ◌||◌, ℤ, pos, negsuc, sum_by, map, slice_get}
 use Rattle.std.specs.Int.{w32, w64}
 use Rattle.std.specs.Str.{bytes_eq}
@@ -25,23 +25,28 @@ pub record Request : Type 0 where
   pub columns : Option (List ℕ)
   pub limit : Option ℕ
 
+-- all columns and all rows
 abbrev pub «all» : Request
 «all» = record { columns = None; limit = None }
 
+-- where a message stands in a file: its place, the length of its prefix and metadata, the length of its body (File.fbs, Block)
 pub record FileBlock : Type 0 where
   pub offset : ℕ
   pub metadata : ℕ
   pub body : ℕ
 
+-- what a footer says (File.fbs, Footer)
 pub record Meta : Type 0 where
   pub schema : Schema
   pub blocks : List FileBlock
   pub dictionaries : List FileBlock
 
+-- a batch of a table: its rows, and of each column a list of cells
 pub record TableBatch : Type 0 where
   pub rows : ℕ
   pub columns : List (List Cell)
 
+-- a table: its pairs, its fields without dictionary ids, and its batches
 pub record ArrowTable : Type 0 where
   pub metadata : Metadata
   pub fields : Fields
@@ -51,12 +56,15 @@ pub record ArrowTable : Type 0 where
 abbrev pub last : ℕ → List ℕ → List ℕ
 last n b = drop (length b - n) b
 
+-- the four bytes FEA1
 abbrev pub feather_v1 : List ℕ
 feather_v1 = 70 ∷ 69 ∷ 65 ∷ 49 ∷ []
 
+-- the six bytes ARROW1
 abbrev pub arrow_1 : List ℕ
 arrow_1 = 65 ∷ 82 ∷ 82 ∷ 79 ∷ 87 ∷ 49 ∷ []
 
+-- a footer length that is not negative
 abbrev pub footer_length : ℤ → Reading ℕ
 footer_length (pos n) = Ok n
 footer_length (negsuc n) = damaged kinds.NegativeFooterLength
@@ -71,6 +79,7 @@ footer_of b = do
   whole ← only_if (nat_le (n + 10) (length b)) kinds.Truncated
   Ok (take n (drop (length b - 10 - n) b))
 
+-- a block without negative numbers
 abbrev pub block_of : ℤ → ℤ → ℤ → Reading FileBlock
 block_of offset metadata body = do
   o ← natural offset
@@ -78,6 +87,7 @@ block_of offset metadata body = do
   n ← natural body
   Ok (record { offset = o; metadata = m; body = n })
 
+-- the block at a place of a footer
 abbrev pub block_at : (FlatError → IpcError) → List ℕ → ℕ → Reading FileBlock
 block_at fault b p = do
   offset ← part_of (signed_at w64 b p)
@@ -88,9 +98,11 @@ block_at fault b p = do
     part_of : {A : Type 0} → Result A FlatError → Reading A
     part_of r = Rattle.arrow_spec.specs.Readings.in_terms_of (λ f. fault f ∷ []) r
 
+-- the blocks of a vector
 abbrev pub blocks_at : (FlatError → IpcError) → List ℕ → Vector → Reading (List FileBlock)
 blocks_at fault b v = each (λ i. block_at fault b (v.first + 24 * i)) 0 v.count
 
+-- an absent list is an empty one
 abbrev pub no_blocks : Option Vector → Vector
 no_blocks v = or_default (record { first = 0; count = 0 }) v
 
@@ -107,6 +119,7 @@ meta_of built b = do
   schema ← schema_of built f schema_table
   Ok (record { schema = schema; blocks = blocks; dictionaries = dictionaries })
 
+-- there is one
 abbrev pub has_any : {A : Type 0} → List A → Bool
 has_any [] = false
 has_any (x ∷ xs) = true
@@ -116,13 +129,16 @@ abbrev pub share : Option ℕ → ℕ → ℕ
 share None n = n
 share (Some left) n = min n left
 
+-- what a batch leaves of the limit
 abbrev pub what_is_left : Option ℕ → ℕ → Option ℕ
 what_is_left None n = None
 what_is_left (Some left) n = Some (left - n)
 
+-- the stated lengths of buffers together
 abbrev pub lengths_sum : List IpcBuffer → ℕ
 lengths_sum xs = sum_by (λ x. magnitude x.length) xs
 
+-- no length is negative
 abbrev pub none_negative : List IpcBuffer → Bool
 none_negative [] = true
 none_negative (x ∷ xs) = not (is_negative x.length) && none_negative xs
@@ -132,6 +148,7 @@ pub data Purpose : Type 0 where
   to_read : Purpose
   to_send : Purpose
 
+-- a place that counts where a file is read to be sent
 abbrev pub if_sent : Purpose → Bool → Reading (Unit {0})
 if_sent to_read ok = Ok tt
 if_sent to_send ok = unless ok TooLarge
@@ -141,6 +158,7 @@ abbrev pub column_or_none : Option (List Cell) → List Cell
 column_or_none None = []
 column_or_none (Some x) = x
 
+-- the columns in the order asked
 abbrev pub as_asked : Option (List ℕ) → List (List Cell) → List (List Cell)
 as_asked None columns = columns
 as_asked (Some cs) columns = map (λ c. column_or_none (slice_get columns c)) cs
@@ -150,19 +168,23 @@ abbrev pub wrong_columns : ℕ → List ℕ → List ℕ → Reading (Unit {0})
 wrong_columns count earlier [] = Ok tt
 wrong_columns count earlier (c ∷ cs) = unless (nat_lt c count && not (stands_in earlier c)) (Projection c) >>= λ right. wrong_columns count (c ∷ earlier) cs
 
+-- the columns asked for, if any are
 abbrev pub columns_right : Option (List ℕ) → ℕ → Reading (Unit {0})
 columns_right None count = Ok tt
 columns_right (Some cs) count = wrong_columns count [] cs
 
+-- the c-th field before others
 abbrev pub with_field_at : Fields → ℕ → Fields → Fields
 with_field_at none c others = others
 with_field_at (field name nullable metadata k fs) zero others = field name nullable metadata k others
 with_field_at (field name nullable metadata k fs) (suc c) others = with_field_at fs c others
 
+-- the fields in the order asked
 abbrev pub fields_asked : Fields → List ℕ → Fields
 fields_asked fs [] = none
 fields_asked fs (c ∷ cs) = with_field_at fs c (fields_asked fs cs)
 
+-- the same where all may be asked for
 abbrev pub fields_as_asked : Option (List ℕ) → Fields → Fields
 fields_as_asked None fs = fs
 fields_as_asked (Some cs) fs = fields_asked fs cs
@@ -175,6 +197,7 @@ pub record Asked : Type 0 where
   pub dictionaries : Dictionaries
   pub most : ℕ
 
+-- a record batch by its tables, its version and its body
 abbrev pub record_batch_of : Asked → MetadataVersion → BatchHeader → List ℕ → RecordBatch
 record_batch_of a version tables body = record { order = a.order; version = version; nodes = tables.nodes; buffers = tables.buffers; variadic = tables.variadic; body = body }
 
@@ -197,9 +220,11 @@ block_message b block tag = do
   m ← message_of (take prefix.1 (drop (block.offset + prefix.0) b)) (λ n. nat_eq n tag)
   Ok (take prefix.1 (drop (block.offset + prefix.0) b), m)
 
+-- a block's body
 abbrev pub block_body : List ℕ → FileBlock → List ℕ
 block_body b block = take block.body (drop (block.offset + block.metadata) b)
 
+-- a record block
 unfoldable pub batch_of : Purpose → List ℕ → Asked → FileBlock → Option ℕ → Reading TableBatch
 batch_of purpose b a block left = do
   m ← block_message b block 3
@@ -212,6 +237,7 @@ abbrev pub dictionaries_sent : Bool → Purpose → Asked → Reading (Unit {0})
 dictionaries_sent true purpose a = if_sent purpose (all_may_be_sent (dictionary_messages a.dictionaries (fields_as_asked a.columns a.fields)))
 dictionaries_sent false purpose a = Ok tt
 
+-- record blocks in order, each cut to what the ones before leave of the limit
 unfoldable pub batches_of : Purpose → List ℕ → Asked → Bool → List FileBlock → Option ℕ → Reading (List TableBatch)
 batches_of purpose b a is_first [] left = Ok []
 batches_of purpose b a is_first (block ∷ blocks) left = do
@@ -220,10 +246,12 @@ batches_of purpose b a is_first (block ∷ blocks) left = do
   others ← batches_of purpose b a false blocks (what_is_left left first.rows)
   Ok (first ∷ others)
 
+-- a dictionary's values are the one column of their batch
 abbrev pub first_column : List (List Cell) → List Cell
 first_column [] = []
 first_column (x ∷ xs) = x
 
+-- there is a dictionary
 abbrev pub is_held : Option (List Cell) → Bool
 is_held None = false
 is_held (Some x) = true
@@ -258,6 +286,7 @@ abbrev pub taken : Option ℕ → List FileBlock → List FileBlock
 taken None blocks = blocks
 taken (Some j) blocks = take j blocks
 
+-- it was asked for
 abbrev pub is_given : {A : Type 0} → Option A → Bool
 is_given None = false
 is_given (Some x) = true
@@ -287,6 +316,7 @@ batch_sent b a block left = do
   rows ← natural tables.length
   Ok (batch_message (record_batch_of a version tables (block_body b block)) a.columns a.fields (share left rows), share left rows)
 
+-- the messages of record blocks
 unfoldable pub batches_sent : List ℕ → Asked → List FileBlock → Option ℕ → Reading (List SentMessage)
 batches_sent b a [] left = Ok []
 batches_sent b a (block ∷ blocks) left = do
@@ -309,12 +339,15 @@ sent built b r j = do
   batches ← batches_sent b asked (taken j meta.blocks) r.limit
   Ok (schema_message fields meta.schema.metadata ∷ dictionaries_before (dictionary_messages dictionaries fields) (taken j meta.blocks) ++ batches)
 
+-- what the first j blocks of a file mean
 unfoldable pub file_part : List ℕ → Request → ℕ → Option ArrowTable
 file_part b r j = meaning (file_reading so_far to_read b r (Some j))
 
+-- what a file means
 unfoldable pub file_table : List ℕ → Request → Option ArrowTable
 file_table b r = meaning (file_reading so_far to_read b r None)
 
+-- a refusal that may be answered where a file is to be sent as a stream
 abbrev pub may : List ℕ → Request → IpcError → Type 0
 may b r e = IsAmong (refusals (file_reading so_far to_send b r None)) e
 
@@ -329,5 +362,6 @@ abbrev pub cut_batches : List TableBatch → Option ℕ → List TableBatch
 cut_batches [] left = []
 cut_batches (x ∷ xs) left = record { rows = share left x.rows; columns = map (λ cells. take (share left x.rows) cells) x.columns } ∷ cut_batches xs (what_is_left left (share left x.rows))
 
+-- each batch cut, the rest kept
 abbrev pub cut : ArrowTable → Option ℕ → ArrowTable
 cut t limit = record { metadata = t.metadata; fields = t.fields; batches = cut_batches t.batches limit }

@@ -1,4 +1,4 @@
--- What is read where a tree is laid.
+-- What is read where a tree is laid: the law of the layout reads it back. (FlatBuffers, "Internals".)
 use Rattle.std.specs.Prelude.{◌≡◌, ℕ, ◌+◌, ◌*◌, ◌^◌, ◌<◌, ◌≤◌, List, ◌++◌, length, Some, None, Ok}
 use Rattle.std.specs.List.{flat_map}
 use Rattle.std.specs.Int.{Width, w8, w16, w32, w64, w128, to_le_bytes, cast_unsigned}

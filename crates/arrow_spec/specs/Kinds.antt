@@ -1,4 +1,4 @@
--- The types of columns, and what stands in a row.
+-- The types of columns. (Arrow Columnar Format, "Data Types" and "Serialization and Interprocess Communication", Schema.fbs.)
 use Rattle.std.specs.Prelude.{ℕ, suc, List, [], ◌∷◌, ◌++◌, Bool, true, false, Option, Some, None, ℤ, pos, negsuc, nat_eq, ◌&&◌, if◌then◌else◌}
 use Rattle.std.specs.Str.{bytes_eq}
 use Rattle.arrow_spec.specs.declared.types.IntegerType.{IntegerType}
@@ -10,10 +10,12 @@ use Rattle.arrow_spec.specs.declared.types.UnionMode.{UnionMode}
 use Rattle.arrow_spec.specs.declared.types.UnionMode.TheVariants.{Dense, Sparse}
 use Rattle.arrow_spec.specs.declared.types.IntegerType.TheVariants.{Int8, Int16, Int32, Int64, Int128, UInt8, UInt16, UInt32, UInt64}
 
+-- offsets of 32 bits or of 64
 pub data Offsets : Type 0 where
   small : Offsets
   large : Offsets
 
+-- floats, whose values are never read
 pub data FloatType : Type 0 where
   half : FloatType
   single : FloatType
@@ -58,6 +60,7 @@ mutual
     none : Fields
     field : List ℕ → Bool → Metadata → Kind → Fields → Fields
 
+-- how many fields
 abbrev pub width : Fields → ℕ
 width none = 0
 width (field name nullable metadata kind others) = suc (width others)
@@ -80,6 +83,7 @@ abbrev mutual
 
 -- ── uses of dictionaries ──
 
+-- equal numbers
 abbrev pub same : ℤ → ℤ → Bool
 same (pos a) (pos b) = nat_eq a b
 same (negsuc a) (negsuc b) = nat_eq a b
@@ -114,6 +118,7 @@ values_under id (u ∷ us) = if same u.id id then Some u.values else values_unde
 
 -- ── one kind, names, nullability and metadata aside ──
 
+-- integers by number
 abbrev pub integer_number : IntegerType → ℕ
 integer_number Int8 = 0
 integer_number Int16 = 1
@@ -125,57 +130,68 @@ integer_number UInt16 = 6
 integer_number UInt32 = 7
 integer_number UInt64 = 8
 
+-- one integer type
 abbrev pub is_same_integer : IntegerType → IntegerType → Bool
 is_same_integer s t = nat_eq (integer_number s) (integer_number t)
 
+-- units by number
 abbrev pub unit_number : TimeUnit → ℕ
 unit_number Second = 0
 unit_number Millisecond = 1
 unit_number Microsecond = 2
 unit_number Nanosecond = 3
 
+-- one unit
 abbrev pub is_same_unit : TimeUnit → TimeUnit → Bool
 is_same_unit u v = nat_eq (unit_number u) (unit_number v)
 
+-- one interval unit
 abbrev pub is_same_interval : IntervalUnit → IntervalUnit → Bool
 is_same_interval YearMonth YearMonth = true
 is_same_interval DayTime DayTime = true
 is_same_interval MonthDayNano MonthDayNano = true
 is_same_interval u v = false
 
+-- one mode
 abbrev pub is_same_mode : UnionMode → UnionMode → Bool
 is_same_mode Dense Dense = true
 is_same_mode Sparse Sparse = true
 is_same_mode m n = false
 
+-- one float type
 abbrev pub is_same_float : FloatType → FloatType → Bool
 is_same_float half half = true
 is_same_float single single = true
 is_same_float double double = true
 is_same_float s t = false
 
+-- one width of offsets
 abbrev pub is_same_offsets : Offsets → Offsets → Bool
 is_same_offsets small small = true
 is_same_offsets large large = true
 is_same_offsets o q = false
 
+-- one truth value
 abbrev pub is_same_flag : Bool → Bool → Bool
 is_same_flag true b = b
 is_same_flag false true = false
 is_same_flag false false = true
 
+-- one text, or none twice
 abbrev pub is_same_text : Option (List ℕ) → Option (List ℕ) → Bool
 is_same_text None None = true
 is_same_text (Some s) (Some t) = bytes_eq s t
 is_same_text None (Some t) = false
 is_same_text (Some s) None = false
 
+-- the same ids in order
 abbrev pub are_same_ids : List ℤ → List ℤ → Bool
 are_same_ids [] [] = true
 are_same_ids (x ∷ xs) (y ∷ ys) = same x y && are_same_ids xs ys
 are_same_ids [] (y ∷ ys) = false
 are_same_ids (x ∷ xs) [] = false
 
+-- one kind
 abbrev mutual
   pub is_same_kind : Kind → Kind → Bool
   is_same_kind null null = true

@@ -1,8 +1,9 @@
--- How a tree of tables, texts and vectors is laid out as a flatbuffer.
+-- How a tree of tables, texts and vectors is laid out as a flatbuffer. (FlatBuffers, "Internals"; the order and the padding are a choice of this writer.)
 use Rattle.std.specs.Prelude.{ℕ, zero, suc, ◌+◌, ◌-◌, ◌*◌, ◌%◌, List, [], ◌∷◌, ◌++◌, length, replicate, ℤ}
 use Rattle.std.specs.List.{flat_map}
 use Rattle.std.specs.Int.{Width, w16, w32, w64, byte_len, to_le_bytes, cast_unsigned}
 
+-- a tree of tables, texts and vectors
 mutual
   pub data Node : Type 0 where
     table : Slots → Node
@@ -32,12 +33,15 @@ up_to n place = place + (n - place % n) % n
 abbrev pub before_eight : ℕ → ℕ
 before_eight place = up_to 8 (place + 4) - 4
 
+-- padding
 abbrev pub zeros : ℕ → List ℕ
 zeros n = replicate n 0
 
+-- a number of two bytes
 abbrev pub u16 : ℕ → List ℕ
 u16 n = to_le_bytes w16 n
 
+-- a number of four bytes
 abbrev pub u32 : ℕ → List ℕ
 u32 n = to_le_bytes w32 n
 
@@ -53,9 +57,11 @@ slot_count (absent s) = one_more (slot_count s)
 slot_count (value w x s) = suc (slot_count s)
 slot_count (child n s) = suc (slot_count s)
 
+-- a vtable has its own size, the table's, and an entry a slot
 abbrev pub vtable_size : Slots → ℕ
 vtable_size s = 4 + 2 * slot_count s
 
+-- a table's vtable ends where the table begins, at a multiple of 8
 abbrev pub table_place : Slots → ℕ → ℕ
 table_place s cursor = up_to 8 (cursor + vtable_size s)
 
@@ -75,6 +81,7 @@ inline_end (absent s) q = inline_end s q
 inline_end (value w x s) q = inline_end s (up_to (byte_len w) q + byte_len w)
 inline_end (child n s) q = inline_end s (up_to 4 q + 4)
 
+-- how many nodes
 abbrev pub node_count : Nodes → ℕ
 node_count none = 0
 node_count (also n ns) = suc (node_count ns)
@@ -151,5 +158,6 @@ abbrev mutual
 unfoldable pub layout : Node → List ℕ
 layout n = u32 (place_of n 4) ++ laid n 4
 
+-- the layout's length
 unfoldable pub size : Node → ℕ
 size n = end_of n 4

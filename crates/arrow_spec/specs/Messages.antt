@@ -1,4 +1,4 @@
--- Encapsulated messages: prefix, metadata, header.
+-- Encapsulated messages: prefix, metadata, header. (Arrow Columnar Format, "Encapsulated message format", Message.fbs.)
 use Rattle.std.specs.Prelude.{◌≡◌, ℕ, zero, suc, ◌+◌, ◌-◌, ◌*◌, ◌^◌, List, [], ◌∷◌, length, take, drop, Bool, true, false, Option, Some, None, Result, Ok, Err, nat_le, nat_lt, nat_eq, not, ◌&&◌, if◌then◌else◌, ℤ, pos, negsuc}
 use Rattle.std.specs.Int.{w8, w16, w32, w64}
 use Rattle.std.specs.Str.{bytes_eq}
@@ -24,29 +24,37 @@ pub record BatchHeader : Type 0 where
   pub compressed : Bool
   pub variadic : List ℤ
 
+-- a node (Message.fbs, FieldNode)
 abbrev pub node_at : List ℕ → ℕ → Result FieldNode FlatError
 node_at b p = signed_at w64 b p >>= λ x. signed_at w64 b (p + 8) >>= λ y. Ok (record { length = x; null_count = y })
 
+-- the nodes of a vector
 abbrev pub nodes_at : List ℕ → Vector → Result (List FieldNode) FlatError
 nodes_at b v = each (λ i. node_at b (v.first + 16 * i)) 0 v.count
 
+-- a buffer (Message.fbs, Buffer)
 abbrev pub buffer_at : List ℕ → ℕ → Result IpcBuffer FlatError
 buffer_at b p = signed_at w64 b p >>= λ x. signed_at w64 b (p + 8) >>= λ y. Ok (record { offset = x; length = y })
 
+-- the buffers of a vector
 abbrev pub buffers_at : List ℕ → Vector → Result (List IpcBuffer) FlatError
 buffers_at b v = each (λ i. buffer_at b (v.first + 16 * i)) 0 v.count
 
+-- the numbers of a vector, none where it is absent
 abbrev pub numbers_at : List ℕ → Option Vector → Result (List ℤ) FlatError
 numbers_at b None = Ok []
 numbers_at b (Some v) = each (λ i. signed_at w64 b (v.first + 8 * i)) 0 v.count
 
+-- a fault under the name of its part
 abbrev pub as_kind : {A : Type 0} → (FlatError → OutOfSpecKind) → Result A FlatError → Reading A
 as_kind kind r = in_terms_of (λ f. OutOfSpec (kind f) ∷ []) r
 
+-- a number that must not be negative
 abbrev pub natural : ℤ → Reading ℕ
 natural (pos n) = Ok n
 natural (negsuc n) = damaged kinds.UnexpectedNegativeInteger
 
+-- the tables of a record batch (Message.fbs, RecordBatch)
 unfoldable pub batch_at : List ℕ → Table → Reading BatchHeader
 batch_at b t = do
   length ← as_kind kinds.InvalidFlatbufferRecordBatches (slot_signed w64 (pos 0) b t 0)
@@ -92,9 +100,11 @@ message_of b taken = do
   body ← as_kind kinds.InvalidFlatbufferBodyLength (slot_signed w64 (pos 0) b t 3) >>= natural
   Ok (record { table = t; tag = tag; header = header; body = body })
 
+-- a version by its number (Schema.fbs, MetadataVersion)
 abbrev pub version_of_number : ℕ → Reading MetadataVersion
 version_of_number n = elim (nat_le n 2) [ true ↦ refuse (Unsupported features.Version) | false ↦ elim (nat_eq n 3) [ true ↦ Ok V4 | false ↦ elim (nat_eq n 4) [ true ↦ Ok V5 | false ↦ damaged (kinds.InvalidFlatbufferVersion Number) ] ] ]
 
+-- a message's version
 unfoldable pub version_of : List ℕ → Message → Reading MetadataVersion
 version_of b m = as_kind kinds.InvalidFlatbufferVersion (slot_unsigned w16 0 b m.table 0) >>= version_of_number
 
@@ -104,6 +114,7 @@ pub record DictionaryBatch : Type 0 where
   pub is_delta : Bool
   pub values : BatchHeader
 
+-- a dictionary batch (Message.fbs, DictionaryBatch)
 unfoldable pub dictionary_at : List ℕ → Table → Reading DictionaryBatch
 dictionary_at b t = do
   id ← as_kind kinds.InvalidFlatbufferId (slot_signed w64 (pos 0) b t 0)

@@ -1,4 +1,4 @@
--- The parts of a file that a request needs, and what they cost.
+-- The parts of a file that a request needs, and what they cost. (Arrow Columnar Format, "IPC File Format": blocks; "Buffer Listing for Each Layout".)
 use Rattle.std.specs.Prelude.{ℕ, zero, suc, ◌+◌, ◌-◌, List, [], ◌∷◌, ◌++◌, length, take, drop, Option, Some, None, Ok, if◌then◌else◌, sum_by}
 use Rattle.arrow_spec.specs.declared.error.IpcError.TheVariants.{OutOfSpec}
 use Rattle.arrow_spec.specs.declared.error.OutOfSpecKind.TheVariants.{InvalidId}
@@ -19,13 +19,16 @@ pub record Range : Type 0 where
   pub place : ℕ
   pub length : ℕ
 
+-- i, i + 1, .., n of them
 abbrev pub numbers_from : ℕ → ℕ → List ℕ
 numbers_from i zero = []
 numbers_from i (suc n) = i ∷ numbers_from (suc i) n
 
+-- a validity is read where nulls are counted
 abbrev pub validity_looked_at : RecordBatch → Place → List ℕ
 validity_looked_at m p = if has_nulls m p then p.buffer ∷ [] else []
 
+-- a union's types, and its offsets where it is dense
 abbrev pub union_looked_at : RecordBatch → UnionMode → Place → List ℕ
 union_looked_at m Sparse p = types_buffer m p ∷ []
 union_looked_at m Dense p = types_buffer m p ∷ suc (types_buffer m p) ∷ []
@@ -50,10 +53,12 @@ abbrev mutual
   looked_at_in m none p = []
   looked_at_in m (field name nullable metadata k others) p = looked_at m k p ++ looked_at_in m others (after m k p)
 
+-- the buffers of the columns asked for
 abbrev pub columns_looked_at : RecordBatch → Option (List ℕ) → Fields → ℕ → Place → List ℕ
 columns_looked_at m asked none c p = []
 columns_looked_at m asked (field name nullable metadata k others) c p = (if is_chosen asked c then looked_at m k p else []) ++ columns_looked_at m asked others (suc c) (after m k p)
 
+-- where buffers stand in the file
 abbrev pub ranges : RecordBatch → ℕ → List ℕ → List Range
 ranges m body [] = []
 ranges m body (i ∷ is) = record { place = body + magnitude (range_of m i).offset; length = magnitude (range_of m i).length } ∷ ranges m body is
@@ -62,9 +67,11 @@ ranges m body (i ∷ is) = record { place = body + magnitude (range_of m i).offs
 abbrev pub message_range : List ℕ → FileBlock → Reading Range
 message_range b block = prefix_of (take block.metadata (drop block.offset b)) >>= λ prefix. Ok (record { place = block.offset; length = prefix.0 + prefix.1 })
 
+-- the record batch of a block
 abbrev pub record_batch_in : List ℕ → Meta → MetadataVersion → BatchHeader → FileBlock → RecordBatch
 record_batch_in b meta version tables block = record { order = meta.schema.order; version = version; nodes = tables.nodes; buffers = tables.buffers; variadic = tables.variadic; body = block_body b block }
 
+-- what a record block needs
 unfoldable pub batch_needs : List ℕ → Meta → Request → FileBlock → Reading (List Range)
 batch_needs b meta r block = do
   m ← block_message b block 3
@@ -74,6 +81,7 @@ batch_needs b meta r block = do
   let source = record_batch_in b meta version tables block
   Ok (range ∷ ranges source (block.offset + block.metadata) (columns_looked_at source r.columns meta.schema.fields 0 first_place))
 
+-- what a dictionary block needs
 unfoldable pub dictionary_needs : List ℕ → Meta → FileBlock → Reading (List Range)
 dictionary_needs b meta block = do
   m ← block_message b block 2
@@ -92,13 +100,16 @@ all_need needs (block ∷ blocks) = do
   others ← all_need needs blocks
   Ok (first ++ others)
 
+-- nothing is needed of what has no meaning
 abbrev pub or_nothing : Option (List Range) → List Range
 or_nothing None = []
 or_nothing (Some xs) = xs
 
+-- the footer's length
 abbrev pub footer_size : List ℕ → Reading ℕ
 footer_size b = Rattle.arrow_spec.specs.Files.footer_of b >>= λ f. Ok (length f)
 
+-- trailer, footer, dictionaries and record blocks
 unfoldable pub parts_needed : Built → List ℕ → Request → Reading (List Range)
 parts_needed built b r = do
   meta ← meta_of built b
@@ -107,11 +118,14 @@ parts_needed built b r = do
   batches ← all_need (λ block. batch_needs b meta r block) meta.blocks
   Ok (record { place = length b - 10; length = 10 } ∷ record { place = length b - 10 - n; length = n } ∷ dictionaries ++ batches)
 
+-- the ranges that a request needs
 unfoldable pub needed : List ℕ → Request → List Range
 needed b r = or_nothing (meaning (parts_needed so_far b r))
 
+-- their lengths together
 abbrev pub lengths : List Range → ℕ
 lengths ranges = sum_by (λ x. x.length) ranges
 
+-- how many bytes a request fetches at most
 unfoldable pub cost : List ℕ → Request → ℕ
 cost b r = lengths (needed b r)

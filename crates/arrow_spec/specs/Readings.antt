@@ -1,4 +1,4 @@
--- A part of the input as it is read: what it means, or why it means nothing.
+-- What a part of the input means, or why it means nothing. This is the form of every definition below; it comes from no document.
 use Rattle.std.specs.Prelude.{◌≡◌, ℕ, zero, suc, List, [], ◌∷◌, ◌⊎◌, Bool, true, false, Option, Some, None, Result, Ok, Err}
 use Rattle.arrow_spec.specs.declared.error.IpcError.{IpcError}
 use Rattle.arrow_spec.specs.declared.error.IpcError.TheVariants.{OutOfSpec, Unsupported, Memory, ReadFault, WriteFault}
@@ -11,6 +11,7 @@ bind (Ok x) f = f x
 bind (Err e) f = Err e
 
 infixl 10 ◌>>=◌
+-- the same between two parts of a definition
 abbrev pub ◌>>=◌ : {A B E : Type 0} → Result A E → (A → Result B E) → Result B E
 r >>= f = bind r f
 
@@ -18,12 +19,15 @@ r >>= f = bind r f
 abbrev pub Reading : Type 0 → Type 0
 Reading A = Result A (List IpcError)
 
+-- one refusal
 abbrev pub refuse : {A : Type 0} → IpcError → Reading A
 refuse e = Err (e ∷ [])
 
+-- the bytes are not as the format says
 abbrev pub damaged : {A : Type 0} → OutOfSpecKind → Reading A
 damaged kind = refuse (OutOfSpec kind)
 
+-- the bytes use what is not supported
 abbrev pub unsupported : {A : Type 0} → Feature → Reading A
 unsupported feature = refuse (Unsupported feature)
 
@@ -37,6 +41,7 @@ abbrev pub unless : Bool → IpcError → Reading (Unit {0})
 unless true e = Ok tt
 unless false e = refuse e
 
+-- a place with one kind of damage
 abbrev pub only_if : Bool → OutOfSpecKind → Reading (Unit {0})
 only_if ok kind = unless ok (OutOfSpec kind)
 
@@ -60,6 +65,7 @@ abbrev pub IsAmong : List IpcError → IpcError → Type 0
 IsAmong [] e = ⊥
 IsAmong (x ∷ xs) e = (x ≡ e) ⊎ IsAmong xs e
 
+-- the refusals, if it means nothing
 abbrev pub refusals : {A : Type 0} → Reading A → List IpcError
 refusals (Ok x) = []
 refusals (Err es) = es
@@ -71,6 +77,7 @@ Refuses ReadFault es = Unit {0}
 Refuses WriteFault es = Unit {0}
 Refuses e es = IsAmong es e
 
+-- a call gives what a reading says: the value, seen by view, or one of its refusals
 abbrev pub Gives : {X Y : Type 0} → (X → Y) → Result X IpcError → Reading Y → Type 0
 Gives view (Ok x) read = read ≡ Ok (view x)
 Gives view (Err e) read = Refuses e (refusals read)

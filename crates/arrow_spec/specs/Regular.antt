@@ -1,4 +1,4 @@
--- Schemas that are written and read back as they are.
+-- Schemas that are written and read back as they are. (Arrow Columnar Format, "Schema message".)
 use Rattle.std.specs.Prelude.{ℕ, suc, ◌+◌, List, [], ◌∷◌, ◌++◌, length, Bool, true, false, Some, None, nat_le, nat_lt, nat_eq, ◌&&◌, sum_by}
 use Rattle.arrow_spec.specs.Kinds.{Kind, Fields, none, field, Metadata, time32, time64, fixed_size_binary, «list», fixed_size_list, struct, map, union, dictionary, extension, width, unit_number}
 use Rattle.arrow_spec.specs.Schema.{first_is_struct_of_two, has_distinct_names}
@@ -32,9 +32,11 @@ extension_pairs (extension name (Some metadata) k) = 2
 extension_pairs (dictionary index ordered id k) = extension_pairs k
 extension_pairs k = 0
 
+-- how many pairs are written for a field
 abbrev pub pairs_of_field : Standing → ℕ
 pairs_of_field f = length f.metadata + extension_pairs f.kind
 
+-- no extension
 abbrev pub is_no_extension : Kind → Bool
 is_no_extension (extension name metadata k) = false
 is_no_extension k = true
@@ -51,9 +53,11 @@ is_regular_kind (dictionary index ordered id k) = is_regular_kind k
 is_regular_kind (extension name metadata k) = is_no_extension k && is_regular_kind k
 is_regular_kind k = true
 
+-- at most 64 levels deep
 abbrev pub is_regular_field : Standing → Bool
 is_regular_field f = nat_le f.level 64 && is_regular_kind f.kind
 
+-- each of them
 abbrev pub are_regular : List Standing → Bool
 are_regular [] = true
 are_regular (f ∷ fs) = is_regular_field f && are_regular fs

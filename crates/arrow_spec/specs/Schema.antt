@@ -1,4 +1,4 @@
--- The schema of a message or a footer.
+-- The schema of a message or a footer. (Arrow Columnar Format, "Schema message", Schema.fbs; "Extension Types"; "Custom Application Metadata".)
 use Rattle.std.specs.Prelude.{ℕ, zero, suc, ◌+◌, ◌*◌, List, [], ◌∷◌, length, Bool, true, false, Option, Some, None, Result, Ok, nat_le, nat_lt, nat_eq, not, ◌&&◌, ◌||◌, if◌then◌else◌, ℤ, pos, negsuc, codes}
 use Rattle.std.specs.Int.{w8, w16, w32, w64}
 use Rattle.std.specs.Str.{bytes_eq}
@@ -21,6 +21,7 @@ use Rattle.arrow_spec.specs.Kinds as kind
 use Rattle.arrow_spec.specs.Kinds.{Kind, Fields, none, field, Metadata, Offsets, small, large, width, same, Use, uses_in, values_under, agrees_with}
 use Rattle.arrow_spec.specs.Built.{Built}
 
+-- byte order, fields and pairs (Schema.fbs, Schema)
 pub record Schema : Type 0 where
   pub order : Order
   pub fields : Fields
@@ -30,17 +31,21 @@ pub record Schema : Type 0 where
 abbrev pub schema_part : {A : Type 0} → Result A FlatError → Reading A
 schema_part r = in_terms_of (λ f. OutOfSpec (InvalidFlatbufferSchema f) ∷ []) r
 
+-- nothing is there
 abbrev pub is_absent : {A : Type 0} → Option A → Bool
 is_absent None = true
 is_absent (Some x) = false
 
+-- what must be there
 abbrev pub required : {A : Type 0} → IpcError → Option A → Reading A
 required e None = refuse e
 required e (Some x) = Ok x
 
+-- a number that the format does not list
 abbrev pub not_listed : {A : Type 0} → Reading A
 not_listed = damaged (InvalidFlatbufferSchema Number)
 
+-- an absent vector is an empty one
 abbrev pub empty_vector : Option Vector → Vector
 empty_vector v = or_default (record { first = 0; count = 0 }) v
 
@@ -58,10 +63,12 @@ abbrev pub with_pair : List ℕ → List ℕ → Metadata → Metadata
 with_pair key value [] = (key, value) ∷ []
 with_pair key value (x ∷ xs) = if bytes_eq key x.0 then (key, value) ∷ xs else if stands_before key x.0 then (key, value) ∷ x ∷ xs else x ∷ with_pair key value xs
 
+-- the map without a key
 abbrev pub without_key : List ℕ → Metadata → Metadata
 without_key key [] = []
 without_key key (x ∷ xs) = if bytes_eq key x.0 then xs else x ∷ without_key key xs
 
+-- the value under a key
 abbrev pub value_of : List ℕ → Metadata → Option (List ℕ)
 value_of key [] = None
 value_of key (x ∷ xs) = if bytes_eq key x.0 then Some x.1 else value_of key xs
@@ -72,6 +79,7 @@ with_read_pair (Some key) (Some value) m = with_pair key value m
 with_read_pair None value m = m
 with_read_pair (Some key) None m = m
 
+-- n pairs, whose offsets stand from a place on (Schema.fbs, KeyValue)
 unfoldable pub pairs_from : List ℕ → ℕ → ℕ → Metadata → Reading Metadata
 pairs_from b at zero m = Ok m
 pairs_from b at (suc n) m = do
@@ -85,6 +93,7 @@ pub record Before : Type 0 where
   pub fields : ℕ
   pub pairs : ℕ
 
+-- the pairs in a slot, and how many pairs there are up to their end
 unfoldable pub pairs_of : List ℕ → Table → ℕ → ℕ → Reading (Metadata × ℕ)
 pairs_of b t slot before = do
   v ← schema_part (slot_vector 4 b t slot)
@@ -101,6 +110,7 @@ choice count d b t slot = do
   listed ← only_if (nat_lt n count) (InvalidFlatbufferSchema Number)
   Ok n
 
+-- a number that must not be negative
 abbrev pub natural_slot : ℕ → List ℕ → Table → ℕ → Reading ℕ
 natural_slot d b t slot = schema_part (slot_signed w32 (pos d) b t slot) >>= not_negative
   where
@@ -113,55 +123,68 @@ abbrev pub one_of : {A : Type 0} → ℕ → List (ℕ × A) → Option A
 one_of n [] = None
 one_of n (x ∷ xs) = if nat_eq n x.0 then Some x.1 else one_of n xs
 
+-- signed integers by their bits
 abbrev pub signed_types : List (ℕ × IntegerType)
 signed_types = (8, Int8) ∷ (16, Int16) ∷ (32, Int32) ∷ (64, Int64) ∷ (128, Int128) ∷ []
 
+-- unsigned integers by their bits
 abbrev pub unsigned_types : List (ℕ × IntegerType)
 unsigned_types = (8, UInt8) ∷ (16, UInt16) ∷ (32, UInt32) ∷ (64, UInt64) ∷ []
 
+-- an integer type by bits and sign
 abbrev pub integer_of : ℕ → Bool → Reading IntegerType
 integer_of bits signed = required (OutOfSpec InvalidDataType) (one_of bits (if signed then signed_types else unsigned_types))
 
+-- an integer type (Schema.fbs, Int)
 unfoldable pub integer_at : List ℕ → Table → Reading IntegerType
 integer_at b t = do
   bits ← natural_slot 0 b t 0
   signed ← schema_part (slot_bool b t 1)
   integer_of bits signed
 
+-- a unit by its number (Schema.fbs, TimeUnit)
 abbrev pub unit_of : ℕ → TimeUnit
 unit_of zero = Second
 unit_of (suc zero) = Millisecond
 unit_of (suc (suc zero)) = Microsecond
 unit_of (suc (suc (suc n))) = Nanosecond
 
+-- seconds and milliseconds take 32 bits, the finer units 64 (Schema.fbs, Time)
 abbrev pub time_of : ℕ → ℕ → Reading Kind
 time_of bits unit = elim (nat_eq bits 32 && nat_lt unit 2) [ true ↦ Ok (kind.time32 (unit_of unit)) | false ↦ elim (nat_eq bits 64 && nat_le 2 unit) [ true ↦ Ok (kind.time64 (unit_of unit)) | false ↦ damaged InvalidDataType ] ]
 
+-- a scale that is not negative
 abbrev pub natural_scale : ℤ → Reading ℕ
 natural_scale (pos n) = Ok n
 natural_scale (negsuc n) = unsupported features.NegativeScale
 
+-- decimals by their bits (Schema.fbs, Decimal)
 abbrev pub decimal_of : ℕ → ℕ → ℕ → Reading Kind
 decimal_of bits precision scale = required (OutOfSpec InvalidDataType) (one_of bits ((128, Ok (kind.decimal precision scale)) ∷ (256, Ok (kind.decimal256 precision scale)) ∷ (32, unsupported features.DecimalWidth) ∷ (64, unsupported features.DecimalWidth) ∷ [])) >>= λ k. k
 
+-- floats by their number (Schema.fbs, Precision)
 abbrev pub float_of : ℕ → Kind
 float_of zero = kind.float kind.half
 float_of (suc zero) = kind.float kind.single
 float_of (suc (suc n)) = kind.float kind.double
 
+-- dates by their number (Schema.fbs, DateUnit)
 abbrev pub date_of : ℕ → Kind
 date_of zero = kind.date32
 date_of (suc n) = kind.date64
 
+-- intervals by their number (Schema.fbs, IntervalUnit)
 abbrev pub interval_of : ℕ → Kind
 interval_of zero = kind.interval YearMonth
 interval_of (suc zero) = kind.interval DayTime
 interval_of (suc (suc n)) = kind.interval MonthDayNano
 
+-- a size above 0
 abbrev pub positive : ℕ → Reading ℕ
 positive zero = unsupported features.ZeroSize
 positive (suc n) = Ok (suc n)
 
+-- a decimal (Schema.fbs, Decimal)
 unfoldable pub decimal_at : List ℕ → Table → Reading Kind
 decimal_at b t = do
   precision ← natural_slot 0 b t 0
@@ -169,12 +192,14 @@ decimal_at b t = do
   bits ← natural_slot 128 b t 2
   decimal_of bits precision scale
 
+-- a time of day (Schema.fbs, Time)
 unfoldable pub time_at : List ℕ → Table → Reading Kind
 time_at b t = do
   unit ← choice 4 1 b t 0
   bits ← natural_slot 32 b t 1
   time_of bits unit
 
+-- a timestamp (Schema.fbs, Timestamp)
 unfoldable pub timestamp_at : List ℕ → Table → Reading Kind
 timestamp_at b t = do
   unit ← choice 4 0 b t 0
@@ -186,10 +211,12 @@ abbrev pub counted_ids : ℕ → ℕ → List ℤ
 counted_ids i zero = []
 counted_ids i (suc n) = pos i ∷ counted_ids (suc i) n
 
+-- an id stands again
 abbrev pub is_id_behind : List ℤ → ℤ → Bool
 is_id_behind [] x = false
 is_id_behind (y ∷ ys) x = same x y || is_id_behind ys x
 
+-- a number in 0 to 127
 abbrev pub is_id : ℤ → Bool
 is_id (pos n) = nat_le n 127
 is_id (negsuc n) = false
@@ -199,6 +226,7 @@ abbrev pub are_ids : List ℤ → Bool
 are_ids [] = true
 are_ids (x ∷ xs) = is_id x && not (is_id_behind xs x) && are_ids xs
 
+-- a union's ids, counted from 0 where they are absent (Schema.fbs, Union)
 unfoldable pub ids_at : List ℕ → Table → ℕ → Reading (Bool × List ℤ)
 ids_at b t children = do
   v ← schema_part (slot_vector 4 b t 1)
@@ -210,9 +238,11 @@ ids_at b t children = do
 abbrev pub flat : Kind → Reading (Fields → Kind)
 flat k = Ok (λ fs. k)
 
+-- a type with exactly one child
 abbrev pub of_one_child : ℕ → (Fields → Kind) → Reading (Fields → Kind)
 of_one_child n k = only_if (nat_eq n 1) InvalidDataType >>= λ one. Ok k
 
+-- a union (Schema.fbs, Union)
 unfoldable pub union_at : List ℕ → Table → ℕ → Reading (Fields → Kind)
 union_at b t children = do
   mode ← choice 2 0 b t 0
@@ -248,6 +278,7 @@ pub data Tag : Type 0 where
   list_view : Tag
   large_list_view : Tag
 
+-- the numbers of the type tables (Schema.fbs, Type)
 abbrev pub tags : List (ℕ × Tag)
 tags = (1, null) ∷ (2, int) ∷ (3, floating_point) ∷ (4, binary) ∷ (5, utf8) ∷ (6, bool) ∷ (7, decimal) ∷ (8, date) ∷ (9, time) ∷ (10, timestamp) ∷ (11, interval) ∷ (12, «list») ∷ (13, struct) ∷ (14, union) ∷ (15, fixed_size_binary) ∷ (16, fixed_size_list) ∷ (17, map_of) ∷ (18, duration) ∷ (19, large_binary) ∷ (20, large_utf8) ∷ (21, large_list) ∷ (22, run_end_encoded) ∷ (23, binary_view) ∷ (24, utf8_view) ∷ (25, list_view) ∷ (26, large_list_view) ∷ []
 
@@ -261,6 +292,7 @@ is_nested map_of = true
 is_nested large_list = true
 is_nested t = false
 
+-- a type by its tag and its table
 unfoldable pub type_at : List ℕ → Table → ℕ → Tag → Reading (Fields → Kind)
 type_at b t n null = flat kind.null
 type_at b t n int = integer_at b t >>= λ i. flat (kind.integer i)
@@ -295,6 +327,7 @@ pub record Encoding : Type 0 where
   pub ordered : Bool
   pub id : ℤ
 
+-- a field's dictionary (Schema.fbs, DictionaryEncoding)
 unfoldable pub encoding_at : List ℕ → Table → Reading (Option Encoding)
 encoding_at b t = do
   e ← schema_part (slot_table b t 4)
@@ -311,15 +344,19 @@ encoding_at b t = do
       ordered ← schema_part (slot_bool b t' 2)
       Ok (Some (record { index = index; ordered = ordered; id = id }))
 
+-- the key of an extension's name (Arrow Columnar Format, "Extension Types")
 abbrev pub extension_name : List ℕ
 extension_name = codes "ARROW:extension:name"
 
+-- the key of an extension's metadata
 abbrev pub extension_metadata : List ℕ
 extension_metadata = codes "ARROW:extension:metadata"
 
+-- a field with an extension's name is of that extension
 abbrev pub with_extension : Metadata → Kind → Kind
 with_extension pairs k = elim (value_of extension_name pairs) [ None ↦ k | Some name ↦ kind.extension name (value_of extension_metadata pairs) k ]
 
+-- a field with a dictionary has keys into it
 abbrev pub with_encoding : Option Encoding → Kind → Kind
 with_encoding None k = k
 with_encoding (Some e) k = kind.dictionary e.index e.ordered e.id k
@@ -337,10 +374,12 @@ pub record Head : Type 0 where
 abbrev pub children_at : List ℕ → Table → Tag → Reading Vector
 children_at b t tag = elim (is_nested tag) [ true ↦ schema_part (slot_vector 4 b t 5) >>= λ v. Ok (empty_vector v) | false ↦ Ok (empty_vector None) ]
 
+-- a listed tag of a type
 abbrev pub tag_of : ℕ → Reading Tag
 tag_of zero = damaged MissingType
 tag_of (suc n) = required (OutOfSpec (InvalidFlatbufferSchema Number)) (one_of (suc n) tags)
 
+-- a field before its children (Schema.fbs, Field)
 unfoldable pub head_at : Built → List ℕ → ℕ → Before → Reading Head
 head_at built b at before = do
   room ← unless (nat_lt before.fields 65536) (TooMany counted.Fields)
@@ -371,10 +410,12 @@ is_struct_of_two (kind.struct fs) = nat_eq (width fs) 2
 is_struct_of_two (kind.extension name metadata k) = is_struct_of_two k
 is_struct_of_two k = false
 
+-- the first field is a struct of two
 abbrev pub first_is_struct_of_two : Fields → Bool
 first_is_struct_of_two none = false
 first_is_struct_of_two (field name nullable metadata k others) = is_struct_of_two k
 
+-- what a kind asks of its children
 abbrev pub is_whole : Kind → Bool
 is_whole (kind.map sorted fs) = first_is_struct_of_two fs
 is_whole (kind.dictionary index ordered id k) = is_whole k
@@ -398,19 +439,23 @@ field_at built (suc levels) b at before = do
   whole ← only_if (is_whole (head.of_children children.0)) InvalidDataType
   Ok (head, head.of_children children.0, children.1)
 
+-- a field has this name
 abbrev pub has_name : List ℕ → Fields → Bool
 has_name name none = false
 has_name name (field other nullable metadata k others) = bytes_eq name other || has_name name others
 
+-- no two fields have one name
 abbrev pub has_distinct_names : Fields → Bool
 has_distinct_names none = true
 has_distinct_names (field name nullable metadata k others) = not (has_name name others) && has_distinct_names others
 
+-- a byte order by its number (Schema.fbs, Endianness)
 abbrev pub order_of : ℕ → Reading Order
 order_of zero = Ok little
 order_of (suc zero) = Ok big
 order_of (suc (suc n)) = not_listed
 
+-- little-endian
 abbrev pub is_little : Order → Bool
 is_little little = true
 is_little big = false

@@ -1,4 +1,4 @@
--- The messages that a stream is written with.
+-- The messages that a stream is written with. (Arrow Columnar Format, "IPC Streaming Format"; what a writer may choose is chosen here.)
 use Rattle.std.specs.Prelude.{ℕ, zero, suc, ◌+◌, ◌-◌, ◌*◌, ◌/◌, min, List, [], ◌∷◌, ◌++◌, length, Bool, true, false, Option, Some, None, ℤ, pos, negsuc, nat_le, nat_lt, ◌&&◌, if◌then◌else◌, sum_by}
 use Rattle.std.specs.Prelude.{map as each_of}
 use Rattle.std.specs.List.{flat_map}
@@ -27,16 +27,20 @@ unless_zero w (pos zero) s = layout.absent s
 unless_zero w (pos (suc n)) s = layout.value w (pos (suc n)) s
 unless_zero w (negsuc n) s = layout.value w (negsuc n) s
 
+-- a flag is left out where it is false
 abbrev pub flag : Bool → Slots → Slots
 flag true s = layout.value w8 (pos 1) s
 flag false s = layout.absent s
 
+-- a table of one number
 abbrev pub only_value : Width → ℤ → Node
 only_value w x = layout.table (unless_zero w x layout.no_more)
 
+-- a table without slots
 abbrev pub no_slots : Node
 no_slots = layout.table layout.no_more
 
+-- an integer type (Schema.fbs, Int)
 abbrev pub int_node : IntegerType → Node
 int_node t = layout.table (layout.value w32 (pos (8 * byte_len (integer_width t))) (flag (if is_unsigned t then false else true) layout.no_more))
 
@@ -45,6 +49,7 @@ abbrev pub unit_slot : TimeUnit → Slots → Slots
 unit_slot Millisecond s = layout.absent s
 unit_slot u s = layout.value w16 (pos (unit_number u)) s
 
+-- a text, if there is one
 abbrev pub text_slot : Option (List ℕ) → Slots → Slots
 text_slot None s = layout.absent s
 text_slot (Some t) s = layout.child (layout.text t) s
@@ -85,6 +90,7 @@ type_tag utf8_view = pos 24
 type_tag (dictionary t ordered id k) = type_tag k
 type_tag (extension name metadata k) = type_tag k
 
+-- the table of a type (Schema.fbs, Type)
 abbrev pub type_node : Kind → Node
 type_node (integer t) = int_node t
 type_node (float half) = no_slots
@@ -114,6 +120,7 @@ abbrev pub encoding_slot : ℕ → Kind → Slots → Slots
 encoding_slot id (dictionary t ordered old k) s = layout.child (layout.table (unless_zero w64 (pos id) (layout.child (int_node t) (flag ordered layout.no_more)))) s
 encoding_slot id k s = layout.absent s
 
+-- how many dictionaries stand in a kind
 abbrev mutual
   pub dictionary_count : Kind → ℕ
   dictionary_count («list» o fs) = dictionary_counts fs
@@ -129,13 +136,16 @@ abbrev mutual
   dictionary_counts none = 0
   dictionary_counts (field name nullable metadata k others) = dictionary_count k + dictionary_counts others
 
+-- a pair (Schema.fbs, KeyValue)
 abbrev pub pair_node : List ℕ → List ℕ → Node
 pair_node key value = layout.table (layout.child (layout.text key) (layout.child (layout.text value) layout.no_more))
 
+-- pairs in order
 abbrev pub pair_nodes : Metadata → Nodes
 pair_nodes [] = layout.none
 pair_nodes (x ∷ xs) = layout.also (pair_node x.0 x.1) (pair_nodes xs)
 
+-- an extension's metadata, if it has any
 abbrev pub extension_pair : Option (List ℕ) → Nodes → Nodes
 extension_pair None ns = ns
 extension_pair (Some value) ns = layout.also (pair_node extension_metadata value) ns
@@ -146,6 +156,7 @@ field_pairs (extension name metadata k) pairs = extension_pair metadata (layout.
 field_pairs (dictionary t ordered id (extension name metadata k)) pairs = extension_pair metadata (layout.also (pair_node extension_name name) (pair_nodes pairs))
 field_pairs k pairs = pair_nodes pairs
 
+-- a list of pairs is left out where it is empty
 abbrev pub pairs_slot : Nodes → Slots → Slots
 pairs_slot layout.none s = layout.absent s
 pairs_slot (layout.also n ns) s = layout.child (layout.tables (layout.also n ns)) s
@@ -171,17 +182,21 @@ pub record SentMessage : Type 0 where
   pub node : Node
   pub body : ℕ
 
+-- a message of version V5 (Message.fbs, Message)
 abbrev pub message : ℕ → Node → ℕ → SentMessage
 message tag header body = record { node = layout.table (layout.value w16 (pos 4) (layout.value w8 (pos tag) (layout.child header (unless_zero w64 (pos body) layout.no_more)))); body = body }
 
+-- a schema message (Schema.fbs, Schema)
 unfoldable pub schema_message : Fields → Metadata → SentMessage
 schema_message fs pairs = message 1 (layout.table (layout.absent (layout.child (layout.tables (field_nodes fs 0)) (pairs_slot (pair_nodes pairs) layout.no_more)))) 0
 
 -- ── arrays ──
 
+-- no array
 abbrev pub nothing_written : Written
 nothing_written = record { nodes = []; lengths = []; views = [] }
 
+-- one array behind another
 abbrev pub also_written : Written → Written → Written
 also_written a b = record { nodes = a.nodes ++ b.nodes; lengths = a.lengths ++ b.lengths; views = a.views ++ b.views }
 
@@ -195,13 +210,16 @@ abbrev pub validity_length : RecordBatch → Place → ℕ → ℕ → ℕ
 validity_length m p zero rows = 0
 validity_length m p (suc read) rows = if has_nulls m p then (rows + 7) / 8 else 0
 
+-- an array's own node and buffers
 abbrev pub own : RecordBatch → Place → ℕ → ℕ → ℕ → List ℕ → Written
 own m p read from rows lengths = record { nodes = record { length = pos rows; null_count = pos (null_count m p from rows) } ∷ []; lengths = validity_length m p read rows ∷ lengths; views = [] }
 
+-- the stated lengths of n buffers
 abbrev pub lengths_on : RecordBatch → ℕ → ℕ → List ℕ
 lengths_on m i zero = []
 lengths_on m i (suc n) = magnitude (range_of m i).length ∷ lengths_on m (suc i) n
 
+-- the same with view counts
 abbrev pub with_views : List ℕ → Written → Written
 with_views counts w = record { nodes = w.nodes; lengths = w.lengths; views = counts }
 
@@ -215,6 +233,7 @@ abbrev pub offset_read : RecordBatch → Offsets → Place → ℕ → ℕ
 offset_read m o p zero = 0
 offset_read m o p (suc n) = offset m o (p.buffer + 1) (suc n)
 
+-- a dense union's child is held whole
 abbrev pub dense_rows : RecordBatch → Place → ℕ → ℕ
 dense_rows m q zero = 0
 dense_rows m q (suc n) = magnitude (node_of m q.node).length
@@ -255,14 +274,17 @@ abbrev mutual
   parts_written m none p read from rows = nothing_written
   parts_written m (field name nullable metadata k others) p read from rows = also_written (written_part m k p (read p) from (rows p)) (parts_written m others (after m k p) read from rows)
 
+-- the part of an array that is written
 unfoldable pub written : RecordBatch → Kind → Place → ℕ → ℕ → ℕ → Written
 written m k p read from rows = written_part m k p read from rows
 
 -- ── a top view column is laid anew where much of its buffers is unused ──
 
+-- the length of a value that is not null
 abbrev pub view_length : RecordBatch → Place → ℕ → ℕ
 view_length m p row = if valid m p row then u32_of (view_of m p row) 0 else 0
 
+-- their sum
 abbrev pub view_lengths : RecordBatch → Place → ℕ → ℕ
 view_lengths m p zero = 0
 view_lengths m p (suc n) = view_lengths m p n + view_length m p n
@@ -276,18 +298,22 @@ compacted m p row begun (suc n) =
     let new = begun ∷ compacted m p (suc row) (view_length m p row) n in
     if nat_le (view_length m p row) 12 then passed else if nat_le (begun + view_length m p row) 2147483647 then here else new
 
+-- at least min(v, 1024) bytes are unused, where v is the sum of the lengths
 abbrev pub is_compacted : RecordBatch → Place → ℕ → Bool
 is_compacted m p rows = nat_le (min (view_lengths m p rows) 1024) (sum_by (λ x. x) (lengths_on m (p.buffer + 2) (count_at m p.view)) - view_lengths m p rows)
 
+-- a view column that is laid anew
 abbrev pub compacted_written : RecordBatch → Place → ℕ → Written
 compacted_written m p rows =
     let new = compacted m p 0 0 rows in
     with_views (length new ∷ []) (own m p rows 0 rows (16 * rows ∷ new))
 
+-- a top view column
 abbrev pub top_views_written : RecordBatch → Place → ℕ → Written
 top_views_written m p zero = views_written m p 0 0 0
 top_views_written m p (suc n) = if is_compacted m p (suc n) then compacted_written m p (suc n) else views_written m p (suc n) 0 (suc n)
 
+-- a top column
 abbrev pub top_written : RecordBatch → Kind → Place → ℕ → Written
 top_written m binary_view p rows = top_views_written m p rows
 top_written m utf8_view p rows = top_views_written m p rows
@@ -296,18 +322,23 @@ top_written m k p rows = written m k p rows 0 rows
 
 -- ── messages ──
 
+-- a number of eight bytes
 abbrev pub i64_bytes : ℤ → List ℕ
 i64_bytes x = to_le_bytes w64 (cast_unsigned w64 x)
 
+-- a node (Message.fbs, FieldNode)
 abbrev pub node_bytes : FieldNode → List ℕ
 node_bytes x = i64_bytes x.length ++ i64_bytes x.null_count
 
+-- a buffer (Message.fbs, Buffer)
 abbrev pub buffer_bytes : IpcBuffer → List ℕ
 buffer_bytes x = i64_bytes x.offset ++ i64_bytes x.length
 
+-- nodes
 abbrev pub nodes_node : List FieldNode → Node
 nodes_node xs = layout.structs (length xs) (flat_map node_bytes xs)
 
+-- buffers
 abbrev pub buffers_node : List IpcBuffer → Node
 buffers_node xs = layout.structs (length xs) (flat_map buffer_bytes xs)
 
@@ -316,30 +347,37 @@ abbrev pub placed : ℕ → List ℕ → List IpcBuffer
 placed at [] = []
 placed at (n ∷ ns) = record { offset = pos at; length = pos n } ∷ placed (up_to 64 (at + n)) ns
 
+-- where a body ends that begins at a place
 abbrev pub body_of : ℕ → List ℕ → ℕ
 body_of at [] = at
 body_of at (n ∷ ns) = body_of (up_to 64 (at + n)) ns
 
+-- view counts are left out where there are none
 abbrev pub views_slot : List ℕ → Slots → Slots
 views_slot [] s = layout.absent s
 views_slot (n ∷ ns) s = layout.child (layout.numbers64 (each_of pos (n ∷ ns))) s
 
+-- a record batch (Message.fbs, RecordBatch)
 abbrev pub batch_node : ℕ → Written → Node
 batch_node rows w = layout.table (unless_zero w64 (pos rows) (layout.child (nodes_node w.nodes) (layout.child (buffers_node (placed 0 w.lengths)) (layout.absent (views_slot w.views layout.no_more)))))
 
+-- the file's columns in order
 abbrev pub columns_written : RecordBatch → Option (List ℕ) → Fields → ℕ → Place → ℕ → List Written
 columns_written m asked none c p rows = []
 columns_written m asked (field name nullable metadata k others) c p rows = top_written m k p rows ∷ columns_written m asked others (suc c) (after m k p) rows
 
+-- the c-th column
 abbrev pub written_at : List Written → ℕ → Written
 written_at [] c = nothing_written
 written_at (w ∷ ws) zero = w
 written_at (w ∷ ws) (suc c) = written_at ws c
 
+-- columns one after another
 abbrev pub all_written : List Written → Written
 all_written [] = nothing_written
 all_written (w ∷ ws) = also_written w (all_written ws)
 
+-- the columns asked for, in the order asked
 abbrev pub written_as_asked : Option (List ℕ) → List Written → Written
 written_as_asked None ws = all_written ws
 written_as_asked (Some cs) ws = all_written (each_of (λ c. written_at ws c) cs)
@@ -350,16 +388,20 @@ batch_message m asked fs rows =
     let w = written_as_asked asked (columns_written m asked fs 0 first_place rows) in
     message 3 (batch_node rows w) (body_of 0 w.lengths)
 
+-- the rows of the first node
 abbrev pub node_rows : List FieldNode → ℕ
 node_rows [] = 0
 node_rows (x ∷ xs) = magnitude x.length
 
+-- a dictionary message (Message.fbs, DictionaryBatch)
 abbrev pub dictionary_message : ℕ → Written → SentMessage
 dictionary_message id w = message 2 (layout.table (unless_zero w64 (pos id) (layout.child (batch_node (node_rows w.nodes) w) layout.no_more))) (body_of 0 w.lengths)
 
+-- a batch of nothing
 abbrev pub no_source : RecordBatch
 no_source = record { order = little; version = V5; nodes = []; buffers = []; variadic = []; body = [] }
 
+-- a dictionary that was never read is written empty
 abbrev pub held_written : Option HeldDictionary → Kind → Written
 held_written None k = written no_source k first_place 0 0 0
 held_written (Some x) k = x.written
@@ -380,6 +422,7 @@ abbrev mutual
   dictionaries_in_fields d none id = []
   dictionaries_in_fields d (field name nullable metadata k others) id = dictionaries_in d k id ++ dictionaries_in_fields d others (id + dictionary_count k)
 
+-- the dictionaries of a schema, each inner one before its outer one
 unfoldable pub dictionary_messages : Dictionaries → Fields → List SentMessage
 dictionary_messages d fs = dictionaries_in_fields d fs 0
 
@@ -387,6 +430,7 @@ dictionary_messages d fs = dictionaries_in_fields d fs 0
 unfoldable pub may_be_sent : SentMessage → Bool
 may_be_sent x = nat_le (up_to 8 (size x.node)) 2147483647 && nat_le x.body 9223372036854775807
 
+-- each of them may be written
 abbrev pub all_may_be_sent : List SentMessage → Bool
 all_may_be_sent [] = true
 all_may_be_sent (x ∷ xs) = may_be_sent x && all_may_be_sent xs

@@ -1,4 +1,4 @@
--- What a stream means: its table, and what is left where no further message begins.
+-- What a stream means. (Arrow Columnar Format, "IPC Streaming Format", "Dictionary Messages".)
 use Rattle.std.specs.Prelude.{◌≡◌, ℕ, zero, suc, ◌+◌, ◌-◌, List, [], ◌∷◌, ◌++◌, length, take, drop, true, false, Option, Some, None, Ok, nat_le, nat_lt, nat_eq, ◌||◌, if◌then◌else◌, MatchResult}
 use Rattle.std.specs.Int.{w32}
 use Rattle.arrow_spec.specs.declared.error.OutOfSpecKind.TheVariants as kinds
@@ -24,6 +24,7 @@ stream_prefix b = do
   length ← natural n
   Ok (start, length)
 
+-- a message whose metadata lies in the bytes
 unfoldable pub framed : List ℕ → ℕ × ℕ → Reading Framed
 framed b prefix = do
   whole ← only_if (nat_le (prefix.0 + prefix.1) (length b)) kinds.Truncated
@@ -47,6 +48,7 @@ pub record Reader : Type 0 where
   pub schema : Schema
   pub columns : Option (List ℕ)
 
+-- a record batch message
 unfoldable pub stream_batch : Reader → Dictionaries → Framed → Message → Reading TableBatch
 stream_batch s d f m = do
   tables ← batch_at f.metadata m.header
@@ -54,6 +56,7 @@ stream_batch s d f m = do
   body ← body_in f m
   batch_of_tables to_read (record { order = s.schema.order; fields = s.schema.fields; columns = s.columns; dictionaries = d; most = length body }) version tables body None
 
+-- a dictionary message
 unfoldable pub stream_dictionary : Reader → Dictionaries → Framed → Message → Reading HeldDictionary
 stream_dictionary s d f m = do
   x ← dictionary_at f.metadata m.header
@@ -87,14 +90,17 @@ stream_batches (suc most) s d b = do
     | Some f ↦ stream_step s d f >>= λ step. stream_batches most s step.dictionaries step.rest >>= λ others. Ok (record { batches = step.batch ++ others.batches; left = others.left })
   ]
 
+-- a table, and the bytes behind its last message
 pub record Stream : Type 0 where
   pub table : ArrowTable
   pub left : List ℕ
 
+-- a stream begins with a message
 unfoldable pub first_message : Option Framed → Reading Framed
 first_message None = damaged kinds.MissingSchema
 first_message (Some m) = Ok m
 
+-- a schema message, then dictionaries and batches
 unfoldable pub stream_reading : List ℕ → Option (List ℕ) → Reading Stream
 stream_reading b columns = do
   f ← next_message b >>= first_message
@@ -106,9 +112,11 @@ stream_reading b columns = do
   read ← stream_batches (length b) (record { schema = schema; columns = columns }) [] (drop m.body f.behind)
   Ok (record { table = record { metadata = schema.metadata; fields = bare (fields_as_asked columns schema.fields); batches = read.batches }; left = read.left })
 
+-- what a stream means in some of its columns
 unfoldable pub stream_table : List ℕ → Option (List ℕ) → Option ArrowTable
 stream_table b columns = meaning (stream_reading b columns >>= λ s. Ok s.table)
 
+-- FF FF FF FF 00 00 00 00
 abbrev pub end_mark : List ℕ
 end_mark = 255 ∷ 255 ∷ 255 ∷ 255 ∷ 0 ∷ 0 ∷ 0 ∷ 0 ∷ []
 
