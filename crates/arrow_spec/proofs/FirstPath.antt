@@ -1,9 +1,10 @@
 -- What the first path refuses, and which schemas are regular.
 use Rattle.std.proofs.Common.{◌≡◌, ℕ, List, [], ◌∷◌, Some, None, refl, true, false}
 use Rattle.std.specs.Prelude.{pos, codes}
-use Rattle.arrow_spec.proofs.Vectors.{F1}
-use Rattle.arrow_spec.proofs.Worked.{F3, BIG, R15}
-use Rattle.arrow_spec.proofs.F1Table.{computed}
+use Rattle.arrow_spec.proofs.MoreFiles.{big_endian_file}
+use Rattle.arrow_spec.proofs.Vectors.{int32_file}
+use Rattle.arrow_spec.proofs.WorkedFiles.{three_columns_file, inner_first_file}
+use Rattle.arrow_spec.proofs.Int32Table.{computed}
 use Rattle.arrow_spec.specs.declared.types.IntegerType.TheVariants.{Int32}
 use Rattle.arrow_spec.specs.declared.error.IpcError.{IpcError}
 use Rattle.arrow_spec.specs.declared.error.IpcError.TheVariants.{Unsupported}
@@ -19,23 +20,23 @@ use Rattle.arrow_spec.specs.Files.{file_reading, «all», to_send, Request}
 abbrev pub why : List ℕ → Request → List IpcError
 why b r = refusals (file_reading so_far to_send b r None)
 
-pub other_kinds : why F3 «all» ≡ Unsupported NotYet ∷ []
+pub other_kinds : why three_columns_file «all» ≡ Unsupported NotYet ∷ []
 unfolding computed
 other_kinds = refl
 
-pub dictionary : why R15 «all» ≡ Unsupported NotYet ∷ []
+pub dictionary : why inner_first_file «all» ≡ Unsupported NotYet ∷ []
 unfolding computed
 dictionary = refl
 
-pub big_endian : why BIG «all» ≡ Unsupported NotYet ∷ []
+pub big_endian : why big_endian_file «all» ≡ Unsupported NotYet ∷ []
 unfolding computed
 big_endian = refl
 
-pub columns : why F1 (record { columns = Some []; limit = None }) ≡ Unsupported NotYet ∷ []
+pub columns : why int32_file (record { columns = Some []; limit = None }) ≡ Unsupported NotYet ∷ []
 unfolding computed
 columns = refl
 
-pub limit : why F1 (record { columns = None; limit = Some 3 }) ≡ Unsupported NotYet ∷ []
+pub limit : why int32_file (record { columns = None; limit = Some 3 }) ≡ Unsupported NotYet ∷ []
 unfolding computed
 limit = refl
 

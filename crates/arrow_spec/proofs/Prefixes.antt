@@ -1,7 +1,7 @@
 use Rattle.std.proofs.Common.{◌≡◌, ℕ, zero, suc, List, [], ◌∷◌, take, refl}
-use Rattle.arrow_spec.proofs.Vectors.{F1}
+use Rattle.arrow_spec.proofs.Vectors.{int32_file}
 use Rattle.arrow_spec.proofs.Rows.{why}
-use Rattle.arrow_spec.proofs.F1Table.{computed}
+use Rattle.arrow_spec.proofs.Int32Table.{computed}
 use Rattle.arrow_spec.specs.declared.error.IpcError.{IpcError}
 use Rattle.arrow_spec.specs.declared.error.IpcError.TheVariants.{OutOfSpec}
 use Rattle.arrow_spec.specs.declared.error.OutOfSpecKind.TheVariants as kinds
@@ -9,7 +9,7 @@ use Rattle.arrow_spec.specs.Files.{«all»}
 
 abbrev pub whys : ℕ → ℕ → List (List IpcError)
 whys i zero = []
-whys i (suc n) = why (take i F1) «all» ∷ whys (suc i) n
+whys i (suc n) = why (take i int32_file) «all» ∷ whys (suc i) n
 
 abbrev pub copies : ℕ → List (List IpcError)
 copies zero = []

@@ -4,8 +4,8 @@ use Rattle.arrow_spec.specs.Kinds as kind
 use Rattle.arrow_spec.specs.Kinds.{Fields, none, field}
 use Rattle.std.proofs.Common.{◌≡◌, ℕ, List, [], ◌∷◌, Option, Some, None, refl}
 use Rattle.std.specs.Prelude.{pos, codes}
-use Rattle.arrow_spec.proofs.Worked.{F2, F3, F4, R11, R15, R15bad, R17, R19, R19utf, EXT}
-use Rattle.arrow_spec.proofs.F1Table.{computed, whole_table}
+use Rattle.arrow_spec.proofs.WorkedFiles.{empty_file, three_columns_file, two_batches_file, skipped_views_file, inner_first_file, outer_first_file, sparse_union_file, list_offsets_file, falling_offsets_file, extension_file}
+use Rattle.arrow_spec.proofs.Int32Table.{computed, whole_table}
 use Rattle.arrow_spec.specs.declared.error.IpcError.{IpcError}
 use Rattle.arrow_spec.specs.declared.error.IpcError.TheVariants.{OutOfSpec, Projection}
 use Rattle.arrow_spec.specs.declared.error.OutOfSpecKind.TheVariants as kinds
@@ -39,67 +39,67 @@ txt c = cells.text (c ∷ [])
 abbrev pub request : Option (List ℕ) → Option ℕ → Request
 request cs l = record { columns = cs; limit = l }
 
-pub row_2 : batches (whole_table F2 «all») ≡ []
+pub no_batches : batches (whole_table empty_file «all») ≡ []
 unfolding computed
-row_2 = refl
+no_batches = refl
 
-pub row_3 : batches (whole_table F3 (request (Some (2 ∷ 0 ∷ [])) None)) ≡ ((int 10 ∷ int 20 ∷ []) ∷ (int 1 ∷ int 2 ∷ []) ∷ []) ∷ []
+pub columns_as_asked : batches (whole_table three_columns_file (request (Some (2 ∷ 0 ∷ [])) None)) ≡ ((int 10 ∷ int 20 ∷ []) ∷ (int 1 ∷ int 2 ∷ []) ∷ []) ∷ []
 unfolding computed
-row_3 = refl
+columns_as_asked = refl
 
-pub row_3_all : batches (whole_table F3 «all») ≡ ((int 1 ∷ int 2 ∷ []) ∷ (cells.text (codes "x") ∷ cells.text (codes "yz") ∷ []) ∷ (int 10 ∷ int 20 ∷ []) ∷ []) ∷ []
+pub three_columns : batches (whole_table three_columns_file «all») ≡ ((int 1 ∷ int 2 ∷ []) ∷ (cells.text (codes "x") ∷ cells.text (codes "yz") ∷ []) ∷ (int 10 ∷ int 20 ∷ []) ∷ []) ∷ []
 unfolding computed
-row_3_all = refl
+three_columns = refl
 
-pub row_5 : batches (whole_table F4 (request None (Some 5))) ≡ ((int 1 ∷ int 2 ∷ int 3 ∷ []) ∷ []) ∷ ((int 4 ∷ int 5 ∷ []) ∷ []) ∷ []
+pub limit_cuts : batches (whole_table two_batches_file (request None (Some 5))) ≡ ((int 1 ∷ int 2 ∷ int 3 ∷ []) ∷ []) ∷ ((int 4 ∷ int 5 ∷ []) ∷ []) ∷ []
 unfolding computed
-row_5 = refl
+limit_cuts = refl
 
-pub row_5_0 : batches (whole_table F4 (request None (Some 0))) ≡ ([] ∷ []) ∷ ([] ∷ []) ∷ []
+pub limit_of_0 : batches (whole_table two_batches_file (request None (Some 0))) ≡ ([] ∷ []) ∷ ([] ∷ []) ∷ []
 unfolding computed
-row_5_0 = refl
+limit_of_0 = refl
 
-pub row_11 : batches (whole_table R11 (request (Some (1 ∷ [])) None)) ≡ ((int 7 ∷ int 8 ∷ []) ∷ []) ∷ []
+pub views_passed_over : batches (whole_table skipped_views_file (request (Some (1 ∷ [])) None)) ≡ ((int 7 ∷ int 8 ∷ []) ∷ []) ∷ []
 unfolding computed
-row_11 = refl
+views_passed_over = refl
 
-pub row_11_all : batches (whole_table R11 «all») ≡ ((cells.text (codes "abcdefghijklm") ∷ cells.text (codes "ABCDEFGHIJKLM") ∷ []) ∷ (int 7 ∷ int 8 ∷ []) ∷ []) ∷ []
+pub views_of_two_buffers : batches (whole_table skipped_views_file «all») ≡ ((cells.text (codes "abcdefghijklm") ∷ cells.text (codes "ABCDEFGHIJKLM") ∷ []) ∷ (int 7 ∷ int 8 ∷ []) ∷ []) ∷ []
 unfolding computed
-row_11_all = refl
+views_of_two_buffers = refl
 
-pub row_15 : batches (whole_table R15 «all») ≡ ((cells.struct (cells_of (txt 121 ∷ [])) ∷ cells.struct (cells_of (txt 120 ∷ [])) ∷ []) ∷ []) ∷ []
+pub inner_dictionary : batches (whole_table inner_first_file «all») ≡ ((cells.struct (cells_of (txt 121 ∷ [])) ∷ cells.struct (cells_of (txt 120 ∷ [])) ∷ []) ∷ []) ∷ []
 unfolding computed
-row_15 = refl
+inner_dictionary = refl
 
-pub row_15_bad : why R15bad «all» ≡ OutOfSpec (kinds.InvalidId (pos 1)) ∷ []
+pub outer_before_inner : why outer_first_file «all» ≡ OutOfSpec (kinds.InvalidId (pos 1)) ∷ []
 unfolding computed
-row_15_bad = refl
+outer_before_inner = refl
 
-pub row_17 : batches (whole_table R17 (request None (Some 1))) ≡ ((cells.tagged (pos 5) (int 1) ∷ []) ∷ []) ∷ []
+pub union_cut : batches (whole_table sparse_union_file (request None (Some 1))) ≡ ((cells.tagged (pos 5) (int 1) ∷ []) ∷ []) ∷ []
 unfolding computed
-row_17 = refl
+union_cut = refl
 
-pub row_17_all : batches (whole_table R17 «all») ≡ ((cells.tagged (pos 5) (int 1) ∷ cells.tagged (pos 7) (txt 121) ∷ []) ∷ []) ∷ []
+pub union_rows : batches (whole_table sparse_union_file «all») ≡ ((cells.tagged (pos 5) (int 1) ∷ cells.tagged (pos 7) (txt 121) ∷ []) ∷ []) ∷ []
 unfolding computed
-row_17_all = refl
+union_rows = refl
 
-pub row_19 : batches (whole_table R19 «all») ≡ ((cells.«list» (cells_of (int 8 ∷ int 9 ∷ [])) ∷ []) ∷ []) ∷ []
+pub list_from_1 : batches (whole_table list_offsets_file «all») ≡ ((cells.«list» (cells_of (int 8 ∷ int 9 ∷ [])) ∷ []) ∷ []) ∷ []
 unfolding computed
-row_19 = refl
+list_from_1 = refl
 
-pub row_19_utf8 : batches (whole_table R19utf (request None (Some 2))) ≡ ((txt 120 ∷ txt 121 ∷ []) ∷ []) ∷ []
+pub offsets_in_range : batches (whole_table falling_offsets_file (request None (Some 2))) ≡ ((txt 120 ∷ txt 121 ∷ []) ∷ []) ∷ []
 unfolding computed
-row_19_utf8 = refl
+offsets_in_range = refl
 
-pub row_19_bad : why R19utf «all» ≡ OutOfSpec kinds.InvalidOffsets ∷ []
+pub offsets_fall : why falling_offsets_file «all» ≡ OutOfSpec kinds.InvalidOffsets ∷ []
 unfolding computed
-row_19_bad = refl
+offsets_fall = refl
 
-pub row_22 : why F3 (request (Some (1 ∷ 1 ∷ [])) None) ≡ Projection 1 ∷ []
+pub column_twice : why three_columns_file (request (Some (1 ∷ 1 ∷ [])) None) ≡ Projection 1 ∷ []
 unfolding computed
-row_22 = refl
+column_twice = refl
 
 -- an extension's two pairs are no metadata, and pairs stand by key
-pub extension : option_fields (whole_table EXT «all») ≡ field (codes "e") true ((codes "b", codes "2") ∷ (codes "z", codes "1") ∷ []) (kind.extension (codes "my") None (kind.integer Int16)) none
+pub extension : option_fields (whole_table extension_file «all») ≡ field (codes "e") true ((codes "b", codes "2") ∷ (codes "z", codes "1") ∷ []) (kind.extension (codes "my") None (kind.integer Int16)) none
 unfolding computed
 extension = refl

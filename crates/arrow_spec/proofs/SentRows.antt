@@ -1,6 +1,6 @@
 use Rattle.std.proofs.Common.{◌≡◌, ℕ, zero, suc, List, [], ◌∷◌, ◌++◌, refl, true, false}
 use Rattle.std.specs.Prelude.{pos, codes}
-use Rattle.arrow_spec.proofs.F1Table.{computed}
+use Rattle.arrow_spec.proofs.Int32Table.{computed}
 use Rattle.arrow_spec.specs.declared.types.IntegerType.TheVariants.{Int8, Int16, Int32, Int64}
 use Rattle.arrow_spec.specs.Kinds as kind
 use Rattle.arrow_spec.specs.Kinds.{Fields, none, field, small}
@@ -58,10 +58,10 @@ sliced = refl
 abbrev pub viewed : ℕ → RecordBatch
 viewed n = record { order = little; version = V5; nodes = node 1 0 ∷ []; buffers = buffer 0 0 ∷ buffer 0 16 ∷ buffer 64 n ∷ []; variadic = pos 1 ∷ []; body = 13 ∷ 0 ∷ 0 ∷ 0 ∷ 97 ∷ 97 ∷ 97 ∷ 97 ∷ 0 ∷ 0 ∷ 0 ∷ 0 ∷ 0 ∷ 0 ∷ 0 ∷ 0 ∷ [] }
 
-pub row_19_kept : top_written (viewed 25) kind.utf8_view first_place 1 ≡ record { nodes = node 1 0 ∷ []; lengths = 0 ∷ 16 ∷ 25 ∷ []; views = 1 ∷ [] }
+pub views_kept : top_written (viewed 25) kind.utf8_view first_place 1 ≡ record { nodes = node 1 0 ∷ []; lengths = 0 ∷ 16 ∷ 25 ∷ []; views = 1 ∷ [] }
 unfolding computed
-row_19_kept = refl
+views_kept = refl
 
-pub row_19_anew : top_written (viewed 26) kind.utf8_view first_place 1 ≡ record { nodes = node 1 0 ∷ []; lengths = 0 ∷ 16 ∷ 13 ∷ []; views = 1 ∷ [] }
+pub views_laid_anew : top_written (viewed 26) kind.utf8_view first_place 1 ≡ record { nodes = node 1 0 ∷ []; lengths = 0 ∷ 16 ∷ 13 ∷ []; views = 1 ∷ [] }
 unfolding computed
-row_19_anew = refl
+views_laid_anew = refl

@@ -1,6 +1,6 @@
 use Rattle.std.proofs.Common.{◌≡◌, ℕ, [], ◌∷◌, Some, None, refl, true}
 use Rattle.std.specs.Prelude.{pos}
-use Rattle.arrow_spec.proofs.Vectors.{F1, S1}
+use Rattle.arrow_spec.proofs.Vectors.{int32_file, int32_stream}
 use Rattle.arrow_spec.specs.declared.types.IntegerType.TheVariants.{Int32}
 use Rattle.arrow_spec.specs.Readings.{bind}
 use Rattle.arrow_spec.specs.Sent.{schema_message, written, batch_message, dictionary_messages, may_be_sent}
@@ -27,22 +27,22 @@ computed = 0
 abbrev pub whole_table : List ℕ → Request → Option ArrowTable
 whole_table b r = meaning (file_reading everything to_read b r None)
 
-abbrev pub t1 : ArrowTable
-t1 = record { metadata = []; fields = field (97 ∷ []) true [] (integer Int32) none; batches = record { rows = 3; columns = (cells.number (pos 1) ∷ cells.null ∷ cells.number (pos 3) ∷ []) ∷ [] } ∷ [] }
+abbrev pub int32_table : ArrowTable
+int32_table = record { metadata = []; fields = field (97 ∷ []) true [] (integer Int32) none; batches = record { rows = 3; columns = (cells.number (pos 1) ∷ cells.null ∷ cells.number (pos 3) ∷ []) ∷ [] } ∷ [] }
 
-pub F1-table : whole_table F1 (record { columns = Some (0 ∷ []); limit = Some 3 }) ≡ Some t1
+pub int32_file-table : whole_table int32_file (record { columns = Some (0 ∷ []); limit = Some 3 }) ≡ Some int32_table
 unfolding computed
-F1-table = refl
+int32_file-table = refl
 
-pub S1-table : stream_table S1 None ≡ Some t1
+pub int32_stream-table : stream_table int32_stream None ≡ Some int32_table
 unfolding computed
-S1-table = refl
+int32_stream-table = refl
 
-pub S1-closed : closed S1
+pub int32_stream-closed : closed int32_stream
 unfolding computed
-S1-closed = refl
+int32_stream-closed = refl
 
 -- the first path takes such a file whole
-pub F1-so_far : file_table F1 (record { columns = None; limit = None }) ≡ Some t1
+pub int32_file-so_far : file_table int32_file (record { columns = None; limit = None }) ≡ Some int32_table
 unfolding computed
-F1-so_far = refl
+int32_file-so_far = refl
