@@ -13,6 +13,7 @@ pub mod Layout
 pub mod Held
 pub mod Sent
 pub mod Files
+pub mod Footers
 pub mod Streams
 pub mod Words
 pub mod Needed

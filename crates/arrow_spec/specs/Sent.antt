@@ -186,9 +186,13 @@ pub record SentMessage : Type 0 where
 abbrev pub message : ℕ → Node → ℕ → SentMessage
 message tag header body = record { node = layout.table (layout.value w16 (pos 4) (layout.value w8 (pos tag) (layout.child header (unless_zero w64 (pos body) layout.no_more)))); body = body }
 
--- a schema message (Schema.fbs, Schema)
+-- a little-endian schema whose ids count in preorder (Schema.fbs, Schema)
+abbrev pub schema_node : Fields → Metadata → Node
+schema_node fs pairs = layout.table (layout.absent (layout.child (layout.tables (field_nodes fs 0)) (pairs_slot (pair_nodes pairs) layout.no_more)))
+
+-- a schema message
 unfoldable pub schema_message : Fields → Metadata → SentMessage
-schema_message fs pairs = message 1 (layout.table (layout.absent (layout.child (layout.tables (field_nodes fs 0)) (pairs_slot (pair_nodes pairs) layout.no_more)))) 0
+schema_message fs pairs = message 1 (schema_node fs pairs) 0
 
 -- ── arrays ──
 
