@@ -448,7 +448,7 @@ abbrev mutual
   -- those of children that stand from a place on, each read for the rows that its place says; behind a view without its count no place is known
   pub child_faults : RecordBatch → Dictionaries → Fields → Place → (Place → ℕ) → List IpcError
   child_faults m d none p rows = []
-  child_faults m d (field name nullable metadata k others) p rows = array_faults m d k p (rows p) ++ elim (view_count_faults m k p) [ [] ↦ child_faults m d others (after m k p) rows | e ∷ es ↦ e ∷ es ]
+  child_faults m d (field name nullable metadata k others) p rows = array_faults m d k p (rows p) ++ if_sound (view_count_faults m k p) (child_faults m d others (after m k p) rows)
 
 -- a top column's node has the batch's length
 abbrev pub top_node_faults : Option FieldNode → ℕ → List IpcError

@@ -15,5 +15,6 @@ pub mod Sent
 pub mod Files
 pub mod Footers
 pub mod Streams
+pub mod Laws
 pub mod Words
 pub mod Needed

@@ -1,0 +1,7 @@
+//! What follows from the definitions: each function's contract is a law, proved in `proofs/`.
+ghost use Rattle.arrow_spec.specs.Laws.{ProjectsAndCuts};
+
+/// What a whole file means gives what it means under distinct columns and a limit.
+pub fn projects_and_cuts()
+    ensures { ProjectsAndCuts }
+{}
