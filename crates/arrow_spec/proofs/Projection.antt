@@ -149,10 +149,10 @@ share-below None n = omega arith
 share-below (Some l) n = omega arith
 
 -- a file that is read, and not sent, has no size place
-abbrev nothing : Reading (Unit {0})
+abbrev pub nothing : Reading (Unit {0})
 nothing = Ok tt
 
-no_size : (y x : TableBatch) → (nothing >>= λ u. Ok y) ≡ Ok x → y ≡ x
+pub no_size : (y x : TableBatch) → (nothing >>= λ u. Ok y) ≡ Ok x → y ≡ x
 unfolding bind
 no_size y x h = cc
 
@@ -171,7 +171,7 @@ batch-cut : (b : List ℕ) (order : Order) (fs : Fields) (d : Dictionaries) (mos
 unfolding batch_of
 batch-cut b order fs d most asked block left x h = then _ _ _ x _ h λ m h'. then _ _ _ x _ h' λ tables h''. then _ _ _ x _ h'' λ version h'''. tables-cut order fs d most asked version tables _ left x h'''
 
-no_dictionaries_sent : (is_first : Bool) (a : Asked) → dictionaries_sent is_first to_read a ≡ Ok tt
+pub no_dictionaries_sent : (is_first : Bool) (a : Asked) → dictionaries_sent is_first to_read a ≡ Ok tt
 no_dictionaries_sent true a = refl
 no_dictionaries_sent false a = refl
 
@@ -268,7 +268,7 @@ file-cut b r t columns h =
     ∙ ap (λ fs. Ok (record { metadata = meta.schema.metadata; fields = fs; batches = cut_batches (projected r.columns whole.got) r.limit })) (bare-fields_as_asked r.columns meta.schema.fields)
     ∙ ap (λ y. Ok (cut (project y r.columns) r.limit)) e
 
-some_meaning : {A : Type 0} (r : Reading A) (x : A) → meaning r ≡ Some x → r ≡ Ok x
+pub some_meaning : {A : Type 0} (r : Reading A) (x : A) → meaning r ≡ Some x → r ≡ Ok x
 some_meaning (Ok y) x h = cc
 some_meaning (Err es) x h = cc
 

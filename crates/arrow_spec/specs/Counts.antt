@@ -44,8 +44,12 @@ magnitude_or_0 None = 0
 magnitude_or_0 (Some x) = magnitude x
 
 -- the i-th view count
+abbrev pub count_among : List ℤ → ℕ → ℕ
+count_among variadic i = magnitude_or_0 (slice_get variadic i)
+
+-- the same of a record batch
 abbrev pub count_at : RecordBatch → ℕ → ℕ
-count_at m i = magnitude_or_0 (slice_get m.variadic i)
+count_at m i = count_among m.variadic i
 
 -- one node an array, in preorder
 abbrev mutual
@@ -95,27 +99,27 @@ union_buffers v mode = if has_union_validity v then suc (union_parts mode) else 
 
 -- the buffers of an array whose first view count has this number
 abbrev mutual
-  pub buffers : RecordBatch → Kind → ℕ → ℕ
-  buffers m null v = 0
-  buffers m (binary o) v = 3
-  buffers m (utf8 o) v = 3
-  buffers m binary_view v = 2 + count_at m v
-  buffers m utf8_view v = 2 + count_at m v
-  buffers m («list» o fs) v = 2 + buffers_of m fs v
-  buffers m (fixed_size_list n fs) v = 1 + buffers_of m fs v
-  buffers m (struct fs) v = 1 + buffers_of m fs v
-  buffers m (map sorted fs) v = 2 + buffers_of m fs v
-  buffers m (union mode stated ids fs) v = union_buffers m.version mode + buffers_of m fs v
-  buffers m (extension name metadata k) v = buffers m k v
-  buffers m k v = 2
+  pub buffers : MetadataVersion → List ℤ → Kind → ℕ → ℕ
+  buffers version counts null v = 0
+  buffers version counts (binary o) v = 3
+  buffers version counts (utf8 o) v = 3
+  buffers version counts binary_view v = 2 + count_among counts v
+  buffers version counts utf8_view v = 2 + count_among counts v
+  buffers version counts («list» o fs) v = 2 + buffers_of version counts fs v
+  buffers version counts (fixed_size_list n fs) v = 1 + buffers_of version counts fs v
+  buffers version counts (struct fs) v = 1 + buffers_of version counts fs v
+  buffers version counts (map sorted fs) v = 2 + buffers_of version counts fs v
+  buffers version counts (union mode stated ids fs) v = union_buffers version mode + buffers_of version counts fs v
+  buffers version counts (extension name metadata k) v = buffers version counts k v
+  buffers version counts k v = 2
 
-  pub buffers_of : RecordBatch → Fields → ℕ → ℕ
-  buffers_of m none v = 0
-  buffers_of m (field name nullable metadata k others) v = buffers m k v + buffers_of m others (v + views k)
+  pub buffers_of : MetadataVersion → List ℤ → Fields → ℕ → ℕ
+  buffers_of version counts none v = 0
+  buffers_of version counts (field name nullable metadata k others) v = buffers version counts k v + buffers_of version counts others (v + views k)
 
 -- the place behind an array, and the place of an array's first child behind its own node and buffers
 abbrev pub after : RecordBatch → Kind → Place → Place
-after m k p = record { node = p.node + nodes k; buffer = p.buffer + buffers m k p.view; view = p.view + views k }
+after m k p = record { node = p.node + nodes k; buffer = p.buffer + buffers m.version m.variadic k p.view; view = p.view + views k }
 
 -- an array's first child stands behind its node and its own buffers
 abbrev pub inside : ℕ → Place → Place
