@@ -1,5 +1,5 @@
 -- How many slots there are, up to the last one that is present.
-use Rattle.std.proofs.Common.{◌≡◌, ℕ, zero, suc, ◌+◌, ◌<◌, Bool, true, false, ap, ◌∙◌, sym, arith}
+use Rattle.std.proofs.Common.{◌≡◌, ℕ, zero, suc, ◌+◌, ◌<◌, true, false, arith}
 use Rattle.arrow_spec.specs.Layout.{Slots, slot_count, one_more}
 use Rattle.arrow_flat.specs.Nodes.{SlotValue, nothing, number, leads_to, in_front, is_nothing}
 

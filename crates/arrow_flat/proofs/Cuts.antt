@@ -1,8 +1,8 @@
 -- No part ends before it begins, so a cursor that passes the greatest u128 stays there.
 use Rattle.std.proofs.Common.{◌≡◌, ℕ, ◌+◌, ◌-◌, ◌*◌, ◌^◌, ◌≤◌, min, ap, sym, ◌∙◌, arith, inl, inr}
 use Rattle.std.proofs.lemmas.Bool.{cases_lt}
-use Rattle.arrow_spec.specs.Layout.{Slots, Nodes, table, tables, also, up_to, vtable_size, table_place, inline_end, node_count, end_of, end_of_children, end_of_nodes}
-use Rattle.arrow_spec.proofs.Ends.{inline_above, end_above, children_above, nodes_above}
+use Rattle.arrow_spec.specs.Layout.{Slots, Nodes, table, tables, up_to, vtable_size, table_place, inline_end, node_count, end_of, end_of_children, end_of_nodes}
+use Rattle.arrow_spec.proofs.Ends.{inline_above, children_above, nodes_above}
 use Rattle.arrow_flat.specs.Nodes.{SlotValue, in_front, value_next, value_end}
 use Rattle.arrow_flat.proofs.Fronts.{inline_in_front, children_in_front}
 

@@ -1,7 +1,6 @@
 -- A slot in front of others.
-use Rattle.std.proofs.Common.{◌≡◌, ℕ, suc, ◌+◌, ◌-◌, ◌<◌, ◌≤◌, List, ◌++◌, refl, sym, ap, ◌∙◌, arith, append_assoc}
-use Rattle.std.specs.Int.{Width, w8, w16, w32, w64, w128}
-use Rattle.arrow_spec.specs.Layout.{Slots, Nodes, inline_end, end_of_children, entries, u16}
+use Rattle.std.proofs.Common.{◌≡◌, ℕ, suc, ◌≤◌, List, ◌++◌, refl, sym, ap, ◌∙◌, arith, append_assoc}
+use Rattle.arrow_spec.specs.Layout.{Slots, inline_end, end_of_children, entries, u16}
 use Rattle.arrow_spec.proofs.Ends.{inline_above, inline_near, eight_above, end_above, children_above, nodes_above, place_above, place_below}
 use Rattle.arrow_flat.specs.Nodes.{SlotValue, nothing, number, leads_to, in_front, value_place, value_next, value_end, value_entry}
 

@@ -5,3 +5,6 @@ pub mod Fronts
 pub mod Cuts
 pub mod Rooms
 pub mod Numbers
+pub mod Heads
+pub mod Nexts
+pub mod ReadBack

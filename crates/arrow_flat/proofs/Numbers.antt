@@ -1,9 +1,9 @@
 -- Numbers that are written one after another.
-use Rattle.std.proofs.Common.{◌≡◌, ℕ, ◌+◌, ◌<◌, List, [], ◌∷◌, ◌++◌, length, refl, sym, ap, ◌∙◌, append_assoc, append-nil, get_or, take, ℤ, pos, to_z, SFits}
+use Rattle.std.proofs.Common.{◌≡◌, ℕ, ◌+◌, ◌<◌, List, [], ◌∷◌, ◌++◌, length, sym, ap, ◌∙◌, append_assoc, append-nil, get_or, take, ℤ, pos, to_z, SFits}
 use Rattle.std.specs.List.{flat_map}
 use Rattle.std.specs.Int.{Width, to_le_bytes, cast_unsigned}
 use Rattle.std.proofs.lemmas.Int.{to_z-of_z}
-use Rattle.std.proofs.lemmas.List.{take_more, take_all}
+use Rattle.std.proofs.lemmas.List.{take_more}
 use Rattle.std.proofs.lemmas.Grind.{flat_map-append}
 
 pub number_step : (w : Width) (zs : List ℤ) (i : ℕ) (start old new bytes : List ℕ) → i < length zs → SFits w (get_or zs i (pos 0)) → old ≡ start ++ flat_map (λ x. to_le_bytes w (cast_unsigned w x)) (take i zs)

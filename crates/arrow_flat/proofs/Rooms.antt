@@ -1,5 +1,5 @@
 -- Zeros that are left among the bytes, and filled one value after another.
-use Rattle.std.proofs.Common.{◌≡◌, ℕ, ◌+◌, ◌-◌, ◌*◌, ◌<◌, ◌≤◌, List, [], ◌∷◌, ◌++◌, length, take, drop, refl, sym, ap, subst, ◌∙◌, arith, append_assoc, append-nil, length-append, ℤ}
+use Rattle.std.proofs.Common.{◌≡◌, ℕ, ◌+◌, ◌-◌, ◌*◌, ◌≤◌, List, [], ◌++◌, length, take, drop, sym, ap, subst, ◌∙◌, arith, append_assoc, append-nil, length-append, ℤ}
 use Rattle.std.proofs.lemmas.List.{take_at, drop_at, replicate-append-replicate, length-replicate}
 use Rattle.std.specs.Int.{Width, byte_len, to_le_bytes, cast_unsigned}
 use Rattle.arrow_spec.specs.Layout.{Node, Slots, Nodes, no_more, absent, value, child, none, also, up_to, inline_end, inline_values, node_count, offsets, place_of, end_of, laid, laid_children, laid_nodes, zeros, u32}
@@ -69,8 +69,9 @@ slots_begin s old out q e hout hq he hl = record {
   bytes = ap (λ c. old ++ (inline_values s q c ++ laid_children s c)) hl;
 }
 
-pub slots_done : (out : List ℕ) (q e : ℕ) (all : List ℕ) → SlotsLeft no_more out q e all → out ≡ all
-slots_done out q e all left =
+pub slots_done : (s : Slots) (out : List ℕ) (q e : ℕ) (all : List ℕ) → s ≡ no_more → SlotsLeft s out q e all → out ≡ all
+slots_done s out q e all hs left' =
+    let left = subst (λ (u : Slots). SlotsLeft u out q e all) hs left' in
     let none_left : e - q ≡ 0 = omega (arith, left.end) in
     left.room.whole ∙ ap (λ n. left.front ++ (zeros n ++ left.back)) none_left ∙ ap (λ xs. left.front ++ xs) (sym (append-nil left.back)) ∙ left.bytes
 
@@ -149,8 +150,9 @@ nodes_begin ns old out q e hout hq he hl = record {
   bytes = ap (λ c. old ++ (offsets ns q c ++ laid_nodes ns c)) hl;
 }
 
-pub nodes_done : (out : List ℕ) (q e : ℕ) (all : List ℕ) → NodesLeft none out q e all → out ≡ all
-nodes_done out q e all left =
+pub nodes_done : (ns : Nodes) (out : List ℕ) (q e : ℕ) (all : List ℕ) → ns ≡ none → NodesLeft ns out q e all → out ≡ all
+nodes_done ns out q e all hns left' =
+    let left = subst (λ (us : Nodes). NodesLeft us out q e all) hns left' in
     let none_left : e - q ≡ 0 = omega (arith, left.end) in
     left.room.whole ∙ ap (λ n. left.front ++ (zeros n ++ left.back)) none_left ∙ ap (λ xs. left.front ++ xs) (sym (append-nil left.back)) ∙ left.bytes
 

@@ -1,5 +1,5 @@
 -- What is built, as the nodes of a layout.
-use Rattle.std.specs.Prelude.{◌≡◌, ℕ, ◌+◌, ◌-◌, ◌*◌, ◌^◌, ◌<◌, ◌≤◌, List, [], ◌∷◌, ◌++◌, length, take, drop, ℤ, pos, map, string_bytes, Bool, true, false}
+use Rattle.std.specs.Prelude.{ℕ, ◌+◌, ◌-◌, ◌^◌, ◌<◌, ◌≤◌, List, [], ◌∷◌, ◌++◌, length, take, drop, ℤ, pos, map, string_bytes, Bool, true, false}
 use Rattle.std.specs.Int.{Width, w8, w16, w32, w64, byte_len, to_le_bytes, cast_unsigned, from_bool}
 use Rattle.arrow_spec.specs.Layout.{Node as LaidNode, Slots, Nodes, table, text, structs, numbers32, numbers64, tables, no_more, absent, value, child, none, also, up_to, slot_count, vtable_size, table_place, inline_end, entries, place_of, end_of, laid, zeros, u16, u32}
 use Rattle.arrow_spec.specs.Held.{IsSmall, Rooted}

@@ -6,7 +6,7 @@ use Rattle.arrow_flat.specs.declared.table.ChoiceWidth.TheVariants.{One, Two}
 use Rattle.arrow_spec.specs.declared.error.FlatError.{FlatError}
 use Rattle.arrow_spec.specs.declared.error.FlatError.TheVariants.{Number}
 use Rattle.arrow_spec.specs.Readings.{◌>>=◌}
-use Rattle.arrow_spec.specs.Flat.{Table, Vector, slot, unsigned_at, if_present, or_default, slot_unsigned, target, table_at}
+use Rattle.arrow_spec.specs.Flat.{Table, Vector, slot, unsigned_at, if_present, slot_unsigned, target, table_at}
 
 -- What a function returned, seen by view, is what the reading gives.
 abbrev pub Gives : {X Y : Type 0} → (X → Y) → Result X FlatError → Result Y FlatError → Type 0

@@ -2,7 +2,7 @@
 ghost use Rattle.std.specs.Prelude.{◌≡◌, ◌+◌, ◌-◌, ◌*◌, ◌^◌, ◌<◌, ◌≤◌, ◌++◌, [], ◌∷◌, replicate, length, OnOk, IfOk, vec_len};
 ghost use Rattle.std.specs.Int.{w16, w32, to_le_bytes};
 ghost use Rattle.arrow_spec.specs.Layout.{table, tables, text, structs, numbers32, numbers64, zeros, u16, u32, up_to, before_eight, vtable_size, table_place, place_of, end_of, end_of_children, end_of_nodes, inline_end, inline_values, entries, offsets, laid, laid_children, laid_nodes, slot_count, layout, size};
-ghost use Rattle.arrow_flat.specs.Nodes.{node_of, slot_of, slots_of, nodes_of, over, with_number, with_value, value_place, value_next, value_end, value_entry, value_laid, table_front, NumberFits, IsNarrow, ValueIsNarrow, ChildrenAreNarrow, NodesAreNarrow};
+ghost use Rattle.arrow_flat.specs.Nodes.{node_of, slot_of, slots_of, nodes_of, over, with_number, with_value, value_place, value_next, value_end, value_entry, value_laid, table_front, NumberFits, ValueFits, NumbersFit, SlotNumbersFit, NodeNumbersFit, IsNarrow, ValueIsNarrow, ChildrenAreNarrow, NodesAreNarrow};
 
 use crate::measure::{self, slot_count};
 use crate::node::{Node, Slot};
@@ -33,7 +33,7 @@ fn put_u16(out: &mut Vec<u8>, number: u16) -> Result<(), AllocError>
     out.extend_from_slice(&number.to_le_bytes())
 }
 
-fn put_u32(out: &mut Vec<u8>, number: u32) -> Result<(), AllocError>
+pub fn put_u32(out: &mut Vec<u8>, number: u32) -> Result<(), AllocError>
     ensures ok { OnOk result (out.new.items ≡ out.old.items ++ u32 number) }
     ensures len { OnOk result (length out.new.items ≡ length out.old.items + 4) }
 {
@@ -65,7 +65,7 @@ fn table_place(slots: &[Slot], cursor: usize) -> usize
 }
 
 /// Where a node stands that is laid at a cursor.
-fn place_of(node: &Node, cursor: usize) -> usize
+pub fn place_of(node: &Node, cursor: usize) -> usize
     requires { place_of (node_of node.now) cursor < 2 ^ 31 }
     ensures { result ≡ place_of (node_of node.now) cursor }
 {
@@ -121,7 +121,12 @@ fn put_entry(out: &mut Vec<u8>, slot: &Slot, place: usize, at: usize) -> Result<
 }
 
 #[tactic(auto, using(crate::proofs::Steps::steps, crate::proofs::Fronts::places))]
-fn put_entries(out: &mut Vec<u8>, slots: &[Slot], count: usize, place: usize) -> Result<(), AllocError>
+fn put_entries(
+    out: &mut Vec<u8>,
+    slots: &[Slot],
+    count: usize,
+    place: usize,
+) -> Result<(), AllocError>
     requires count { count ≤ length slots.now }
     requires near { inline_end (slots_of slots.now) (place + 4) < place + 2 ^ 16 }
     requires short { inline_end (slots_of slots.now) (place + 4) < 2 ^ 31 }
@@ -224,6 +229,135 @@ fn put_i64s(out: &mut Vec<u8>, numbers: &[i64]) -> Result<(), AllocError>
     put_u32(out, numbers.len() as u32)?;
     for number in numbers {
         out.extend_from_slice(&number.to_le_bytes())?;
+    }
+    Ok(())
+}
+
+/// A node and all that it leads to, behind what is there.
+#[cycle(put)]
+pub fn put(out: &mut Vec<u8>, node: &Node) -> Result<(), AllocError>
+    requires narrow { IsNarrow (node_of node.now) }
+    requires short { end_of (node_of node.now) (length out.old.items) < 2 ^ 31 }
+    ensures ok { OnOk result (out.new.items ≡ out.old.items ++ laid (node_of node.now) (length out.old.items)) }
+    ensures len { OnOk result (length out.new.items ≡ end_of (node_of node.now) (length out.old.items)) }
+    ensures fits { OnOk result (NumbersFit (node_of node.now)) }
+{
+    match node {
+        Node::Table(slots) => put_table(out, slots),
+        Node::Text(text) => put_text(out, text.as_bytes()),
+        Node::Structs(count, bytes) => put_structs(out, *count, bytes),
+        Node::I32s(numbers) => put_i32s(out, numbers),
+        Node::I64s(numbers) => put_i64s(out, numbers),
+        Node::Tables(nodes) => put_tables(out, nodes),
+    }
+}
+
+#[cycle(put)]
+#[tactic(auto, using(crate::proofs::Fronts::places, crate::proofs::Heads::heads))]
+fn put_table(out: &mut Vec<u8>, slots: &[Slot]) -> Result<(), AllocError>
+    requires narrow { IsNarrow (table (slots_of slots.now)) }
+    requires short { end_of (table (slots_of slots.now)) (length out.old.items) < 2 ^ 31 }
+    ensures ok { OnOk result (out.new.items ≡ out.old.items ++ laid (table (slots_of slots.now)) (length out.old.items)) }
+    ensures len { OnOk result (length out.new.items ≡ end_of (table (slots_of slots.now)) (length out.old.items)) }
+    ensures fits { OnOk result (SlotNumbersFit (slots_of slots.now)) }
+{
+    put_table_front(out, slots)?;
+    put_slots(out, slots)
+}
+
+/// The inline values of a table, and then its children. The values are written over zeros, each offset once its
+/// child's place is known.
+#[cycle(put)]
+#[tactic(auto, using(crate::proofs::Fronts::places, crate::proofs::Steps::steps))]
+fn put_slots(out: &mut Vec<u8>, slots: &[Slot]) -> Result<(), AllocError>
+    requires narrow { ChildrenAreNarrow (slots_of slots.now) }
+    requires short { end_of_children (slots_of slots.now) (inline_end (slots_of slots.now) (length out.old.items)) < 2 ^ 31 }
+    ensures ok { OnOk result (let end = inline_end (slots_of slots.now) (length out.old.items) in
+        out.new.items ≡ out.old.items ++ (inline_values (slots_of slots.now) (length out.old.items) end ++ laid_children (slots_of slots.now) end)) }
+    ensures len { OnOk result (length out.new.items
+        ≡ end_of_children (slots_of slots.now) (inline_end (slots_of slots.now) (length out.old.items))) }
+    ensures fits { OnOk result (SlotNumbersFit (slots_of slots.now)) }
+{
+    let mut at = out.len();
+    let end = inline_end(slots, at);
+    put_gap(out, end)?;
+    for slot in slots {
+        put_slot(out, slot, at)?;
+        at = value_next(slot, at);
+    }
+    Ok(())
+}
+
+/// The value of a slot, over the zeros behind a place, and its child at the end.
+#[cycle(put)]
+#[tactic(auto, using(crate::proofs::Fronts::places))]
+fn put_slot(out: &mut Vec<u8>, slot: &Slot, behind: usize) -> Result<(), AllocError>
+    requires inside { value_next (slot_of slot.now) behind ≤ length out.old.items }
+    requires narrow { ValueIsNarrow (slot_of slot.now) }
+    requires short { value_end (slot_of slot.now) (length out.old.items) < 2 ^ 31 }
+    ensures ok { OnOk result (out.new.items
+        ≡ with_value (slot_of slot.now) behind out.old.items ++ value_laid (slot_of slot.now) (length out.old.items)) }
+    ensures len { OnOk result (length out.new.items ≡ value_end (slot_of slot.now) (length out.old.items)) }
+    ensures fits { OnOk result (ValueFits (slot_of slot.now)) }
+{
+    match slot {
+        Slot::Child(node) => put_child(out, node, behind.next_multiple_of(4)),
+        _ => {
+            set_number(out, slot, behind);
+            Ok(())
+        }
+    }
+}
+
+/// A node at the end, and the offset to it at a place.
+#[cycle(put)]
+#[tactic(auto, using(crate::proofs::Fronts::places))]
+fn put_child(out: &mut Vec<u8>, node: &Node, at: usize) -> Result<(), AllocError>
+    requires inside { at + 4 ≤ length out.old.items }
+    requires narrow { IsNarrow (node_of node.now) }
+    requires short { end_of (node_of node.now) (length out.old.items) < 2 ^ 31 }
+    ensures ok { OnOk result (out.new.items
+        ≡ over out.old.items at (u32 (place_of (node_of node.now) (length out.old.items) - at))
+        ++ laid (node_of node.now) (length out.old.items)) }
+    ensures len { OnOk result (length out.new.items ≡ end_of (node_of node.now) (length out.old.items)) }
+    ensures fits { OnOk result (NumbersFit (node_of node.now)) }
+{
+    let offset = place_of(node, out.len()) - at;
+    set_bytes(out, at, &(offset as u32).to_le_bytes());
+    put(out, node)
+}
+
+#[cycle(put)]
+#[tactic(auto, using(crate::proofs::Fronts::places, crate::proofs::Steps::count_of_nodes, crate::proofs::Heads::heads))]
+fn put_tables(out: &mut Vec<u8>, nodes: &[Node]) -> Result<(), AllocError>
+    requires narrow { NodesAreNarrow (nodes_of nodes.now) }
+    requires short { end_of (tables (nodes_of nodes.now)) (length out.old.items) < 2 ^ 31 }
+    ensures ok { OnOk result (out.new.items ≡ out.old.items ++ laid (tables (nodes_of nodes.now)) (length out.old.items)) }
+    ensures len { OnOk result (length out.new.items ≡ end_of (tables (nodes_of nodes.now)) (length out.old.items)) }
+    ensures fits { OnOk result (NodeNumbersFit (nodes_of nodes.now)) }
+{
+    let place = out.len().next_multiple_of(4);
+    put_gap(out, place)?;
+    put_u32(out, nodes.len() as u32)?;
+    put_nodes(out, nodes)
+}
+
+/// The offsets to tables, and then the tables. Each offset is written over zeros once its table's place is known.
+#[cycle(put)]
+#[tactic(auto, using(crate::proofs::Fronts::places, crate::proofs::Steps::count_of_nodes))]
+fn put_nodes(out: &mut Vec<u8>, nodes: &[Node]) -> Result<(), AllocError>
+    requires narrow { NodesAreNarrow (nodes_of nodes.now) }
+    requires short { end_of_nodes (nodes_of nodes.now) (length out.old.items + 4 * length nodes.now) < 2 ^ 31 }
+    ensures ok { OnOk result (let end = length out.old.items + 4 * length nodes.now in
+        out.new.items ≡ out.old.items ++ (offsets (nodes_of nodes.now) (length out.old.items) end ++ laid_nodes (nodes_of nodes.now) end)) }
+    ensures len { OnOk result (length out.new.items ≡ end_of_nodes (nodes_of nodes.now) (length out.old.items + 4 * length nodes.now)) }
+    ensures fits { OnOk result (NodeNumbersFit (nodes_of nodes.now)) }
+{
+    let mut at = out.len();
+    put_gap(out, at + 4 * nodes.len())?;
+    for node in nodes {
+        put_child(out, node, at)?;
+        at += 4;
     }
     Ok(())
 }

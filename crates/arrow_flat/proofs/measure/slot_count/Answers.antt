@@ -1,8 +1,8 @@
-use Rattle.std.proofs.Common.{◌≡◌, ◌+◌, ◌<◌, drop, length, true, false, refl, ap, ◌∙◌, sym, arith}
+use Rattle.std.proofs.Common.{◌≡◌, ◌+◌, drop, ap, ◌∙◌, sym, arith}
 use Rattle.arrow_spec.specs.Layout.{Slots, slot_count}
-use Rattle.arrow_flat.specs.Nodes.{slot_of, slots_of, is_nothing, in_front}
+use Rattle.arrow_flat.specs.Nodes.{slot_of, slots_of, in_front}
 use Rattle.arrow_flat.proofs.Steps.{next_slot, no_slot}
-use Rattle.arrow_flat.proofs.Counts.{Counted, absent_slot, present_slot}
+use Rattle.arrow_flat.proofs.Counts.{absent_slot, present_slot}
 use Rattle.arrow_flat.proofs.measure.slot_count.Goals as goal
 use Rattle.arrow_flat.proofs.measure.slot_count.Goals.{then-not-is_absent, else-not-is_absent}
 

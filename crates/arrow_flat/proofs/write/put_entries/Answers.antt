@@ -1,8 +1,8 @@
-use Rattle.std.proofs.Common.{◌≡◌, suc, ◌+◌, ◌-◌, ◌*◌, ◌++◌, [], drop, ap, ◌∙◌, sym, arith, append-nil}
-use Rattle.arrow_spec.specs.Layout.{Slots, entries, inline_end}
+use Rattle.std.proofs.Common.{◌≡◌, suc, ◌+◌, ◌-◌, drop, ap, ◌∙◌, arith}
+use Rattle.arrow_spec.specs.Layout.{Slots, inline_end}
 use Rattle.arrow_flat.specs.Nodes.{SlotValue, slot_of, slots_of, in_front}
 use Rattle.arrow_flat.proofs.Steps.{next_slot}
-use Rattle.arrow_flat.proofs.Fronts.{First, first_slot, entries_step, place_behind}
+use Rattle.arrow_flat.proofs.Fronts.{first_slot, entries_step, place_behind}
 use Rattle.arrow_flat.proofs.write.put_entries.Goals as goal
 
 pub put_entry-requires-clause-near : goal.put_entry-requires-clause-near
