@@ -1,0 +1,10 @@
+pub mod Texts
+pub mod Steps
+pub mod Counts
+pub mod Fronts
+pub mod Cuts
+pub mod Rooms
+pub mod Numbers
+pub mod Heads
+pub mod Nexts
+pub mod ReadBack
