@@ -1,0 +1,3 @@
+pub mod Child
+pub mod KindOf
+pub mod KindCode
