@@ -1,3 +1,5 @@
 pub mod Child
 pub mod KindOf
 pub mod KindCode
+pub mod ChildCode
+pub mod Physical

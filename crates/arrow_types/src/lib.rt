@@ -3,6 +3,9 @@
 
 mod clone;
 mod data_type;
+mod physical;
+mod same;
 
 pub use arrow_spec::{IntegerType, IntervalUnit, TimeUnit, UnionMode};
 pub use data_type::{ArrowDataType, ExtensionType, Field, Metadata, UnionType};
+pub use physical::{PhysicalType, PrimitiveType};
