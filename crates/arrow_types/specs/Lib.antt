@@ -3,3 +3,5 @@ pub mod KindOf
 pub mod KindCode
 pub mod ChildCode
 pub mod Physical
+pub mod Schemas
+pub mod Extensions

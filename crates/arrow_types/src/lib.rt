@@ -3,9 +3,13 @@
 
 mod clone;
 mod data_type;
+mod extension;
 mod physical;
 mod same;
+mod schema;
 
 pub use arrow_spec::{IntegerType, IntervalUnit, TimeUnit, UnionMode};
 pub use data_type::{ArrowDataType, ExtensionType, Field, Metadata, UnionType};
+pub use extension::get_extension;
 pub use physical::{PhysicalType, PrimitiveType};
+pub use schema::{ArrowSchema, ArrowSchemaRef};
