@@ -1,6 +1,6 @@
 -- What a schema is seen as: its keys and fields, in order.
 use Rattle.std.specs.Prelude.{◌≡◌, ℕ, List, [], ◌∷◌, map, Bool, true, Option, Some, None, String, string_bytes, if◌then◌else◌, refl}
-use Rattle.std.proofs.Common.{ap, ◌∙◌}
+use Rattle.std.proofs.Common.{ap, ◌∙◌, Bor}
 use Rattle.std.specs.Str.{bytes_eq}
 use Rattle.std.specs.Cmp.{IsEquivalence}
 use Rattle.std.specs.Coded.{Coded, code_by}
@@ -20,6 +20,10 @@ Keyed = List ℕ × Child
 
 abbrev pub keyed : List (String Global × Field) → List Keyed
 keyed = map (λ p. (string_bytes p.0, child_of p.1))
+
+-- what a key and a field stand for behind their references
+abbrev pub entry_of : Bor (String Global) × Bor Field → Keyed
+entry_of p = (string_bytes p.0.now, child_of p.1.now)
 
 abbrev pub keys_in : List Keyed → List (List ℕ)
 keys_in = map (λ p. p.0)

@@ -5,7 +5,7 @@ ghost use Rattle.arrow_types.specs.KindOf.{kind_of, child_of, union_kind_of, ext
 
 use crate::{ArrowDataType, ExtensionType, Field, Metadata, UnionMode, UnionType};
 
-fn is_same_text(a: &String, b: &String) -> bool
+pub(crate) fn is_same_text(a: &String, b: &String) -> bool
     ensures { IsTrue result ↔ (string_bytes a.now ≡ string_bytes b.now) }
 {
     a == b
@@ -148,7 +148,7 @@ fn is_same_type(a: &ArrowDataType, b: &ArrowDataType) -> bool
 }
 
 #[cycle(same)]
-fn is_same_field(a: &Field, b: &Field) -> bool
+pub(crate) fn is_same_field(a: &Field, b: &Field) -> bool
     ensures { IsTrue result ↔ (child_of a.now ≡ child_of b.now) }
 {
     is_same_text(&a.name, &b.name)

@@ -4,9 +4,10 @@ ghost use Rattle.std.specs.Option.{option_map};
 ghost use Rattle.std.specs.List.{IsDistinct};
 ghost use Rattle.std.specs.Str.{bytes_eq};
 ghost use Rattle.arrow_types.specs.KindOf.{child_of};
-ghost use Rattle.arrow_types.specs.Schemas.{keyed, keys_in, field_under, with_field, with_fields};
+ghost use Rattle.arrow_types.specs.Schemas.{keyed, keys_in, entry_of, field_under, with_field, with_fields};
 
 use crate::Field;
+use crate::same::{is_same_field, is_same_text};
 use indexmap::IndexMap;
 use indexmap::map::Iter;
 use std::alloc::{AllocError, Global};
@@ -92,7 +93,7 @@ impl ArrowSchema {
 
     /// The key and the field at a place, counted from 0.
     pub fn get_at_index(&self, index: usize) -> Option<(&String, &Field)>
-        ensures { option_map (λ p. (string_bytes p.0.now, child_of p.1.now)) result ≡ slice_get self.now index }
+        ensures { option_map entry_of result ≡ slice_get self.now index }
     {
         self.fields.get_index(index)
     }
@@ -115,5 +116,44 @@ impl ArrowSchema {
             drop(copy.insert(key, field)?);
         }
         Ok(copy)
+    }
+}
+
+fn is_same_entry(a: Option<(&String, &Field)>, b: Option<(&String, &Field)>) -> bool
+    ensures { IsTrue result ↔ (option_map entry_of a.entry ≡ option_map entry_of b.entry) }
+{
+    match a {
+        None => b.is_none(),
+        Some((key, field)) => match b {
+            None => false,
+            Some((other, fellow)) => is_same_text(key, other) && is_same_field(field, fellow),
+        },
+    }
+}
+
+fn is_same_schema(a: &ArrowSchema, b: &ArrowSchema) -> bool
+    ensures { IsTrue result ↔ (a.now ≡ b.now) }
+{
+    if a.len() != b.len() {
+        return false;
+    }
+    for i in 0..a.len() {
+        if !is_same_entry(a.get_at_index(i), b.get_at_index(i)) {
+            return false;
+        }
+    }
+    true
+}
+
+impl PartialEq for ArrowSchema {
+    ghost use Rattle.std.specs.Cmp.{partial_equiv_from_equiv};
+    ghost use Rattle.arrow_types.specs.Schemas.{schema_eq, schema_eq_equiv};
+
+    ghost eq = { schema_eq };
+
+    ghost laws = { partial_equiv_from_equiv schema_eq_equiv };
+
+    fn eq(&self, other: &ArrowSchema) -> bool {
+        is_same_schema(self, other)
     }
 }
