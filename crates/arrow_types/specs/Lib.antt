@@ -5,3 +5,5 @@ pub mod ChildCode
 pub mod Physical
 pub mod Schemas
 pub mod Extensions
+pub mod Numbers
+pub mod NumberLaws
