@@ -7,3 +7,4 @@ pub mod Schemas
 pub mod Extensions
 pub mod Numbers
 pub mod NumberLaws
+pub mod IntervalLaws

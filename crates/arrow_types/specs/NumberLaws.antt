@@ -97,3 +97,6 @@ signed_width w order z = unsigned_width w order (cast_unsigned w z)
 
 pub signed_agrees : (w : Width) (bytes : List ℕ) (at : ℕ) (order : Order) → at + byte_len w ≤ length bytes → signed_num w bytes at order ≡ Some (signed_from_bytes w order (take (byte_len w) (drop at bytes)))
 signed_agrees w bytes at order h = ap (option_map (cast_signed w)) (unsigned_agrees w bytes at order h)
+
+pub pos_same : (x y : ℕ) → pos x ≡ pos y → x ≡ y
+pos_same x y e = cc

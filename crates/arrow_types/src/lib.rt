@@ -12,6 +12,6 @@ mod schema;
 pub use arrow_spec::{IntegerType, IntervalUnit, TimeUnit, UnionMode};
 pub use data_type::{ArrowDataType, ExtensionType, Field, Metadata, UnionType};
 pub use extension::get_extension;
-pub use numbers::{NativeType, days_ms, months_days_ns};
+pub use numbers::{DictionaryKey, NativeType, Offset, days_ms, months_days_ns};
 pub use physical::{PhysicalType, PrimitiveType};
 pub use schema::{ArrowSchema, ArrowSchemaRef};
