@@ -1,4 +1,5 @@
 //! The small choices inside a data type (Arrow Columnar Format, Schema.fbs).
+ghost use Rattle.std.specs.Prelude.{◌≡◌, ◌↔◌, IsTrue, if◌then◌else◌};
 
 /// The type of a dictionary's index, or of a column of integers.
 #[derive(Clone, Copy, Debug, PartialEq, Eq, Hash)]
@@ -36,4 +37,28 @@ pub enum IntervalUnit {
 pub enum UnionMode {
     Dense,
     Sparse,
+}
+
+impl UnionMode {
+    pub const fn sparse(is_sparse: bool) -> UnionMode
+        ensures { result ≡ (if is_sparse then UnionMode.Sparse else UnionMode.Dense) }
+    {
+        if is_sparse {
+            UnionMode::Sparse
+        } else {
+            UnionMode::Dense
+        }
+    }
+
+    pub const fn is_sparse(&self) -> bool
+        ensures { IsTrue result ↔ (self.now ≡ UnionMode.Sparse) }
+    {
+        matches!(self, UnionMode::Sparse)
+    }
+
+    pub const fn is_dense(&self) -> bool
+        ensures { IsTrue result ↔ (self.now ≡ UnionMode.Dense) }
+    {
+        matches!(self, UnionMode::Dense)
+    }
 }

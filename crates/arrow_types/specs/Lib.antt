@@ -1,0 +1,10 @@
+pub mod Child
+pub mod KindOf
+pub mod KindCode
+pub mod ChildCode
+pub mod Physical
+pub mod Schemas
+pub mod Extensions
+pub mod Numbers
+pub mod NumberLaws
+pub mod IntervalLaws

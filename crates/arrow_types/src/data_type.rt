@@ -1,0 +1,116 @@
+//! The type tree.
+ghost use Rattle.std.specs.Prelude.{◌≡◌, [], string_bytes};
+ghost use Rattle.arrow_types.specs.KindOf.{kind_of, child_of};
+
+use arrow_spec::{IntegerType, IntervalUnit, TimeUnit, UnionMode};
+use std::alloc::Global;
+use std::collections::BTreeMap;
+
+/// Pairs of texts, by key.
+pub type Metadata = BTreeMap<String, String>;
+
+/// The type of a column (Arrow Columnar Format, "Data Types").
+#[cycle(datatype)]
+#[derive(Drop)]
+pub enum ArrowDataType {
+    Null,
+    Boolean,
+    Int8,
+    Int16,
+    Int32,
+    Int64,
+    Int128,
+    UInt8,
+    UInt16,
+    UInt32,
+    UInt64,
+    Float16,
+    Float32,
+    Float64,
+    /// Days since the Unix epoch.
+    Date32,
+    /// Milliseconds since the Unix epoch.
+    Date64,
+    /// Seconds or milliseconds since midnight.
+    Time32(TimeUnit),
+    /// Microseconds or nanoseconds since midnight.
+    Time64(TimeUnit),
+    Duration(TimeUnit),
+    /// Time since the Unix epoch, and the time zone.
+    Timestamp(TimeUnit, Option<String>),
+    Interval(IntervalUnit),
+    Binary,
+    LargeBinary,
+    Utf8,
+    LargeUtf8,
+    BinaryView,
+    Utf8View,
+    /// Byte strings of this length.
+    FixedSizeBinary(usize),
+    /// Decimals of 128 bits: their precision and scale.
+    Decimal(usize, usize),
+    /// Decimals of 256 bits: their precision and scale.
+    Decimal256(usize, usize),
+    List(Box<Field>),
+    LargeList(Box<Field>),
+    /// Lists of this many items.
+    FixedSizeList(Box<Field>, usize),
+    /// Lists of entries, a struct of a key and a value, and whether the keys are sorted.
+    Map(Box<Field>, bool),
+    Struct(Vec<Field>),
+    Union(Box<UnionType>),
+    /// Keys of this type into values of that type, and whether the values are in order.
+    Dictionary(IntegerType, Box<ArrowDataType>, bool),
+    Extension(Box<ExtensionType>),
+}
+
+/// A column's name and type, whether it may have nulls, and its metadata.
+#[cycle(datatype)]
+#[derive(Drop)]
+pub struct Field {
+    pub name: String,
+    pub dtype: ArrowDataType,
+    pub is_nullable: bool,
+    pub metadata: Metadata,
+}
+
+/// A union's children, and the id of each; with no ids they count 0, 1, and so on.
+#[cycle(datatype)]
+#[derive(Drop)]
+pub struct UnionType {
+    pub fields: Vec<Field>,
+    pub ids: Option<Vec<i32>>,
+    pub mode: UnionMode,
+}
+
+/// A type under a name of its own, stored as another (Arrow Columnar Format, "Extension Types").
+#[cycle(datatype)]
+#[derive(Drop)]
+pub struct ExtensionType {
+    pub name: String,
+    pub inner: ArrowDataType,
+    pub metadata: Option<String>,
+}
+
+impl Field {
+    /// A field without metadata.
+    pub fn new(alloc: Global, name: String, dtype: ArrowDataType, is_nullable: bool) -> Field
+        ensures name { result.name ≡ name }
+        ensures dtype { result.dtype ≡ dtype }
+        ensures nullable { result.is_nullable ≡ is_nullable }
+        ensures metadata { result.metadata.entries ≡ [] }
+    {
+        Field {
+            name,
+            dtype,
+            is_nullable,
+            metadata: Metadata::new(alloc),
+        }
+    }
+
+    pub fn dtype(&self) -> &ArrowDataType
+        ensures { result.now ≡ self.now.dtype }
+    {
+        &self.dtype
+    }
+}

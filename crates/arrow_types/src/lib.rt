@@ -1,0 +1,17 @@
+//! The types of columns, their fields and schemas (Arrow Columnar Format, Schema.fbs), and the numbers that buffers hold.
+#![tactic(auto)]
+
+mod clone;
+mod data_type;
+mod extension;
+mod numbers;
+mod physical;
+mod same;
+mod schema;
+
+pub use arrow_spec::{IntegerType, IntervalUnit, TimeUnit, UnionMode};
+pub use data_type::{ArrowDataType, ExtensionType, Field, Metadata, UnionType};
+pub use extension::get_extension;
+pub use numbers::{DictionaryKey, NativeType, Offset, days_ms, months_days_ns};
+pub use physical::{PhysicalType, PrimitiveType};
+pub use schema::{ArrowSchema, ArrowSchemaRef};
