@@ -1,20 +1,19 @@
 -- What holds of an array that is read for some rows holds of it where it is read for fewer.
 use Rattle.std.proofs.Common.{◌≡◌, ℕ, zero, suc, ◌+◌, ◌-◌, ◌*◌, ◌<◌, ◌≤◌, List, [], ◌∷◌, ◌++◌, length, take, drop, Option, Some, None, Bool, true, false, refl, sym, ◌∙◌, ap, arith, not, ◌&&◌, ◌||◌, cond}
-use Rattle.std.specs.Prelude.{nat_le, nat_lt, slice_get, ℤ}
-use Rattle.std.specs.Int.{byte_len, w32, w8}
+use Rattle.std.specs.Prelude.{nat_lt, slice_get, ℤ}
+use Rattle.std.specs.Int.{byte_len}
 use Rattle.std.specs.Str.{is_utf8}
 use Rattle.std.proofs.lemmas.Bool.{ltb-false, le-ltb, or_parts, or_from, and_left, and_right, and_cases, false≢true}
 use Rattle.arrow_spec.specs.declared.error.IpcError.{IpcError}
 use Rattle.arrow_spec.specs.declared.message.FieldNode.{FieldNode}
-use Rattle.arrow_spec.specs.declared.message.IpcBuffer.{IpcBuffer}
 use Rattle.arrow_spec.specs.declared.types.UnionMode.{UnionMode}
 use Rattle.arrow_spec.specs.declared.types.UnionMode.TheVariants.{Dense, Sparse}
 use Rattle.arrow_spec.specs.declared.types.IntervalUnit.TheVariants.{YearMonth, DayTime, MonthDayNano}
 use Rattle.arrow_spec.specs.declared.types.IntegerType.{IntegerType}
 use Rattle.arrow_spec.specs.Kinds.{Kind, Fields, none, field, null, boolean, integer, float, date32, date64, time32, time64, timestamp, duration, interval, decimal, decimal256, binary, utf8, binary_view, utf8_view, fixed_size_binary, «list», fixed_size_list, struct, map, union, dictionary, extension, Offsets, small}
-use Rattle.arrow_spec.specs.Counts.{RecordBatch, Place, magnitude, is_negative, inside, after, union_buffers, count_at}
+use Rattle.arrow_spec.specs.Counts.{RecordBatch, Place, magnitude, is_negative, inside, after, union_buffers}
 use Rattle.arrow_spec.specs.Cells.{Cell}
-use Rattle.arrow_spec.specs.Columns.{Dictionaries, cause, if_sound, some_row, some_valid_row, valid, has_nulls, node_causes, node_faults, range_of, range_faults, bitmap_faults, validity_faults, numbers_faults, fixed_faults, offset_width, offset, signed_in, offsets_buffer_faults, offsets_faults, bytes_faults, utf8_faults, row_bytes, view_parts_faults, bad_view_faults, views_faults, view_text_faults, key_faults, integer_width, found, types_buffer, is_no_id, id_place, is_bad_row, dense_buffer_faults, dense_faults, union_faults, flat_faults, array_faults, child_faults, view_count_faults, node_of}
+use Rattle.arrow_spec.specs.Columns.{Dictionaries, cause, if_sound, some_row, some_valid_row, valid, has_nulls, node_causes, node_faults, range_of, bitmap_faults, validity_faults, numbers_faults, fixed_faults, offset_width, offset, signed_in, offsets_buffer_faults, offsets_faults, bytes_faults, utf8_faults, row_bytes, view_parts_faults, views_faults, view_text_faults, key_faults, integer_width, found, types_buffer, dense_buffer_faults, dense_faults, union_faults, flat_faults, array_faults, child_faults, view_count_faults, node_of}
 
 -- ── nothing is wrong with the whole where nothing is with its parts ──
 

@@ -4,7 +4,7 @@ use Rattle.std.specs.Prelude.{codes}
 use Rattle.arrow_spec.proofs.Vectors.{int32_file, int32_stream}
 use Rattle.arrow_spec.specs.declared.types.IntegerType.TheVariants.{Int32}
 use Rattle.arrow_spec.specs.Kinds.{field, none, integer}
-use Rattle.arrow_spec.specs.Layout.{layout, size, table_head, zeros}
+use Rattle.arrow_spec.specs.Layout.{layout, table_head, zeros}
 use Rattle.arrow_spec.specs.Footers.{footer_node}
 
 pub footer_laid : layout (footer_node (field (97 ∷ []) true [] (integer Int32) none) [] [] (record { offset = 144; metadata = 152; body = 128 } ∷ [])) ≡ take 176 (drop 432 int32_file)

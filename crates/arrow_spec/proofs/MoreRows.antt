@@ -1,8 +1,7 @@
 -- Defaults of absent slots, features, missing dictionaries and views.
-use Rattle.std.proofs.Common.{◌≡◌, ℕ, List, [], ◌∷◌, ◌++◌, take, drop, Option, Some, None, refl, true, false}
+use Rattle.std.proofs.Common.{◌≡◌, [], ◌∷◌, take, Some, None, refl, true, false}
 use Rattle.std.specs.Prelude.{pos, codes}
-use Rattle.std.specs.Int.{to_le_bytes, w64}
-use Rattle.arrow_spec.proofs.Vectors.{int32_file, int32_stream}
+use Rattle.arrow_spec.proofs.Vectors.{int32_file}
 use Rattle.arrow_spec.proofs.WorkedFiles.{empty_file_far_dictionary, three_columns_file, two_batches_file}
 use Rattle.arrow_spec.proofs.MoreFiles.{defaults_file, delta_file, no_dictionary_file, missing_dictionary_file, float_file, compressed_file, views_file, wrong_prefix_file}
 use Rattle.arrow_spec.proofs.Int32Table.{computed, whole_table, int32_table}

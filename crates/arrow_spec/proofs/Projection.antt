@@ -1,6 +1,6 @@
 -- The law of projection and limit: what the whole file means gives what it means under a request.
-use Rattle.std.proofs.Common.{◌≡◌, ◌≢◌, ℕ, zero, suc, ◌+◌, ◌-◌, ◌*◌, ◌<◌, ◌≤◌, List, [], ◌∷◌, ◌++◌, length, take, drop, Option, Some, None, Bool, true, false, Ok, Err, Result, refl, sym, ◌∙◌, ap, arith, not, ◌&&◌, ◌||◌, cond, min}
-use Rattle.std.specs.Prelude.{map, slice_get, nat_lt, nat_le, nat_eq}
+use Rattle.std.proofs.Common.{◌≡◌, ℕ, zero, suc, ◌+◌, ◌<◌, ◌≤◌, List, [], ◌∷◌, ◌++◌, length, take, Option, Some, None, Bool, true, false, Ok, Err, refl, sym, ◌∙◌, ap, arith, not, ◌&&◌, cond}
+use Rattle.std.specs.Prelude.{map, slice_get, nat_lt, nat_eq}
 use Rattle.std.specs.List.{AllByRecursion, IsDistinct}
 use Rattle.std.proofs.lemmas.Bool.{lt-ltb, or_left, or_from, or_parts, not_from_false, and_from}
 use Rattle.arrow_spec.specs.declared.error.IpcError.{IpcError}
@@ -9,15 +9,14 @@ use Rattle.arrow_spec.specs.declared.error.Feature.TheVariants as features
 use Rattle.arrow_spec.specs.declared.message.MetadataVersion.{MetadataVersion}
 use Rattle.arrow_spec.specs.Readings.{bind, ◌>>=◌, Reading, place, unless, meaning}
 use Rattle.arrow_spec.specs.Flat.{Order}
-use Rattle.arrow_spec.specs.Kinds.{Kind, Fields, none, field, bare, bare_kind, width}
+use Rattle.arrow_spec.specs.Kinds.{Kind, Fields, none, field, bare, width}
 use Rattle.arrow_spec.specs.Built.{everything}
 use Rattle.arrow_spec.specs.Cells.{Cell}
-use Rattle.arrow_spec.specs.Schema.{Schema}
 use Rattle.arrow_spec.specs.Messages.{BatchHeader}
 use Rattle.arrow_spec.specs.Counts.{RecordBatch, Place, after}
-use Rattle.arrow_spec.specs.Columns.{Dictionaries, cell, from_on, cause, count_faults, top_node_faults, array_faults, column_faults, chosen_faults, chosen_cells, columns_at, is_chosen, stands_in, float_faults, chosen_floats}
-use Rattle.arrow_spec.specs.Files.{Request, «all», FileBlock, Meta, TableBatch, ArrowTable, Asked, to_read, share, what_is_left, column_or_none, as_asked, wrong_columns, columns_right, with_field_at, fields_asked, fields_as_asked, batch_of_tables, batch_of, batches_of, dictionaries_of, dictionaries_read, dictionaries_sent, if_sent, file_reading, project, cut, cut_batches}
-use Rattle.arrow_spec.specs.Laws.{AreColumns, AreAskedColumns, ProjectsAndCuts}
+use Rattle.arrow_spec.specs.Columns.{Dictionaries, cell, from_on, cause, column_faults, chosen_faults, chosen_cells, columns_at, is_chosen, stands_in, float_faults, chosen_floats}
+use Rattle.arrow_spec.specs.Files.{Request, «all», FileBlock, TableBatch, ArrowTable, Asked, to_read, share, what_is_left, column_or_none, as_asked, wrong_columns, columns_right, with_field_at, fields_asked, fields_as_asked, batch_of_tables, batch_of, batches_of, dictionaries_of, dictionaries_read, dictionaries_sent, file_reading, project, cut, cut_batches}
+use Rattle.arrow_spec.specs.Laws.{AreAskedColumns, ProjectsAndCuts}
 use Rattle.arrow_spec.proofs.Fewer.{none_first, none_second, none_both, array_faults-fewer}
 
 -- ── readings in turn ──

@@ -1,5 +1,5 @@
 -- How long the streams of worked files are, and one of them message by message.
-use Rattle.std.proofs.Common.{◌≡◌, ℕ, ◌+◌, List, [], ◌∷◌, Option, Some, None, Ok, Err, refl, true, false}
+use Rattle.std.proofs.Common.{◌≡◌, ℕ, ◌+◌, List, [], ◌∷◌, Some, None, Ok, Err, refl, false}
 use Rattle.std.specs.Prelude.{pos, codes, sum_by}
 use Rattle.arrow_spec.proofs.Vectors.{int32_file}
 use Rattle.arrow_spec.proofs.WorkedFiles.{empty_file, empty_file_far_dictionary, three_columns_file, two_batches_file}

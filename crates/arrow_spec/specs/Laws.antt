@@ -1,11 +1,75 @@
 -- What follows from the definitions. Each statement is the contract of a public function without a body (src/laws.rt).
-use Rattle.std.specs.Prelude.{◌≡◌, ℕ, ◌<◌, List, length, take, drop, Option, Some, None, nat_eq}
+use Rattle.std.specs.Prelude.{◌≡◌, ℕ, ◌<◌, List, Option, Some, None, nat_eq, ◌^◌, ◌≤◌, [], ◌∷◌, ◌++◌, length, take, drop, Bool, true, Ok, Err, ◌⊎◌}
 use Rattle.std.specs.List.{AllByRecursion, IsDistinct}
+use Rattle.arrow_spec.specs.declared.error.IpcError.TheVariants.{TooLarge}
+use Rattle.arrow_spec.specs.declared.message.MetadataVersion.TheVariants.{V5}
 use Rattle.arrow_spec.specs.Readings.{meaning}
-use Rattle.arrow_spec.specs.Kinds.{width}
-use Rattle.arrow_spec.specs.Built.{Built, everything}
-use Rattle.arrow_spec.specs.Files.{Request, «all», ArrowTable, file_reading, to_read, project, cut}
+use Rattle.arrow_spec.specs.Kinds.{width, Fields, Metadata}
+use Rattle.arrow_spec.specs.Built.{Built, everything, so_far}
+use Rattle.arrow_spec.specs.Files.{Request, «all», ArrowTable, file_reading, to_read, project, cut, file_table, to_send}
 use Rattle.arrow_spec.specs.Needed.{Range, parts_needed, or_nothing}
+use Rattle.arrow_spec.specs.Layout as layout
+use Rattle.arrow_spec.specs.Layout.{Slots, size, table}
+use Rattle.arrow_spec.specs.Held.{Fits, HoldsSlots, Rooted}
+use Rattle.arrow_spec.specs.Flat.{little}
+use Rattle.arrow_spec.specs.Schema.{schema_of}
+use Rattle.arrow_spec.specs.Columns.{Dictionaries}
+use Rattle.arrow_spec.specs.Messages.{Message, message_of, version_of}
+use Rattle.arrow_spec.specs.Sent.{message_slots, schema_message, schema_slots}
+use Rattle.arrow_spec.specs.Streams.{Framed, Reader, body_in, closed, next_message, stream_batches, stream_table}
+use Rattle.arrow_spec.specs.Framing.{message_bytes, padded_size}
+use Rattle.arrow_spec.specs.WrittenSchemas.{SchemaMayBeWritten, numbered}
+use Rattle.arrow_spec.specs.WrittenTables.{Int32Field, WrittenBatch, TableMayBeWritten, written_stream, written_table}
+
+-- ── flatbuffers and messages ──
+
+-- A table of at most 16 slots a table, whose numbers fit, is read back slot by slot.
+abbrev pub LayoutReadsBack : Type 0
+LayoutReadsBack = (s : Slots) (rest : List ℕ) → Fits (table s) → size (table s) < 2 ^ 31 → Rooted s (layout.layout (table s) ++ rest)
+
+-- the next message of bytes: of a tag, with such slots in its header, such a body, and such bytes behind it
+pub record IsNextMessage (taken : ℕ → Bool) (tag : ℕ) (s : Slots) (body rest b : List ℕ) : Type 0 where
+  pub framed : Framed
+  pub found : Message
+  pub next : next_message b ≡ Ok (Some framed)
+  pub read : message_of framed.metadata taken ≡ Ok found
+  pub version : version_of framed.metadata found ≡ Ok V5
+  pub tag_is : found.tag ≡ tag
+  pub body_is : body_in framed found ≡ Ok body
+  pub rest_is : drop found.body framed.behind ≡ rest
+  pub header : HoldsSlots s framed.metadata found.header 0
+
+-- A message that is framed with its body is the next one, whatever stands behind it.
+abbrev pub FramedMessageIsNext : Type 0
+FramedMessageIsNext = (taken : ℕ → Bool) (tag : ℕ) (s : Slots) (body rest : List ℕ) → 0 < tag → tag ≤ 5 → taken tag ≡ true → length body < 2 ^ 63 → Fits (table (message_slots tag (table s) (length body)))
+    → padded_size (table (message_slots tag (table s) (length body))) < 2 ^ 31 → IsNextMessage taken tag s body rest (message_bytes (table (message_slots tag (table s) (length body))) body ++ rest)
+
+-- A schema's message is the next one, and is read as the schema with its dictionaries numbered.
+abbrev pub SchemaMessageReadsBack : Type 0
+SchemaMessageReadsBack = (fs : Fields) (pairs : Metadata) (rest : List ℕ) → SchemaMayBeWritten fs pairs → padded_size (schema_message fs pairs).node < 2 ^ 31
+    → (next : IsNextMessage (λ tag. nat_eq tag 1) 1 (schema_slots fs pairs) [] rest (message_bytes (schema_message fs pairs).node [] ++ rest)) × (schema_of everything next.framed.metadata next.found.header ≡ Ok (record { order = little; fields = numbered fs 0; metadata = pairs }))
+
+-- ── streams ──
+
+-- No stream has more messages than bytes: to allow for more changes nothing.
+abbrev pub StreamFuelIsEnough : Type 0
+StreamFuelIsEnough = (s : Reader) (d : Dictionaries) (b : List ℕ) (most : ℕ) → length b ≤ most → stream_batches most s d b ≡ stream_batches (length b) s d b
+
+-- A stream that is framed batch by batch, and ended, is closed and means the table.
+abbrev pub WrittenStreamMeansItsTable : Type 0
+WrittenStreamMeansItsTable = (fs : List Int32Field) (xs : List WrittenBatch) → TableMayBeWritten fs xs → closed (written_stream fs xs) × (stream_table (written_stream fs xs) None ≡ Some (written_table fs xs))
+
+-- ── files that are sent ──
+
+-- A file that means a table can be sent, or a message of it is too large.
+abbrev pub SentOrTooLarge : Type 0
+SentOrTooLarge = (b : List ℕ) (r : Request) (t : ArrowTable) → file_table b r ≡ Some t → (file_reading so_far to_send b r None ≡ Ok t) ⊎ (file_reading so_far to_send b r None ≡ Err (TooLarge ∷ []))
+
+-- What is sent is what the file means.
+abbrev pub SentMeans : Type 0
+SentMeans = (b : List ℕ) (r : Request) (t : ArrowTable) → file_reading so_far to_send b r None ≡ Ok t → file_table b r ≡ Some t
+
+-- ── projections and limits ──
 
 -- distinct columns, each below a count
 pub record AreColumns (columns : List ℕ) (count : ℕ) : Type 0 where

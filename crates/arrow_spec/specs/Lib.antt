@@ -15,6 +15,9 @@ pub mod Sent
 pub mod Files
 pub mod Footers
 pub mod Streams
+pub mod Framing
+pub mod WrittenTables
+pub mod WrittenSchemas
 pub mod Laws
 pub mod Words
 pub mod Needed

@@ -182,13 +182,21 @@ pub record SentMessage : Type 0 where
   pub node : Node
   pub body : ℕ
 
--- a message of version V5 (Message.fbs, Message)
-abbrev pub message : ℕ → Node → ℕ → SentMessage
-message tag header body = record { node = layout.table (layout.value w16 (pos 4) (layout.value w8 (pos tag) (layout.child header (unless_zero w64 (pos body) layout.no_more)))); body = body }
+-- the slots of a message of version V5 (Message.fbs, Message)
+abbrev pub message_slots : ℕ → Node → ℕ → Slots
+message_slots tag header body = layout.value w16 (pos 4) (layout.value w8 (pos tag) (layout.child header (unless_zero w64 (pos body) layout.no_more)))
 
--- a little-endian schema whose ids count in preorder (Schema.fbs, Schema)
+-- a message with its tag and header, and how long its body is
+abbrev pub message : ℕ → Node → ℕ → SentMessage
+message tag header body = record { node = layout.table (message_slots tag header body); body = body }
+
+-- the slots of a little-endian schema whose ids count in preorder (Schema.fbs, Schema)
+abbrev pub schema_slots : Fields → Metadata → Slots
+schema_slots fs pairs = layout.absent (layout.child (layout.tables (field_nodes fs 0)) (pairs_slot (pair_nodes pairs) layout.no_more))
+
+-- its table
 abbrev pub schema_node : Fields → Metadata → Node
-schema_node fs pairs = layout.table (layout.absent (layout.child (layout.tables (field_nodes fs 0)) (pairs_slot (pair_nodes pairs) layout.no_more)))
+schema_node fs pairs = layout.table (schema_slots fs pairs)
 
 -- a schema message
 unfoldable pub schema_message : Fields → Metadata → SentMessage
@@ -361,9 +369,13 @@ abbrev pub views_slot : List ℕ → Slots → Slots
 views_slot [] s = layout.absent s
 views_slot (n ∷ ns) s = layout.child (layout.numbers64 (each_of pos (n ∷ ns))) s
 
--- a record batch (Message.fbs, RecordBatch)
+-- the slots of a record batch (Message.fbs, RecordBatch)
+abbrev pub batch_slots : ℕ → Written → Slots
+batch_slots rows w = unless_zero w64 (pos rows) (layout.child (nodes_node w.nodes) (layout.child (buffers_node (placed 0 w.lengths)) (layout.absent (views_slot w.views layout.no_more))))
+
+-- its table
 abbrev pub batch_node : ℕ → Written → Node
-batch_node rows w = layout.table (unless_zero w64 (pos rows) (layout.child (nodes_node w.nodes) (layout.child (buffers_node (placed 0 w.lengths)) (layout.absent (views_slot w.views layout.no_more)))))
+batch_node rows w = layout.table (batch_slots rows w)
 
 -- the file's columns in order
 abbrev pub columns_written : RecordBatch → Option (List ℕ) → Fields → ℕ → Place → ℕ → List Written

@@ -1,5 +1,5 @@
 //! What follows from the definitions: each function's contract is a law, proved in `proofs/`.
-ghost use Rattle.arrow_spec.specs.Laws.{DependsOnNeeded, ProjectsAndCuts};
+ghost use Rattle.arrow_spec.specs.Laws.{DependsOnNeeded, FramedMessageIsNext, LayoutReadsBack, ProjectsAndCuts, SchemaMessageReadsBack, SentMeans, SentOrTooLarge, StreamFuelIsEnough, WrittenStreamMeansItsTable};
 
 /// What a whole file means gives what it means under distinct columns and a limit.
 pub fn projects_and_cuts()
@@ -9,4 +9,39 @@ pub fn projects_and_cuts()
 /// What a file means under a request depends on the parts that the request needs.
 pub fn depends_on_needed()
     ensures { DependsOnNeeded }
+{}
+
+/// A flatbuffer that is laid out is read back, whatever stands behind it.
+pub fn layout_reads_back()
+    ensures { LayoutReadsBack }
+{}
+
+/// A framed message is the next message of the bytes that begin with it.
+pub fn framed_message_is_next()
+    ensures { FramedMessageIsNext }
+{}
+
+/// A schema is read back from its framed message, for all types but extensions.
+pub fn schema_message_reads_back()
+    ensures { SchemaMessageReadsBack }
+{}
+
+/// A stream is read to its end: each message takes at least four bytes.
+pub fn stream_fuel_is_enough()
+    ensures { StreamFuelIsEnough }
+{}
+
+/// A written stream of Int32 columns, nullable or not, is closed and means the written table.
+pub fn written_stream_means_its_table()
+    ensures { WrittenStreamMeansItsTable }
+{}
+
+/// A file that means a table is read to be sent as that table, or a message of it is too large.
+pub fn sent_or_too_large()
+    ensures { SentOrTooLarge }
+{}
+
+/// A file that is read to be sent is read as what it means.
+pub fn sent_means()
+    ensures { SentMeans }
 {}

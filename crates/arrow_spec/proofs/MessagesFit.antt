@@ -1,0 +1,71 @@
+-- The trees of messages fit.
+use Rattle.std.proofs.Common.{◌≡◌, ℕ, suc, zero, ◌+◌, ◌^◌, ◌<◌, ◌≤◌, List, [], ◌∷◌, length, arith, true, false, Bool, pos}
+use Rattle.std.specs.Int.{Width, w8, w64}
+use Rattle.arrow_spec.specs.declared.types.IntegerType.{IntegerType}
+use Rattle.arrow_spec.specs.declared.types.IntegerType.TheVariants.{Int8, Int16, Int32, Int64, Int128, UInt8, UInt16, UInt32, UInt64}
+use Rattle.arrow_spec.specs.Layout as layout
+use Rattle.arrow_spec.specs.Layout.{Node, Slots, slot_count, one_more}
+use Rattle.arrow_spec.specs.Held.{Fits, AllFit, NodesFit}
+use Rattle.arrow_spec.specs.Counts.{Written}
+use Rattle.arrow_spec.specs.Sent.{unless_zero, flag, int_node, nodes_node, buffers_node, placed, field_nodes, message_slots, batch_slots, schema_slots}
+use Rattle.arrow_spec.specs.WrittenTables.{Int32Field, fields_of}
+use Rattle.arrow_spec.proofs.IntegerSchemas.{field_slots}
+
+pub one_more-least : (k : ℕ) → one_more k ≤ suc k
+one_more-least zero = omega arith
+one_more-least (suc k) = omega arith
+
+pub count_zero : (w : Width) (n : ℕ) (s : Slots) → slot_count (unless_zero w (pos n) s) ≤ suc (slot_count s)
+count_zero w zero s = one_more-least (slot_count s)
+count_zero w (suc n) s = omega arith
+
+fit_zero : (n : ℕ) (s : Slots) → n < 2 ^ 63 → AllFit s → AllFit (unless_zero w64 (pos n) s)
+fit_zero zero s h fit = fit
+fit_zero (suc n) s h fit = (omega (arith, h), fit)
+
+pub count_flag : (f : Bool) (s : Slots) → slot_count (flag f s) ≤ suc (slot_count s)
+count_flag true s = omega arith
+count_flag false s = one_more-least (slot_count s)
+
+pub fit_flag : (f : Bool) (s : Slots) → AllFit s → AllFit (flag f s)
+fit_flag true s fit = (omega arith, fit)
+fit_flag false s fit = fit
+
+pub message_fits : (tag body : ℕ) (header : Node) → tag < 2 ^ 8 → body < 2 ^ 63 → Fits header → Fits (layout.table (message_slots tag header body))
+message_fits tag body header few short fits = (omega (arith, count_zero w64 body layout.no_more), (omega arith, (few, (fits, fit_zero body layout.no_more short tt))))
+
+-- a batch without view counts
+pub batch_fits : (rows : ℕ) (w : Written) → w.views ≡ [] → rows < 2 ^ 63 → length w.nodes < 2 ^ 32 → length w.lengths < 2 ^ 32 → Fits (layout.table (batch_slots rows w))
+batch_fits rows w none few nodes buffers =
+    let last = layout.absent layout.no_more in
+    let s = layout.child (nodes_node w.nodes) (layout.child (buffers_node (placed 0 w.lengths)) (layout.absent last)) in
+    let count : length (placed 0 w.lengths) < 2 ^ 32 = omega (arith, length-placed w.lengths 0, buffers) in
+    let fits : Fits (layout.table (unless_zero w64 (pos rows) s)) = (omega (arith, count_zero w64 rows s), fit_zero rows s few (nodes, (count, tt))) in
+    rw none fits
+  where
+    length-placed : (ns : List ℕ) (at : ℕ) → length (placed at ns) ≡ length ns
+    length-placed [] at = Rattle.std.proofs.Common.refl
+    length-placed (n ∷ ns) at = Rattle.std.proofs.Common.ap suc (length-placed ns _)
+
+pub int_fits : (i : IntegerType) → Fits (int_node i)
+int_fits Int8 = (omega arith, (omega arith, (omega arith, tt)))
+int_fits Int16 = (omega arith, (omega arith, (omega arith, tt)))
+int_fits Int32 = (omega arith, (omega arith, (omega arith, tt)))
+int_fits Int64 = (omega arith, (omega arith, (omega arith, tt)))
+int_fits Int128 = (omega arith, (omega arith, (omega arith, tt)))
+int_fits UInt8 = (omega arith, (omega arith, tt))
+int_fits UInt16 = (omega arith, (omega arith, tt))
+int_fits UInt32 = (omega arith, (omega arith, tt))
+int_fits UInt64 = (omega arith, (omega arith, tt))
+
+field_fits : (name : List ℕ) (nullable : Bool) (i : IntegerType) → Fits (layout.table (field_slots name nullable i))
+field_fits name nullable i =
+    let s = layout.value w8 (pos 2) (layout.child (int_node i) (layout.absent (layout.child (layout.tables layout.none) (layout.absent layout.no_more)))) in
+    (omega (arith, count_flag nullable s), (tt, fit_flag nullable s (omega arith, (int_fits i, (tt, tt)))))
+
+fields_fit : (fs : List Int32Field) (id : ℕ) → NodesFit (field_nodes (fields_of fs) id)
+fields_fit [] id = tt
+fields_fit (f ∷ fs) id = (field_fits f.name f.nullable Int32, fields_fit fs (id + 0))
+
+pub schema_fits : (fs : List Int32Field) → Fits (layout.table (schema_slots (fields_of fs) []))
+schema_fits fs = (omega arith, (fields_fit fs 0, tt))

@@ -1,0 +1,262 @@
+-- Fields of nested kinds are read back, with their ids numbered anew.
+use Rattle.std.proofs.Common.{◌≡◌, ℕ, suc, zero, ◌+◌, ◌*◌, ◌^◌, ◌<◌, ◌≤◌, List, [], ◌∷◌, length, Option, Some, None, Ok, refl, sym, ap, subst, ◌∙◌, arith, true, false, Bool, pos, SFits}
+use Rattle.std.specs.Prelude.{nat_lt}
+use Rattle.std.specs.Int.{w8, w64, cast_unsigned}
+use Rattle.std.specs.Str.{is_utf8}
+use Rattle.std.proofs.lemmas.Bool.{lt-ltb}
+use Rattle.arrow_spec.specs.Readings.{bind, Reading}
+use Rattle.arrow_spec.specs.Flat.{Table, Vector, slot, table_at, target, slot_unsigned, slot_bool, slot_table, slot_vector, slot_text}
+use Rattle.arrow_spec.specs.Kinds as kind
+use Rattle.arrow_spec.specs.Kinds.{Kind, Fields, none, field, width, small, large, Metadata}
+use Rattle.arrow_spec.specs.Built.{everything}
+use Rattle.arrow_spec.specs.Schema.{Tag, Before, Encoding, Head, tag_of, is_nested, children_at, type_at, is_whole, head_at, field_at, fields_by, pairs_of, encoding_at, with_encoding, with_extension, without_key, value_of, extension_name, extension_metadata}
+use Rattle.arrow_spec.specs.Schema as schema
+use Rattle.arrow_spec.specs.Layout as layout
+use Rattle.arrow_spec.specs.Layout.{Node, Slots, Nodes, node_count}
+use Rattle.arrow_spec.specs.Sent.{flag, int_node, type_tag, type_node, encoding_slot, field_pairs, pair_nodes, pairs_slot, child_nodes, field_nodes, dictionary_count}
+use Rattle.arrow_spec.specs.Held.{Holds, HoldsSlots, HoldsNodes}
+use Rattle.arrow_spec.specs.WrittenSchemas.{AreFieldPairs, FieldsFit, KindFits, after_fields, after_kind, numbered, numbered_kind}
+use Rattle.arrow_spec.proofs.Slots.{unsigned_there, table_absent, table_there, vector_there, text_there, zero_back, flag_back}
+use Rattle.arrow_spec.proofs.IntegerSchemas.{int_back, no_encoding}
+use Rattle.arrow_spec.proofs.SchemaPairs.{pairs_slot_back, without_absent}
+use Rattle.arrow_spec.proofs.TypeTables.{TypeBack, flat_type}
+use Rattle.arrow_spec.proofs.NestedTypes.{small_list_type, large_list_type, fixed_size_list_type, struct_type, map_type, union_type}
+use Rattle.arrow_spec.proofs.NumberedFields.{own, whole_numbered, kind_more, fields_more, kind_count}
+
+-- ── dictionaries ──
+
+-- the encoding that is read of a kind
+abbrev encoding_for : Kind → ℕ → Option Encoding
+encoding_for (kind.dictionary t ordered old k) id = Some (record { index = t; ordered = ordered; id = pos id })
+encoding_for k id = None
+
+-- the kind below a dictionary, ids numbered
+abbrev pub below : Kind → ℕ → Kind
+below (kind.dictionary t ordered old k) id = numbered_kind k (suc id)
+below k id = numbered_kind k id
+
+with_both : (k : Kind) (id : ℕ) → with_encoding (encoding_for k id) (below k id) ≡ numbered_kind k id
+with_both (kind.dictionary t ordered old k) id = refl
+with_both k id = refl
+
+encoding_back : (k : Kind) (id : ℕ) (s : Slots) (b : List ℕ) (t : Table) → id < 2 ^ 63 → HoldsSlots (encoding_slot id k s) b t 4 → (encoding_at b t ≡ Ok (encoding_for k id)) × HoldsSlots s b t 5
+unfolding encoding_at bind
+encoding_back (kind.dictionary i ordered old k) id s b t few h =
+    let c = h.0 in
+    let t' : Table = c.4.0 in
+    let there : slot_table b t 4 ≡ Ok (Some t') = table_there b t 4 c.0 c.1 t' c.2 c.3 c.4.1 in
+    let number = zero_back w64 (pos id) (layout.child (int_node i) (flag ordered layout.no_more)) b t' 0 (record { sfits = few }) c.4.2 in
+    let d = number.1.0 in
+    let t'' : Table = d.4.0 in
+    let index : slot_table b t' 1 ≡ Ok (Some t'') = table_there b t' 1 d.0 d.1 t'' d.2 d.3 d.4.1 in
+    let sorted = flag_back ordered layout.no_more b t' 2 number.1.1 in
+    (rw (encoding_at, there) (rw (number.0, index, int_back i b t'' d.4.2, sorted.0) refl), h.1)
+encoding_back k id s b t few h = (no_encoding b t (table_absent b t 4 h.0), h.1)
+
+-- ── a kind ──
+
+-- the children's vector, which is looked at where a type has children
+abbrev pub looked_at : Bool → Vector → Vector
+looked_at true v = v
+looked_at false v = record { first = 0; count = 0 }
+
+children_looked_at : (nested : Bool) (tag : Tag) (b : List ℕ) (t : Table) (v : Vector) → is_nested tag ≡ nested → slot_vector 4 b t 5 ≡ Ok (Some v) → children_at b t tag ≡ Ok (looked_at nested v)
+unfolding bind
+children_looked_at true tag b t v e h = rw (children_at, e, h) refl
+children_looked_at false tag b t v e h = rw (children_at, e) refl
+
+-- what is read of a field's kind, whose type table stands at q and whose children's offsets stand in v
+pub record KindBack (k : Kind) (levels id : ℕ) (b : List ℕ) (q : ℕ) (v : Vector) (before : Before) : Type 0 where
+  pub nested : Bool
+  pub build : Fields → Kind
+  pub type : TypeBack k nested (looked_at nested v).count b q build
+  pub inner : Fields
+  pub inner_is : fields_by (λ p earlier. field_at everything levels b p earlier) (looked_at nested v).first (looked_at nested v).count before ≡ Ok (inner, after_kind k before)
+  pub built : build inner ≡ below k id
+
+flat_kind : (k : Kind) (levels id : ℕ) (b : List ℕ) (q : ℕ) (v : Vector) (before : Before) → TypeBack k false 0 b q (λ fs. k) → after_kind k before ≡ before → below k id ≡ k → KindBack k levels id b q v before
+unfolding fields_by
+flat_kind k levels id b q v before type same kept = record { nested = false; build = λ fs. k; type = type; inner = none; inner_is = rw same refl; built = sym kept }
+
+nested_by : (k : Kind) (tag : Tag) (b : List ℕ) (q : ℕ) (t : Table) (n : ℕ) (build : Fields → Kind) → schema.tag_of (cast_unsigned w8 (type_tag k)) ≡ Ok tag → is_nested tag ≡ true → table_at b q ≡ Ok t → type_at b t n tag ≡ Ok build → TypeBack k true n b q build
+nested_by k tag b q t n build tagged nested found type = record { tag = tag; tag_is = tagged; nested_is = nested; t = t; found = found; type_is = type }
+
+below_plain : (k : Kind) (levels id : ℕ) → KindFits false levels k → below k id ≡ numbered_kind k id
+below_plain (kind.dictionary t ordered old k) levels id fits = absurd fits
+below_plain k levels id fits = refl
+
+-- a dictionary has the type table and the children of its values
+dictionary_back : (t : Rattle.arrow_spec.specs.declared.types.IntegerType.IntegerType) (ordered : Bool) (old : Rattle.std.proofs.Common.ℤ) (k : Kind) (levels id : ℕ) (b : List ℕ) (q : ℕ) (v : Vector) (before : Before) → KindFits false levels k → KindBack k levels (suc id) b q v before
+    → KindBack (kind.dictionary t ordered old k) levels id b q v before
+dictionary_back t ordered old k levels id b q v before fits back = record {
+  nested = back.nested;
+  build = back.build;
+  type = record { tag = back.type.tag; tag_is = back.type.tag_is; nested_is = back.type.nested_is; t = back.type.t; found = back.type.found; type_is = back.type.type_is };
+  inner = back.inner;
+  inner_is = back.inner_is;
+  built = back.built ∙ below_plain k levels (suc id) fits;
+}
+
+-- the children, of which the vector says how many there are
+counted : (fs : Fields) (levels : ℕ) (b : List ℕ) (v : Vector) (before after : Before) (n : ℕ) → v.count ≡ n → fields_by (λ p earlier. field_at everything levels b p earlier) v.first n before ≡ Ok (fs, after)
+    → fields_by (λ p earlier. field_at everything levels b p earlier) v.first v.count before ≡ Ok (fs, after)
+counted fs levels b v before after n count e = rw count e
+
+pub count_fields : (fs : Fields) (id : ℕ) → node_count (field_nodes fs id) ≡ width fs
+count_fields none id = refl
+count_fields (field name nullable metadata k others) id = ap suc (count_fields others _)
+
+-- ── a field's slots ──
+
+abbrev slots_of : List ℕ → Bool → Metadata → Kind → ℕ → Slots
+slots_of name nullable metadata k id = layout.child (layout.text name) (flag nullable (layout.value w8 (type_tag k) (layout.child (type_node k) (encoding_slot id k (layout.child (layout.tables (child_nodes k id)) (pairs_slot (field_pairs k metadata) layout.no_more))))))
+
+pairs_plain : (k : Kind) (may : Bool) (levels : ℕ) (metadata : Metadata) → KindFits may levels k → field_pairs k metadata ≡ pair_nodes metadata
+pairs_plain (kind.dictionary t ordered id (kind.extension name more k)) true levels metadata fits = absurd fits
+pairs_plain (kind.dictionary t ordered id (kind.extension name more k)) false levels metadata fits = absurd fits
+pairs_plain (kind.extension name more k) may levels metadata fits = absurd fits
+pairs_plain k may levels metadata fits = refl
+
+record Parts (name : List ℕ) (nullable : Bool) (metadata : Metadata) (k : Kind) (id : ℕ) (b : List ℕ) (q before : ℕ) : Type 0 where
+  t : Table
+  found : table_at b q ≡ Ok t
+  text : slot_text b t 0 ≡ Ok (Some name)
+  nullable_is : slot_bool b t 1 ≡ Ok nullable
+  tag : slot_unsigned w8 0 b t 2 ≡ Ok (cast_unsigned w8 (type_tag k))
+  type_slot : ℕ
+  type_place : ℕ
+  type_there : slot b t 3 ≡ Ok (Some type_slot)
+  type_target : target b type_slot ≡ Ok type_place
+  type_held : Holds (type_node k) b type_place
+  encoding : encoding_at b t ≡ Ok (encoding_for k id)
+  children : Vector
+  children_are : slot_vector 4 b t 5 ≡ Ok (Some children)
+  count_is : children.count ≡ node_count (child_nodes k id)
+  children_held : HoldsNodes (child_nodes k id) b children.first
+  pairs : pairs_of b t 6 before ≡ Ok (metadata, before + length metadata)
+
+parts_of : (name : List ℕ) (nullable : Bool) (metadata : Metadata) (k : Kind) (levels id : ℕ) (b : List ℕ) (q before : ℕ) → is_utf8 name ≡ true → KindFits true levels k → AreFieldPairs metadata → id < 2 ^ 63 → before + length metadata ≤ 1048576
+    → Holds (layout.table (slots_of name nullable metadata k id)) b q → Parts name nullable metadata k id b q before
+parts_of name nullable metadata k levels id b q before utf8 fits own few room h =
+    let t = h.0 in
+    let s0 = h.2 in
+    let s6 = pairs_slot (field_pairs k metadata) layout.no_more in
+    let s5 = layout.child (layout.tables (child_nodes k id)) s6 in
+    let null = flag_back nullable (layout.value w8 (type_tag k) (layout.child (type_node k) (encoding_slot id k s5))) b t 1 s0.1 in
+    let s2 = null.1 in
+    let c3 = s2.1.0 in
+    let encoding = encoding_back k id s5 b t few s2.1.1 in
+    let c5 = encoding.1.0 in
+    let n = node_count (child_nodes k id) in
+    let last : HoldsSlots (pairs_slot (pair_nodes metadata) layout.no_more) b t 6 = subst (λ ns. HoldsSlots (pairs_slot ns layout.no_more) b t 6) (pairs_plain k true levels metadata fits) encoding.1.1 in
+    record {
+      t = t;
+      found = h.1;
+      text = text_there b t 0 s0.0.0 s0.0.1 name utf8 s0.0.2 s0.0.3 s0.0.4.0 s0.0.4.1;
+      nullable_is = null.0;
+      tag = unsigned_there w8 0 b t 2 s2.0.0 (cast_unsigned w8 (type_tag k)) s2.0.1 s2.0.2;
+      type_slot = c3.0;
+      type_place = c3.1;
+      type_there = c3.2;
+      type_target = c3.3;
+      type_held = c3.4;
+      encoding = encoding.0;
+      children = record { first = c5.1 + 4; count = n };
+      children_are = vector_there 4 b t 5 c5.0 c5.1 n c5.2 c5.3 c5.4.0 (omega (arith, c5.4.1));
+      count_is = refl;
+      children_held = c5.4.2;
+      pairs = (pairs_slot_back metadata layout.no_more b t 6 before own.ascend room last).0;
+    }
+
+-- ── a field ──
+
+abbrev inside : Before → Metadata → Before
+inside before metadata = record { fields = suc before.fields; pairs = before.pairs + length metadata }
+
+abbrev head_by : List ℕ → Bool → Metadata → Option Encoding → (Fields → Kind) → Vector → Before → Head
+head_by name nullable metadata e build v before = record { name = name; nullable = nullable; metadata = metadata; of_children = λ fs. with_encoding e (with_extension metadata (build fs)); children = v; before = inside before metadata }
+
+head_back : (name : List ℕ) (nullable : Bool) (metadata : Metadata) (k : Kind) (id levels : ℕ) (b : List ℕ) (at q : ℕ) (before : Before) → AreFieldPairs metadata → before.fields < 65536 → target b at ≡ Ok q → (parts : Parts name nullable metadata k id b q before.pairs)
+    → (back : KindBack k levels id b parts.type_place parts.children (inside before metadata))
+    → head_at everything b at before ≡ Ok (head_by name nullable metadata (encoding_for k id) back.build (looked_at back.nested parts.children) before)
+unfolding head_at bind
+head_back name nullable metadata k id levels b at q before own room to parts back =
+    let t = parts.t in
+    let type' = back.type in
+    let room' : nat_lt before.fields 65536 ≡ true = lt-ltb _ _ room in
+    let type : slot_table b t 3 ≡ Ok (Some type'.t) = table_there b t 3 parts.type_slot parts.type_place type'.t parts.type_there parts.type_target type'.found in
+    let children : children_at b t type'.tag ≡ Ok (looked_at back.nested parts.children) = children_looked_at back.nested type'.tag b t parts.children type'.nested_is parts.children_are in
+    let kept : without_key extension_name (without_key extension_metadata metadata) ≡ metadata = ap (λ m. without_key extension_name m) (without_absent extension_metadata metadata own.no_metadata) ∙ without_absent extension_name metadata own.no_name in
+    rw (room', to, parts.found, parts.text, parts.nullable_is, parts.tag, type'.tag_is, type, parts.encoding, children, parts.pairs, type'.type_is) (rw kept refl)
+
+no_extension : (metadata : Metadata) (x : Kind) → value_of extension_name metadata ≡ None → with_extension metadata x ≡ x
+no_extension metadata x e = rw (with_extension, e) refl
+
+whole_back : (k : Kind) (metadata : Metadata) (id levels : ℕ) (x : Kind) → AreFieldPairs metadata → x ≡ below k id → with_encoding (encoding_for k id) (with_extension metadata x) ≡ numbered_kind k id
+whole_back k metadata id levels x own e = ap (λ y. with_encoding (encoding_for k id) y) (no_extension metadata x own.no_name ∙ e) ∙ with_both k id
+
+field_back : (name : List ℕ) (nullable : Bool) (metadata : Metadata) (k : Kind) (id levels : ℕ) (b : List ℕ) (at q : ℕ) (before : Before) → AreFieldPairs metadata → KindFits true levels k → before.fields < 65536 → target b at ≡ Ok q → (parts : Parts name nullable metadata k id b q before.pairs)
+    → (back : KindBack k levels id b parts.type_place parts.children (inside before metadata))
+    → field_at everything (suc levels) b at before ≡ Ok (head_by name nullable metadata (encoding_for k id) back.build (looked_at back.nested parts.children) before, numbered_kind k id, after_kind k (inside before metadata))
+unfolding field_at bind
+field_back name nullable metadata k id levels b at q before own fits room to parts back =
+    let head = head_back name nullable metadata k id levels b at q before own room to parts back in
+    let kind' : with_encoding (encoding_for k id) (with_extension metadata (back.build back.inner)) ≡ numbered_kind k id = whole_back k metadata id levels (back.build back.inner) own back.built in
+    let whole : is_whole (numbered_kind k id) ≡ true = whole_numbered k true levels id fits in
+    rw (field_at, head) (rw (back.inner_is, kind', whole) refl)
+
+-- ── kinds and fields ──
+
+fields_step : (one : ℕ → Before → Reading (Head × Kind × Before)) (at n : ℕ) (before : Before) (head : Head) (k : Kind) (next : Before) (others : Fields) (last : Before) → one at before ≡ Ok (head, k, next) → fields_by one (at + 4) n next ≡ Ok (others, last)
+    → fields_by one at (suc n) before ≡ Ok (field head.name head.nullable head.metadata k others, last)
+unfolding fields_by bind
+fields_step one at n before head k next others last first rest = rw (first, rest) refl
+
+mutual
+  unfolding fields_by bind
+
+  pub kind_back : (k : Kind) (may : Bool) (levels id : ℕ) (b : List ℕ) (q : ℕ) (v : Vector) (before : Before) → KindFits may levels k → (after_kind k before).fields ≤ 65536 → (after_kind k before).pairs ≤ 1048576 → id + own may ≤ before.fields → Holds (type_node k) b q
+      → v.count ≡ node_count (child_nodes k id) → HoldsNodes (child_nodes k id) b v.first → KindBack k levels id b q v before
+  kind_back (kind.«list» small fs) may levels id b q v before fits room pairs low h count children =
+      let one : v.count ≡ 1 = omega (arith, count, count_fields fs id, fits.0) in
+      record { nested = true; build = λ gs. kind.«list» small gs; type = nested_by (kind.«list» small fs) schema.«list» b q h.0 v.count (λ gs. kind.«list» small gs) refl refl h.1 (small_list_type v.count b h.0 one); inner = numbered fs id; inner_is = counted (numbered fs id) levels b v before _ _ count (fields_back fs levels id b v.first before fits.1 room pairs (omega (arith, low)) children); built = refl }
+  kind_back (kind.«list» large fs) may levels id b q v before fits room pairs low h count children =
+      let one : v.count ≡ 1 = omega (arith, count, count_fields fs id, fits.0) in
+      record { nested = true; build = λ gs. kind.«list» large gs; type = nested_by (kind.«list» large fs) schema.large_list b q h.0 v.count (λ gs. kind.«list» large gs) refl refl h.1 (large_list_type v.count b h.0 one); inner = numbered fs id; inner_is = counted (numbered fs id) levels b v before _ _ count (fields_back fs levels id b v.first before fits.1 room pairs (omega (arith, low)) children); built = refl }
+  kind_back (kind.fixed_size_list zero fs) may levels id b q v before fits room pairs low h count children = absurd (omega (arith, fits.1))
+  kind_back (kind.fixed_size_list (suc m) fs) may levels id b q v before fits room pairs low h count children =
+      let one : v.count ≡ 1 = omega (arith, count, count_fields fs id, fits.0) in
+      record { nested = true; build = λ gs. kind.fixed_size_list (suc m) gs; type = nested_by (kind.fixed_size_list (suc m) fs) schema.fixed_size_list b q h.0 v.count (λ gs. kind.fixed_size_list (suc m) gs) refl refl h.1 (fixed_size_list_type m v.count b h.0 one fits.2 h.2); inner = numbered fs id; inner_is = counted (numbered fs id) levels b v before _ _ count (fields_back fs levels id b v.first before fits.3 room pairs (omega (arith, low)) children); built = refl }
+  kind_back (kind.struct fs) may levels id b q v before fits room pairs low h count children =
+      record { nested = true; build = λ gs. kind.struct gs; type = nested_by (kind.struct fs) schema.struct b q h.0 v.count (λ gs. kind.struct gs) refl refl h.1 (struct_type v.count b h.0); inner = numbered fs id; inner_is = counted (numbered fs id) levels b v before _ _ count (fields_back fs levels id b v.first before fits room pairs (omega (arith, low)) children); built = refl }
+  kind_back (kind.map sorted fs) may levels id b q v before fits room pairs low h count children =
+      let one : v.count ≡ 1 = omega (arith, count, count_fields fs id, fits.0) in
+      record { nested = true; build = λ gs. kind.map sorted gs; type = nested_by (kind.map sorted fs) schema.map_of b q h.0 v.count (λ gs. kind.map sorted gs) refl refl h.1 (map_type sorted v.count b h.0 one h.2); inner = numbered fs id; inner_is = counted (numbered fs id) levels b v before _ _ count (fields_back fs levels id b v.first before fits.2 room pairs (omega (arith, low)) children); built = refl }
+  kind_back (kind.union Rattle.arrow_spec.specs.declared.types.UnionMode.TheVariants.Dense stated ids fs) may levels id b q v before fits room pairs low h count children =
+      let many : v.count ≡ width fs = omega (arith, count, count_fields fs id) in
+      let mode = Rattle.arrow_spec.specs.declared.types.UnionMode.TheVariants.Dense in
+      record { nested = true; build = λ gs. kind.union mode stated ids gs; type = nested_by (kind.union mode stated ids fs) schema.union b q h.0 v.count (λ gs. kind.union mode stated ids gs) refl refl h.1 (union_type mode stated ids v.count (width fs) b h.0 many fits.0 fits.1 h.2); inner = numbered fs id; inner_is = counted (numbered fs id) levels b v before _ _ count (fields_back fs levels id b v.first before fits.2 room pairs (omega (arith, low)) children); built = refl }
+  kind_back (kind.union Rattle.arrow_spec.specs.declared.types.UnionMode.TheVariants.Sparse stated ids fs) may levels id b q v before fits room pairs low h count children =
+      let many : v.count ≡ width fs = omega (arith, count, count_fields fs id) in
+      let mode = Rattle.arrow_spec.specs.declared.types.UnionMode.TheVariants.Sparse in
+      record { nested = true; build = λ gs. kind.union mode stated ids gs; type = nested_by (kind.union mode stated ids fs) schema.union b q h.0 v.count (λ gs. kind.union mode stated ids gs) refl refl h.1 (union_type mode stated ids v.count (width fs) b h.0 many fits.0 fits.1 h.2); inner = numbered fs id; inner_is = counted (numbered fs id) levels b v before _ _ count (fields_back fs levels id b v.first before fits.2 room pairs (omega (arith, low)) children); built = refl }
+  kind_back (kind.dictionary t ordered old k) true levels id b q v before fits room pairs low h count children = dictionary_back t ordered old k levels id b q v before fits (kind_back k false levels (suc id) b q v before fits room pairs (omega (arith, low)) h count children)
+  kind_back (kind.dictionary t ordered old k) false levels id b q v before fits room pairs low h count children = absurd fits
+  kind_back (kind.extension name metadata k) may levels id b q v before fits room pairs low h count children = absurd fits
+  kind_back k may levels id b q v before fits room pairs low h count children = flat_kind k levels id b q v before (flat_type k may levels b q tt fits h) refl refl
+
+  pub fields_back : (fs : Fields) (levels id : ℕ) (b : List ℕ) (at : ℕ) (before : Before) → FieldsFit levels fs → (after_fields fs before).fields ≤ 65536 → (after_fields fs before).pairs ≤ 1048576 → id ≤ before.fields → HoldsNodes (field_nodes fs id) b at
+      → fields_by (λ p earlier. field_at everything levels b p earlier) at (node_count (field_nodes fs id)) before ≡ Ok (numbered fs id, after_fields fs before)
+  fields_back none levels id b at before fits room pairs low h = refl
+  fields_back (field name nullable metadata k others) zero id b at before fits room pairs low h = absurd fits
+  fields_back (field name nullable metadata k others) (suc levels) id b at before fits room pairs low h =
+      let here = inside before metadata in
+      let next = after_kind k here in
+      let later = fields_more others next in
+      let more = kind_more k here in
+      let parts = parts_of name nullable metadata k levels id b h.0.0 before.pairs fits.0 fits.2 fits.1 (omega (arith, low, room, later.0, more.0)) (omega (arith, pairs, later.1, more.1)) h.0.2 in
+      let back = kind_back k true levels id b parts.type_place parts.children here fits.2 (omega (arith, room, later.0)) (omega (arith, pairs, later.1)) (omega (arith, low)) parts.type_held parts.count_is parts.children_held in
+      let first = field_back name nullable metadata k id levels b at h.0.0 before fits.1 fits.2 (omega (arith, room, later.0, more.0)) h.0.1 parts back in
+      let count = kind_count k true levels here fits.2 in
+      let rest = fields_back others (suc levels) (id + dictionary_count k) b (at + 4) next fits.3 room pairs (omega (arith, count, low)) h.1 in
+      fields_step (λ p earlier. field_at everything (suc levels) b p earlier) at (node_count (field_nodes others (id + dictionary_count k))) before (head_by name nullable metadata (encoding_for k id) back.build (looked_at back.nested parts.children) before) (numbered_kind k id) next (numbered others (id + dictionary_count k)) (after_fields others next) first rest
