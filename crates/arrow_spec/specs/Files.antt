@@ -106,10 +106,9 @@ blocks_at fault b v = each (λ i. block_at fault b (v.first + 24 * i)) 0 v.count
 abbrev pub no_blocks : Option Vector → Vector
 no_blocks v = or_default (record { first = 0; count = 0 }) v
 
--- what the footer says
-unfoldable pub meta_of : Built → List ℕ → Reading Meta
-meta_of built b = do
-  f ← footer_of b
+-- what a footer's bytes say
+unfoldable pub meta_in : Built → List ℕ → Reading Meta
+meta_in built f = do
   t ← as_kind kinds.InvalidFlatbufferFooter (root f)
   record_vector ← as_kind kinds.InvalidFlatbufferRecordBatches (slot_vector 24 f t 3) >>= required (OutOfSpec kinds.MissingRecordBatches)
   blocks ← blocks_at (λ e. OutOfSpec (kinds.InvalidFlatbufferRecordBatches e)) f record_vector
@@ -118,6 +117,10 @@ meta_of built b = do
   schema_table ← as_kind kinds.InvalidFlatbufferSchema (slot_table f t 1) >>= required (OutOfSpec kinds.MissingSchema)
   schema ← schema_of built f schema_table
   Ok (record { schema = schema; blocks = blocks; dictionaries = dictionaries })
+
+-- what the footer of a file says
+unfoldable pub meta_of : Built → List ℕ → Reading Meta
+meta_of built b = footer_of b >>= λ f. meta_in built f
 
 -- there is one
 abbrev pub has_any : {A : Type 0} → List A → Bool

@@ -122,3 +122,16 @@ dictionary_at b t = do
   data_table ← as_kind kinds.InvalidFlatbufferData (slot_table b t 1) >>= required (OutOfSpec kinds.MissingData)
   values ← batch_at b data_table
   Ok (record { id = id; is_delta = is_delta; values = values })
+
+-- the tables and the version of a record batch's message
+pub record RecordMessage : Type 0 where
+  pub tables : BatchHeader
+  pub version : MetadataVersion
+
+-- the message of a record batch, by its metadata
+unfoldable pub record_message : List ℕ → Reading RecordMessage
+record_message b = do
+  m ← message_of b (λ tag. nat_eq tag 3)
+  tables ← batch_at b m.header
+  version ← version_of b m
+  Ok (record { tables = tables; version = version })
