@@ -1,5 +1,5 @@
 ghost use Rattle.std.specs.Prelude.{IfOk};
-ghost use Rattle.arrow_flat.specs.Nodes.{node_of, IsTable, IsNarrow};
+ghost use Rattle.arrow_flat.specs.Nodes.{node_of, IsTable, KeepsSlotLimit};
 
 use crate::{ChoiceWidth, Flat, FlatError, Node, Slot, finish, size_of};
 use std::alloc::{AllocError, Global};
@@ -33,7 +33,7 @@ const TABLE: [u8; 100] = [
 ];
 
 fn field(alloc: Global) -> Result<Node, AllocError>
-    ensures { IfOk result (λ n. IsNarrow (node_of n)) }
+    ensures { IfOk result (λ n. KeepsSlotLimit (node_of n)) }
 {
     let name = Slot::Child(Node::Text(String::from_str(alloc, "a")?));
     let int = Node::Table(vec![in alloc; Slot::i32(32, 0), Slot::boolean(true, false)]?);
@@ -51,7 +51,7 @@ fn field(alloc: Global) -> Result<Node, AllocError>
 
 fn schema_message(alloc: Global) -> Result<Node, AllocError>
     ensures root { IfOk result (λ n. IsTable (node_of n)) }
-    ensures narrow { IfOk result (λ n. IsNarrow (node_of n)) }
+    ensures slot_limit { IfOk result (λ n. KeepsSlotLimit (node_of n)) }
 {
     let fields = Node::Tables(vec![in alloc; field(alloc)?]?);
     let schema = Node::Table(vec![in alloc; Slot::i16(0, 0), Slot::Child(fields)]?);
@@ -69,7 +69,7 @@ fn i64_bytes(alloc: Global, numbers: &[i64]) -> Result<Vec<u8>, AllocError> {
 
 fn batch_message(alloc: Global) -> Result<Node, AllocError>
     ensures root { IfOk result (λ n. IsTable (node_of n)) }
-    ensures narrow { IfOk result (λ n. IsNarrow (node_of n)) }
+    ensures slot_limit { IfOk result (λ n. KeepsSlotLimit (node_of n)) }
 {
     let nodes = Node::Structs(1, i64_bytes(alloc, &[3, 1])?);
     let buffers = Node::Structs(2, i64_bytes(alloc, &[0, 1, 64, 12])?);
