@@ -123,28 +123,28 @@ with_value (leads_to n) q out = over out (up_to 4 q) (u32 (place_of n (length ou
 
 -- each table has at most 16 slots
 abbrev mutual
-  pub IsNarrow : LaidNode → Type 0
-  IsNarrow (table s) = (slot_count s ≤ 16) × ChildrenAreNarrow s
-  IsNarrow (text x) = Unit {0}
-  IsNarrow (structs n xs) = Unit {0}
-  IsNarrow (numbers32 xs) = Unit {0}
-  IsNarrow (numbers64 xs) = Unit {0}
-  IsNarrow (tables ns) = NodesAreNarrow ns
+  pub KeepsSlotLimit : LaidNode → Type 0
+  KeepsSlotLimit (table s) = (slot_count s ≤ 16) × ChildrenKeepSlotLimit s
+  KeepsSlotLimit (text x) = Unit {0}
+  KeepsSlotLimit (structs n xs) = Unit {0}
+  KeepsSlotLimit (numbers32 xs) = Unit {0}
+  KeepsSlotLimit (numbers64 xs) = Unit {0}
+  KeepsSlotLimit (tables ns) = NodesKeepSlotLimit ns
 
-  pub ChildrenAreNarrow : Slots → Type 0
-  ChildrenAreNarrow no_more = Unit {0}
-  ChildrenAreNarrow (absent s) = ChildrenAreNarrow s
-  ChildrenAreNarrow (value w x s) = ChildrenAreNarrow s
-  ChildrenAreNarrow (child n s) = IsNarrow n × ChildrenAreNarrow s
+  pub ChildrenKeepSlotLimit : Slots → Type 0
+  ChildrenKeepSlotLimit no_more = Unit {0}
+  ChildrenKeepSlotLimit (absent s) = ChildrenKeepSlotLimit s
+  ChildrenKeepSlotLimit (value w x s) = ChildrenKeepSlotLimit s
+  ChildrenKeepSlotLimit (child n s) = KeepsSlotLimit n × ChildrenKeepSlotLimit s
 
-  pub NodesAreNarrow : Nodes → Type 0
-  NodesAreNarrow none = Unit {0}
-  NodesAreNarrow (also n ns) = IsNarrow n × NodesAreNarrow ns
+  pub NodesKeepSlotLimit : Nodes → Type 0
+  NodesKeepSlotLimit none = Unit {0}
+  NodesKeepSlotLimit (also n ns) = KeepsSlotLimit n × NodesKeepSlotLimit ns
 
-abbrev pub ValueIsNarrow : SlotValue → Type 0
-ValueIsNarrow nothing = Unit {0}
-ValueIsNarrow (number w x) = Unit {0}
-ValueIsNarrow (leads_to n) = IsNarrow n
+abbrev pub ValueKeepsSlotLimit : SlotValue → Type 0
+ValueKeepsSlotLimit nothing = Unit {0}
+ValueKeepsSlotLimit (number w x) = Unit {0}
+ValueKeepsSlotLimit (leads_to n) = KeepsSlotLimit n
 
 -- each number fits its width
 abbrev mutual

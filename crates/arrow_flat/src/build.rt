@@ -2,7 +2,7 @@
 ghost use Rattle.std.specs.Prelude.{◌≡◌, ◌^◌, ◌<◌, ◌≤◌, IfOk, vec_len};
 ghost use Rattle.arrow_spec.specs.Layout.{layout, size};
 ghost use Rattle.arrow_spec.specs.Held.{Fits};
-ghost use Rattle.arrow_flat.specs.Nodes.{node_of, NumbersFit, IsTable, IsNarrow, ReadsBack};
+ghost use Rattle.arrow_flat.specs.Nodes.{node_of, NumbersFit, IsTable, KeepsSlotLimit, ReadsBack};
 
 use crate::measure::size_of;
 use crate::node::Node;
@@ -34,7 +34,7 @@ impl From<AllocError> for BuildError {
 /// The layout of a node whose size is known to be small.
 #[tactic(auto, using(crate::proofs::Fronts::places), unfolding(arrow_spec::specs::Layout::layout, arrow_spec::specs::Layout::size))]
 fn build(alloc: Global, node: &Node) -> Result<Vec<u8>, AllocError>
-    requires narrow { IsNarrow (node_of node.now) }
+    requires slot_limit { KeepsSlotLimit (node_of node.now) }
     requires short { size (node_of node.now) < 2 ^ 31 }
     ensures layout { IfOk result (λ v. v.items ≡ layout (node_of node.now)) }
     ensures size { IfOk result (λ v. vec_len v ≡ size (node_of node.now)) }
@@ -56,7 +56,7 @@ fn build(alloc: Global, node: &Node) -> Result<Vec<u8>, AllocError>
 #[tactic(auto, using(crate::proofs::ReadBack::reads))]
 pub fn finish(alloc: Global, node: &Node) -> Result<Vec<u8>, BuildError>
     requires root { IsTable (node_of node.now) }
-    requires narrow { IsNarrow (node_of node.now) }
+    requires slot_limit { KeepsSlotLimit (node_of node.now) }
     ensures layout { IfOk result (λ v. v.items ≡ layout (node_of node.now)) }
     ensures size { IfOk result (λ v. vec_len v ≡ size (node_of node.now)) }
 

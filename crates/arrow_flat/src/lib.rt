@@ -15,3 +15,6 @@ pub use measure::size_of;
 pub use node::{Node, Slot};
 pub use table::{ChoiceWidth, Flat, Table};
 pub use vector::Vector;
+
+#[cfg(test)]
+mod tests;

@@ -1,5 +1,5 @@
 //! What a flatbuffer is built from.
-ghost use Rattle.std.specs.Prelude.{◌≡◌, ◌≢◌, pos};
+ghost use Rattle.std.specs.Prelude.{◌≡◌, ◌≢◌, if◌then◌else◌, pos};
 ghost use Rattle.std.specs.Int.{w8, w16, w32, w64, from_bool};
 ghost use Rattle.arrow_flat.specs.Nodes.{nothing, number, slot_of};
 
@@ -32,17 +32,19 @@ pub enum Slot {
     Child(Node),
 }
 
+fn unless(is_default: bool, slot: Slot) -> Slot
+    ensures { result ≡ (if is_default then Slot.Absent else slot) }
+{
+    if is_default { Slot::Absent } else { slot }
+}
+
 impl Slot {
     /// An unsigned 8 bit slot, absent where the value is its default.
     pub fn u8(value: u8, default: u8) -> Slot
         ensures left_out { value ≡ default → slot_of result ≡ nothing }
         ensures kept { value ≢ default → slot_of result ≡ number w8 (pos value) }
     {
-        if value == default {
-            Slot::Absent
-        } else {
-            Slot::U8(value)
-        }
+        unless(value == default, Slot::U8(value))
     }
 
     /// A signed 8 bit slot, absent where the value is its default.
@@ -50,11 +52,7 @@ impl Slot {
         ensures left_out { value ≡ default → slot_of result ≡ nothing }
         ensures kept { value ≢ default → slot_of result ≡ number w8 value }
     {
-        if value == default {
-            Slot::Absent
-        } else {
-            Slot::I8(value)
-        }
+        unless(value == default, Slot::I8(value))
     }
 
     /// A truth value in one byte, absent where it is its default.
@@ -62,11 +60,7 @@ impl Slot {
         ensures left_out { value ≡ default → slot_of result ≡ nothing }
         ensures kept { value ≢ default → slot_of result ≡ number w8 (pos (from_bool value)) }
     {
-        if value == default {
-            Slot::Absent
-        } else {
-            Slot::Bool(value)
-        }
+        unless(value == default, Slot::Bool(value))
     }
 
     /// A signed 16 bit slot, absent where the value is its default.
@@ -74,11 +68,7 @@ impl Slot {
         ensures left_out { value ≡ default → slot_of result ≡ nothing }
         ensures kept { value ≢ default → slot_of result ≡ number w16 value }
     {
-        if value == default {
-            Slot::Absent
-        } else {
-            Slot::I16(value)
-        }
+        unless(value == default, Slot::I16(value))
     }
 
     /// A signed 32 bit slot, absent where the value is its default.
@@ -86,11 +76,7 @@ impl Slot {
         ensures left_out { value ≡ default → slot_of result ≡ nothing }
         ensures kept { value ≢ default → slot_of result ≡ number w32 value }
     {
-        if value == default {
-            Slot::Absent
-        } else {
-            Slot::I32(value)
-        }
+        unless(value == default, Slot::I32(value))
     }
 
     /// A signed 64 bit slot, absent where the value is its default.
@@ -98,10 +84,6 @@ impl Slot {
         ensures left_out { value ≡ default → slot_of result ≡ nothing }
         ensures kept { value ≢ default → slot_of result ≡ number w64 value }
     {
-        if value == default {
-            Slot::Absent
-        } else {
-            Slot::I64(value)
-        }
+        unless(value == default, Slot::I64(value))
     }
 }

@@ -97,7 +97,9 @@ impl<'a> Vector<'a> {
     /// The bytes of an item.
     pub fn get(&self, i: usize) -> &'a [u8]
         requires { i < self.now.vector.count }
-        ensures { result.now ≡ item self.now i }
+        ensures bytes { result.now ≡ item self.now i }
+        ensures len { length result.now ≡ self.now.width }
+        ensures within { self.now.vector.first + i * self.now.width + self.now.width ≤ length self.now.bytes }
     {
         let (found, _) = self.bytes[self.first + i * self.width..].split_at(self.width);
         found

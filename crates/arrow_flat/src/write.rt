@@ -2,7 +2,7 @@
 ghost use Rattle.std.specs.Prelude.{◌≡◌, ◌+◌, ◌-◌, ◌*◌, ◌^◌, ◌<◌, ◌≤◌, ◌++◌, [], ◌∷◌, replicate, length, OnOk, IfOk, vec_len};
 ghost use Rattle.std.specs.Int.{w16, w32, to_le_bytes};
 ghost use Rattle.arrow_spec.specs.Layout.{table, tables, text, structs, numbers32, numbers64, zeros, u16, u32, up_to, before_eight, vtable_size, table_place, place_of, end_of, end_of_children, end_of_nodes, inline_end, inline_values, entries, offsets, laid, laid_children, laid_nodes, slot_count, layout, size};
-ghost use Rattle.arrow_flat.specs.Nodes.{node_of, slot_of, slots_of, nodes_of, over, with_number, with_value, value_place, value_next, value_end, value_entry, value_laid, table_front, NumberFits, ValueFits, NumbersFit, SlotNumbersFit, NodeNumbersFit, IsNarrow, ValueIsNarrow, ChildrenAreNarrow, NodesAreNarrow};
+ghost use Rattle.arrow_flat.specs.Nodes.{node_of, slot_of, slots_of, nodes_of, over, with_number, with_value, value_place, value_next, value_end, value_entry, value_laid, table_front, NumberFits, ValueFits, NumbersFit, SlotNumbersFit, NodeNumbersFit, KeepsSlotLimit, ValueKeepsSlotLimit, ChildrenKeepSlotLimit, NodesKeepSlotLimit};
 
 use crate::measure::{self, slot_count};
 use crate::node::{Node, Slot};
@@ -145,7 +145,7 @@ fn put_entries(
 /// A table up to its inline values.
 #[tactic(auto, using(crate::proofs::Fronts::places), unfolding(crate::specs::Nodes::table_front))]
 fn put_table_front(out: &mut Vec<u8>, slots: &[Slot]) -> Result<(), AllocError>
-    requires narrow { slot_count (slots_of slots.now) ≤ 16 }
+    requires slot_limit { slot_count (slots_of slots.now) ≤ 16 }
     requires short { end_of (table (slots_of slots.now)) (length out.old.items) < 2 ^ 31 }
     ensures ok { OnOk result (out.new.items ≡ out.old.items ++ table_front (slots_of slots.now) (length out.old.items)) }
     ensures len { OnOk result (length out.new.items ≡ table_place (slots_of slots.now) (length out.old.items) + 4) }
@@ -236,7 +236,7 @@ fn put_i64s(out: &mut Vec<u8>, numbers: &[i64]) -> Result<(), AllocError>
 /// A node and all that it leads to, behind what is there.
 #[cycle(put)]
 pub fn put(out: &mut Vec<u8>, node: &Node) -> Result<(), AllocError>
-    requires narrow { IsNarrow (node_of node.now) }
+    requires slot_limit { KeepsSlotLimit (node_of node.now) }
     requires short { end_of (node_of node.now) (length out.old.items) < 2 ^ 31 }
     ensures ok { OnOk result (out.new.items ≡ out.old.items ++ laid (node_of node.now) (length out.old.items)) }
     ensures len { OnOk result (length out.new.items ≡ end_of (node_of node.now) (length out.old.items)) }
@@ -255,7 +255,7 @@ pub fn put(out: &mut Vec<u8>, node: &Node) -> Result<(), AllocError>
 #[cycle(put)]
 #[tactic(auto, using(crate::proofs::Fronts::places, crate::proofs::Heads::heads))]
 fn put_table(out: &mut Vec<u8>, slots: &[Slot]) -> Result<(), AllocError>
-    requires narrow { IsNarrow (table (slots_of slots.now)) }
+    requires slot_limit { KeepsSlotLimit (table (slots_of slots.now)) }
     requires short { end_of (table (slots_of slots.now)) (length out.old.items) < 2 ^ 31 }
     ensures ok { OnOk result (out.new.items ≡ out.old.items ++ laid (table (slots_of slots.now)) (length out.old.items)) }
     ensures len { OnOk result (length out.new.items ≡ end_of (table (slots_of slots.now)) (length out.old.items)) }
@@ -270,7 +270,7 @@ fn put_table(out: &mut Vec<u8>, slots: &[Slot]) -> Result<(), AllocError>
 #[cycle(put)]
 #[tactic(auto, using(crate::proofs::Fronts::places, crate::proofs::Steps::steps))]
 fn put_slots(out: &mut Vec<u8>, slots: &[Slot]) -> Result<(), AllocError>
-    requires narrow { ChildrenAreNarrow (slots_of slots.now) }
+    requires slot_limit { ChildrenKeepSlotLimit (slots_of slots.now) }
     requires short { end_of_children (slots_of slots.now) (inline_end (slots_of slots.now) (length out.old.items)) < 2 ^ 31 }
     ensures ok { OnOk result (let end = inline_end (slots_of slots.now) (length out.old.items) in
         out.new.items ≡ out.old.items ++ (inline_values (slots_of slots.now) (length out.old.items) end ++ laid_children (slots_of slots.now) end)) }
@@ -293,7 +293,7 @@ fn put_slots(out: &mut Vec<u8>, slots: &[Slot]) -> Result<(), AllocError>
 #[tactic(auto, using(crate::proofs::Fronts::places))]
 fn put_slot(out: &mut Vec<u8>, slot: &Slot, behind: usize) -> Result<(), AllocError>
     requires inside { value_next (slot_of slot.now) behind ≤ length out.old.items }
-    requires narrow { ValueIsNarrow (slot_of slot.now) }
+    requires slot_limit { ValueKeepsSlotLimit (slot_of slot.now) }
     requires short { value_end (slot_of slot.now) (length out.old.items) < 2 ^ 31 }
     ensures ok { OnOk result (out.new.items
         ≡ with_value (slot_of slot.now) behind out.old.items ++ value_laid (slot_of slot.now) (length out.old.items)) }
@@ -314,7 +314,7 @@ fn put_slot(out: &mut Vec<u8>, slot: &Slot, behind: usize) -> Result<(), AllocEr
 #[tactic(auto, using(crate::proofs::Fronts::places))]
 fn put_child(out: &mut Vec<u8>, node: &Node, at: usize) -> Result<(), AllocError>
     requires inside { at + 4 ≤ length out.old.items }
-    requires narrow { IsNarrow (node_of node.now) }
+    requires slot_limit { KeepsSlotLimit (node_of node.now) }
     requires short { end_of (node_of node.now) (length out.old.items) < 2 ^ 31 }
     ensures ok { OnOk result (out.new.items
         ≡ over out.old.items at (u32 (place_of (node_of node.now) (length out.old.items) - at))
@@ -330,7 +330,7 @@ fn put_child(out: &mut Vec<u8>, node: &Node, at: usize) -> Result<(), AllocError
 #[cycle(put)]
 #[tactic(auto, using(crate::proofs::Fronts::places, crate::proofs::Steps::count_of_nodes, crate::proofs::Heads::heads))]
 fn put_tables(out: &mut Vec<u8>, nodes: &[Node]) -> Result<(), AllocError>
-    requires narrow { NodesAreNarrow (nodes_of nodes.now) }
+    requires slot_limit { NodesKeepSlotLimit (nodes_of nodes.now) }
     requires short { end_of (tables (nodes_of nodes.now)) (length out.old.items) < 2 ^ 31 }
     ensures ok { OnOk result (out.new.items ≡ out.old.items ++ laid (tables (nodes_of nodes.now)) (length out.old.items)) }
     ensures len { OnOk result (length out.new.items ≡ end_of (tables (nodes_of nodes.now)) (length out.old.items)) }
@@ -346,7 +346,7 @@ fn put_tables(out: &mut Vec<u8>, nodes: &[Node]) -> Result<(), AllocError>
 #[cycle(put)]
 #[tactic(auto, using(crate::proofs::Fronts::places, crate::proofs::Steps::count_of_nodes))]
 fn put_nodes(out: &mut Vec<u8>, nodes: &[Node]) -> Result<(), AllocError>
-    requires narrow { NodesAreNarrow (nodes_of nodes.now) }
+    requires slot_limit { NodesKeepSlotLimit (nodes_of nodes.now) }
     requires short { end_of_nodes (nodes_of nodes.now) (length out.old.items + 4 * length nodes.now) < 2 ^ 31 }
     ensures ok { OnOk result (let end = length out.old.items + 4 * length nodes.now in
         out.new.items ≡ out.old.items ++ (offsets (nodes_of nodes.now) (length out.old.items) end ++ laid_nodes (nodes_of nodes.now) end)) }

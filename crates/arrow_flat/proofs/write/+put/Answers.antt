@@ -23,7 +23,7 @@ put_slots-loop-slot-init t c =
     record {
       left = subst (λ (q : ℕ). SlotsLeft s out q to (old ++ (inline_values s from to ++ laid_children s to))) (sym start) (slots_begin s old out from to bytes refl refl len);
       ends = ap (λ k. end_of_children s k) len;
-      narrow = c.requires.narrow;
+      slot_limit = c.requires.slot_limit;
       fits = λ h. h;
       inside = omega (arith, len);
     }
@@ -36,8 +36,8 @@ put_slots-put_slot-requires t c =
     let u : Slots = slots_of (drop l.slot-index c.args.slots.now) in
     let step : u ≡ in_front v s = next_slot c.args.slots.now l.slot-index c.slot-item.result c.slot-item.is c.loop-slot-test.true in
     let first = first_slot v s u l.at _ step l.invariant.left.end in
-    let next = next_child v s u (length l.out.items) _ step l.invariant.narrow l.invariant.ends in
-    (search (rules, the_lemmas), (omega (arith, first.next, l.invariant.inside), (next.narrow, omega (arith, next.within, c.requires.short))))
+    let next = next_child v s u (length l.out.items) _ step l.invariant.slot_limit l.invariant.ends in
+    (search (rules, the_lemmas), (omega (arith, first.next, l.invariant.inside), (next.slot_limit, omega (arith, next.within, c.requires.short))))
 
 pub put_slots-value_next-at-requires : goal.put_slots-value_next-at-requires
 put_slots-value_next-at-requires t c =
@@ -47,7 +47,7 @@ put_slots-value_next-at-requires t c =
     let u : Slots = slots_of (drop l.slot-index c.args.slots.now) in
     let step : u ≡ in_front v s = next_slot c.args.slots.now l.slot-index c.slot-item.result c.slot-item.is c.loop-slot-test.true in
     let first = first_slot v s u l.at _ step l.invariant.left.end in
-    let next = next_child v s u (length l.out.items) _ step l.invariant.narrow l.invariant.ends in
+    let next = next_child v s u (length l.out.items) _ step l.invariant.slot_limit l.invariant.ends in
     omega (arith, first.next, l.invariant.inside, end_behind v (length l.out.items), next.within, c.requires.short)
 
 pub put_slots-loop-slot-preserved : goal.put_slots-loop-slot-preserved
@@ -57,12 +57,12 @@ put_slots-loop-slot-preserved t c =
     let s : Slots = slots_of (drop (l.slot-index + 1) c.args.slots.now) in
     let u : Slots = slots_of (drop l.slot-index c.args.slots.now) in
     let step : u ≡ in_front v s = next_slot c.args.slots.now l.slot-index c.slot-item.result c.slot-item.is c.loop-slot-test.true in
-    let next = next_child v s u (length l.out.items) _ step l.invariant.narrow l.invariant.ends in
+    let next = next_child v s u (length l.out.items) _ step l.invariant.slot_limit l.invariant.ends in
     let put = c.in_ok-put_slot.ensures in
     record {
       left = slot_filled v s u l.out.items c.put_slot.new.out.items l.at c.value_next-at.result _ _ step put.ok put.len c.value_next-at.ensures l.invariant.left;
       ends = ap (λ k. end_of_children s k) put.len ∙ next.rest;
-      narrow = next.others;
+      slot_limit = next.others;
       fits = λ rest. l.invariant.fits (slot_fits v s u step put.fits rest);
       inside = omega (arith, put.len, end_behind v (length l.out.items), l.invariant.inside);
     }
@@ -80,8 +80,8 @@ put_nodes-put_child-requires t c =
     let ns : Nodes = nodes_of (drop (l.node-index + 1) c.args.nodes.now) in
     let ms : Nodes = nodes_of (drop l.node-index c.args.nodes.now) in
     let step : ms ≡ also n ns = next_node c.args.nodes.now l.node-index c.node-item.result c.node-item.is c.loop-node-test.true in
-    let next = next_table n ns ms (length l.out.items) _ step l.invariant.narrow l.invariant.ends in
-    (search (rules, the_lemmas), (omega (arith, l.invariant.place, l.invariant.inside, c.loop-node-test.true), (next.narrow, omega (arith, next.within, c.requires.short))))
+    let next = next_table n ns ms (length l.out.items) _ step l.invariant.slot_limit l.invariant.ends in
+    (search (rules, the_lemmas), (omega (arith, l.invariant.place, l.invariant.inside, c.loop-node-test.true), (next.slot_limit, omega (arith, next.within, c.requires.short))))
 
 pub put_nodes-loop-node-init : goal.put_nodes-loop-node-init
 put_nodes-loop-node-init t c =
@@ -98,7 +98,7 @@ put_nodes-loop-node-init t c =
     record {
       left = subst (λ (q : ℕ). NodesLeft ns out q to (old ++ (offsets ns from to ++ laid_nodes ns to))) (sym start) (nodes_begin ns old out from to bytes refl count len);
       ends = ap (λ k. end_of_nodes ns k) len;
-      narrow = c.requires.narrow;
+      slot_limit = c.requires.slot_limit;
       fits = λ h. h;
       inside = omega (arith, len);
       place = omega (arith, start);
@@ -111,12 +111,12 @@ put_nodes-loop-node-preserved t c =
     let ns : Nodes = nodes_of (drop (l.node-index + 1) c.args.nodes.now) in
     let ms : Nodes = nodes_of (drop l.node-index c.args.nodes.now) in
     let step : ms ≡ also n ns = next_node c.args.nodes.now l.node-index c.node-item.result c.node-item.is c.loop-node-test.true in
-    let next = next_table n ns ms (length l.out.items) _ step l.invariant.narrow l.invariant.ends in
+    let next = next_table n ns ms (length l.out.items) _ step l.invariant.slot_limit l.invariant.ends in
     let put = c.in_ok-put_child.ensures in
     record {
       left = node_filled n ns ms l.out.items c.put_child.new.out.items l.at _ _ step put.ok put.len l.invariant.left;
       ends = ap (λ k. end_of_nodes ns k) put.len ∙ next.rest;
-      narrow = next.others;
+      slot_limit = next.others;
       fits = λ rest. l.invariant.fits (node_fits n ns ms step put.fits rest);
       inside = omega (arith, put.len, end_above n (length l.out.items), l.invariant.inside);
       place = omega (arith, l.invariant.place);

@@ -1,6 +1,6 @@
 use Rattle.std.proofs.Common.{◌≡◌, ◌+◌, ◌*◌, ◌≤◌, ◌++◌, length, drop}
 use Rattle.arrow_spec.specs.Layout.{inline_end, inline_values, offsets, laid_children, laid_nodes, end_of_children, end_of_nodes}
-use Rattle.arrow_flat.specs.Nodes.{slots_of, nodes_of, ChildrenAreNarrow, NodesAreNarrow, SlotNumbersFit, NodeNumbersFit}
+use Rattle.arrow_flat.specs.Nodes.{slots_of, nodes_of, ChildrenKeepSlotLimit, NodesKeepSlotLimit, SlotNumbersFit, NodeNumbersFit}
 use Rattle.arrow_flat.proofs.Rooms.{SlotsLeft, NodesLeft}
 use Rattle.arrow_flat.proofs.write.+put.Given as goal
 
@@ -13,7 +13,7 @@ invariant-put_slots-loop-slot l =
     record {
       left : SlotsLeft rest l.out.items l.at stop (l.fn.out.items ++ (inline_values whole start stop ++ laid_children whole stop));
       ends : end_of_children rest (length l.out.items) ≡ end_of_children whole stop;
-      narrow : ChildrenAreNarrow rest;
+      slot_limit : ChildrenKeepSlotLimit rest;
       fits : SlotNumbersFit rest → SlotNumbersFit whole;
       inside : stop ≤ length l.out.items;
     }
@@ -27,7 +27,7 @@ invariant-put_nodes-loop-node l =
     record {
       left : NodesLeft rest l.out.items l.at stop (l.fn.out.items ++ (offsets whole start stop ++ laid_nodes whole stop));
       ends : end_of_nodes rest (length l.out.items) ≡ end_of_nodes whole stop;
-      narrow : NodesAreNarrow rest;
+      slot_limit : NodesKeepSlotLimit rest;
       fits : NodeNumbersFit rest → NodeNumbersFit whole;
       inside : stop ≤ length l.out.items;
       place : l.at ≡ start + 4 * l.node-index;
