@@ -1,7 +1,6 @@
 -- Look-ups and insertions by the bytes of a text.
-use Rattle.std.proofs.Common.{◌≡◌, ℕ, Bool, true, false, cond, List, [], ◌∷◌, ◌++◌, map, String, Global, Option, Some, None, string_bytes, nat_cmp, refl, sym, ◌∙◌, ap, true≢false}
+use Rattle.std.proofs.Common.{◌≡◌, ℕ, Bool, true, false, cond, List, [], ◌∷◌, ◌++◌, String, Global, Some, string_bytes, nat_cmp, refl, sym, ◌∙◌, ap, true≢false}
 use Rattle.std.specs.Option.{option_map}
-use Rattle.std.specs.Bool.{Decides}
 use Rattle.std.specs.Ordering.{is_eq}
 use Rattle.std.specs.Cmp.Lexicographic.{slice_cmp}
 use Rattle.std.specs.List.{AllByRecursion, IsDistinct}
@@ -12,7 +11,6 @@ use Rattle.std.proofs.lemmas.Slice.Eq.{bytes_eq-Decides}
 use Rattle.std.proofs.lemmas.Map.Text.{is_eq-slice_cmp}
 use Rattle.indexmap.specs.IndexMap.{insert_entry}
 use Rattle.arrow_spec.specs.Schema.{value_of}
-use Rattle.arrow_types.specs.Child.{Child}
 use Rattle.arrow_types.specs.KindOf.{child_of, texts_of}
 use Rattle.arrow_types.specs.Schemas.{Keyed, keyed, keys_in, field_under, with_field}
 use Rattle.arrow_types.specs.declared.data_type.Field.{Field}

@@ -1,15 +1,14 @@
 -- When lists of fields, pairs of texts and unions are the same.
-use Rattle.std.proofs.Common.{◌≡◌, ℕ, zero, suc, ◌<◌, Bool, true, false, ◌&&◌, IsTrue, List, [], ◌∷◌, map, length, get_or, Vec, String, Global, Option, Some, None, ℤ, string_bytes, nat_eq, refl, sym, ◌∙◌, ap, arith, rules, true≢false}
+use Rattle.std.proofs.Common.{◌≡◌, ℕ, zero, suc, ◌<◌, Bool, true, false, ◌&&◌, IsTrue, List, [], ◌∷◌, map, length, get_or, Vec, Global, Option, Some, None, ℤ, string_bytes, nat_eq, refl, sym, ◌∙◌, ap, arith, rules, true≢false}
 use Rattle.std.specs.Option.{option_map}
 use Rattle.std.proofs.lemmas.Slice.Eq.{bytes_eq-Decides}
-use Rattle.std.specs.Str.{bytes_eq}
 use Rattle.std.specs.Cmp.Lexicographic.{pointwise}
 use Rattle.arrow_spec.specs.declared.types.UnionMode.{UnionMode}
 use Rattle.arrow_spec.specs.Kinds as kind
 use Rattle.arrow_spec.specs.Kinds.{Kind, Fields}
 use Rattle.arrow_types.specs.Child.{Child, fields_from, one_field}
 use Rattle.arrow_types.specs.KindOf.{kind_of, union_kind_of, child_of, fields_of, texts_of, ids_of, are_stated}
-use Rattle.arrow_types.specs.declared.data_type.ArrowDataType.{ArrowDataType, Struct, the_lemmas}
+use Rattle.arrow_types.specs.declared.data_type.ArrowDataType.{Struct, the_lemmas}
 use Rattle.arrow_types.specs.declared.data_type.UnionType.{UnionType, out-UnionType}
 use Rattle.arrow_types.specs.declared.data_type.Field.{Field}
 use Rattle.arrow_types.proofs.Metadata.{Entry, Pair}

@@ -1,5 +1,5 @@
 -- A field by itself as a tree of numbers, as a kind is.
-use Rattle.std.specs.Prelude.{◌≡◌, Bool, true, [], refl}
+use Rattle.std.specs.Prelude.{◌≡◌, Bool, true, []}
 use Rattle.std.proofs.Common.{ap}
 use Rattle.std.specs.Cmp.{IsEquivalence}
 use Rattle.std.specs.Coded.{Coded, code_by}

@@ -1,9 +1,8 @@
 -- The kind that an `ArrowDataType` stands for, and the field that a `Field` does.
-use Rattle.std.specs.Prelude.{ℕ, List, [], ◌∷◌, map, length, Bool, true, false, String, string_bytes, Option, Some, None, ℤ, pos}
+use Rattle.std.specs.Prelude.{ℕ, List, map, length, Bool, true, false, String, string_bytes, Option, Some, None, ℤ, pos}
 use Rattle.std.specs.Option.{option_map}
 use Rattle.std.specs.declared.alloc.Global.{Global}
 use Rattle.std.specs.declared.vec.Vec.{Vec}
-use Rattle.arrow_spec.specs.declared.types.IntegerType.{IntegerType}
 use Rattle.arrow_spec.specs.declared.types.IntegerType.TheVariants as integer
 use Rattle.arrow_spec.specs.Kinds as kind
 use Rattle.arrow_spec.specs.Kinds.{Kind, Fields, Metadata, half, single, double, small, large}

@@ -1,5 +1,5 @@
 -- What is written as bytes reads back, and the number at a place is that of the bytes there.
-use Rattle.std.proofs.Common.{◌≡◌, ℕ, zero, suc, ◌+◌, ◌-◌, ◌*◌, ◌/◌, ◌%◌, ◌^◌, ◌<◌, ◌≤◌, List, length, take, drop, Option, Some, None, ℤ, pos, negsuc, nat_le, true, cond, refl, sym, ◌∙◌, ap, arith}
+use Rattle.std.proofs.Common.{◌≡◌, ℕ, zero, suc, ◌+◌, ◌-◌, ◌*◌, ◌/◌, ◌%◌, ◌^◌, ◌<◌, ◌≤◌, List, length, take, drop, Some, None, ℤ, pos, negsuc, cond, refl, sym, ◌∙◌, ap, arith}
 use Rattle.std.specs.Option.{option_map}
 use Rattle.std.specs.Int.{Width, w8, w16, w32, w64, w128, byte_len, byte_at, byte_worth, sum_through, cast_signed, cast_unsigned}
 use Rattle.std.specs.Int.RustNames.{FitsSigned}
@@ -7,9 +7,9 @@ use Rattle.std.proofs.Math.Arith.{mod-mul}
 use Rattle.std.proofs.Math.Nat.{mod-eq_of_lt, pow-suc}
 use Rattle.std.proofs.lemmas.Int.{to_z-of_z}
 use Rattle.std.proofs.lemmas.Bool.{le-leb}
-use Rattle.arrow_spec.specs.Flat.{Order, little, big, part, fold_number, num, from_bytes}
-use Rattle.arrow_types.specs.Numbers.{to_bytes, signed_to_bytes, signed_from_bytes, signed_num, unsigned_to_bytes, unsigned_from_bytes, unsigned_num}
-use mir.Val.{bits, hbits}
+use Rattle.arrow_spec.specs.Flat.{Order, little, big, part, fold_number}
+use Rattle.arrow_types.specs.Numbers.{signed_to_bytes, signed_from_bytes, signed_num, unsigned_to_bytes, unsigned_from_bytes, unsigned_num}
+use mir.Val.{bits}
 
 pow-positive : (k : ℕ) → 0 < 256 ^ k
 pow-positive zero = omega arith

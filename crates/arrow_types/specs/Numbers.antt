@@ -1,9 +1,8 @@
 -- Numbers as bytes, in either order.
-use Rattle.std.specs.Prelude.{ℕ, suc, ◌+◌, ◌^◌, List, ◌++◌, take, drop, Bool, Option, Some, None, ℤ, pos, negsuc, nat_lt, if◌then◌else◌}
+use Rattle.std.specs.Prelude.{ℕ, ◌+◌, ◌^◌, List, ◌++◌, take, drop, Option, Some, None, ℤ, pos, negsuc, nat_lt, if◌then◌else◌}
 use Rattle.std.specs.Option.{option_map}
-use Rattle.std.specs.Int.{Width, w8, w16, w32, w64, w128, to_le_bytes, to_be_bytes, cast_signed, cast_unsigned}
+use Rattle.std.specs.Int.{Width, w32, w64, to_le_bytes, to_be_bytes, cast_signed, cast_unsigned}
 use Rattle.arrow_spec.specs.Flat.{Order, little, big, num, from_bytes}
-use Rattle.arrow_spec.specs.Kinds.{Offsets, small, large}
 use Rattle.arrow_types.specs.declared.numbers.interval.days_ms.{days_ms}
 use Rattle.arrow_types.specs.declared.numbers.interval.months_days_ns.{months_days_ns}
 

@@ -95,10 +95,7 @@ pub struct ExtensionType {
 impl Field {
     /// A field without metadata.
     pub fn new(alloc: Global, name: String, dtype: ArrowDataType, is_nullable: bool) -> Field
-        ensures name { result.name ≡ name }
-        ensures dtype { result.dtype ≡ dtype }
-        ensures nullable { result.is_nullable ≡ is_nullable }
-        ensures metadata { result.metadata.entries ≡ [] }
+        ensures { child_of result ≡ record { name = string_bytes name; kind = kind_of dtype; nullable = is_nullable; metadata = [] } }
     {
         Field {
             name,
@@ -109,8 +106,31 @@ impl Field {
     }
 
     pub fn dtype(&self) -> &ArrowDataType
-        ensures { result.now ≡ self.now.dtype }
+        ensures dtype { result.now ≡ self.now.dtype }
+        ensures kind { kind_of result.now ≡ (child_of self.now).kind }
     {
         &self.dtype
+    }
+}
+
+impl From<IntegerType> for ArrowDataType {
+    ghost use Rattle.std.specs.Prelude.{◌≡◌};
+    ghost use Rattle.arrow_spec.specs.Kinds.{integer};
+    ghost use Rattle.arrow_types.specs.KindOf.{kind_of};
+
+    ghost from_gives = { λ i t. kind_of t ≡ integer i };
+
+    fn from(integer: IntegerType) -> ArrowDataType {
+        match integer {
+            IntegerType::Int8 => ArrowDataType::Int8,
+            IntegerType::Int16 => ArrowDataType::Int16,
+            IntegerType::Int32 => ArrowDataType::Int32,
+            IntegerType::Int64 => ArrowDataType::Int64,
+            IntegerType::Int128 => ArrowDataType::Int128,
+            IntegerType::UInt8 => ArrowDataType::UInt8,
+            IntegerType::UInt16 => ArrowDataType::UInt16,
+            IntegerType::UInt32 => ArrowDataType::UInt32,
+            IntegerType::UInt64 => ArrowDataType::UInt64,
+        }
     }
 }

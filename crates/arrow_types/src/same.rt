@@ -194,6 +194,7 @@ fn is_same_extension(a: &ExtensionType, b: &ExtensionType) -> bool
 impl PartialEq for ArrowDataType {
     ghost use Rattle.std.specs.Ordering.{on};
     ghost use Rattle.std.specs.Cmp.{on_per, partial_equiv_from_equiv};
+    ghost use Rattle.std.specs.Prelude.{◌≡◌, ◌↔◌, IsTrue};
     ghost use Rattle.arrow_types.specs.KindOf.{kind_of};
     ghost use Rattle.arrow_types.specs.KindCode.{kind_eq, kind_eq_equiv};
 
@@ -201,7 +202,10 @@ impl PartialEq for ArrowDataType {
 
     ghost laws = { on_per kind_of (partial_equiv_from_equiv kind_eq_equiv) };
 
-    fn eq(&self, other: &ArrowDataType) -> bool {
+    fn eq(&self, other: &ArrowDataType) -> bool
+        ensures eq { result ≡ kind_eq (kind_of self.now) (kind_of other.now) }
+        ensures same { IsTrue result ↔ (kind_of self.now ≡ kind_of other.now) }
+    {
         is_same_type(self, other)
     }
 }
@@ -209,6 +213,7 @@ impl PartialEq for ArrowDataType {
 impl PartialEq for UnionType {
     ghost use Rattle.std.specs.Ordering.{on};
     ghost use Rattle.std.specs.Cmp.{on_per, partial_equiv_from_equiv};
+    ghost use Rattle.std.specs.Prelude.{◌≡◌, ◌↔◌, IsTrue};
     ghost use Rattle.arrow_types.specs.KindOf.{union_kind_of};
     ghost use Rattle.arrow_types.specs.KindCode.{kind_eq, kind_eq_equiv};
 
@@ -216,7 +221,10 @@ impl PartialEq for UnionType {
 
     ghost laws = { on_per union_kind_of (partial_equiv_from_equiv kind_eq_equiv) };
 
-    fn eq(&self, other: &UnionType) -> bool {
+    fn eq(&self, other: &UnionType) -> bool
+        ensures eq { result ≡ kind_eq (union_kind_of self.now) (union_kind_of other.now) }
+        ensures same { IsTrue result ↔ (union_kind_of self.now ≡ union_kind_of other.now) }
+    {
         is_same_union(self, other)
     }
 }
@@ -224,6 +232,7 @@ impl PartialEq for UnionType {
 impl PartialEq for ExtensionType {
     ghost use Rattle.std.specs.Ordering.{on};
     ghost use Rattle.std.specs.Cmp.{on_per, partial_equiv_from_equiv};
+    ghost use Rattle.std.specs.Prelude.{◌≡◌, ◌↔◌, IsTrue};
     ghost use Rattle.arrow_types.specs.KindOf.{extension_kind_of};
     ghost use Rattle.arrow_types.specs.KindCode.{kind_eq, kind_eq_equiv};
 
@@ -231,7 +240,10 @@ impl PartialEq for ExtensionType {
 
     ghost laws = { on_per extension_kind_of (partial_equiv_from_equiv kind_eq_equiv) };
 
-    fn eq(&self, other: &ExtensionType) -> bool {
+    fn eq(&self, other: &ExtensionType) -> bool
+        ensures eq { result ≡ kind_eq (extension_kind_of self.now) (extension_kind_of other.now) }
+        ensures same { IsTrue result ↔ (extension_kind_of self.now ≡ extension_kind_of other.now) }
+    {
         is_same_extension(self, other)
     }
 }
@@ -239,6 +251,7 @@ impl PartialEq for ExtensionType {
 impl PartialEq for Field {
     ghost use Rattle.std.specs.Ordering.{on};
     ghost use Rattle.std.specs.Cmp.{on_per, partial_equiv_from_equiv};
+    ghost use Rattle.std.specs.Prelude.{◌≡◌, ◌↔◌, IsTrue};
     ghost use Rattle.arrow_types.specs.KindOf.{child_of};
     ghost use Rattle.arrow_types.specs.ChildCode.{child_eq, child_eq_equiv};
 
@@ -246,7 +259,10 @@ impl PartialEq for Field {
 
     ghost laws = { on_per child_of (partial_equiv_from_equiv child_eq_equiv) };
 
-    fn eq(&self, other: &Field) -> bool {
+    fn eq(&self, other: &Field) -> bool
+        ensures eq { result ≡ child_eq (child_of self.now) (child_of other.now) }
+        ensures same { IsTrue result ↔ (child_of self.now ≡ child_of other.now) }
+    {
         is_same_field(self, other)
     }
 }

@@ -146,6 +146,7 @@ fn is_same_schema(a: &ArrowSchema, b: &ArrowSchema) -> bool
 }
 
 impl PartialEq for ArrowSchema {
+    ghost use Rattle.std.specs.Prelude.{◌≡◌, ◌↔◌, IsTrue};
     ghost use Rattle.std.specs.Cmp.{partial_equiv_from_equiv};
     ghost use Rattle.arrow_types.specs.Schemas.{schema_eq, schema_eq_equiv};
 
@@ -153,7 +154,10 @@ impl PartialEq for ArrowSchema {
 
     ghost laws = { partial_equiv_from_equiv schema_eq_equiv };
 
-    fn eq(&self, other: &ArrowSchema) -> bool {
+    fn eq(&self, other: &ArrowSchema) -> bool
+        ensures eq { result ≡ schema_eq self.now other.now }
+        ensures same { IsTrue result ↔ (self.now ≡ other.now) }
+    {
         is_same_schema(self, other)
     }
 }

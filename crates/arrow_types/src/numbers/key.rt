@@ -53,7 +53,11 @@ impl DictionaryKey for i8 {
     }
 
     fn from_usize(index: usize) -> Option<i8> {
-        if index < 0x80 { Some(index as i8) } else { None }
+        if index < 0x80 {
+            Some(index as i8)
+        } else {
+            None
+        }
     }
 }
 
@@ -76,7 +80,11 @@ impl DictionaryKey for i16 {
     }
 
     fn from_usize(index: usize) -> Option<i16> {
-        if index < 0x8000 { Some(index as i16) } else { None }
+        if index < 0x8000 {
+            Some(index as i16)
+        } else {
+            None
+        }
     }
 }
 
@@ -99,7 +107,11 @@ impl DictionaryKey for i32 {
     }
 
     fn from_usize(index: usize) -> Option<i32> {
-        if index < 0x8000_0000 { Some(index as i32) } else { None }
+        if index < 0x8000_0000 {
+            Some(index as i32)
+        } else {
+            None
+        }
     }
 }
 
@@ -122,7 +134,11 @@ impl DictionaryKey for i64 {
     }
 
     fn from_usize(index: usize) -> Option<i64> {
-        if index < 0x8000_0000_0000_0000 { Some(index as i64) } else { None }
+        if index < 0x8000_0000_0000_0000 {
+            Some(index as i64)
+        } else {
+            None
+        }
     }
 }
 
@@ -141,7 +157,11 @@ impl DictionaryKey for i128 {
     ghost number_same = { λ x y e. e };
 
     fn to_usize(self) -> Option<usize> {
-        if self < 0 || 0xffff_ffff_ffff_ffff < self { None } else { Some(self as usize) }
+        if self < 0 || 0xffff_ffff_ffff_ffff < self {
+            None
+        } else {
+            Some(self as usize)
+        }
     }
 
     fn from_usize(index: usize) -> Option<i128> {
@@ -169,7 +189,11 @@ impl DictionaryKey for u8 {
     }
 
     fn from_usize(index: usize) -> Option<u8> {
-        if index < 0x100 { Some(index as u8) } else { None }
+        if index < 0x100 {
+            Some(index as u8)
+        } else {
+            None
+        }
     }
 }
 
@@ -193,7 +217,11 @@ impl DictionaryKey for u16 {
     }
 
     fn from_usize(index: usize) -> Option<u16> {
-        if index < 0x1_0000 { Some(index as u16) } else { None }
+        if index < 0x1_0000 {
+            Some(index as u16)
+        } else {
+            None
+        }
     }
 }
 
@@ -217,7 +245,11 @@ impl DictionaryKey for u32 {
     }
 
     fn from_usize(index: usize) -> Option<u32> {
-        if index < 0x1_0000_0000 { Some(index as u32) } else { None }
+        if index < 0x1_0000_0000 {
+            Some(index as u32)
+        } else {
+            None
+        }
     }
 }
 

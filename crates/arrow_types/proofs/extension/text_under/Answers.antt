@@ -1,4 +1,4 @@
-use Rattle.std.proofs.Common.{◌≡◌, ap, sym, ◌∙◌, Some, string_bytes}
+use Rattle.std.proofs.Common.{ap, ◌∙◌, Some, string_bytes}
 use Rattle.std.specs.Option.{option_map}
 use Rattle.arrow_types.proofs.Keyed.{value_of_is}
 use Rattle.arrow_types.proofs.extension.text_under.Goals as goal

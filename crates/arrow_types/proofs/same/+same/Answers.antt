@@ -1,4 +1,4 @@
-use Rattle.std.proofs.Common.{◌≡◌, ap, sym, ◌∙◌, length, ◌<◌, arith, true≢false, IsTrue, List, map, false, refl}
+use Rattle.std.proofs.Common.{◌≡◌, ap, sym, ◌∙◌, arith, true≢false, map, refl}
 use Rattle.arrow_spec.specs.Kinds as kind
 use Rattle.arrow_types.specs.KindOf.{kind_of, child_of, fields_of}
 use Rattle.arrow_types.specs.Child.{fields_from}

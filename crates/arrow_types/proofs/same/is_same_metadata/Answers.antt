@@ -1,4 +1,3 @@
-use Rattle.std.proofs.Common.{◌≡◌, IsTrue, sym, ◌∙◌}
 use Rattle.arrow_types.proofs.Sameness.{texts_decided}
 use Rattle.arrow_types.proofs.same.is_same_metadata.Goals as goal
 

@@ -2,5 +2,5 @@ use Rattle.arrow_types.specs.KindOf.{extension_kind_of}
 use Rattle.arrow_types.specs.KindCode.{kind_eq_told}
 use Rattle.arrow_types.proofs.same.ExtensionTypePartialEq.eq.Goals as goal
 
-pub returns : goal.returns
-returns c = kind_eq_told c.is_same_extension.result (extension_kind_of c.args.self.now) (extension_kind_of c.args.other.now) c.is_same_extension.ensures
+pub returns-clause-eq : goal.returns-clause-eq
+returns-clause-eq c = kind_eq_told c.is_same_extension.result (extension_kind_of c.args.self.now) (extension_kind_of c.args.other.now) c.is_same_extension.ensures

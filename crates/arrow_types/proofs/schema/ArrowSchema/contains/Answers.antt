@@ -1,4 +1,4 @@
-use Rattle.std.proofs.Common.{◌≡◌, ap, sym, ◌∙◌, is_some, Option, Bool, true, false, refl, Some, None}
+use Rattle.std.proofs.Common.{◌≡◌, ap, ◌∙◌, is_some, Option, refl, Some, None}
 use Rattle.std.specs.Option.{option_map}
 use Rattle.std.specs.HashMap.{get_by_text}
 use Rattle.arrow_types.specs.KindOf.{child_of}

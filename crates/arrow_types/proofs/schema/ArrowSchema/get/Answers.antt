@@ -1,4 +1,4 @@
-use Rattle.std.proofs.Common.{◌≡◌, ap, sym, ◌∙◌, Option, refl, Some, None, Bor}
+use Rattle.std.proofs.Common.{◌≡◌, ap, ◌∙◌, Option, refl, Some, None, Bor}
 use Rattle.std.specs.Option.{option_map, option_copied}
 use Rattle.arrow_types.specs.KindOf.{child_of}
 use Rattle.arrow_types.specs.Schemas.{field_under}
