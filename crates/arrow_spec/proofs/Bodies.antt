@@ -2,6 +2,7 @@
 use Rattle.std.proofs.Common.{◌≡◌, ℕ, suc, ◌+◌, ◌-◌, ◌^◌, ◌<◌, ◌≤◌, List, [], ◌∷◌, ◌++◌, length, Some, refl, sym, ap, ◌∙◌, arith, length-append, append_assoc, true, false, pos}
 use Rattle.std.specs.Prelude.{nat_lt, slice_get}
 use Rattle.std.specs.Prelude.{map as each_of}
+use Rattle.std.specs.List.{AllByRecursion}
 use Rattle.std.proofs.lemmas.Bool.{le-ltb}
 use Rattle.std.proofs.lemmas.List.{length-replicate}
 use Rattle.std.proofs.lemmas.List.Sums.{sum_by-cons}
@@ -16,7 +17,7 @@ use Rattle.arrow_spec.specs.Files.{lengths_sum, none_negative}
 use Rattle.arrow_spec.proofs.Standing.{stands_left}
 use Rattle.arrow_spec.proofs.Found.{right_at, within}
 use Rattle.arrow_spec.proofs.Slots.{taken}
-use Rattle.arrow_spec.proofs.MessageTables.{AllOf, BufferFits, fits_pos}
+use Rattle.arrow_spec.proofs.MessageTables.{BufferFits, fits_pos}
 
 -- a list from a place on
 pub record From {A : Type 0} (l : List A) (i : ℕ) (xs : List A) : Type 0 where
@@ -94,6 +95,6 @@ pub body_above : (ns : List ℕ) (at : ℕ) → at ≤ body_of at ns
 body_above [] at = omega arith
 body_above (n ∷ ns) at = omega (arith, body_above ns (up_to 64 (at + n)))
 
-pub placed_fits : (ns : List ℕ) (at : ℕ) → body_of at ns < 2 ^ 63 → AllOf BufferFits (placed at ns)
+pub placed_fits : (ns : List ℕ) (at : ℕ) → body_of at ns < 2 ^ 63 → AllByRecursion BufferFits (placed at ns)
 placed_fits [] at h = tt
 placed_fits (n ∷ ns) at h = let above = body_above ns (up_to 64 (at + n)) in ((fits_pos at (omega (arith, above, h)), fits_pos n (omega (arith, above, h))), placed_fits ns (up_to 64 (at + n)) h)

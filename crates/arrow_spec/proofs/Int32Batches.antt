@@ -1,5 +1,5 @@
 -- A batch of columns of 32-bit integers is read back from its tables and its body.
-use Rattle.std.proofs.Common.{◌≡◌, ℕ, suc, ◌+◌, ◌*◌, ◌≤◌, List, [], ◌∷◌, length, None, Ok, refl, sym, ap, subst, arith, append-nil, true, false, pos}
+use Rattle.std.proofs.Common.{◌≡◌, ℕ, suc, ◌+◌, ◌*◌, ◌≤◌, List, [], ◌∷◌, length, None, Ok, refl, sym, subst, arith, append-nil, true, false, pos}
 use Rattle.std.specs.Prelude.{nat_le}
 use Rattle.std.specs.Prelude.{map as each_of}
 use Rattle.std.proofs.lemmas.Bool.{le-leb}
@@ -17,6 +17,7 @@ use Rattle.arrow_spec.specs.Sent.{placed}
 use Rattle.arrow_spec.specs.Framing.{body_bytes}
 use Rattle.arrow_spec.specs.Files.{batch_of_tables, to_read, lengths_sum, none_negative}
 use Rattle.arrow_spec.specs.WrittenTables.{AreInt32Columns, Int32Column, Int32Field, body_for, buffers_for, cell_of, cells_for, fields_of, node_for, nodes_for, values_bytes}
+use Rattle.arrow_spec.proofs.MessagesFit.{length-placed}
 use Rattle.arrow_spec.proofs.Bodies.{From, from_head, from_tail, from_length, AreHeld, BufferHeld, buffers_held, length-body, placed_natural, placed_inside}
 use Rattle.arrow_spec.proofs.Int32Columns.{ColumnHeld, cells_read, column_right}
 
@@ -43,10 +44,6 @@ columns_read (f ∷ fs) (x ∷ cs) m d c rows node buffer view same order good n
 
 abbrev pub tables_of : ℕ → List Int32Column → BatchHeader
 tables_of rows cs = record { length = pos rows; nodes = nodes_for rows cs; buffers = placed 0 (each_of length (buffers_for cs)); compressed = false; variadic = [] }
-
-pub length-placed : (ns : List ℕ) (at : ℕ) → length (placed at ns) ≡ length ns
-length-placed [] at = refl
-length-placed (n ∷ ns) at = ap suc (length-placed ns _)
 
 pub length-buffers : (cs : List Int32Column) → length (buffers_for cs) ≡ 2 * length cs
 length-buffers [] = omega arith

@@ -3,6 +3,7 @@ use Rattle.std.proofs.Common.{◌≡◌, ℕ, suc, ◌+◌, ◌*◌, ◌^◌, �
 use Rattle.std.specs.Prelude.{nat_le, nat_lt, nat_eq, ◌||◌, if◌then◌else◌}
 use Rattle.std.specs.Int.{w8, w16, w32, byte_len}
 use Rattle.std.specs.Str.{is_utf8}
+use Rattle.std.proofs.Math.Bool.{or-true}
 use Rattle.std.proofs.lemmas.Bool.{le-leb, lt-ltb}
 use Rattle.arrow_spec.specs.declared.types.IntegerType.{IntegerType}
 use Rattle.arrow_spec.specs.declared.types.IntegerType.TheVariants.{Int8, Int16, Int32, Int64, Int128, UInt8, UInt16, UInt32, UInt64}
@@ -65,10 +66,6 @@ so_far_lets = record { tag = refl; field = refl }
 pub is_same : (n : ℕ) → nat_eq n n ≡ true
 is_same n = grind arith
 
-pub either_true : (x : Bool) → (x || true) ≡ true
-either_true true = refl
-either_true false = refl
-
 abbrev pub field_slots : List ℕ → Bool → IntegerType → Slots
 field_slots name nullable i = layout.child (layout.text name) (flag nullable (layout.value w8 (pos 2) (layout.child (int_node i) (layout.absent (layout.child (layout.tables layout.none) (layout.absent layout.no_more))))))
 
@@ -95,7 +92,7 @@ head_back built name nullable i b at q before lets utf8 room pairs to h =
     let encoding : encoding_at b t ≡ Ok None = no_encoding b t (table_absent b t 4 s4.0) in
     let pairs' : pairs_of b t 6 before.pairs ≡ Ok ([], before.pairs) = no_pairs b t 6 before.pairs pairs (vector_absent 4 b t 6 s4.1.1.0) in
     let same : nat_eq before.pairs before.pairs ≡ true = is_same before.pairs in
-    let either : (built.pairs || true) ≡ true = either_true built.pairs in
+    let either : (built.pairs || true) ≡ true = or-true built.pairs in
     rw (room', to, h.1, text, null.0, tag, type, lets.tag, encoding, pairs', int, lets.field, same, either) refl
 
 pub field_back : (built : Built) (name : List ℕ) (nullable : Bool) (i : IntegerType) (levels : ℕ) (b : List ℕ) (at q : ℕ) (before : Before) → LetsThrough built i → is_utf8 name ≡ true → before.fields < 65536 → before.pairs ≤ 1048576
@@ -134,6 +131,6 @@ schema_back built fs b t lets texts few distinct h =
     let v : slot_vector 4 b t 1 ≡ Ok (Some (record { first = c.1 + 4; count = n })) = vector_there 4 b t 1 c.0 c.1 n c.2 c.3 count inside in
     let fields = fields_back built fs b (c.1 + 4) 0 (record { fields = 0; pairs = 0 }) lets texts (omega (arith, few)) (omega arith) c.4.2 in
     let pairs : pairs_of b t 2 0 ≡ Ok ([], 0) = no_pairs b t 2 0 (omega arith) (vector_absent 4 b t 2 h.1.1.0) in
-    let big : (built.big_endian || true) ≡ true = either_true built.big_endian in
-    let either : (built.pairs || true) ≡ true = either_true built.pairs in
+    let big : (built.big_endian || true) ≡ true = or-true built.big_endian in
+    let either : (built.pairs || true) ≡ true = or-true built.pairs in
     rw (order, pairs, v, fields, distinct, no_uses fs, big, either) refl

@@ -1,8 +1,8 @@
--- A message's metadata and a batch's tables are read back.
-use Rattle.std.proofs.Common.{◌≡◌, ℕ, suc, ◌+◌, ◌*◌, ◌^◌, ◌<◌, ◌≤◌, List, [], ◌∷◌, ◌++◌, length, Result, Some, None, Ok, refl, ap, subst, arith, length-append, true, false, Bool, ℤ, pos, SFits}
+-- A message's metadata and the vectors of nodes and buffers are read back.
+use Rattle.std.proofs.Common.{◌≡◌, ℕ, suc, ◌+◌, ◌*◌, ◌^◌, ◌<◌, ◌≤◌, List, [], ◌∷◌, ◌++◌, length, Result, Some, Ok, refl, ap, subst, arith, length-append, true, Bool, ℤ, pos, SFits}
 use Rattle.std.specs.Prelude.{nat_le, nat_eq, not}
 use Rattle.std.specs.Int.{w8, w16, w64, cast_unsigned}
-use Rattle.std.specs.List.{flat_map}
+use Rattle.std.specs.List.{flat_map, AllByRecursion}
 use Rattle.std.proofs.lemmas.Int.{to_z-of_z}
 use Rattle.std.proofs.Math.Facts.{Fits-of_z, Fits-lt-pow}
 use Rattle.std.proofs.lemmas.List.Concat.{flat_map-cons}
@@ -11,16 +11,15 @@ use Rattle.arrow_spec.specs.declared.message.FieldNode.{FieldNode}
 use Rattle.arrow_spec.specs.declared.message.IpcBuffer.{IpcBuffer}
 use Rattle.arrow_spec.specs.declared.message.MetadataVersion.TheVariants.{V5}
 use Rattle.arrow_spec.specs.Readings.{bind, each}
-use Rattle.arrow_spec.specs.Flat.{Table, Vector, signed_at, slot, slot_unsigned, slot_table, slot_vector}
+use Rattle.arrow_spec.specs.Flat.{Table, Vector, signed_at, slot, slot_unsigned, slot_vector}
 use Rattle.arrow_spec.specs.Layout as layout
 use Rattle.arrow_spec.specs.Layout.{Node, Slots, Nodes}
 use Rattle.arrow_spec.specs.Held.{Stands, HoldsSlots, Rooted}
-use Rattle.arrow_spec.specs.Messages.{Message, node_at, nodes_at, buffer_at, buffers_at, batch_at, message_of, version_of}
-use Rattle.arrow_spec.specs.Counts.{Written}
-use Rattle.arrow_spec.specs.Sent.{i64_bytes, node_bytes, buffer_bytes, placed, views_slot, message_slots, batch_slots}
+use Rattle.arrow_spec.specs.Messages.{Message, node_at, nodes_at, buffer_at, buffers_at, message_of, version_of}
+use Rattle.arrow_spec.specs.Sent.{i64_bytes, node_bytes, buffer_bytes, message_slots}
 use Rattle.arrow_spec.proofs.Standing.{stands_left}
 use Rattle.arrow_spec.proofs.Found.{right_at, within, number_stands}
-use Rattle.arrow_spec.proofs.Slots.{unsigned_there, table_absent, vector_absent, vector_there, zero_back}
+use Rattle.arrow_spec.proofs.Slots.{unsigned_there, vector_there, zero_back}
 
 pub fits_pos : (n : ℕ) → n < 2 ^ 63 → SFits w64 (pos n)
 fits_pos n h = record { sfits = h }
@@ -29,17 +28,13 @@ pub signed_stands : (b : List ℕ) (k : ℕ) (z : ℤ) → SFits w64 z → Stand
 unfolding bind
 signed_stands b k z fits h = rw (number_stands w64 b k (cast_unsigned w64 z) (Fits-lt-pow (Fits-of_z fits)) h) (ap Ok (to_z-of_z w64 z fits))
 
-abbrev pub AllOf : {A : Type 0} → (A → Type 0) → List A → Type 0
-AllOf P [] = Unit {0}
-AllOf P (x ∷ xs) = P x × AllOf P xs
-
 -- structs of 16 bytes, each of which is read where its bytes stand
 record IsRead {A : Type 0} (Fit : A → Type 0) (bytes : A → List ℕ) (read : List ℕ → ℕ → Result A FlatError) : Type 0 where
   back : (b : List ℕ) (k : ℕ) (x : A) → Fit x → Stands b k (bytes x) → read b k ≡ Ok x
   wide : (x : A) → length (bytes x) ≡ 16
 
 structs_from : {A : Type 0} (Fit : A → Type 0) (bytes : A → List ℕ) (read : List ℕ → ℕ → Result A FlatError) → IsRead Fit bytes read
-    → (xs : List A) (b : List ℕ) (first i : ℕ) → AllOf Fit xs → Stands b (first + 16 * i) (flat_map bytes xs) → each (λ j. read b (first + 16 * j)) i (length xs) ≡ Ok xs
+    → (xs : List A) (b : List ℕ) (first i : ℕ) → AllByRecursion Fit xs → Stands b (first + 16 * i) (flat_map bytes xs) → each (λ j. read b (first + 16 * j)) i (length xs) ≡ Ok xs
 unfolding bind
 structs_from Fit bytes read rule [] b first i fits h = refl
 structs_from Fit bytes read rule (x ∷ xs) b first i fits h =
@@ -51,7 +46,7 @@ structs_from Fit bytes read rule (x ∷ xs) b first i fits h =
     rw (here, others) refl
 
 structs_back : {A : Type 0} (Fit : A → Type 0) (bytes : A → List ℕ) (read : List ℕ → ℕ → Result A FlatError) → IsRead Fit bytes read
-    → (xs : List A) (b : List ℕ) (q : ℕ) → AllOf Fit xs → Stands b (q + 4) (flat_map bytes xs) → each (λ j. read b (q + 4 + 16 * j)) 0 (length xs) ≡ Ok xs
+    → (xs : List A) (b : List ℕ) (q : ℕ) → AllByRecursion Fit xs → Stands b (q + 4) (flat_map bytes xs) → each (λ j. read b (q + 4 + 16 * j)) 0 (length xs) ≡ Ok xs
 structs_back Fit bytes read rule xs b q fits h =
     let start : q + 4 ≡ q + 4 + 16 * 0 = omega arith in
     structs_from Fit bytes read rule xs b (q + 4) 0 fits (subst (λ k. Stands b k (flat_map bytes xs)) start h)
@@ -75,7 +70,7 @@ node_is_read = record {
 pub length-nodes : (xs : List FieldNode) → length (flat_map node_bytes xs) ≡ 16 * length xs
 length-nodes xs = length-structs NodeFits node_bytes node_at node_is_read xs
 
-pub nodes_slot : (xs : List FieldNode) (s : Slots) (b : List ℕ) (t : Table) (i : ℕ) → AllOf NodeFits xs → HoldsSlots (layout.child (layout.structs (length xs) (flat_map node_bytes xs)) s) b t i
+pub nodes_slot : (xs : List FieldNode) (s : Slots) (b : List ℕ) (t : Table) (i : ℕ) → AllByRecursion NodeFits xs → HoldsSlots (layout.child (layout.structs (length xs) (flat_map node_bytes xs)) s) b t i
     → (v : Vector) × (slot_vector 16 b t i ≡ Ok (Some v)) × (nodes_at b v ≡ Ok xs)
 nodes_slot xs s b t i fits h =
     let q = h.0.1 in
@@ -98,29 +93,13 @@ buffer_is_read = record {
 pub length-buffers : (xs : List IpcBuffer) → length (flat_map buffer_bytes xs) ≡ 16 * length xs
 length-buffers xs = length-structs BufferFits buffer_bytes buffer_at buffer_is_read xs
 
-pub buffers_slot : (xs : List IpcBuffer) (s : Slots) (b : List ℕ) (t : Table) (i : ℕ) → AllOf BufferFits xs → HoldsSlots (layout.child (layout.structs (length xs) (flat_map buffer_bytes xs)) s) b t i
+pub buffers_slot : (xs : List IpcBuffer) (s : Slots) (b : List ℕ) (t : Table) (i : ℕ) → AllByRecursion BufferFits xs → HoldsSlots (layout.child (layout.structs (length xs) (flat_map buffer_bytes xs)) s) b t i
     → (v : Vector) × (slot_vector 16 b t i ≡ Ok (Some v)) × (buffers_at b v ≡ Ok xs)
 buffers_slot xs s b t i fits h =
     let q = h.0.1 in
     let bytes : Stands b (q + 4) (flat_map buffer_bytes xs) = h.0.4.1 in
     let inside : q + 4 + length xs * 16 ≤ length b = omega (arith, within b (q + 4) (flat_map buffer_bytes xs) bytes, length-buffers xs) in
     (record { first = q + 4; count = length xs }, vector_there 16 b t i h.0.0 q (length xs) h.0.2 h.0.3 h.0.4.0 inside, structs_back BufferFits buffer_bytes buffer_at buffer_is_read xs b q fits bytes)
-
--- ── a batch without view counts ──
-
-pub batch_back : (rows : ℕ) (w : Written) (b : List ℕ) (t : Table) → w.views ≡ [] → rows < 2 ^ 63 → AllOf NodeFits w.nodes → AllOf BufferFits (placed 0 w.lengths) → HoldsSlots (batch_slots rows w) b t 0
-    → batch_at b t ≡ Ok (record { length = pos rows; nodes = w.nodes; buffers = placed 0 w.lengths; compressed = false; variadic = [] })
-unfolding batch_at bind
-batch_back rows w b t none few nodes buffers h =
-    let s2 = layout.child (layout.structs (length (placed 0 w.lengths)) (flat_map buffer_bytes (placed 0 w.lengths))) (layout.absent (views_slot w.views layout.no_more)) in
-    let s1 = layout.child (layout.structs (length w.nodes) (flat_map node_bytes w.nodes)) s2 in
-    let len = zero_back w64 (pos rows) s1 b t 0 (fits_pos rows few) h in
-    let ns = nodes_slot w.nodes s2 b t 1 nodes len.1 in
-    let bs = buffers_slot (placed 0 w.lengths) (layout.absent (views_slot w.views layout.no_more)) b t 2 buffers len.1.1 in
-    let last : HoldsSlots (views_slot [] layout.no_more) b t 4 = subst (λ vs. HoldsSlots (views_slot vs layout.no_more) b t 4) none len.1.1.1.1 in
-    let compression : slot_table b t 3 ≡ Ok None = table_absent b t 3 len.1.1.1.0 in
-    let no_views : slot_vector 8 b t 4 ≡ Ok None = vector_absent 8 b t 4 last.0 in
-    rw (len.0, ns.1, ns.2, bs.1, bs.2, compression, no_views) refl
 
 -- ── a message ──
 

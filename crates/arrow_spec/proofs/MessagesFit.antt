@@ -1,5 +1,5 @@
 -- The trees of messages fit.
-use Rattle.std.proofs.Common.{◌≡◌, ℕ, suc, zero, ◌+◌, ◌^◌, ◌<◌, ◌≤◌, List, [], ◌∷◌, length, arith, true, false, Bool, pos}
+use Rattle.std.proofs.Common.{refl, ap, ◌≡◌, ℕ, suc, zero, ◌+◌, ◌^◌, ◌<◌, ◌≤◌, List, [], ◌∷◌, length, arith, true, false, Bool, pos}
 use Rattle.std.specs.Int.{Width, w8, w64}
 use Rattle.arrow_spec.specs.declared.types.IntegerType.{IntegerType}
 use Rattle.arrow_spec.specs.declared.types.IntegerType.TheVariants.{Int8, Int16, Int32, Int64, Int128, UInt8, UInt16, UInt32, UInt64}
@@ -7,7 +7,7 @@ use Rattle.arrow_spec.specs.Layout as layout
 use Rattle.arrow_spec.specs.Layout.{Node, Slots, slot_count, one_more}
 use Rattle.arrow_spec.specs.Held.{Fits, AllFit, NodesFit}
 use Rattle.arrow_spec.specs.Counts.{Written}
-use Rattle.arrow_spec.specs.Sent.{unless_zero, flag, int_node, nodes_node, buffers_node, placed, field_nodes, message_slots, batch_slots, schema_slots}
+use Rattle.arrow_spec.specs.Sent.{unless_zero, flag, int_node, nodes_node, buffers_node, placed, views_slot, batch_node, node_rows, dictionary_slots, field_nodes, message_slots, schema_slots}
 use Rattle.arrow_spec.specs.WrittenTables.{Int32Field, fields_of}
 use Rattle.arrow_spec.proofs.IntegerSchemas.{field_slots}
 
@@ -34,18 +34,26 @@ fit_flag false s fit = fit
 pub message_fits : (tag body : ℕ) (header : Node) → tag < 2 ^ 8 → body < 2 ^ 63 → Fits header → Fits (layout.table (message_slots tag header body))
 message_fits tag body header few short fits = (omega (arith, count_zero w64 body layout.no_more), (omega arith, (few, (fits, fit_zero body layout.no_more short tt))))
 
--- a batch without view counts
-pub batch_fits : (rows : ℕ) (w : Written) → w.views ≡ [] → rows < 2 ^ 63 → length w.nodes < 2 ^ 32 → length w.lengths < 2 ^ 32 → Fits (layout.table (batch_slots rows w))
-batch_fits rows w none few nodes buffers =
-    let last = layout.absent layout.no_more in
-    let s = layout.child (nodes_node w.nodes) (layout.child (buffers_node (placed 0 w.lengths)) (layout.absent last)) in
+pub length-placed : (ns : List ℕ) (at : ℕ) → length (placed at ns) ≡ length ns
+length-placed [] at = refl
+length-placed (n ∷ ns) at = ap suc (length-placed ns _)
+
+views_fit : (vs : List ℕ) → (slot_count (layout.absent (views_slot vs layout.no_more)) ≤ 2) × AllFit (layout.absent (views_slot vs layout.no_more))
+views_fit [] = (omega arith, tt)
+views_fit (v ∷ vs) = (omega arith, (tt, tt))
+
+pub batch_fits : (rows : ℕ) (w : Written) → rows < 2 ^ 63 → length w.nodes < 2 ^ 32 → length w.lengths < 2 ^ 32 → Fits (batch_node rows w)
+batch_fits rows w few nodes buffers =
+    let last = layout.absent (views_slot w.views layout.no_more) in
+    let s = layout.child (nodes_node w.nodes) (layout.child (buffers_node (placed 0 w.lengths)) last) in
+    let views = views_fit w.views in
     let count : length (placed 0 w.lengths) < 2 ^ 32 = omega (arith, length-placed w.lengths 0, buffers) in
-    let fits : Fits (layout.table (unless_zero w64 (pos rows) s)) = (omega (arith, count_zero w64 rows s), fit_zero rows s few (nodes, (count, tt))) in
-    rw none fits
-  where
-    length-placed : (ns : List ℕ) (at : ℕ) → length (placed at ns) ≡ length ns
-    length-placed [] at = Rattle.std.proofs.Common.refl
-    length-placed (n ∷ ns) at = Rattle.std.proofs.Common.ap suc (length-placed ns _)
+    (omega (arith, count_zero w64 rows s, views.0), fit_zero rows s few (nodes, (count, views.1)))
+
+pub dictionary_fits : (id : ℕ) (w : Written) → id < 2 ^ 63 → Fits (batch_node (node_rows w.nodes) w) → Fits (layout.table (dictionary_slots id w))
+dictionary_fits id w few fits =
+    let s = layout.child (batch_node (node_rows w.nodes) w) layout.no_more in
+    (omega (arith, count_zero w64 id s), fit_zero id s few (fits, tt))
 
 pub int_fits : (i : IntegerType) → Fits (int_node i)
 int_fits Int8 = (omega arith, (omega arith, (omega arith, tt)))

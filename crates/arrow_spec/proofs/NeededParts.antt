@@ -1,32 +1,32 @@
 -- What a file means under a request depends on the parts that the request needs.
 use Rattle.std.proofs.Common.{◌≡◌, ℕ, zero, suc, ◌+◌, ◌-◌, ◌*◌, ◌<◌, ◌≤◌, List, [], ◌∷◌, ◌++◌, length, take, drop, Option, Some, None, Bool, true, false, Ok, Err, Result, refl, sym, ◌∙◌, ap, arith, not, ◌&&◌, ◌||◌, cond, min, inl, inr, length-drop}
-use Rattle.std.specs.Prelude.{nat_le, nat_lt, nat_eq, slice_get, ℤ, pos}
+use Rattle.std.specs.Prelude.{nat_le, nat_eq, slice_get, ℤ}
 use Rattle.std.specs.List.{AllByRecursion}
 use Rattle.std.specs.Int.{Width, w32, byte_len}
 use Rattle.std.specs.Str.{bytes_eq}
 use Rattle.std.proofs.lemmas.List.{length-take, take_all, drop-drop}
-use Rattle.std.proofs.lemmas.Bool.{leb-true, le-leb}
+use Rattle.std.proofs.lemmas.Bool.{leb-true}
 use Rattle.arrow_spec.specs.declared.error.IpcError.{IpcError}
 use Rattle.arrow_spec.specs.declared.error.IpcError.TheVariants.{OutOfSpec, Unsupported}
 use Rattle.arrow_spec.specs.declared.error.OutOfSpecKind.TheVariants as kinds
 use Rattle.arrow_spec.specs.declared.error.Feature.TheVariants as features
 use Rattle.arrow_spec.specs.declared.message.MetadataVersion.{MetadataVersion}
 use Rattle.arrow_spec.specs.declared.message.IpcBuffer.{IpcBuffer}
-use Rattle.arrow_spec.specs.Readings.{bind, ◌>>=◌, Reading, place, unless, only_if, meaning}
-use Rattle.arrow_spec.specs.Flat.{Order, part, num, little, fold_number, in_range, unsigned_at, signed_at}
+use Rattle.arrow_spec.specs.Readings.{◌>>=◌, Reading, place, unless, only_if, meaning}
+use Rattle.arrow_spec.specs.Flat.{Order, part, little, fold_number, in_range, unsigned_at, signed_at}
 use Rattle.arrow_spec.specs.Kinds.{Kind, Fields, none, field, uses_in, values_under, same}
 use Rattle.arrow_spec.specs.Cells.{Cell}
 use Rattle.arrow_spec.specs.Schema.{Schema, required}
 use Rattle.arrow_spec.specs.Built.{Built}
 use Rattle.arrow_spec.specs.Messages.{Message, BatchHeader, DictionaryBatch, natural, as_kind, is_mark, prefix_of, message_of, version_of, batch_at, dictionary_at}
 use Rattle.arrow_spec.specs.Counts.{RecordBatch, Place, first_place, after, magnitude}
-use Rattle.arrow_spec.specs.Columns.{Dictionaries, HeldDictionary, held, found, cells_held, buf, range_of, cell, from_on, count_faults, counts_faults, view_count_faults, top_node_faults, array_faults, column_faults, chosen_faults, chosen_cells, columns_at, is_chosen, float_faults}
+use Rattle.arrow_spec.specs.Columns.{Dictionaries, HeldDictionary, held, found, cells_held, buf, range_of, count_faults, top_node_faults, column_faults, chosen_faults, chosen_cells, columns_at, is_chosen, float_faults}
 use Rattle.arrow_spec.specs.Files.{Request, FileBlock, Meta, TableBatch, ArrowTable, Asked, to_read, share, what_is_left, as_asked, record_batch_of, batch_of_tables, block_message, block_body, batch_of, batches_of, dictionary_of, dictionaries_of, dictionaries_read, dictionaries_sent, first_column, is_held, file_reading, footer_of, footer_length, last, feather_v1, arrow_1, meta_of}
-use Rattle.arrow_spec.specs.Needed.{Range, looked_at, columns_looked_at, ranges, message_range, record_batch_in, batch_needs, dictionary_needs, all_need, or_nothing, footer_size, parts_needed}
+use Rattle.arrow_spec.specs.Needed.{Range, looked_at, columns_looked_at, ranges, message_range, record_batch_in, batch_needs, dictionary_needs, all_need, or_nothing, parts_needed}
 use Rattle.arrow_spec.specs.Laws.{AgreeOn, DependsOnNeeded}
-use Rattle.arrow_spec.proofs.Fewer.{none_first, none_second, none_both}
+use Rattle.arrow_spec.proofs.Fewer.{none_second}
 use Rattle.arrow_spec.proofs.Projection.{then, went, on, place-ok, ok-place, no_dictionaries_sent, no_size, nothing, some_meaning}
-use Rattle.arrow_spec.proofs.SameBuffers.{with_body, AreSame, IsSame, SameCells, array_faults-same, cell-same, from_on-same}
+use Rattle.arrow_spec.proofs.SameBuffers.{with_body, AreSame, SameCells, array_faults-same, cell-same, from_on-same}
 use Rattle.arrow_spec.proofs.SameParts.{part_within, part_of_front, take-take_less}
 
 -- ── columns ──

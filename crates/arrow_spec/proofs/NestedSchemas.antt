@@ -1,5 +1,5 @@
 -- A schema of nested kinds is read back from its message.
-use Rattle.std.proofs.Common.{◌≡◌, ℕ, ◌+◌, ◌*◌, ◌^◌, ◌<◌, ◌≤◌, List, [], ◌++◌, length, Some, Ok, refl, subst, ◌∙◌, arith, true}
+use Rattle.std.proofs.Common.{ap, ◌≡◌, ℕ, ◌+◌, ◌*◌, ◌^◌, ◌<◌, ◌≤◌, List, [], ◌++◌, length, Some, Ok, refl, ◌∙◌, arith, true}
 use Rattle.std.specs.Prelude.{nat_eq}
 use Rattle.std.specs.Int.{w16}
 use Rattle.arrow_spec.specs.Readings.{bind}
@@ -15,7 +15,8 @@ use Rattle.arrow_spec.specs.Laws.{IsNextMessage}
 use Rattle.arrow_spec.specs.Sent.{field_nodes, schema_slots, schema_message}
 use Rattle.arrow_spec.specs.WrittenSchemas.{SchemaMayBeWritten, numbered}
 use Rattle.arrow_spec.proofs.Slots.{unsigned_absent, vector_there}
-use Rattle.arrow_spec.proofs.SchemaPairs.{pairs_slot_back}
+use Rattle.arrow_spec.proofs.SchemaPairs.{ascend_texts, pairs_slot_back}
+use Rattle.arrow_spec.proofs.PairMaps.{all_ascend, all_pairs}
 use Rattle.arrow_spec.proofs.NumberedFields.{distinct_numbered, uses_numbered, fields_more}
 use Rattle.arrow_spec.proofs.NestedFields.{fields_back}
 use Rattle.arrow_spec.proofs.NextMessages.{framed_message_is_next}
@@ -33,7 +34,9 @@ nested_schema_back fs pairs b t w h =
     let v : slot_vector 4 b t 1 ≡ Ok (Some (record { first = c.1 + 4; count = n })) = vector_there 4 b t 1 c.0 c.1 n c.2 c.3 c.4.0 inside in
     let room : 0 + length pairs ≤ 1048576 = omega (arith, w.few_pairs, (fields_more fs (record { fields = 0; pairs = length pairs })).1) in
     let start : 0 + length pairs ≡ length pairs = omega arith in
-    let pairs' : pairs_of b t 2 0 ≡ Ok (pairs, length pairs) = subst (λ k. pairs_of b t 2 0 ≡ Ok (pairs, k)) start (pairs_slot_back pairs layout.no_more b t 2 0 w.ascend room h.1.1).0 in
+    let map : all_pairs [] pairs ≡ pairs = all_ascend pairs [] w.ascend in
+    let read = (pairs_slot_back pairs layout.no_more b t 2 0 (ascend_texts pairs [] w.ascend) room h.1.1).0 in
+    let pairs' : pairs_of b t 2 0 ≡ Ok (pairs, length pairs) = read ∙ ap (λ m. Ok (m, 0 + length pairs)) map ∙ ap (λ k. Ok (pairs, k)) start in
     let fields = fields_back fs 64 0 b (c.1 + 4) (record { fields = 0; pairs = length pairs }) w.fit w.few_fields w.few_pairs (omega arith) c.4.2 in
     let distinct : has_distinct_names (numbered fs 0) ≡ true = distinct_numbered fs 0 ∙ w.distinct in
     rw (order, pairs', v, fields, distinct, uses_numbered fs) refl

@@ -1,5 +1,5 @@
 -- What numbering the dictionaries of fields keeps: counts, widths, names, uses that agree, and the fields without ids.
-use Rattle.std.proofs.Common.{◌≡◌, ℕ, suc, zero, ◌+◌, ◌*◌, ◌<◌, ◌≤◌, List, [], ◌∷◌, ◌++◌, Some, None, Ok, refl, sym, ap, subst, ◌∙◌, arith, true, false, Bool, pos}
+use Rattle.std.proofs.Common.{length, ◌≡◌, ℕ, suc, zero, ◌+◌, ◌<◌, ◌≤◌, List, [], ◌∷◌, ◌++◌, None, Ok, refl, ap, subst, ◌∙◌, arith, true, false, pos}
 use Rattle.std.specs.Prelude.{nat_eq, ◌||◌}
 use Rattle.std.specs.Str.{bytes_eq}
 use Rattle.arrow_spec.specs.Readings.{bind}
@@ -7,7 +7,7 @@ use Rattle.arrow_spec.specs.Kinds as kind
 use Rattle.arrow_spec.specs.Kinds.{Kind, Fields, none, field, width, Use, uses_of, uses_in, values_under, bare, bare_kind}
 use Rattle.arrow_spec.specs.Schema.{Before, has_name, has_distinct_names, is_struct_of_two, first_is_struct_of_two, is_whole, uses_agree}
 use Rattle.arrow_spec.specs.Sent.{dictionary_count, dictionary_counts}
-use Rattle.arrow_spec.specs.WrittenSchemas.{KindFits, FieldsFit, numbered, numbered_kind, after_kind, after_fields}
+use Rattle.arrow_spec.specs.WrittenSchemas.{KindFits, FieldsFit, Part, of_field, of_dictionary, of_extension, pairs_for, numbered, numbered_kind, after_kind, after_fields}
 
 pub width_numbered : (fs : Fields) (id : ℕ) → width (numbered fs id) ≡ width fs
 width_numbered none id = refl
@@ -30,12 +30,15 @@ first_numbered : (fs : Fields) (id : ℕ) → first_is_struct_of_two (numbered f
 first_numbered none id = refl
 first_numbered (field name nullable metadata k others) id = struct_numbered k id
 
-pub whole_numbered : (k : Kind) (may : Bool) (levels id : ℕ) → KindFits may levels k → is_whole (numbered_kind k id) ≡ true
-whole_numbered (kind.map sorted fs) may levels id fits = first_numbered fs id ∙ fits.1
-whole_numbered (kind.dictionary t ordered old k) true levels id fits = whole_numbered k false levels (suc id) fits
-whole_numbered (kind.dictionary t ordered old k) false levels id fits = absurd fits
-whole_numbered (kind.extension name metadata k) may levels id fits = absurd fits
-whole_numbered k may levels id fits = refl
+pub whole_numbered : (k : Kind) (at : Part) (levels id : ℕ) → KindFits at levels k → is_whole (numbered_kind k id) ≡ true
+whole_numbered (kind.map sorted fs) at levels id fits = first_numbered fs id ∙ fits.1
+whole_numbered (kind.dictionary t ordered old k) of_field levels id fits = whole_numbered k of_dictionary levels (suc id) fits
+whole_numbered (kind.dictionary t ordered old k) of_dictionary levels id fits = absurd fits
+whole_numbered (kind.dictionary t ordered old k) of_extension levels id fits = absurd fits
+whole_numbered (kind.extension name metadata k) of_field levels id fits = whole_numbered k of_extension levels id fits.2
+whole_numbered (kind.extension name metadata k) of_dictionary levels id fits = whole_numbered k of_extension levels id fits.2
+whole_numbered (kind.extension name metadata k) of_extension levels id fits = absurd fits
+whole_numbered k at levels id fits = refl
 
 -- ── how many fields and dictionaries stand before ──
 
@@ -56,35 +59,39 @@ mutual
   pub fields_more : (fs : Fields) (p : Before) → IsNotBehind p (after_fields fs p)
   fields_more none p = (omega arith, omega arith)
   fields_more (field name nullable metadata k others) p =
-      let here : Before = record { fields = suc p.fields; pairs = p.pairs + Rattle.std.proofs.Common.length metadata } in
+      let here : Before = record { fields = suc p.fields; pairs = p.pairs + length (pairs_for k metadata) } in
       let first = kind_more k here in
       let rest = fields_more others (after_kind k here) in
       (omega (arith, first.0, rest.0), omega (arith, first.1, rest.1))
 
 -- a field whose kind may be a dictionary has room for one
-abbrev pub own : Bool → ℕ
-own true = 1
-own false = 0
+abbrev pub own : Part → ℕ
+own of_field = 1
+own of_dictionary = 0
+own of_extension = 0
 
 -- each dictionary stands at a field
 mutual
-  pub kind_count : (k : Kind) (may : Bool) (levels : ℕ) (p : Before) → KindFits may levels k → dictionary_count k + p.fields ≤ (after_kind k p).fields + own may
-  kind_count (kind.«list» o fs) may levels p fits = omega (arith, fields_count fs levels p fits.1)
-  kind_count (kind.fixed_size_list n fs) may levels p fits = omega (arith, fields_count fs levels p fits.3)
-  kind_count (kind.struct fs) may levels p fits = omega (arith, fields_count fs levels p fits)
-  kind_count (kind.map sorted fs) may levels p fits = omega (arith, fields_count fs levels p fits.2)
-  kind_count (kind.union mode stated ids fs) may levels p fits = omega (arith, fields_count fs levels p fits.2)
-  kind_count (kind.dictionary t ordered id k) true levels p fits = omega (arith, kind_count k false levels p fits)
-  kind_count (kind.dictionary t ordered id k) false levels p fits = absurd fits
-  kind_count (kind.extension name metadata k) may levels p fits = absurd fits
-  kind_count k may levels p fits = omega arith
+  pub kind_count : (k : Kind) (at : Part) (levels : ℕ) (p : Before) → KindFits at levels k → dictionary_count k + p.fields ≤ (after_kind k p).fields + own at
+  kind_count (kind.«list» o fs) at levels p fits = omega (arith, fields_count fs levels p fits.1)
+  kind_count (kind.fixed_size_list n fs) at levels p fits = omega (arith, fields_count fs levels p fits.3)
+  kind_count (kind.struct fs) at levels p fits = omega (arith, fields_count fs levels p fits)
+  kind_count (kind.map sorted fs) at levels p fits = omega (arith, fields_count fs levels p fits.2)
+  kind_count (kind.union mode stated ids fs) at levels p fits = omega (arith, fields_count fs levels p fits.2)
+  kind_count (kind.dictionary t ordered id k) of_field levels p fits = omega (arith, kind_count k of_dictionary levels p fits)
+  kind_count (kind.dictionary t ordered id k) of_dictionary levels p fits = absurd fits
+  kind_count (kind.dictionary t ordered id k) of_extension levels p fits = absurd fits
+  kind_count (kind.extension name metadata k) of_field levels p fits = omega (arith, kind_count k of_extension levels p fits.2)
+  kind_count (kind.extension name metadata k) of_dictionary levels p fits = omega (arith, kind_count k of_extension levels p fits.2)
+  kind_count (kind.extension name metadata k) of_extension levels p fits = absurd fits
+  kind_count k at levels p fits = omega arith
 
   pub fields_count : (fs : Fields) (levels : ℕ) (p : Before) → FieldsFit levels fs → dictionary_counts fs + p.fields ≤ (after_fields fs p).fields
   fields_count none levels p fits = omega arith
   fields_count (field name nullable metadata k others) zero p fits = absurd fits
   fields_count (field name nullable metadata k others) (suc levels) p fits =
-      let here : Before = record { fields = suc p.fields; pairs = p.pairs + Rattle.std.proofs.Common.length metadata } in
-      omega (arith, kind_count k true levels here fits.2, fields_count others (suc levels) (after_kind k here) fits.3)
+      let here : Before = record { fields = suc p.fields; pairs = p.pairs + length (pairs_for k metadata) } in
+      omega (arith, kind_count k of_field levels here fits.2, fields_count others (suc levels) (after_kind k here) fits.3)
 
 -- ── uses ──
 

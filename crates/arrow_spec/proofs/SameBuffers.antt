@@ -1,15 +1,13 @@
 -- What is read of an array depends on the buffers that are looked at: the same batch over another body of the same length.
-use Rattle.std.proofs.Common.{◌≡◌, ℕ, zero, suc, ◌+◌, ◌-◌, ◌*◌, ◌/◌, ◌%◌, ◌<◌, ◌≤◌, List, [], ◌∷◌, ◌++◌, length, take, drop, Option, Some, None, Bool, true, false, Ok, refl, sym, ◌∙◌, ap, arith, not, ◌&&◌, ◌||◌, cond, ◌⊎◌, inl, inr}
-use Rattle.std.specs.Prelude.{nat_le, nat_lt, slice_get, ℤ, pos, map}
+use Rattle.std.proofs.Common.{◌≡◌, ℕ, zero, suc, ◌+◌, ◌-◌, ◌*◌, ◌<◌, ◌≤◌, List, [], ◌∷◌, ◌++◌, length, take, drop, Option, Some, None, Bool, true, false, refl, ◌∙◌, ap, arith, not, ◌&&◌, ◌||◌, cond, ◌⊎◌, inl, inr}
+use Rattle.std.specs.Prelude.{nat_le, nat_lt, slice_get, ℤ, pos}
 use Rattle.std.specs.List.{AllByRecursion}
 use Rattle.std.specs.Int.{Width, byte_len, w32, w64, w8, w128, cast_signed}
 use Rattle.std.specs.Str.{is_utf8, bytes_eq}
-use Rattle.std.proofs.lemmas.Bool.{leb-false, ltb-true, ltb-false, le-ltb, lt-ltb, or_parts, or_from, and_left, and_right, and_cases, and_parts, false≢true}
+use Rattle.std.proofs.lemmas.Bool.{leb-false, ltb-true, or_parts, and_parts}
 use Rattle.arrow_spec.specs.declared.error.IpcError.{IpcError}
-use Rattle.arrow_spec.specs.declared.error.IpcError.TheVariants.{OutOfSpec, Unsupported}
+use Rattle.arrow_spec.specs.declared.error.IpcError.TheVariants.{OutOfSpec}
 use Rattle.arrow_spec.specs.declared.error.OutOfSpecKind.TheVariants as kinds
-use Rattle.arrow_spec.specs.declared.message.FieldNode.{FieldNode}
-use Rattle.arrow_spec.specs.declared.message.IpcBuffer.{IpcBuffer}
 use Rattle.arrow_spec.specs.declared.types.UnionMode.{UnionMode}
 use Rattle.arrow_spec.specs.declared.types.UnionMode.TheVariants.{Dense, Sparse}
 use Rattle.arrow_spec.specs.declared.types.IntervalUnit.TheVariants.{YearMonth, DayTime, MonthDayNano}
@@ -19,9 +17,9 @@ use Rattle.arrow_spec.specs.Kinds.{Kind, Fields, none, field, null, boolean, int
 use Rattle.arrow_spec.specs.Counts.{RecordBatch, Place, magnitude, is_negative, inside, after, union_buffers, count_at}
 use Rattle.arrow_spec.specs.Cells as cells
 use Rattle.arrow_spec.specs.Cells.{Cell, Cells, cells_of}
-use Rattle.arrow_spec.specs.Columns.{Dictionaries, cause, if_sound, some_row, some_valid_row, buf, bit, or_0, valid, has_nulls, node_causes, node_faults, range_of, range_causes, range_faults, bitmap_faults, validity_faults, numbers_faults, fixed_faults, offset_width, offset, unsigned_in, signed_in, integer_in, is_unsigned, offsets_buffer_faults, offsets_faults, bytes_faults, utf8_faults, row_bytes, slice, u32_of, view_of, view_bytes, is_good_view, ranges_faults, data_faults, view_parts_faults, bad_view_faults, views_faults, is_no_text_view, view_text_faults, key_faults, integer_width, found, types_buffer, is_no_id, id_place, place_in, is_bad_row, dense_buffer_faults, dense_faults, union_faults, flat_faults, array_faults, child_faults, view_count_faults, node_of, cell, cell_in, row_of, if_valid, keyed, from_on, part_of_row, number_in, child_row}
+use Rattle.arrow_spec.specs.Columns.{Dictionaries, cause, if_sound, some_row, some_valid_row, buf, bit, or_0, valid, has_nulls, node_faults, range_of, range_causes, range_faults, bitmap_faults, validity_faults, numbers_faults, fixed_faults, offset_width, offset, unsigned_in, signed_in, integer_in, is_unsigned, offsets_buffer_faults, offsets_faults, bytes_faults, utf8_faults, row_bytes, u32_of, view_of, view_bytes, is_good_view, ranges_faults, data_faults, view_parts_faults, bad_view_faults, views_faults, is_no_text_view, view_text_faults, key_faults, integer_width, found, types_buffer, is_no_id, id_place, place_in, is_bad_row, dense_buffer_faults, dense_faults, union_faults, flat_faults, array_faults, child_faults, view_count_faults, node_of, cell, cell_in, row_of, if_valid, keyed, from_on, part_of_row, number_in}
 use Rattle.arrow_spec.specs.Needed.{looked_at, looked_at_in, validity_looked_at, union_looked_at, numbers_from}
-use Rattle.arrow_spec.proofs.Fewer.{none_first, none_second, none_both, sound_first, sound_second, sound_both, along, along_sound, cause-none, cause-false, some_row-none, some_row-all, offset-fewer, offsets_faults-fewer}
+use Rattle.arrow_spec.proofs.Fewer.{none_first, none_second, sound_second, cause-none, some_row-none, offset-fewer, offsets_faults-fewer}
 
 -- the same tables over another body
 abbrev pub with_body : RecordBatch → List ℕ → RecordBatch

@@ -1,8 +1,5 @@
 -- Parts of two files of one length that agree: what is read of them is the same.
-use Rattle.std.proofs.Common.{◌≡◌, ℕ, zero, suc, ◌+◌, ◌-◌, ◌*◌, ◌<◌, ◌≤◌, List, [], ◌∷◌, ◌++◌, length, take, drop, Option, Some, None, Bool, true, false, Ok, Err, refl, sym, ◌∙◌, ap, arith, not, ◌&&◌, ◌||◌, cond, min, length-drop, inl, inr}
-use Rattle.std.specs.Prelude.{nat_le, nat_lt, nat_eq, slice_get, ℤ, pos, Result}
-use Rattle.std.specs.List.{AllByRecursion}
-use Rattle.std.specs.Int.{w32}
+use Rattle.std.proofs.Common.{◌≡◌, ℕ, zero, suc, ◌+◌, ◌-◌, ◌≤◌, List, [], ◌∷◌, length, take, drop, refl, sym, ◌∙◌, ap, arith, min, inl, inr}
 use Rattle.std.proofs.lemmas.List.{drop-drop, drop-take, length-take, take_all, drop_all}
 use Rattle.std.proofs.lemmas.Bool.{cases_lt}
 

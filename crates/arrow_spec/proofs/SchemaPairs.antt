@@ -1,60 +1,57 @@
 -- Metadata pairs are read back.
-use Rattle.std.proofs.Common.{◌≡◌, ℕ, suc, ◌+◌, ◌*◌, ◌≤◌, List, [], ◌∷◌, ◌++◌, length, Some, None, Ok, refl, sym, ap, subst, arith, append_assoc, append-nil, true, false, Bool, cond}
+use Rattle.std.proofs.Common.{◌≡◌, ℕ, suc, ◌+◌, ◌*◌, ◌≤◌, List, [], ◌∷◌, ◌++◌, length, Some, Ok, refl, ap, subst, arith, true}
 use Rattle.std.specs.Prelude.{nat_le}
 use Rattle.std.specs.Int.{w32}
-use Rattle.std.specs.Str.{bytes_eq}
+use Rattle.std.specs.List.{AllByRecursion}
+use Rattle.std.specs.Str.{is_utf8}
 use Rattle.std.proofs.lemmas.Bool.{le-leb}
 use Rattle.arrow_spec.specs.Readings.{bind}
 use Rattle.arrow_spec.specs.Flat.{Table, slot_vector, unsigned_at}
 use Rattle.arrow_spec.specs.Kinds.{Metadata}
-use Rattle.arrow_spec.specs.Schema.{with_pair, without_key, value_of, pairs_from, pairs_of}
+use Rattle.arrow_spec.specs.Schema.{with_pair, pairs_from, pairs_of}
 use Rattle.arrow_spec.specs.Layout.{Slots, node_count}
 use Rattle.arrow_spec.specs.Sent.{pair_nodes, pairs_slot}
 use Rattle.arrow_spec.specs.Held.{HoldsSlots, HoldsNodes}
-use Rattle.arrow_spec.specs.WrittenSchemas.{Ascend, IsBehind}
+use Rattle.arrow_spec.specs.WrittenSchemas.{Ascend}
+use Rattle.arrow_spec.proofs.PairMaps.{all_pairs}
 use Rattle.arrow_spec.proofs.Slots.{vector_absent, vector_there, text_there}
 use Rattle.arrow_spec.proofs.IntegerSchemas.{no_pairs}
 
-pair_last : (m : Metadata) (key value : List ℕ) → IsBehind m key → with_pair key value m ≡ m ++ (key, value) ∷ []
-pair_last [] key value h = refl
-pair_last (x ∷ m) key value h = rw (h.0, h.1, pair_last m key value h.2) refl
+-- pairs of texts
+abbrev pub AreTexts : Metadata → Type 0
+AreTexts xs = AllByRecursion (λ x. (is_utf8 x.0 ≡ true) × (is_utf8 x.1 ≡ true)) xs
 
-pub pairs_back : (xs : Metadata) (b : List ℕ) (at : ℕ) (m : Metadata) → Ascend m xs → HoldsNodes (pair_nodes xs) b at → pairs_from b at (length xs) m ≡ Ok (m ++ xs)
+pub ascend_texts : (xs m : Metadata) → Ascend m xs → AreTexts xs
+ascend_texts [] m up = tt
+ascend_texts (x ∷ xs) m up = ((up.0, up.1), ascend_texts xs (m ++ x ∷ []) up.3)
+
+pairs_back : (xs : Metadata) (b : List ℕ) (at : ℕ) (m : Metadata) → AreTexts xs → HoldsNodes (pair_nodes xs) b at → pairs_from b at (length xs) m ≡ Ok (all_pairs m xs)
 unfolding pairs_from bind
-pairs_back [] b at m up h = ap Ok (sym (append-nil m))
-pairs_back (x ∷ xs) b at m up h =
+pairs_back [] b at m texts h = refl
+pairs_back (x ∷ xs) b at m texts h =
     let t = h.0.2.0 in
     let s = h.0.2.2 in
-    let key = text_there b t 0 s.0.0 s.0.1 x.0 up.0 s.0.2 s.0.3 s.0.4.0 s.0.4.1 in
-    let value = text_there b t 1 s.1.0.0 s.1.0.1 x.1 up.1 s.1.0.2 s.1.0.3 s.1.0.4.0 s.1.0.4.1 in
-    let rest = pairs_back xs b (at + 4) (m ++ x ∷ []) up.3 h.1 in
-    rw (pairs_from, h.0.1, h.0.2.1, key, value, pair_last m x.0 x.1 up.2, rest) (ap Ok (append_assoc m (x ∷ []) xs))
+    let key = text_there b t 0 s.0.0 s.0.1 x.0 texts.0.0 s.0.2 s.0.3 s.0.4.0 s.0.4.1 in
+    let value = text_there b t 1 s.1.0.0 s.1.0.1 x.1 texts.0.1 s.1.0.2 s.1.0.3 s.1.0.4.0 s.1.0.4.1 in
+    let rest = pairs_back xs b (at + 4) (with_pair x.0 x.1 m) texts.1 h.1 in
+    rw (pairs_from, h.0.1, h.0.2.1, key, value, rest) refl
 
 count_pairs : (xs : Metadata) → node_count (pair_nodes xs) ≡ length xs
 count_pairs [] = refl
 count_pairs (x ∷ xs) = ap suc (count_pairs xs)
 
 -- the slot of some pairs, which is absent where there are none
-pub pairs_slot_back : (xs : Metadata) (s : Slots) (b : List ℕ) (t : Table) (i before : ℕ) → Ascend [] xs → before + length xs ≤ 1048576 → HoldsSlots (pairs_slot (pair_nodes xs) s) b t i
-    → (pairs_of b t i before ≡ Ok (xs, before + length xs)) × HoldsSlots s b t (i + 1)
+pub pairs_slot_back : (xs : Metadata) (s : Slots) (b : List ℕ) (t : Table) (i before : ℕ) → AreTexts xs → before + length xs ≤ 1048576 → HoldsSlots (pairs_slot (pair_nodes xs) s) b t i
+    → (pairs_of b t i before ≡ Ok (all_pairs [] xs, before + length xs)) × HoldsSlots s b t (i + 1)
 unfolding pairs_of bind
-pairs_slot_back [] s b t i before up room h =
+pairs_slot_back [] s b t i before texts room h =
     let same : before + 0 ≡ before = omega arith in
     (rw same (no_pairs b t i before (omega (arith, room)) (vector_absent 4 b t i h.0)), h.1)
-pairs_slot_back (x ∷ xs) s b t i before up room h =
+pairs_slot_back (x ∷ xs) s b t i before texts room h =
     let c = h.0 in
     let n = length (x ∷ xs) in
     let count : unsigned_at w32 b c.1 ≡ Ok n = subst (λ k. unsigned_at w32 b c.1 ≡ Ok k) (count_pairs (x ∷ xs)) c.4.0 in
     let inside : c.1 + 4 + n * 4 ≤ length b = omega (arith, c.4.1, count_pairs (x ∷ xs)) in
     let v : slot_vector 4 b t i ≡ Ok (Some (record { first = c.1 + 4; count = n })) = vector_there 4 b t i c.0 c.1 n c.2 c.3 count inside in
     let test : nat_le (before + n) 1048576 ≡ true = le-leb _ _ room in
-    (rw (v, test, pairs_back (x ∷ xs) b (c.1 + 4) [] up c.4.2) refl, h.1)
-
-without_by : (key : List ℕ) (x : List ℕ × List ℕ) (m : Metadata) (test : Bool) → (value_of key m ≡ None → without_key key m ≡ m) → cond test (Some x.1) (value_of key m) ≡ None → cond test m (x ∷ without_key key m) ≡ x ∷ m
-without_by key x m true rest h = cc
-without_by key x m false rest h = ap (λ l. x ∷ l) (rest h)
-
--- a map without a key is the same without it
-pub without_absent : (key : List ℕ) (m : Metadata) → value_of key m ≡ None → without_key key m ≡ m
-without_absent key [] h = refl
-without_absent key (x ∷ m) h = without_by key x m (bytes_eq key x.0) (λ e. without_absent key m e) h
+    (rw (v, test, pairs_back (x ∷ xs) b (c.1 + 4) [] texts c.4.2) refl, h.1)

@@ -12,7 +12,7 @@ use Rattle.arrow_spec.specs.Layout as layout
 use Rattle.arrow_spec.specs.Layout.{Node, Slots, Nodes, slot_count}
 use Rattle.arrow_spec.specs.Held.{Fits, AllFit, NodesFit}
 use Rattle.arrow_spec.specs.Sent.{unless_zero, flag, int_node, type_tag, type_node, encoding_slot, field_pairs, pair_nodes, extension_pair, pairs_slot, child_nodes, field_nodes, dictionary_count, schema_slots, unit_slot, text_slot, ids_slot}
-use Rattle.arrow_spec.specs.WrittenSchemas.{KindFits, FieldsFit, after_kind, after_fields}
+use Rattle.arrow_spec.specs.WrittenSchemas.{Part, of_field, of_dictionary, of_extension, pairs_for, KindFits, FieldsFit, after_kind, after_fields}
 use Rattle.arrow_spec.proofs.MessagesFit.{count_flag, fit_flag, int_fits, one_more-least}
 use Rattle.arrow_spec.proofs.NumberedFields.{own, kind_count, kind_more, fields_more}
 
@@ -78,34 +78,37 @@ tag_fits (kind.dictionary t ordered id k) = tag_fits k
 tag_fits (kind.extension name metadata k) = tag_fits k
 tag_fits k = omega arith
 
-type_fits : (k : Kind) (may : Bool) (levels : ℕ) → KindFits may levels k → Fits (type_node k)
-type_fits (kind.integer i) may levels fits = int_fits i
-type_fits (kind.float kind.half) may levels fits = (omega arith, tt)
-type_fits (kind.float kind.single) may levels fits = (omega arith, (omega arith, tt))
-type_fits (kind.float kind.double) may levels fits = (omega arith, (omega arith, tt))
-type_fits kind.date32 may levels fits = (omega arith, (omega arith, tt))
-type_fits (kind.time32 u) may levels fits = few_fits 1 (unit_slot u layout.no_more) (omega arith) (unit_few 0 u layout.no_more none_few)
-type_fits (kind.time64 u) may levels fits = few_fits 2 (unit_slot u (layout.value w32 (pos 64) layout.no_more)) (omega arith) (unit_few 1 u (layout.value w32 (pos 64) layout.no_more) (omega arith, (omega arith, tt)))
-type_fits (kind.timestamp u tz) may levels fits = few_fits 2 (unless_zero w16 (pos (unit_number u)) (text_slot tz layout.no_more)) (omega arith) (zero16_few 1 (unit_number u) (text_slot tz layout.no_more) (unit_small u) (text_few 0 tz layout.no_more none_few))
-type_fits (kind.duration u) may levels fits = few_fits 1 (unit_slot u layout.no_more) (omega arith) (unit_few 0 u layout.no_more none_few)
-type_fits (kind.interval YearMonth) may levels fits = (omega arith, tt)
-type_fits (kind.interval DayTime) may levels fits = (omega arith, (omega arith, tt))
-type_fits (kind.interval MonthDayNano) may levels fits = (omega arith, (omega arith, tt))
-type_fits (kind.decimal p s) may levels fits = few_fits 2 (unless_zero w32 (pos p) (unless_zero w32 (pos s) layout.no_more)) (omega arith) (zero32_few 1 p (unless_zero w32 (pos s) layout.no_more) (omega (arith, fits.0)) (zero32_few 0 s layout.no_more (omega (arith, fits.1)) none_few))
-type_fits (kind.decimal256 p s) may levels fits =
+type_fits : (k : Kind) (at : Part) (levels : ℕ) → KindFits at levels k → Fits (type_node k)
+type_fits (kind.integer i) at levels fits = int_fits i
+type_fits (kind.float kind.half) at levels fits = (omega arith, tt)
+type_fits (kind.float kind.single) at levels fits = (omega arith, (omega arith, tt))
+type_fits (kind.float kind.double) at levels fits = (omega arith, (omega arith, tt))
+type_fits kind.date32 at levels fits = (omega arith, (omega arith, tt))
+type_fits (kind.time32 u) at levels fits = few_fits 1 (unit_slot u layout.no_more) (omega arith) (unit_few 0 u layout.no_more none_few)
+type_fits (kind.time64 u) at levels fits = few_fits 2 (unit_slot u (layout.value w32 (pos 64) layout.no_more)) (omega arith) (unit_few 1 u (layout.value w32 (pos 64) layout.no_more) (omega arith, (omega arith, tt)))
+type_fits (kind.timestamp u tz) at levels fits = few_fits 2 (unless_zero w16 (pos (unit_number u)) (text_slot tz layout.no_more)) (omega arith) (zero16_few 1 (unit_number u) (text_slot tz layout.no_more) (unit_small u) (text_few 0 tz layout.no_more none_few))
+type_fits (kind.duration u) at levels fits = few_fits 1 (unit_slot u layout.no_more) (omega arith) (unit_few 0 u layout.no_more none_few)
+type_fits (kind.interval YearMonth) at levels fits = (omega arith, tt)
+type_fits (kind.interval DayTime) at levels fits = (omega arith, (omega arith, tt))
+type_fits (kind.interval MonthDayNano) at levels fits = (omega arith, (omega arith, tt))
+type_fits (kind.decimal p s) at levels fits = few_fits 2 (unless_zero w32 (pos p) (unless_zero w32 (pos s) layout.no_more)) (omega arith) (zero32_few 1 p (unless_zero w32 (pos s) layout.no_more) (omega (arith, fits.0)) (zero32_few 0 s layout.no_more (omega (arith, fits.1)) none_few))
+type_fits (kind.decimal256 p s) at levels fits =
     let bits = layout.value w32 (pos 256) layout.no_more in
     few_fits 3 (unless_zero w32 (pos p) (unless_zero w32 (pos s) bits)) (omega arith) (zero32_few 2 p (unless_zero w32 (pos s) bits) (omega (arith, fits.0)) (zero32_few 1 s bits (omega (arith, fits.1)) (omega arith, (omega arith, tt))))
-type_fits (kind.fixed_size_binary n) may levels fits = few_fits 1 (unless_zero w32 (pos n) layout.no_more) (omega arith) (zero32_few 0 n layout.no_more (omega (arith, fits.1)) none_few)
-type_fits (kind.fixed_size_list n fs) may levels fits = few_fits 1 (unless_zero w32 (pos n) layout.no_more) (omega arith) (zero32_few 0 n layout.no_more (omega (arith, fits.2)) none_few)
-type_fits (kind.map sorted fs) may levels fits = few_fits 1 (flag sorted layout.no_more) (omega arith) (flag_few 0 sorted layout.no_more none_few)
-type_fits (kind.union Dense stated ids fs) may levels fits =
+type_fits (kind.fixed_size_binary n) at levels fits = few_fits 1 (unless_zero w32 (pos n) layout.no_more) (omega arith) (zero32_few 0 n layout.no_more (omega (arith, fits.1)) none_few)
+type_fits (kind.fixed_size_list n fs) at levels fits = few_fits 1 (unless_zero w32 (pos n) layout.no_more) (omega arith) (zero32_few 0 n layout.no_more (omega (arith, fits.2)) none_few)
+type_fits (kind.map sorted fs) at levels fits = few_fits 1 (flag sorted layout.no_more) (omega arith) (flag_few 0 sorted layout.no_more none_few)
+type_fits (kind.union Dense stated ids fs) at levels fits =
     let few = ids_few stated ids in
     (omega (arith, few.0), (omega arith, few.1))
-type_fits (kind.union Sparse stated ids fs) may levels fits = few_fits 2 (layout.absent (ids_slot stated ids)) (omega arith) (absent_few 1 (ids_slot stated ids) (ids_few stated ids))
-type_fits (kind.dictionary t ordered id k) true levels fits = type_fits k false levels fits
-type_fits (kind.dictionary t ordered id k) false levels fits = absurd fits
-type_fits (kind.extension name metadata k) may levels fits = absurd fits
-type_fits k may levels fits = (omega arith, tt)
+type_fits (kind.union Sparse stated ids fs) at levels fits = few_fits 2 (layout.absent (ids_slot stated ids)) (omega arith) (absent_few 1 (ids_slot stated ids) (ids_few stated ids))
+type_fits (kind.dictionary t ordered id k) of_field levels fits = type_fits k of_dictionary levels fits
+type_fits (kind.dictionary t ordered id k) of_dictionary levels fits = absurd fits
+type_fits (kind.dictionary t ordered id k) of_extension levels fits = absurd fits
+type_fits (kind.extension name metadata k) of_field levels fits = type_fits k of_extension levels fits.2
+type_fits (kind.extension name metadata k) of_dictionary levels fits = type_fits k of_extension levels fits.2
+type_fits (kind.extension name metadata k) of_extension levels fits = absurd fits
+type_fits k at levels fits = (omega arith, tt)
 
 encoding_few : (n id : ℕ) (k : Kind) (s : Slots) → id < 2 ^ 64 → Few n s → Few (suc n) (encoding_slot id k s)
 encoding_few n id (kind.dictionary t ordered old k) s h few =
@@ -132,34 +135,37 @@ pairs_few n layout.none s fit few = absent_few n s few
 pairs_few n (layout.also m ns) s fit few = child_few n (layout.tables (layout.also m ns)) s fit few
 
 mutual
-  children_fit : (k : Kind) (may : Bool) (levels id : ℕ) (p : Before) → KindFits may levels k → (after_kind k p).fields ≤ 65536 → id + own may ≤ p.fields → NodesFit (child_nodes k id)
-  children_fit (kind.«list» o fs) may levels id p fits room low = fields_fit fs levels id p fits.1 room (omega (arith, low))
-  children_fit (kind.fixed_size_list n fs) may levels id p fits room low = fields_fit fs levels id p fits.3 room (omega (arith, low))
-  children_fit (kind.struct fs) may levels id p fits room low = fields_fit fs levels id p fits room (omega (arith, low))
-  children_fit (kind.map sorted fs) may levels id p fits room low = fields_fit fs levels id p fits.2 room (omega (arith, low))
-  children_fit (kind.union mode stated ids fs) may levels id p fits room low = fields_fit fs levels id p fits.2 room (omega (arith, low))
-  children_fit (kind.dictionary t ordered old k) true levels id p fits room low = children_fit k false levels (suc id) p fits room (omega (arith, low))
-  children_fit (kind.dictionary t ordered old k) false levels id p fits room low = absurd fits
-  children_fit (kind.extension name metadata k) may levels id p fits room low = absurd fits
-  children_fit k may levels id p fits room low = tt
+  children_fit : (k : Kind) (at : Part) (levels id : ℕ) (p : Before) → KindFits at levels k → (after_kind k p).fields ≤ 65536 → id + own at ≤ p.fields → NodesFit (child_nodes k id)
+  children_fit (kind.«list» o fs) at levels id p fits room low = fields_fit fs levels id p fits.1 room (omega (arith, low))
+  children_fit (kind.fixed_size_list n fs) at levels id p fits room low = fields_fit fs levels id p fits.3 room (omega (arith, low))
+  children_fit (kind.struct fs) at levels id p fits room low = fields_fit fs levels id p fits room (omega (arith, low))
+  children_fit (kind.map sorted fs) at levels id p fits room low = fields_fit fs levels id p fits.2 room (omega (arith, low))
+  children_fit (kind.union mode stated ids fs) at levels id p fits room low = fields_fit fs levels id p fits.2 room (omega (arith, low))
+  children_fit (kind.dictionary t ordered old k) of_field levels id p fits room low = children_fit k of_dictionary levels (suc id) p fits room (omega (arith, low))
+  children_fit (kind.dictionary t ordered old k) of_dictionary levels id p fits room low = absurd fits
+  children_fit (kind.dictionary t ordered old k) of_extension levels id p fits room low = absurd fits
+  children_fit (kind.extension name metadata k) of_field levels id p fits room low = children_fit k of_extension levels id p fits.2 room (omega (arith, low))
+  children_fit (kind.extension name metadata k) of_dictionary levels id p fits room low = children_fit k of_extension levels id p fits.2 room (omega (arith, low))
+  children_fit (kind.extension name metadata k) of_extension levels id p fits room low = absurd fits
+  children_fit k at levels id p fits room low = tt
 
   fields_fit : (fs : Fields) (levels id : ℕ) (p : Before) → FieldsFit levels fs → (after_fields fs p).fields ≤ 65536 → id ≤ p.fields → NodesFit (field_nodes fs id)
   fields_fit none levels id p fits room low = tt
   fields_fit (field name nullable metadata k others) zero id p fits room low = absurd fits
   fields_fit (field name nullable metadata k others) (suc levels) id p fits room low =
-      let here : Before = record { fields = suc p.fields; pairs = p.pairs + length metadata } in
+      let here : Before = record { fields = suc p.fields; pairs = p.pairs + length (pairs_for k metadata) } in
       let next = after_kind k here in
       let later = fields_more others next in
       let more = kind_more k here in
-      let count = kind_count k true levels here fits.2 in
+      let count = kind_count k of_field levels here fits.2 in
       let ps = pairs_slot (field_pairs k metadata) layout.no_more in
       let cs = layout.child (layout.tables (child_nodes k id)) ps in
       let es = encoding_slot id k cs in
       let ts = layout.value w8 (type_tag k) (layout.child (type_node k) es) in
       let pairs : Few 1 ps = pairs_few 0 (field_pairs k metadata) layout.no_more (field_pairs_fit k metadata) none_few in
-      let children : Few 2 cs = child_few 1 (layout.tables (child_nodes k id)) ps (children_fit k true levels id here fits.2 (omega (arith, room, later.0)) (omega (arith, low))) pairs in
+      let children : Few 2 cs = child_few 1 (layout.tables (child_nodes k id)) ps (children_fit k of_field levels id here fits.2 (omega (arith, room, later.0)) (omega (arith, low))) pairs in
       let encoding : Few 3 es = encoding_few 2 id k cs (omega (arith, low, room, later.0, more.0)) children in
-      let type : Few 4 (layout.child (type_node k) es) = child_few 3 (type_node k) es (type_fits k true levels fits.2) encoding in
+      let type : Few 4 (layout.child (type_node k) es) = child_few 3 (type_node k) es (type_fits k of_field levels fits.2) encoding in
       let tag : Few 5 ts = (omega (arith, type.0), (tag_fits k, type.1)) in
       let null : Few 6 (flag nullable ts) = flag_few 5 nullable ts tag in (
         few_fits 7 (layout.child (layout.text name) (flag nullable ts)) (omega arith) (child_few 6 (layout.text name) (flag nullable ts) tt null),

@@ -16,7 +16,7 @@ use Rattle.arrow_spec.specs.Layout as layout
 use Rattle.arrow_spec.specs.Layout.{Slots}
 use Rattle.arrow_spec.specs.Sent.{type_tag, type_node, unit_slot, unless_zero, text_slot}
 use Rattle.arrow_spec.specs.Held.{Holds, HoldsSlots}
-use Rattle.arrow_spec.specs.WrittenSchemas.{IsText, KindFits}
+use Rattle.arrow_spec.specs.WrittenSchemas.{IsText, KindFits, Part}
 use Rattle.arrow_spec.proofs.Found.{slot_past}
 use Rattle.arrow_spec.proofs.Slots.{unsigned_there, unsigned_absent, signed_absent, signed_there, text_there, text_absent, zero_back}
 use Rattle.arrow_spec.proofs.IntegerSchemas.{int_slots, int_back}
@@ -155,37 +155,37 @@ IsFlat k = Unit {0}
 pub flat_by : (k : Kind) (tag : Tag) (b : List ℕ) (q : ℕ) (t : Table) → tag_of (cast_unsigned w8 (type_tag k)) ≡ Ok tag → is_nested tag ≡ false → table_at b q ≡ Ok t → type_at b t 0 tag ≡ Ok (λ fs. k) → TypeBack k false 0 b q (λ fs. k)
 flat_by k tag b q t tagged flat found type = record { tag = tag; tag_is = tagged; nested_is = flat; t = t; found = found; type_is = type }
 
-pub flat_type : (k : Kind) (may : Bool) (levels : ℕ) (b : List ℕ) (q : ℕ) → IsFlat k → KindFits may levels k → Holds (type_node k) b q → TypeBack k false 0 b q (λ fs. k)
+pub flat_type : (k : Kind) (at : Part) (levels : ℕ) (b : List ℕ) (q : ℕ) → IsFlat k → KindFits at levels k → Holds (type_node k) b q → TypeBack k false 0 b q (λ fs. k)
 unfolding type_at
-flat_type kind.null may levels b q flat fits h = flat_by kind.null schema.null b q h.0 refl refl h.1 refl
-flat_type kind.boolean may levels b q flat fits h = flat_by kind.boolean schema.bool b q h.0 refl refl h.1 refl
-flat_type (kind.integer i) may levels b q flat fits h = flat_by (kind.integer i) schema.int b q h.0 refl refl h.1 (int_type i b h.0 h.2)
-flat_type (kind.float kind.half) may levels b q flat fits h = flat_by (kind.float kind.half) schema.floating_point b q h.0 refl refl h.1 (float_type 0 b h.0 (choice_of 3 0 b h.0 0 0 refl (unsigned_absent w16 0 b h.0 0 (past b h.0 0 h.2))))
-flat_type (kind.float kind.single) may levels b q flat fits h = flat_by (kind.float kind.single) schema.floating_point b q h.0 refl refl h.1 (float_type 1 b h.0 (choice_of 3 0 b h.0 0 1 refl (unsigned_there w16 0 b h.0 0 h.2.0.0 1 h.2.0.1 h.2.0.2)))
-flat_type (kind.float kind.double) may levels b q flat fits h = flat_by (kind.float kind.double) schema.floating_point b q h.0 refl refl h.1 (float_type 2 b h.0 (choice_of 3 0 b h.0 0 2 refl (unsigned_there w16 0 b h.0 0 h.2.0.0 2 h.2.0.1 h.2.0.2)))
-flat_type kind.date32 may levels b q flat fits h = flat_by kind.date32 schema.date b q h.0 refl refl h.1 (date_type 0 b h.0 (choice_of 2 1 b h.0 0 0 refl (unsigned_there w16 1 b h.0 0 h.2.0.0 0 h.2.0.1 h.2.0.2)))
-flat_type kind.date64 may levels b q flat fits h = flat_by kind.date64 schema.date b q h.0 refl refl h.1 (date_type 1 b h.0 (choice_of 2 1 b h.0 0 1 refl (unsigned_absent w16 1 b h.0 0 (past b h.0 0 h.2))))
-flat_type (kind.time32 u) may levels b q flat fits h = flat_by (kind.time32 u) schema.time b q h.0 refl refl h.1 (time32_type u b h.0 fits h.2)
-flat_type (kind.time64 u) may levels b q flat fits h = flat_by (kind.time64 u) schema.time b q h.0 refl refl h.1 (time64_type u b h.0 fits h.2)
-flat_type (kind.timestamp u tz) may levels b q flat fits h = flat_by (kind.timestamp u tz) schema.timestamp b q h.0 refl refl h.1 (timestamp_type u tz b h.0 fits h.2)
-flat_type (kind.duration u) may levels b q flat fits h = flat_by (kind.duration u) schema.duration b q h.0 refl refl h.1 (duration_type u b h.0 h.2)
-flat_type (kind.interval YearMonth) may levels b q flat fits h = flat_by (kind.interval YearMonth) schema.interval b q h.0 refl refl h.1 (interval_type 0 b h.0 (choice_of 3 0 b h.0 0 0 refl (unsigned_absent w16 0 b h.0 0 (past b h.0 0 h.2))))
-flat_type (kind.interval DayTime) may levels b q flat fits h = flat_by (kind.interval DayTime) schema.interval b q h.0 refl refl h.1 (interval_type 1 b h.0 (choice_of 3 0 b h.0 0 1 refl (unsigned_there w16 0 b h.0 0 h.2.0.0 1 h.2.0.1 h.2.0.2)))
-flat_type (kind.interval MonthDayNano) may levels b q flat fits h = flat_by (kind.interval MonthDayNano) schema.interval b q h.0 refl refl h.1 (interval_type 2 b h.0 (choice_of 3 0 b h.0 0 2 refl (unsigned_there w16 0 b h.0 0 h.2.0.0 2 h.2.0.1 h.2.0.2)))
-flat_type (kind.decimal p s) may levels b q flat fits h = flat_by (kind.decimal p s) schema.decimal b q h.0 refl refl h.1 (decimal_type p s b h.0 fits.0 fits.1 h.2)
-flat_type (kind.decimal256 p s) may levels b q flat fits h = flat_by (kind.decimal256 p s) schema.decimal b q h.0 refl refl h.1 (decimal256_type p s b h.0 fits.0 fits.1 h.2)
-flat_type (kind.binary small) may levels b q flat fits h = flat_by (kind.binary small) schema.binary b q h.0 refl refl h.1 refl
-flat_type (kind.binary large) may levels b q flat fits h = flat_by (kind.binary large) schema.large_binary b q h.0 refl refl h.1 refl
-flat_type (kind.utf8 small) may levels b q flat fits h = flat_by (kind.utf8 small) schema.utf8 b q h.0 refl refl h.1 refl
-flat_type (kind.utf8 large) may levels b q flat fits h = flat_by (kind.utf8 large) schema.large_utf8 b q h.0 refl refl h.1 refl
-flat_type kind.binary_view may levels b q flat fits h = flat_by kind.binary_view schema.binary_view b q h.0 refl refl h.1 refl
-flat_type kind.utf8_view may levels b q flat fits h = flat_by kind.utf8_view schema.utf8_view b q h.0 refl refl h.1 refl
-flat_type (kind.fixed_size_binary zero) may levels b q flat fits h = absurd (omega (arith, fits.0))
-flat_type (kind.fixed_size_binary (suc n)) may levels b q flat fits h = flat_by (kind.fixed_size_binary (suc n)) schema.fixed_size_binary b q h.0 refl refl h.1 (fixed_size_binary_type n b h.0 fits.1 h.2)
-flat_type (kind.«list» o fs) may levels b q flat fits h = absurd flat
-flat_type (kind.fixed_size_list n fs) may levels b q flat fits h = absurd flat
-flat_type (kind.struct fs) may levels b q flat fits h = absurd flat
-flat_type (kind.map sorted fs) may levels b q flat fits h = absurd flat
-flat_type (kind.union mode stated ids fs) may levels b q flat fits h = absurd flat
-flat_type (kind.dictionary t ordered id k) may levels b q flat fits h = absurd flat
-flat_type (kind.extension name metadata k) may levels b q flat fits h = absurd flat
+flat_type kind.null at levels b q flat fits h = flat_by kind.null schema.null b q h.0 refl refl h.1 refl
+flat_type kind.boolean at levels b q flat fits h = flat_by kind.boolean schema.bool b q h.0 refl refl h.1 refl
+flat_type (kind.integer i) at levels b q flat fits h = flat_by (kind.integer i) schema.int b q h.0 refl refl h.1 (int_type i b h.0 h.2)
+flat_type (kind.float kind.half) at levels b q flat fits h = flat_by (kind.float kind.half) schema.floating_point b q h.0 refl refl h.1 (float_type 0 b h.0 (choice_of 3 0 b h.0 0 0 refl (unsigned_absent w16 0 b h.0 0 (past b h.0 0 h.2))))
+flat_type (kind.float kind.single) at levels b q flat fits h = flat_by (kind.float kind.single) schema.floating_point b q h.0 refl refl h.1 (float_type 1 b h.0 (choice_of 3 0 b h.0 0 1 refl (unsigned_there w16 0 b h.0 0 h.2.0.0 1 h.2.0.1 h.2.0.2)))
+flat_type (kind.float kind.double) at levels b q flat fits h = flat_by (kind.float kind.double) schema.floating_point b q h.0 refl refl h.1 (float_type 2 b h.0 (choice_of 3 0 b h.0 0 2 refl (unsigned_there w16 0 b h.0 0 h.2.0.0 2 h.2.0.1 h.2.0.2)))
+flat_type kind.date32 at levels b q flat fits h = flat_by kind.date32 schema.date b q h.0 refl refl h.1 (date_type 0 b h.0 (choice_of 2 1 b h.0 0 0 refl (unsigned_there w16 1 b h.0 0 h.2.0.0 0 h.2.0.1 h.2.0.2)))
+flat_type kind.date64 at levels b q flat fits h = flat_by kind.date64 schema.date b q h.0 refl refl h.1 (date_type 1 b h.0 (choice_of 2 1 b h.0 0 1 refl (unsigned_absent w16 1 b h.0 0 (past b h.0 0 h.2))))
+flat_type (kind.time32 u) at levels b q flat fits h = flat_by (kind.time32 u) schema.time b q h.0 refl refl h.1 (time32_type u b h.0 fits h.2)
+flat_type (kind.time64 u) at levels b q flat fits h = flat_by (kind.time64 u) schema.time b q h.0 refl refl h.1 (time64_type u b h.0 fits h.2)
+flat_type (kind.timestamp u tz) at levels b q flat fits h = flat_by (kind.timestamp u tz) schema.timestamp b q h.0 refl refl h.1 (timestamp_type u tz b h.0 fits h.2)
+flat_type (kind.duration u) at levels b q flat fits h = flat_by (kind.duration u) schema.duration b q h.0 refl refl h.1 (duration_type u b h.0 h.2)
+flat_type (kind.interval YearMonth) at levels b q flat fits h = flat_by (kind.interval YearMonth) schema.interval b q h.0 refl refl h.1 (interval_type 0 b h.0 (choice_of 3 0 b h.0 0 0 refl (unsigned_absent w16 0 b h.0 0 (past b h.0 0 h.2))))
+flat_type (kind.interval DayTime) at levels b q flat fits h = flat_by (kind.interval DayTime) schema.interval b q h.0 refl refl h.1 (interval_type 1 b h.0 (choice_of 3 0 b h.0 0 1 refl (unsigned_there w16 0 b h.0 0 h.2.0.0 1 h.2.0.1 h.2.0.2)))
+flat_type (kind.interval MonthDayNano) at levels b q flat fits h = flat_by (kind.interval MonthDayNano) schema.interval b q h.0 refl refl h.1 (interval_type 2 b h.0 (choice_of 3 0 b h.0 0 2 refl (unsigned_there w16 0 b h.0 0 h.2.0.0 2 h.2.0.1 h.2.0.2)))
+flat_type (kind.decimal p s) at levels b q flat fits h = flat_by (kind.decimal p s) schema.decimal b q h.0 refl refl h.1 (decimal_type p s b h.0 fits.0 fits.1 h.2)
+flat_type (kind.decimal256 p s) at levels b q flat fits h = flat_by (kind.decimal256 p s) schema.decimal b q h.0 refl refl h.1 (decimal256_type p s b h.0 fits.0 fits.1 h.2)
+flat_type (kind.binary small) at levels b q flat fits h = flat_by (kind.binary small) schema.binary b q h.0 refl refl h.1 refl
+flat_type (kind.binary large) at levels b q flat fits h = flat_by (kind.binary large) schema.large_binary b q h.0 refl refl h.1 refl
+flat_type (kind.utf8 small) at levels b q flat fits h = flat_by (kind.utf8 small) schema.utf8 b q h.0 refl refl h.1 refl
+flat_type (kind.utf8 large) at levels b q flat fits h = flat_by (kind.utf8 large) schema.large_utf8 b q h.0 refl refl h.1 refl
+flat_type kind.binary_view at levels b q flat fits h = flat_by kind.binary_view schema.binary_view b q h.0 refl refl h.1 refl
+flat_type kind.utf8_view at levels b q flat fits h = flat_by kind.utf8_view schema.utf8_view b q h.0 refl refl h.1 refl
+flat_type (kind.fixed_size_binary zero) at levels b q flat fits h = absurd (omega (arith, fits.0))
+flat_type (kind.fixed_size_binary (suc n)) at levels b q flat fits h = flat_by (kind.fixed_size_binary (suc n)) schema.fixed_size_binary b q h.0 refl refl h.1 (fixed_size_binary_type n b h.0 fits.1 h.2)
+flat_type (kind.«list» o fs) at levels b q flat fits h = absurd flat
+flat_type (kind.fixed_size_list n fs) at levels b q flat fits h = absurd flat
+flat_type (kind.struct fs) at levels b q flat fits h = absurd flat
+flat_type (kind.map sorted fs) at levels b q flat fits h = absurd flat
+flat_type (kind.union mode stated ids fs) at levels b q flat fits h = absurd flat
+flat_type (kind.dictionary t ordered id k) at levels b q flat fits h = absurd flat
+flat_type (kind.extension name metadata k) at levels b q flat fits h = absurd flat

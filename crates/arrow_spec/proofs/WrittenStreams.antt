@@ -1,8 +1,9 @@
 -- What a writer frames means the table that is written.
-use Rattle.std.proofs.Common.{◌≡◌, ℕ, suc, zero, ◌+◌, ◌^◌, ◌<◌, ◌≤◌, List, [], ◌∷◌, ◌++◌, length, drop, Option, Some, None, Ok, refl, sym, ap, subst, ◌∙◌, arith, true, false, Bool, length-append, append_assoc, cond}
-use Rattle.std.specs.Prelude.{nat_eq, ◌||◌}
+use Rattle.std.proofs.Common.{◌≡◌, ℕ, suc, zero, ◌+◌, ◌^◌, ◌<◌, ◌≤◌, List, [], ◌∷◌, ◌++◌, length, drop, Option, Some, None, Ok, refl, sym, ap, subst, ◌∙◌, arith, true, false, Bool, length-append, append_assoc, append-nil, cond}
+use Rattle.std.specs.Prelude.{nat_eq, nat_le, ◌||◌}
 use Rattle.std.specs.Prelude.{map as each_of}
-use Rattle.std.specs.List.{flat_map}
+use Rattle.std.specs.List.{flat_map, AllByRecursion}
+use Rattle.std.proofs.lemmas.Bool.{and_parts, leb-true}
 use Rattle.std.proofs.lemmas.List.{length-map}
 use Rattle.std.proofs.lemmas.List.Concat.{flat_map-cons}
 use Rattle.arrow_spec.specs.Readings.{bind}
@@ -13,16 +14,26 @@ use Rattle.arrow_spec.specs.Columns.{Dictionaries, chosen_floats}
 use Rattle.arrow_spec.specs.Layout.{Node, u32}
 use Rattle.arrow_spec.specs.Messages.{Message, message_of}
 use Rattle.arrow_spec.specs.Files.{TableBatch}
-use Rattle.arrow_spec.specs.Sent.{body_of, batch_slots, schema_slots, schema_message, batch_node}
+use Rattle.arrow_spec.specs.Sent.{SentMessage, may_be_sent, body_of, batch_slots, schema_slots, schema_message, batch_node}
 use Rattle.arrow_spec.specs.Framing.{message_bytes, padded_size, padded, prefixed}
 use Rattle.arrow_spec.specs.Streams.{Framed, Reader, next_message, stream_prefix, stream_batch, stream_step, stream_batches, stream_reading, stream_table, first_message, closed, end_mark}
-use Rattle.arrow_spec.specs.WrittenTables.{AllMayBeWritten, Int32Column, Int32Field, MayBeWritten, TableMayBeWritten, WrittenBatch, batch_bytes, body_for, buffers_for, fields_of, is_valid, nodes_for, nulls, table_batch, written_batch, written_of, written_schema, written_stream, written_table}
-use Rattle.arrow_spec.proofs.MessageTables.{AllOf, NodeFits, batch_back, fits_pos}
+use Rattle.arrow_spec.specs.WrittenTables.{AllMayBeWritten, Int32Column, Int32Field, MayBeWritten, TableMayBeWritten, WrittenBatch, batch_bytes, body_for, buffers_for, fields_of, is_valid, nodes_for, nulls, table_batch, written_batch, written_of, written_schema, written_so_far, written_stream, written_table}
+use Rattle.arrow_spec.proofs.MessageTables.{NodeFits, fits_pos}
+use Rattle.arrow_spec.proofs.BatchTables.{batch_back}
 use Rattle.arrow_spec.proofs.MessagesFit.{message_fits, batch_fits, schema_fits}
 use Rattle.arrow_spec.proofs.NextMessages.{next_written, body_back, rest_back}
 use Rattle.arrow_spec.proofs.IntegerSchemas.{schema_back, everything_lets}
-use Rattle.arrow_spec.proofs.Bodies.{length-body, placed_fits}
+use Rattle.arrow_spec.proofs.Bodies.{length-body}
 use Rattle.arrow_spec.proofs.Int32Batches.{batch_read, length-buffers}
+
+-- a message that may be sent is not too large
+pub sent_bounds : (x : SentMessage) → may_be_sent x ≡ true → (padded_size x.node < 2 ^ 31) × (x.body < 2 ^ 63)
+unfolding may_be_sent
+sent_bounds x h =
+    let parts = and_parts (nat_le (padded_size x.node) 2147483647) (nat_le x.body 9223372036854775807) h in
+    let metadata : padded_size x.node ≤ 2147483647 = leb-true (padded_size x.node) 2147483647 parts.0 in
+    let body : x.body ≤ 9223372036854775807 = leb-true x.body 9223372036854775807 parts.1 in
+    (omega (arith, metadata), omega (arith, body))
 
 one_most : (x : Bool) → cond x 0 1 ≤ 1
 one_most true = omega arith
@@ -32,7 +43,7 @@ nulls_below : (v : Option (List Bool)) (n : ℕ) → nulls v n ≤ n
 nulls_below v zero = omega arith
 nulls_below v (suc n) = omega (arith, nulls_below v n, one_most (is_valid v n))
 
-nodes_fit : (rows : ℕ) (cs : List Int32Column) → rows < 2 ^ 63 → AllOf NodeFits (nodes_for rows cs)
+nodes_fit : (rows : ℕ) (cs : List Int32Column) → rows < 2 ^ 63 → AllByRecursion NodeFits (nodes_for rows cs)
 nodes_fit rows [] h = tt
 nodes_fit rows (c ∷ cs) h = ((fits_pos rows h, fits_pos (nulls c.validity rows) (omega (arith, nulls_below c.validity rows, h))), nodes_fit rows cs h)
 
@@ -64,16 +75,18 @@ batch_step : (fs : List Int32Field) (d : Dictionaries) (x : WrittenBatch) (rest 
     → (f : Framed) × (next_message (batch_bytes x ++ rest) ≡ Ok (Some f)) × (stream_step (reader fs) d f ≡ Ok (record { dictionaries = d; batch = table_batch x ∷ []; rest = rest }))
 unfolding stream_batch bind
 batch_step fs d x rest columns w =
+    let bounds = sent_bounds (written_batch x) w.size in
+    let short_body : length (body_for x.columns) < 2 ^ 63 = bounds.1 in
     let body = body_for x.columns in
     let written = written_of x.rows x.columns in
     let s = batch_slots x.rows written in
     let node = (written_batch x).node in
     let nodes : length (nodes_for x.rows x.columns) < 2 ^ 32 = omega (arith, length-nodes_for x.rows x.columns, w.columns, columns) in
     let buffers : length (each_of length (buffers_for x.columns)) < 2 ^ 32 = omega (arith, length-map (buffers_for x.columns) length, length-buffers x.columns, w.columns, columns) in
-    let next = next_written (λ tag. nat_eq tag 2 || nat_eq tag 3) 3 s body rest refl refl refl w.body (message_fits 3 (length body) (batch_node x.rows written) (omega arith) w.body (batch_fits x.rows written refl w.few nodes buffers)) w.metadata in
+    let next = next_written (λ tag. nat_eq tag 2 || nat_eq tag 3) 3 s body rest refl refl refl short_body (message_fits 3 (length body) (batch_node x.rows written) (omega arith) short_body (batch_fits x.rows written w.few nodes buffers)) bounds.0 in
     let m = next.back.found in
-    let short : body_of 0 (each_of length (buffers_for x.columns)) < 2 ^ 63 = omega (arith, w.body, length-body (buffers_for x.columns) 0) in
-    let tables = batch_back x.rows written (padded node) m.header refl w.few (nodes_fit x.rows x.columns w.few) (placed_fits (each_of length (buffers_for x.columns)) 0 short) next.back.header in
+    let short : body_of 0 (each_of length (buffers_for x.columns)) < 2 ^ 63 = omega (arith, short_body, length-body (buffers_for x.columns) 0) in
+    let tables = batch_back x.rows written (padded node) m.header (record { few = w.few; nodes = nodes_fit x.rows x.columns w.few; node_count = nodes; buffers = short; buffer_count = buffers; views = tt }) next.back.header in
     let rows = batch_read fs x.columns d x.rows w.columns w.good in
     let inner = body_back (padded node) body rest m next.back.body_is in
     let behind = rest_back body rest m next.back.body_is in
@@ -86,62 +99,82 @@ end_read : next_message end_mark ≡ Ok None
 unfolding next_message bind stream_prefix
 end_read = refl
 
--- the batches' messages, and the end mark
-unfoldable batches_bytes : List WrittenBatch → List ℕ
-batches_bytes [] = end_mark
-batches_bytes (x ∷ xs) = batch_bytes x ++ batches_bytes xs
+nothing_read : next_message [] ≡ Ok None
+unfolding next_message bind stream_prefix
+nothing_read = refl
 
-batches_back : (xs : List WrittenBatch) (fs : List Int32Field) (d : Dictionaries) (most : ℕ) → length xs ≤ most → length fs ≤ 65536 → AllMayBeWritten (length fs) xs
-    → stream_batches most (reader fs) d (batches_bytes xs) ≡ Ok (record { batches = each_of table_batch xs; left = end_mark })
+-- the batches' messages, and what ends the stream
+unfoldable batches_bytes : List WrittenBatch → List ℕ → List ℕ
+batches_bytes [] end = end
+batches_bytes (x ∷ xs) end = batch_bytes x ++ batches_bytes xs end
+
+batches_back : (xs : List WrittenBatch) (end : List ℕ) → next_message end ≡ Ok None → (fs : List Int32Field) (d : Dictionaries) (most : ℕ) → length xs ≤ most → length fs ≤ 65536 → AllMayBeWritten (length fs) xs
+    → stream_batches most (reader fs) d (batches_bytes xs end) ≡ Ok (record { batches = each_of table_batch xs; left = end })
 unfolding stream_batches batches_bytes bind
-batches_back [] fs d zero enough columns w = refl
-batches_back [] fs d (suc most) enough columns w = rw (stream_batches, end_read) refl
-batches_back (x ∷ xs) fs d zero enough columns w = absurd (omega (arith, enough))
-batches_back (x ∷ xs) fs d (suc most) enough columns w =
-    let step = batch_step fs d x (batches_bytes xs) columns w.0 in
-    let others = batches_back xs fs d most (omega (arith, enough)) columns w.1 in
+batches_back [] end ended fs d zero enough columns w = refl
+batches_back [] end ended fs d (suc most) enough columns w = rw (stream_batches, ended) refl
+batches_back (x ∷ xs) end ended fs d zero enough columns w = absurd (omega (arith, enough))
+batches_back (x ∷ xs) end ended fs d (suc most) enough columns w =
+    let step = batch_step fs d x (batches_bytes xs end) columns w.0 in
+    let others = batches_back xs end ended fs d most (omega (arith, enough)) columns w.1 in
     rw (stream_batches, step.1) (rw (step.2, others) refl)
 
 message_long : (n : Node) (body rest : List ℕ) → 8 + length rest ≤ length (message_bytes n body ++ rest)
 unfolding message_bytes
 message_long n body rest = omega (arith, length-append (prefixed (padded_size n) (padded n) ++ body) rest, length-append (prefixed (padded_size n) (padded n)) body, length-append ((255 ∷ 255 ∷ 255 ∷ 255 ∷ []) ++ u32 (padded_size n)) (padded n))
 
-enough_bytes : (xs : List WrittenBatch) → length xs ≤ length (batches_bytes xs)
+enough_bytes : (xs : List WrittenBatch) (end : List ℕ) → length xs ≤ length (batches_bytes xs end)
 unfolding batches_bytes
-enough_bytes [] = omega arith
-enough_bytes (x ∷ xs) = omega (arith, message_long (written_batch x).node (body_for x.columns) (batches_bytes xs), enough_bytes xs)
+enough_bytes [] end = omega arith
+enough_bytes (x ∷ xs) end = omega (arith, message_long (written_batch x).node (body_for x.columns) (batches_bytes xs end), enough_bytes xs end)
 
-abbrev stream_bytes : List Int32Field → List WrittenBatch → List ℕ
-stream_bytes fs xs = message_bytes (written_schema fs).node [] ++ batches_bytes xs
+abbrev stream_bytes : List Int32Field → List WrittenBatch → List ℕ → List ℕ
+stream_bytes fs xs end = message_bytes (written_schema fs).node [] ++ batches_bytes xs end
 
-reading_back : (fs : List Int32Field) (xs : List WrittenBatch) → TableMayBeWritten fs xs
-    → stream_reading (stream_bytes fs xs) None ≡ Ok (record { table = written_table fs xs; left = end_mark })
+reading_back : (fs : List Int32Field) (xs : List WrittenBatch) (end : List ℕ) → next_message end ≡ Ok None → TableMayBeWritten fs xs
+    → stream_reading (stream_bytes fs xs end) None ≡ Ok (record { table = written_table fs xs; left = end })
 unfolding stream_reading first_message schema_message bind
-reading_back fs xs w =
+reading_back fs xs end ended w =
+    let bounds = sent_bounds (written_schema fs) w.size in
     let s = schema_slots (fields_of fs) [] in
-    let rest = batches_bytes xs in
-    let next = next_written (λ tag. nat_eq tag 1) 1 s [] rest refl refl refl (omega arith) (message_fits 1 0 (Rattle.arrow_spec.specs.Layout.table s) (omega arith) (omega arith) (schema_fits fs)) w.metadata in
+    let rest = batches_bytes xs end in
+    let next = next_written (λ tag. nat_eq tag 1) 1 s [] rest refl refl refl (omega arith) (message_fits 1 0 (Rattle.arrow_spec.specs.Layout.table s) (omega arith) (omega arith) (schema_fits fs)) bounds.0 in
     let m = next.back.found in
     let md = padded (written_schema fs).node in
     let schema = schema_back everything fs md m.header (everything_lets _) w.texts w.few w.distinct next.back.header in
     let inner = body_back md [] rest m next.back.body_is in
     let behind = rest_back [] rest m next.back.body_is in
-    let enough : length xs ≤ length (stream_bytes fs xs) = omega (arith, message_long (written_schema fs).node [] rest, enough_bytes xs) in
-    let others = batches_back xs fs [] (length (stream_bytes fs xs)) enough w.few w.batches in
+    let enough : length xs ≤ length (stream_bytes fs xs end) = omega (arith, message_long (written_schema fs).node [] rest, enough_bytes xs end) in
+    let others = batches_back xs end ended fs [] (length (stream_bytes fs xs end)) enough w.few w.batches in
     rw (next.read, next.back.read, next.back.version, schema, inner, behind, others, bare_integers fs) refl
 
-batches_closed : (xs : List WrittenBatch) → batches_bytes xs ≡ flat_map batch_bytes xs ++ end_mark
+batches_ended : (xs : List WrittenBatch) (end : List ℕ) → batches_bytes xs end ≡ flat_map batch_bytes xs ++ end
 unfolding batches_bytes
-batches_closed [] = refl
-batches_closed (x ∷ xs) = ap (λ t. batch_bytes x ++ t) (batches_closed xs) ∙ sym (append_assoc (batch_bytes x) (flat_map batch_bytes xs) end_mark) ∙ ap (λ t. t ++ end_mark) (sym (flat_map-cons batch_bytes x xs))
+batches_ended [] end = refl
+batches_ended (x ∷ xs) end = ap (λ t. batch_bytes x ++ t) (batches_ended xs end) ∙ sym (append_assoc (batch_bytes x) (flat_map batch_bytes xs) end) ∙ ap (λ t. t ++ end) (sym (flat_map-cons batch_bytes x xs))
 
-stream_closed : (fs : List Int32Field) (xs : List WrittenBatch) → stream_bytes fs xs ≡ written_stream fs xs
-stream_closed fs xs = ap (λ t. message_bytes (written_schema fs).node [] ++ t) (batches_closed xs) ∙ sym (append_assoc (message_bytes (written_schema fs).node []) (flat_map batch_bytes xs) end_mark)
+stream_ended : (fs : List Int32Field) (xs : List WrittenBatch) (end : List ℕ) → stream_bytes fs xs end ≡ written_so_far fs xs ++ end
+stream_ended fs xs end = ap (λ t. message_bytes (written_schema fs).node [] ++ t) (batches_ended xs end) ∙ sym (append_assoc (message_bytes (written_schema fs).node []) (flat_map batch_bytes xs) end)
+
+-- what was written, and an end behind it, is read as the written table
+written_reading : (fs : List Int32Field) (xs : List WrittenBatch) (end : List ℕ) → next_message end ≡ Ok None → TableMayBeWritten fs xs → stream_reading (written_so_far fs xs ++ end) None ≡ Ok (record { table = written_table fs xs; left = end })
+written_reading fs xs end ended w = subst (λ b. stream_reading b None ≡ Ok (record { table = written_table fs xs; left = end })) (stream_ended fs xs end) (reading_back fs xs end ended w)
 
 -- a written stream is closed, and its table is the written one
-pub written_reading : (fs : List Int32Field) (xs : List WrittenBatch) → TableMayBeWritten fs xs → stream_reading (written_stream fs xs) None ≡ Ok (record { table = written_table fs xs; left = end_mark })
-written_reading fs xs w = subst (λ b. stream_reading b None ≡ Ok (record { table = written_table fs xs; left = end_mark })) (stream_closed fs xs) (reading_back fs xs w)
-
 pub written_stream_means : (fs : List Int32Field) (xs : List WrittenBatch) → TableMayBeWritten fs xs → closed (written_stream fs xs) × (stream_table (written_stream fs xs) None ≡ Some (written_table fs xs))
 unfolding stream_table bind
-written_stream_means fs xs w = (rw (written_reading fs xs w) refl, rw (written_reading fs xs w) refl)
+written_stream_means fs xs w = (rw (written_reading fs xs end_mark end_read w) refl, rw (written_reading fs xs end_mark end_read w) refl)
+
+front_reading : (fs : List Int32Field) (xs : List WrittenBatch) → TableMayBeWritten fs xs → stream_reading (written_so_far fs xs) None ≡ Ok (record { table = written_table fs xs; left = [] })
+front_reading fs xs w = subst (λ b. stream_reading b None ≡ Ok (record { table = written_table fs xs; left = [] })) (append-nil (written_so_far fs xs)) (written_reading fs xs [] nothing_read w)
+
+nothing_is_no_end : ([] ≡ end_mark) → ⊥
+nothing_is_no_end h = cc
+
+-- what was written before the end mark means the written table, and is not closed
+pub written_front_means : (fs : List Int32Field) (xs : List WrittenBatch) → TableMayBeWritten fs xs → (closed (written_so_far fs xs) → ⊥) × (stream_table (written_so_far fs xs) None ≡ Some (written_table fs xs))
+unfolding stream_table bind
+written_front_means fs xs w = (not_closed fs xs w, rw (front_reading fs xs w) refl)
+  where
+    not_closed : (fs : List Int32Field) (xs : List WrittenBatch) → TableMayBeWritten fs xs → closed (written_so_far fs xs) → ⊥
+    not_closed fs xs w h = nothing_is_no_end (rw (front_reading fs xs w) at h)

@@ -1,10 +1,15 @@
--- The worked stream of one Int32 column is one that is written.
+-- Schemas and streams that may be written, among them the worked stream of one Int32 column.
 use Rattle.std.proofs.Common.{◌≡◌, [], ◌∷◌, Some, refl, true, false, arith, pos}
 use Rattle.std.specs.Str.{is_utf8, chars}
 use lib.Utf8.{encode}
 use Rattle.arrow_spec.specs.Layout.{layout, size, table_head}
-use Rattle.arrow_spec.specs.Sent.{schema_message}
+use Rattle.arrow_spec.specs.Sent.{schema_message, may_be_sent}
 use Rattle.arrow_spec.specs.Framing.{message_bytes}
+use Rattle.arrow_spec.specs.declared.types.IntegerType.TheVariants.{Int8}
+use Rattle.arrow_spec.specs.declared.types.TimeUnit.TheVariants.{Second}
+use Rattle.arrow_spec.specs.declared.types.UnionMode.TheVariants.{Dense}
+use Rattle.arrow_spec.specs.Kinds.{Fields, none, field, binary, dictionary, extension, map, struct, time32, union, utf8, small, large}
+use Rattle.arrow_spec.specs.WrittenSchemas.{AreFieldPairs, SchemaMayBeWritten}
 use Rattle.arrow_spec.specs.WrittenTables.{Int32Field, WrittenBatch, TableMayBeWritten, written_stream}
 use Rattle.arrow_spec.proofs.Vectors.{int32_stream}
 
@@ -19,11 +24,30 @@ unfolding schema_message message_bytes layout table_head size
 int32_stream-written = refl
 
 pub int32_stream-may : TableMayBeWritten (one ∷ []) (rows ∷ [])
-unfolding schema_message layout table_head size is_utf8 chars encode
+unfolding schema_message may_be_sent layout table_head size is_utf8 chars encode
 int32_stream-may = record {
   texts = (refl, tt);
   few = omega arith;
   distinct = refl;
-  metadata = omega arith;
-  batches = (record { columns = refl; good = (record { bits = refl; count = refl; fit = (record { sfits = omega arith }, (record { sfits = omega arith }, (record { sfits = omega arith }, tt))) }, tt); few = omega arith; body = omega arith; metadata = omega arith }, tt);
+  size = refl;
+  batches = (record { columns = refl; good = (record { bits = refl; count = refl; fit = (record { sfits = omega arith }, (record { sfits = omega arith }, (record { sfits = omega arith }, tt))) }, tt); few = omega arith; size = refl }, tt);
+}
+
+-- a dictionary of an extension, and a map of a union, with metadata
+abbrev nested : Fields
+nested =
+    field (97 ∷ []) true [] (dictionary Int8 true (pos 7) (extension (120 ∷ []) (Some (121 ∷ [])) (utf8 small)))
+    (field (98 ∷ []) false ((107 ∷ [], 118 ∷ []) ∷ []) (map false (field (101 ∷ []) false [] (struct (field (107 ∷ []) false [] (binary large) (field (118 ∷ []) true [] (union Dense false (pos 0 ∷ []) (field (117 ∷ []) true [] (time32 Second) none)) none))) none)) none)
+
+abbrev own_pairs : AreFieldPairs []
+own_pairs = record { ascend = tt; no_name = refl; no_metadata = refl }
+
+pub nested-may : SchemaMayBeWritten nested ((107 ∷ [], 118 ∷ []) ∷ [])
+unfolding is_utf8 chars encode
+nested-may = record {
+  fit = (refl, own_pairs, (refl, refl, tt), (refl, record { ascend = (refl, refl, tt, tt); no_name = refl; no_metadata = refl }, (refl, refl, (refl, own_pairs, (refl, own_pairs, tt, (refl, own_pairs, (refl, refl, (refl, own_pairs, refl, tt)), tt)), tt)), tt));
+  ascend = (refl, refl, tt, tt);
+  few_fields = omega arith;
+  few_pairs = omega arith;
+  distinct = refl;
 }

@@ -1,6 +1,8 @@
 -- What follows from the definitions. Each statement is the contract of a public function without a body (src/laws.rt).
-use Rattle.std.specs.Prelude.{◌≡◌, ℕ, ◌<◌, List, Option, Some, None, nat_eq, ◌^◌, ◌≤◌, [], ◌∷◌, ◌++◌, length, take, drop, Bool, true, Ok, Err, ◌⊎◌}
+use Rattle.std.specs.Prelude.{◌≡◌, pos, false, FitsSigned, ℕ, ◌<◌, List, Option, Some, None, nat_eq, ◌^◌, ◌≤◌, [], ◌∷◌, ◌++◌, length, take, drop, Bool, true, Ok, Err, ◌⊎◌}
+use Rattle.std.specs.Prelude.{map as each_of}
 use Rattle.std.specs.List.{AllByRecursion, IsDistinct}
+use Rattle.std.specs.Int.{w64}
 use Rattle.arrow_spec.specs.declared.error.IpcError.TheVariants.{TooLarge}
 use Rattle.arrow_spec.specs.declared.message.MetadataVersion.TheVariants.{V5}
 use Rattle.arrow_spec.specs.Readings.{meaning}
@@ -13,9 +15,10 @@ use Rattle.arrow_spec.specs.Layout.{Slots, size, table}
 use Rattle.arrow_spec.specs.Held.{Fits, HoldsSlots, Rooted}
 use Rattle.arrow_spec.specs.Flat.{little}
 use Rattle.arrow_spec.specs.Schema.{schema_of}
+use Rattle.arrow_spec.specs.Counts.{Written}
 use Rattle.arrow_spec.specs.Columns.{Dictionaries}
-use Rattle.arrow_spec.specs.Messages.{Message, message_of, version_of}
-use Rattle.arrow_spec.specs.Sent.{message_slots, schema_message, schema_slots}
+use Rattle.arrow_spec.specs.Messages.{BatchHeader, Message, batch_at, dictionary_at, message_of, version_of}
+use Rattle.arrow_spec.specs.Sent.{batch_node, batch_slots, body_of, dictionary_slots, message, message_slots, node_rows, placed, schema_message, schema_slots}
 use Rattle.arrow_spec.specs.Streams.{Framed, Reader, body_in, closed, next_message, stream_batches, stream_table}
 use Rattle.arrow_spec.specs.Framing.{message_bytes, padded_size}
 use Rattle.arrow_spec.specs.WrittenSchemas.{SchemaMayBeWritten, numbered}
@@ -48,6 +51,30 @@ FramedMessageIsNext = (taken : ℕ → Bool) (tag : ℕ) (s : Slots) (body rest 
 abbrev pub SchemaMessageReadsBack : Type 0
 SchemaMessageReadsBack = (fs : Fields) (pairs : Metadata) (rest : List ℕ) → SchemaMayBeWritten fs pairs → padded_size (schema_message fs pairs).node < 2 ^ 31
     → (next : IsNextMessage (λ tag. nat_eq tag 1) 1 (schema_slots fs pairs) [] rest (message_bytes (schema_message fs pairs).node [] ++ rest)) × (schema_of everything next.framed.metadata next.found.header ≡ Ok (record { order = little; fields = numbered fs 0; metadata = pairs }))
+
+-- what a batch's tables say fits them
+pub record TablesFit (rows : ℕ) (w : Written) : Type 0 where
+  pub few : rows < 2 ^ 63
+  pub nodes : AllByRecursion (λ x. FitsSigned w64 x.length × FitsSigned w64 x.null_count) w.nodes
+  pub node_count : length w.nodes < 2 ^ 32
+  pub buffers : body_of 0 w.lengths < 2 ^ 63
+  pub buffer_count : length w.lengths < 2 ^ 32
+  pub views : AllByRecursion (λ n. n < 2 ^ 63) w.views
+
+-- the tables of a batch that is written so
+abbrev pub header_of : ℕ → Written → BatchHeader
+header_of rows w = record { length = pos rows; nodes = w.nodes; buffers = placed 0 w.lengths; compressed = false; variadic = each_of pos w.views }
+
+-- A batch's message is the next one, and its tables are read as they are written.
+abbrev pub BatchMessageReadsBack : Type 0
+BatchMessageReadsBack = (taken : ℕ → Bool) (rows : ℕ) (w : Written) (body rest : List ℕ) → taken 3 ≡ true → TablesFit rows w → length body < 2 ^ 63 → padded_size (message 3 (batch_node rows w) (length body)).node < 2 ^ 31
+    → (next : IsNextMessage taken 3 (batch_slots rows w) body rest (message_bytes (message 3 (batch_node rows w) (length body)).node body ++ rest)) × (batch_at next.framed.metadata next.found.header ≡ Ok (header_of rows w))
+
+-- The same of a dictionary's message.
+abbrev pub DictionaryMessageReadsBack : Type 0
+DictionaryMessageReadsBack = (taken : ℕ → Bool) (id : ℕ) (w : Written) (body rest : List ℕ) → taken 2 ≡ true → id < 2 ^ 63 → TablesFit (node_rows w.nodes) w → length body < 2 ^ 63 → padded_size (message 2 (table (dictionary_slots id w)) (length body)).node < 2 ^ 31
+    → (next : IsNextMessage taken 2 (dictionary_slots id w) body rest (message_bytes (message 2 (table (dictionary_slots id w)) (length body)).node body ++ rest))
+    × (dictionary_at next.framed.metadata next.found.header ≡ Ok (record { id = pos id; is_delta = false; values = header_of (node_rows w.nodes) w }))
 
 -- ── streams ──
 

@@ -409,9 +409,13 @@ abbrev pub node_rows : List FieldNode → ℕ
 node_rows [] = 0
 node_rows (x ∷ xs) = magnitude x.length
 
+-- the slots of a dictionary batch (Message.fbs, DictionaryBatch)
+abbrev pub dictionary_slots : ℕ → Written → Slots
+dictionary_slots id w = unless_zero w64 (pos id) (layout.child (batch_node (node_rows w.nodes) w) layout.no_more)
+
 -- a dictionary message (Message.fbs, DictionaryBatch)
 abbrev pub dictionary_message : ℕ → Written → SentMessage
-dictionary_message id w = message 2 (layout.table (unless_zero w64 (pos id) (layout.child (batch_node (node_rows w.nodes) w) layout.no_more))) (body_of 0 w.lengths)
+dictionary_message id w = message 2 (layout.table (dictionary_slots id w)) (body_of 0 w.lengths)
 
 -- a batch of nothing
 abbrev pub no_source : RecordBatch

@@ -39,6 +39,17 @@ pub record AreFieldPairs (m : Metadata) : Type 0 where
   pub no_name : value_of extension_name m ≡ None
   pub no_metadata : value_of extension_metadata m ≡ None
 
+-- the pairs that are written with a field: those of its extension stand first
+abbrev pub extension_first : Option (List ℕ) → Metadata → Metadata
+extension_first None pairs = pairs
+extension_first (Some value) pairs = (extension_metadata, value) ∷ pairs
+
+-- by the field's kind
+abbrev pub pairs_for : Kind → Metadata → Metadata
+pairs_for (extension name metadata k) pairs = extension_first metadata ((extension_name, name) ∷ pairs)
+pairs_for (dictionary t ordered id (extension name metadata k)) pairs = extension_first metadata ((extension_name, name) ∷ pairs)
+pairs_for k pairs = pairs
+
 -- ── kinds ──
 
 -- a text, or none
@@ -51,29 +62,38 @@ abbrev pub AreStated : Bool → List ℤ → ℕ → Type 0
 AreStated true ids n = Unit {0}
 AreStated false ids n = ids ≡ counted_ids 0 n
 
--- A kind whose numbers fit and whose texts are texts, with fields in at most so many levels below it. It may be a dictionary, whose values are none.
+-- where a kind stands: a dictionary stands at a field alone, and an extension at a field or as a dictionary's values
+pub data Part : Type 0 where
+  of_field : Part
+  of_dictionary : Part
+  of_extension : Part
+
+-- a kind whose numbers fit and whose texts are texts, with fields in at most so many levels below it
 abbrev mutual
-  pub KindFits : Bool → ℕ → Kind → Type 0
-  KindFits may levels (time32 u) = nat_lt (unit_number u) 2 ≡ true
-  KindFits may levels (time64 u) = nat_le 2 (unit_number u) ≡ true
-  KindFits may levels (timestamp u tz) = IsText tz
-  KindFits may levels (decimal precision scale) = (precision < 2 ^ 31) × (scale < 2 ^ 31)
-  KindFits may levels (decimal256 precision scale) = (precision < 2 ^ 31) × (scale < 2 ^ 31)
-  KindFits may levels (fixed_size_binary n) = (0 < n) × (n < 2 ^ 31)
-  KindFits may levels («list» o fs) = (width fs ≡ 1) × FieldsFit levels fs
-  KindFits may levels (fixed_size_list n fs) = (width fs ≡ 1) × (0 < n) × (n < 2 ^ 31) × FieldsFit levels fs
-  KindFits may levels (struct fs) = FieldsFit levels fs
-  KindFits may levels (map sorted fs) = (width fs ≡ 1) × (first_is_struct_of_two fs ≡ true) × FieldsFit levels fs
-  KindFits may levels (union mode stated ids fs) = ((are_ids ids && nat_eq (length ids) (width fs) && nat_lt 0 (width fs)) ≡ true) × AreStated stated ids (width fs) × FieldsFit levels fs
-  KindFits true levels (dictionary t ordered id k) = KindFits false levels k
-  KindFits false levels (dictionary t ordered id k) = ⊥
-  KindFits may levels (extension name metadata k) = ⊥
-  KindFits may levels k = Unit {0}
+  pub KindFits : Part → ℕ → Kind → Type 0
+  KindFits at levels (time32 u) = nat_lt (unit_number u) 2 ≡ true
+  KindFits at levels (time64 u) = nat_le 2 (unit_number u) ≡ true
+  KindFits at levels (timestamp u tz) = IsText tz
+  KindFits at levels (decimal precision scale) = (precision < 2 ^ 31) × (scale < 2 ^ 31)
+  KindFits at levels (decimal256 precision scale) = (precision < 2 ^ 31) × (scale < 2 ^ 31)
+  KindFits at levels (fixed_size_binary n) = (0 < n) × (n < 2 ^ 31)
+  KindFits at levels («list» o fs) = (width fs ≡ 1) × FieldsFit levels fs
+  KindFits at levels (fixed_size_list n fs) = (width fs ≡ 1) × (0 < n) × (n < 2 ^ 31) × FieldsFit levels fs
+  KindFits at levels (struct fs) = FieldsFit levels fs
+  KindFits at levels (map sorted fs) = (width fs ≡ 1) × (first_is_struct_of_two fs ≡ true) × FieldsFit levels fs
+  KindFits at levels (union mode stated ids fs) = ((are_ids ids && nat_eq (length ids) (width fs) && nat_lt 0 (width fs)) ≡ true) × AreStated stated ids (width fs) × FieldsFit levels fs
+  KindFits of_field levels (dictionary t ordered id k) = KindFits of_dictionary levels k
+  KindFits of_dictionary levels (dictionary t ordered id k) = ⊥
+  KindFits of_extension levels (dictionary t ordered id k) = ⊥
+  KindFits of_field levels (extension name metadata k) = (is_utf8 name ≡ true) × IsText metadata × KindFits of_extension levels k
+  KindFits of_dictionary levels (extension name metadata k) = (is_utf8 name ≡ true) × IsText metadata × KindFits of_extension levels k
+  KindFits of_extension levels (extension name metadata k) = ⊥
+  KindFits at levels k = Unit {0}
 
   pub FieldsFit : ℕ → Fields → Type 0
   FieldsFit levels none = Unit {0}
   FieldsFit zero (field name nullable metadata k others) = ⊥
-  FieldsFit (suc levels) (field name nullable metadata k others) = (is_utf8 name ≡ true) × AreFieldPairs metadata × KindFits true levels k × FieldsFit (suc levels) others
+  FieldsFit (suc levels) (field name nullable metadata k others) = (is_utf8 name ≡ true) × AreFieldPairs metadata × KindFits of_field levels k × FieldsFit (suc levels) others
 
 -- the fields and pairs that stand before what follows a kind or fields
 abbrev mutual
@@ -89,7 +109,7 @@ abbrev mutual
 
   pub after_fields : Fields → Before → Before
   after_fields none p = p
-  after_fields (field name nullable metadata k others) p = after_fields others (after_kind k (record { fields = suc p.fields; pairs = p.pairs + length metadata }))
+  after_fields (field name nullable metadata k others) p = after_fields others (after_kind k (record { fields = suc p.fields; pairs = p.pairs + length (pairs_for k metadata) }))
 
 -- a schema that may be written
 pub record SchemaMayBeWritten (fs : Fields) (pairs : Metadata) : Type 0 where

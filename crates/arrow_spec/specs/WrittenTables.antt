@@ -1,7 +1,7 @@
 -- Tables of 32-bit integers as they are written to a stream.
 use Rattle.std.specs.Prelude.{◌≡◌, ℕ, zero, suc, ◌+◌, ◌^◌, ◌<◌, ◌≤◌, List, [], ◌∷◌, ◌++◌, length, get_or, Option, Some, None, Bool, true, false, ℤ, pos, FitsSigned, if◌then◌else◌}
 use Rattle.std.specs.Prelude.{map as each_of}
-use Rattle.std.specs.List.{flat_map}
+use Rattle.std.specs.List.{flat_map, AllByRecursion}
 use Rattle.std.specs.Str.{is_utf8}
 use Rattle.std.specs.Int.{w32, to_le_bytes, cast_unsigned}
 use Rattle.arrow_spec.specs.declared.message.FieldNode.{FieldNode}
@@ -12,8 +12,8 @@ use Rattle.arrow_spec.specs.Cells.{Cell}
 use Rattle.arrow_spec.specs.Counts.{Written}
 use Rattle.arrow_spec.specs.Columns.{from_on}
 use Rattle.arrow_spec.specs.Schema.{has_distinct_names}
-use Rattle.arrow_spec.specs.Sent.{SentMessage, message, schema_message, batch_node}
-use Rattle.arrow_spec.specs.Framing.{message_bytes, padded_size, body_bytes, packed}
+use Rattle.arrow_spec.specs.Sent.{SentMessage, message, schema_message, batch_node, may_be_sent}
+use Rattle.arrow_spec.specs.Framing.{message_bytes, body_bytes, packed}
 use Rattle.arrow_spec.specs.Files.{ArrowTable, TableBatch}
 use Rattle.arrow_spec.specs.Streams.{end_mark}
 
@@ -31,8 +31,7 @@ fields_of (f ∷ fs) = field f.name f.nullable [] (integer Int32) (fields_of fs)
 
 -- the names are texts
 abbrev pub AreTexts : List Int32Field → Type 0
-AreTexts [] = Unit {0}
-AreTexts (f ∷ fs) = (is_utf8 f.name ≡ true) × AreTexts fs
+AreTexts fs = AllByRecursion (λ f. is_utf8 f.name ≡ true) fs
 
 -- the schema message
 abbrev pub written_schema : List Int32Field → SentMessage
@@ -75,8 +74,7 @@ HasBits (Some bits) rows = length bits ≡ rows
 
 -- each value is of 32 bits
 abbrev pub AreInt32 : List ℤ → Type 0
-AreInt32 [] = Unit {0}
-AreInt32 (z ∷ zs) = FitsSigned w32 z × AreInt32 zs
+AreInt32 zs = AllByRecursion (λ z. FitsSigned w32 z) zs
 
 -- a column of so many rows
 pub record IsInt32Column (rows : ℕ) (c : Int32Column) : Type 0 where
@@ -86,8 +84,7 @@ pub record IsInt32Column (rows : ℕ) (c : Int32Column) : Type 0 where
 
 -- columns of so many rows
 abbrev pub AreInt32Columns : ℕ → List Int32Column → Type 0
-AreInt32Columns rows [] = Unit {0}
-AreInt32Columns rows (c ∷ cs) = IsInt32Column rows c × AreInt32Columns rows cs
+AreInt32Columns rows cs = AllByRecursion (λ c. IsInt32Column rows c) cs
 
 -- ── batches ──
 
@@ -136,13 +133,11 @@ pub record MayBeWritten (count : ℕ) (x : WrittenBatch) : Type 0 where
   pub columns : count ≡ length x.columns
   pub good : AreInt32Columns x.rows x.columns
   pub few : x.rows < 2 ^ 63
-  pub body : length (body_for x.columns) < 2 ^ 63
-  pub metadata : padded_size (written_batch x).node < 2 ^ 31
+  pub size : may_be_sent (written_batch x) ≡ true
 
 -- batches that may be written
 abbrev pub AllMayBeWritten : ℕ → List WrittenBatch → Type 0
-AllMayBeWritten count [] = Unit {0}
-AllMayBeWritten count (x ∷ xs) = MayBeWritten count x × AllMayBeWritten count xs
+AllMayBeWritten count xs = AllByRecursion (λ x. MayBeWritten count x) xs
 
 -- ── the stream ──
 
@@ -151,7 +146,7 @@ pub record TableMayBeWritten (fs : List Int32Field) (xs : List WrittenBatch) : T
   pub texts : AreTexts fs
   pub few : length fs ≤ 65536
   pub distinct : has_distinct_names (fields_of fs) ≡ true
-  pub metadata : padded_size (written_schema fs).node < 2 ^ 31
+  pub size : may_be_sent (written_schema fs) ≡ true
   pub batches : AllMayBeWritten (length fs) xs
 
 -- the bytes of a batch: its message with its body

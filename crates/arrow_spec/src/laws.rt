@@ -1,5 +1,5 @@
 //! What follows from the definitions: each function's contract is a law, proved in `proofs/`.
-ghost use Rattle.arrow_spec.specs.Laws.{DependsOnNeeded, FramedMessageIsNext, LayoutReadsBack, ProjectsAndCuts, SchemaMessageReadsBack, SentMeans, SentOrTooLarge, StreamFuelIsEnough, WrittenStreamMeansItsTable};
+ghost use Rattle.arrow_spec.specs.Laws.{BatchMessageReadsBack, DependsOnNeeded, DictionaryMessageReadsBack, FramedMessageIsNext, LayoutReadsBack, ProjectsAndCuts, SchemaMessageReadsBack, SentMeans, SentOrTooLarge, StreamFuelIsEnough, WrittenStreamMeansItsTable};
 
 /// What a whole file means gives what it means under distinct columns and a limit.
 pub fn projects_and_cuts()
@@ -21,9 +21,19 @@ pub fn framed_message_is_next()
     ensures { FramedMessageIsNext }
 {}
 
-/// A schema is read back from its framed message, for all types but extensions.
+/// A schema is read back from its framed message, of all types: with its dictionaries numbered anew.
 pub fn schema_message_reads_back()
     ensures { SchemaMessageReadsBack }
+{}
+
+/// The message of a record batch of any types is read back: its nodes, buffers and variadic counts.
+pub fn batch_message_reads_back()
+    ensures { BatchMessageReadsBack }
+{}
+
+/// The message of a dictionary batch of any types is read back.
+pub fn dictionary_message_reads_back()
+    ensures { DictionaryMessageReadsBack }
 {}
 
 /// A stream is read to its end: each message takes at least four bytes.
