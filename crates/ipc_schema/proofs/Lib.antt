@@ -1,3 +1,9 @@
+pub mod Items
 pub mod Known
 pub mod Pieces
 pub mod Shelves
+pub mod Parts
+pub mod Prefixed
+pub mod Int32Fields
+pub mod SchemaSteps
+pub mod Keys

@@ -1,13 +1,24 @@
-//! The outside of a program as objects that it is lent: sources, feeds, sinks and shelves, and such objects over memory.
+//! The outside of a program as objects that it is lent, and such objects over memory; the metadata of messages and schemas.
 #![tactic(auto)]
 
+mod header;
 mod lent;
 mod memory;
+mod message;
+mod number;
 mod outside;
+mod prefix;
+mod schema;
+#[cfg(test)]
+mod worked;
 
 pub use arrow_spec::{
     Block, Counted, Feature, FieldNode, FlatError, IpcBuffer, IpcError, MetadataVersion,
     OutOfSpecKind,
 };
+pub use header::read_record_message;
 pub use memory::{Entry, MemoryFeed, MemoryShelf, MemorySink, MemorySource};
+pub use message::{BatchHeader, RecordMessage};
 pub use outside::{Failed, Feed, Got, PutError, Shelf, ShelfError, Sink, Source};
+pub use prefix::{is_continuation, message_prefix, metadata_length};
+pub use schema::read_schema;

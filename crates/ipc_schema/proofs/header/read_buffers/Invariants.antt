@@ -1,0 +1,8 @@
+use Rattle.std.proofs.Common.{◌≡◌, ◌-◌}
+use Rattle.arrow_spec.specs.Readings.{each}
+use Rattle.ipc_schema.specs.Views.{buffer_of, buffers_in}
+use Rattle.ipc_schema.proofs.Items.{with_front}
+use Rattle.ipc_schema.proofs.header.read_buffers.Given as goal
+
+abbrev pub invariant-loop-i : goal.invariant-loop-i
+invariant-loop-i l = with_front l.buffers.items (each (buffer_of l.vector) l.i (l.vector.vector.count - l.i)) ≡ buffers_in l.vector
