@@ -7,3 +7,4 @@ pub mod Prefixed
 pub mod Int32Fields
 pub mod SchemaSteps
 pub mod Keys
+pub mod Footers

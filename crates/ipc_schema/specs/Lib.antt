@@ -6,3 +6,4 @@ pub mod Prefixes
 pub mod Int32Schemas
 pub mod SchemaViews
 pub mod Causes
+pub mod Footers

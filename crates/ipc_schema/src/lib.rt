@@ -1,6 +1,7 @@
-//! The outside of a program as objects that it is lent, and such objects over memory; the metadata of messages and schemas.
+//! The outside of a program as objects that it is lent, and such objects over memory; the metadata of messages, schemas and footers.
 #![tactic(auto)]
 
+mod footer;
 mod header;
 mod lent;
 mod memory;
@@ -16,6 +17,7 @@ pub use arrow_spec::{
     Block, Counted, Feature, FieldNode, FlatError, IpcBuffer, IpcError, MetadataVersion,
     OutOfSpecKind,
 };
+pub use footer::{Footer, decode_footer_len, deserialize_footer};
 pub use header::read_record_message;
 pub use memory::{Entry, MemoryFeed, MemoryShelf, MemorySink, MemorySource};
 pub use message::{BatchHeader, RecordMessage};

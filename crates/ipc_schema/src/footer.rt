@@ -1,0 +1,228 @@
+//! The footer of a file (Arrow Columnar Format, "IPC File Format", File.fbs).
+ghost use Rattle.std.specs.Prelude.{◌≡◌, ◌+◌, ◌<◌, ◌≤◌, ◌++◌, ◌∷◌, [], map, length, IfOk, OnErr, Err, IfErr};
+ghost use Rattle.arrow_spec.specs.declared.error.IpcError.TheVariants.{Memory};
+ghost use Rattle.arrow_spec.specs.Readings.{Gives};
+ghost use Rattle.arrow_spec.specs.Built.{so_far};
+ghost use Rattle.arrow_spec.specs.Files.{meta_in};
+ghost use Rattle.ipc_schema.specs.Int32Schemas.{IsInt32Keyed};
+ghost use Rattle.ipc_schema.specs.SchemaViews.{schema_in};
+ghost use Rattle.ipc_schema.specs.Footers.{file_block, footer_view, block_numbers_at, block_by, fault_in, block_in, blocks_in, footer_length_in, records_part, dictionaries_part, schema_in_footer, footer_parts};
+ghost use Rattle.ipc_schema.specs.Causes.{IsOfBytes};
+
+use crate::number::{i32_at, i64_at};
+use crate::schema::read_schema;
+use arrow_flat::{Flat, Table, Vector};
+use arrow_spec::{Block, Feature, FlatError, IpcError, OutOfSpecKind};
+use arrow_types::ArrowSchema;
+use std::alloc::Global;
+
+/// The schema of a file, and its blocks of record batches and of dictionaries in the footer's order.
+#[derive(Drop)]
+pub struct Footer {
+    pub schema: ArrowSchema,
+    pub blocks: Vec<Block>,
+    pub dictionaries: Vec<Block>,
+}
+
+/// One of a footer's two lists of blocks.
+#[derive(Clone, Copy, Debug, PartialEq, Eq)]
+pub(crate) enum BlockList {
+    RecordBatches,
+    Dictionaries,
+}
+
+/// A fault in a list of blocks.
+fn fault_in(list: BlockList, e: FlatError) -> IpcError
+    ensures value { result ≡ fault_in list e }
+    ensures quiet { IsOfBytes result }
+{
+    match list {
+        BlockList::RecordBatches => IpcError::OutOfSpec(
+            OutOfSpecKind::InvalidFlatbufferRecordBatches(e),
+        ),
+        BlockList::Dictionaries => IpcError::OutOfSpec(OutOfSpecKind::InvalidFlatbufferDictionaries(
+            e,
+        )),
+    }
+}
+
+/// A block by its 24 bytes, of which the four behind its metadata's length are padding (File.fbs, Block).
+#[tactic(auto, unfolding(arrow_spec::specs::Readings::bind))]
+fn block_from(item: &[u8]) -> Result<Block, FlatError>
+    ensures { result ≡ block_numbers_at item.now 0 }
+{
+    let offset = i64_at(item, 0)?;
+    let meta_data_length = i32_at(item, 8)?;
+    let body_length = i64_at(item, 16)?;
+    Ok(Block {
+        offset,
+        meta_data_length,
+        body_length,
+    })
+}
+
+/// A block whose numbers are not negative.
+#[tactic(auto, unfolding(arrow_spec::specs::Readings::bind))]
+fn natural_block(block: Block) -> Result<Block, IpcError>
+    ensures gives { Gives file_block result (block_by block) }
+    ensures quiet { IfErr result IsOfBytes }
+{
+    if block.offset < 0 || block.meta_data_length < 0 || block.body_length < 0 {
+        return Err(IpcError::OutOfSpec(OutOfSpecKind::UnexpectedNegativeInteger));
+    }
+    Ok(block)
+}
+
+/// One of the blocks of a vector.
+#[tactic(auto, using(crate::proofs::Footers::block_faulted))]
+fn read_block(vector: &Vector<'_>, i: usize, list: BlockList) -> Result<Block, IpcError>
+    requires width { vector.now.width ≡ 24 }
+    requires within { i < vector.now.vector.count }
+    ensures gives { Gives file_block result (block_in list vector.now i) }
+    ensures quiet { IfErr result IsOfBytes }
+{
+    let block = match block_from(vector.get(i)) {
+        Ok(block) => block,
+        Err(e) => return Err(fault_in(list, e)),
+    };
+    natural_block(block)
+}
+
+fn push_block(blocks: &mut Vec<Block>, block: Block) -> Result<(), IpcError>
+    ensures ok { IfOk result (λ _. map file_block blocks.new.items ≡ map file_block blocks.old.items ++ file_block block ∷ []) }
+    ensures err { OnErr result (result ≡ Err Memory) }
+    ensures quiet { IfErr result IsOfBytes }
+{
+    match blocks.push(block) {
+        Ok(()) => Ok(()),
+        Err(_) => Err(IpcError::Memory),
+    }
+}
+
+/// The blocks of a vector.
+#[tactic(auto, using(crate::proofs::Footers::blocks_begun, crate::proofs::Items::more_read, crate::proofs::Items::one_refused, crate::proofs::Items::all_read))]
+fn read_blocks(alloc: Global, vector: &Vector<'_>, list: BlockList) -> Result<Vec<Block>, IpcError>
+    requires { vector.now.width ≡ 24 }
+    ensures gives { Gives (λ v. map file_block v.items) result (blocks_in list vector.now) }
+    ensures quiet { IfErr result IsOfBytes }
+{
+    let mut blocks = Vec::new(alloc);
+    for i in 0..vector.len() {
+        let block = read_block(vector, i, list)?;
+        push_block(&mut blocks, block)?;
+    }
+    Ok(blocks)
+}
+
+/// The blocks of record batches.
+#[tactic(auto, unfolding(arrow_spec::specs::Readings::bind, crate::specs::Footers::records_part))]
+fn read_record_blocks(alloc: Global, table: &Table<'_>) -> Result<Vec<Block>, IpcError>
+    ensures gives { Gives (λ v. map file_block v.items) result (records_part table.now.bytes table.now.table) }
+    ensures quiet { IfErr result IsOfBytes }
+{
+    let vector = table.slot_vector(3, 24).map_err(|e| IpcError::OutOfSpec(
+        OutOfSpecKind::InvalidFlatbufferRecordBatches(e),
+    ))?;
+    match vector {
+        None => Err(IpcError::OutOfSpec(OutOfSpecKind::MissingRecordBatches)),
+        Some(vector) => read_blocks(alloc, &vector, BlockList::RecordBatches),
+    }
+}
+
+/// The blocks of dictionaries, of which there are none where the list is absent.
+#[tactic(auto, unfolding(arrow_spec::specs::Readings::bind, crate::specs::Footers::dictionaries_part))]
+fn read_dictionary_blocks(alloc: Global, table: &Table<'_>) -> Result<Vec<Block>, IpcError>
+    ensures gives { Gives (λ v. map file_block v.items) result (dictionaries_part table.now.bytes table.now.table) }
+    ensures quiet { IfErr result IsOfBytes }
+{
+    let vector = table.slot_vector(2, 24).map_err(|e| IpcError::OutOfSpec(
+        OutOfSpecKind::InvalidFlatbufferDictionaries(e),
+    ))?;
+    match vector {
+        None => Ok(Vec::new(alloc)),
+        Some(vector) => read_blocks(alloc, &vector, BlockList::Dictionaries),
+    }
+}
+
+/// The schema of a footer.
+#[tactic(auto, unfolding(arrow_spec::specs::Readings::bind, crate::specs::Footers::schema_in_footer))]
+fn read_footer_schema(alloc: Global, table: &Table<'_>) -> Result<ArrowSchema, IpcError>
+    ensures gives { Gives schema_in result (schema_in_footer table.now.bytes table.now.table) }
+    ensures fields { IfOk result IsInt32Keyed }
+    ensures quiet { IfErr result IsOfBytes }
+{
+    let schema = table.slot_table(1).map_err(|e| IpcError::OutOfSpec(
+        OutOfSpecKind::InvalidFlatbufferSchema(e),
+    ))?;
+    match schema {
+        None => Err(IpcError::OutOfSpec(OutOfSpecKind::MissingSchema)),
+        Some(schema) => read_schema(alloc, &schema),
+    }
+}
+
+#[tactic(auto, unfolding(arrow_spec::specs::Readings::bind, crate::specs::Footers::footer_parts))]
+fn read_footer_parts(alloc: Global, bytes: &[u8]) -> Result<Footer, IpcError>
+    ensures gives { Gives footer_view result (footer_parts bytes.now) }
+    ensures fields { IfOk result (λ f. IsInt32Keyed f.schema) }
+    ensures quiet { IfErr result IsOfBytes }
+{
+    let table = Flat::root(bytes).map_err(|e| IpcError::OutOfSpec(
+        OutOfSpecKind::InvalidFlatbufferFooter(e),
+    ))?;
+    let blocks = read_record_blocks(alloc, &table)?;
+    let dictionaries = read_dictionary_blocks(alloc, &table)?;
+    let schema = read_footer_schema(alloc, &table)?;
+    Ok(Footer {
+        schema,
+        blocks,
+        dictionaries,
+    })
+}
+
+/// The schema and the blocks of a footer, by the bytes between the last message and the footer's length.
+///
+/// # Errors
+///
+/// `OutOfSpec` with the kind of the part that is not as the format says, and what `read_schema` answers.
+#[tactic(auto, using(crate::proofs::Footers::footer_by_parts))]
+pub fn deserialize_footer(alloc: Global, bytes: &[u8]) -> Result<Footer, IpcError>
+    ensures gives { Gives footer_view result (meta_in so_far bytes.now) }
+
+    // Each field is an Int32 without metadata, under its own name.
+    ensures fields { IfOk result (λ f. IsInt32Keyed f.schema) }
+    ensures quiet { IfErr result IsOfBytes }
+{
+    read_footer_parts(alloc, bytes)
+}
+
+/// The footer's length in bytes, by the last ten bytes of a file of `size` bytes: the length and `ARROW1`.
+///
+/// # Errors
+///
+/// `Unsupported(FeatherV1)` where the bytes end with `FEA1`, `OutOfSpec(InvalidFooter)` where they do not end with
+/// `ARROW1`, `OutOfSpec(NegativeFooterLength)`, and `OutOfSpec(Truncated)` where the footer begins before the file.
+#[tactic(auto, unfolding(arrow_spec::specs::Readings::bind, crate::specs::Footers::footer_length_in))]
+pub fn decode_footer_len(end: &[u8], size: u64) -> Result<usize, IpcError>
+    requires { length end.now ≡ 10 }
+    ensures gives { Gives (λ n. n) result (footer_length_in end.now size) }
+    ensures within { IfOk result (λ n. n + 10 ≤ size) }
+    ensures quiet { IfErr result IsOfBytes }
+{
+    let (_, magic) = end.split_at(4);
+    let (_, feather) = end.split_at(6);
+    if feather == [b'F', b'E', b'A', b'1'].as_slice() {
+        return Err(IpcError::Unsupported(Feature::FeatherV1));
+    }
+    if magic != [b'A', b'R', b'R', b'O', b'W', b'1'].as_slice() {
+        return Err(IpcError::OutOfSpec(OutOfSpecKind::InvalidFooter));
+    }
+    let length = i32_at(end, 0).map_err(|_| IpcError::OutOfSpec(OutOfSpecKind::Truncated))?;
+    if length < 0 {
+        return Err(IpcError::OutOfSpec(OutOfSpecKind::NegativeFooterLength));
+    }
+    let length = length as usize;
+    if length as u64 + 10 > size {
+        return Err(IpcError::OutOfSpec(OutOfSpecKind::Truncated));
+    }
+    Ok(length)
+}

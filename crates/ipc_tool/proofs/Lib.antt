@@ -1,0 +1,25 @@
+pub mod Adding
+pub mod Completing
+pub mod Front
+pub mod Noting
+pub mod Sending
+mod FirstStreams
+pub mod Bits
+pub mod BodyColumns
+pub mod HeaderColumns
+pub mod SchemaFields
+pub mod Sendable
+pub mod Refusing
+pub mod BatchParts
+pub mod BatchColumns
+pub mod BatchFetches
+pub mod BatchTables
+pub mod SentBlocks
+pub mod SentFiles
+pub mod BlockPrefixes
+pub mod BlockMessages
+pub mod BlockSteps
+pub mod FirstMeta
+pub mod StreamSteps
+pub mod Asking
+pub mod FileFooters

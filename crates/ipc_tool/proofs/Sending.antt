@@ -1,0 +1,55 @@
+-- A stream that is put piece by piece: what a piece that could not be put leaves.
+use Rattle.std.proofs.Common.{◌≡◌, ℕ, List, [], ◌∷◌, ◌++◌, ◌⊎◌, inl, inr, Bool, true, false, Option, Err, refl, ap, sym, subst, ◌/◌, ◌%◌, slice_index}
+use Rattle.std.specs.Io.KnownBytes.{Appends, Keeps}
+use Rattle.std.proofs.KnownBytes.{Appends-trans, Appends-kept, Keeps-trans}
+use Rattle.hex.specs.Hex.{encode_with, lower_digits}
+use Rattle.arrow_spec.specs.declared.error.IpcError.{IpcError}
+use Rattle.arrow_spec.specs.declared.error.IpcError.TheVariants as errors
+use Rattle.arrow_spec.specs.Files.{Request, ArrowTable}
+use Rattle.ipc_schema.specs.Outside.{AppendsPrefix}
+use Rattle.ipc_schema.proofs.Known.{AppendsPrefix-after}
+use Rattle.ipc_tool.specs.Transcode.{text_of, IsStreamOf, IsFrontOf, AddsFrontOrNone, AddsPiece, AddsPart, PutsText, PutTextCause}
+
+encode-append : (t xs ys : List ℕ) → encode_with t (xs ++ ys) ≡ encode_with t xs ++ encode_with t ys
+unfolding encode_with
+encode-append t [] ys = refl
+encode-append t (x ∷ xs) ys = ap (λ l. slice_index t (x / 16) ∷ slice_index t (x % 16) ∷ l) (encode-append t xs ys)
+
+pub text_of-append : (raw : Bool) (xs ys : List ℕ) → text_of raw (xs ++ ys) ≡ text_of raw xs ++ text_of raw ys
+text_of-append true xs ys = refl
+text_of-append false xs ys = encode-append lower_digits xs ys
+
+-- a piece that was put
+pub Appends-text : (raw : Bool) (old mid new : Option (List ℕ)) (xs ys : List ℕ) → Appends old mid (text_of raw xs) → Appends mid new (text_of raw ys) → Appends old new (text_of raw (xs ++ ys))
+Appends-text raw old mid new xs ys p q = subst (Appends old new) (sym (text_of-append raw xs ys)) (Appends-trans old mid new (text_of raw xs) (text_of raw ys) p q)
+
+pub front_kept : (b : List ℕ) (r : Request) (text : List ℕ → List ℕ) (old mid new : Option (List ℕ)) → AddsFrontOrNone b r text old mid → Keeps mid new → AddsFrontOrNone b r text old new
+front_kept b r text old mid new (inl k) h = inl (Keeps-trans old mid new k h)
+front_kept b r text old mid new (inr f) h = inr (record { bytes = f.bytes; table = f.table; stream = f.stream; added = Appends-kept old mid new (text f.bytes) f.added h })
+
+-- With the piece a front or a whole stream would stand there.
+pub record IsNext (b : List ℕ) (r : Request) (x : List ℕ) : Type 0 where
+  pub table : ArrowTable
+  pub stream : IsStreamOf b r x table ⊎ IsFrontOf b r x table
+
+piece_of : (b : List ℕ) (r : Request) (text : List ℕ → List ℕ) (old new : Option (List ℕ)) (x : List ℕ) (t : ArrowTable) → IsStreamOf b r x t ⊎ IsFrontOf b r x t → AppendsPrefix old new (text x) → AddsPiece b r text text old new
+piece_of b r text old new x t (inl s) p = record { bytes = x; table = t; piece = inl (s, p) }
+piece_of b r text old new x t (inr f) p = record { bytes = x; table = t; piece = inr (f, p) }
+
+-- a piece that could not be put
+pub piece_refused : (e : IpcError) (b : List ℕ) (r : Request) (raw : Bool) (old mid new : Option (List ℕ)) (x m : List ℕ) (faults faults' : ℕ) → AddsFrontOrNone b r (text_of raw) old mid → Appends old mid (text_of raw x) → IsNext b r (x ++ m)
+    → PutsText mid new (Err e) (text_of raw m) → PutTextCause e faults faults' → AddsPart e b r (text_of raw) old new
+piece_refused errors.WriteFault b r raw old mid new x m faults faults' f a n p c =
+    piece_of b r (text_of raw) old new (x ++ m) n.table n.stream (subst (AppendsPrefix old new) (sym (text_of-append raw x m)) (AppendsPrefix-after old mid new (text_of raw x) (text_of raw m) a p))
+piece_refused errors.Memory b r raw old mid new x m faults faults' f a n p c = front_kept b r (text_of raw) old mid new f p
+piece_refused errors.ReadFault b r raw old mid new x m faults faults' f a n p c = absurd c
+piece_refused (errors.OutOfSpec kind) b r raw old mid new x m faults faults' f a n p c = absurd c
+piece_refused (errors.Unsupported feature) b r raw old mid new x m faults faults' f a n p c = absurd c
+piece_refused errors.TooDeep b r raw old mid new x m faults faults' f a n p c = absurd c
+piece_refused (errors.TooMany counted) b r raw old mid new x m faults faults' f a n p c = absurd c
+piece_refused (errors.Projection index) b r raw old mid new x m faults faults' f a n p c = absurd c
+piece_refused errors.TooLarge b r raw old mid new x m faults faults' f a n p c = absurd c
+piece_refused errors.SchemaMismatch b r raw old mid new x m faults faults' f a n p c = absurd c
+piece_refused (errors.DictionaryReplaced id) b r raw old mid new x m faults faults' f a n p c = absurd c
+piece_refused errors.NotRepresentable b r raw old mid new x m faults faults' f a n p c = absurd c
+piece_refused errors.State b r raw old mid new x m faults faults' f a n p c = absurd c

@@ -1,0 +1,20 @@
+use Rattle.std.proofs.Common.{◌≡◌, ◌+◌, ◌*◌, ◌^◌, ◌≤◌, ℕ, List, Option, length, map, take, IfSome}
+use Rattle.arrow_spec.specs.Files.{Meta}
+use Rattle.arrow_spec.specs.WrittenTables.{Int32Field}
+use Rattle.ipc_tool.specs.FileBlocks.{file_block}
+use Rattle.ipc_tool.specs.Sends.{Begun, SentBlocks}
+use Rattle.ipc_tool.proofs.file.send_blocks.Given as goal
+
+abbrev pub invariant-loop-block : goal.invariant-loop-block
+invariant-loop-block g l = record {
+  sent : IfSome (g.S.Source.content l.fn.source) (λ b. (meta : Meta) (fs : List Int32Field) (start : Option (List ℕ)) → meta.blocks ≡ map file_block l.blocks → length fs ≡ l.field_count → Begun b meta fs l.raw start (g.W.Sink.written l.fn.sink) l.schema_length → SentBlocks b fs (take l.block-index meta.blocks) l.raw start (g.W.Sink.written l.sink) l.summary);
+  batches : l.summary.batches ≡ l.block-index;
+  few : l.summary.rows ≤ l.block-index * 2 ^ 63;
+  small : l.summary.bytes ≤ (l.block-index + 1) * 2 ^ 64;
+  content : g.S.Source.content l.source ≡ g.S.Source.content l.fn.source;
+  reads : g.S.Source.faults l.fn.source ≤ g.S.Source.faults l.source;
+  writes : g.W.Sink.faults l.fn.sink ≤ g.W.Sink.faults l.sink;
+  wants : g.W.Sink.wants l.fn.sink ≤ g.W.Sink.wants l.sink;
+  same_source : g.S.Source.references l.source ≡ g.S.Source.references l.fn.source;
+  same_sink : g.W.Sink.references l.sink ≡ g.W.Sink.references l.fn.sink;
+}

@@ -1,0 +1,10 @@
+use Rattle.std.proofs.Common.{◌≡◌, Err}
+use Rattle.ipc_tool.proofs.BatchParts.{is_err}
+use Rattle.ipc_tool.proofs.SentFiles.{of_err}
+use Rattle.ipc_tool.proofs.StreamSteps.{file_refused}
+use Rattle.ipc_tool.proofs.file.send_file.Goals as goal
+
+pub returns-in_err-file-clause-refused : goal.returns-in_err-file-clause-refused
+returns-in_err-file-clause-refused g c =
+    let e : c.from_residual.result ≡ Err c.in_err-file.field-0.0 = is_err _ _ _ c.from_residual.ensures.0 c.from_residual.ensures.1 (λ f h. h) in
+    of_err c.from_residual.result c.in_err-file.field-0.0 _ e (file_refused c.in_err-file.field-0.0 (g.S.Source.content c.args.source.now) c.args.raw (g.W.Sink.written c.args.sink.now) _ _ c.in_err-file.ensures.cause c.in_err-file.ensures.gives)

@@ -1,0 +1,11 @@
+pub mod Refusal
+pub mod Request
+pub mod Transcode
+pub mod Input
+pub mod Run
+pub mod Arrays
+pub mod Written
+pub mod BatchReads
+pub mod FileViews
+pub mod Sends
+pub mod FileBlocks

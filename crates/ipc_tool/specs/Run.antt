@@ -1,0 +1,117 @@
+-- What a run adds to its output, and when it is refused.
+use Rattle.std.specs.Prelude.{◌≡◌, ◌⊎◌, ℕ, List, ⊤, Option, Some, None, IfSome, IsSome, IsNone, IsSomeAnd, MatchOption, option_map}
+use Rattle.std.specs.Io.KnownBytes.{Appends, Keeps}
+use Rattle.arrow_spec.specs.declared.error.IpcError.{IpcError}
+use Rattle.arrow_spec.specs.declared.error.IpcError.TheVariants as errors
+use Rattle.arrow_spec.specs.Files.{file_table, may}
+use Rattle.arrow_spec.specs.Words.{Stream, request_of, bytes_of_hex, shown}
+use Rattle.ipc_schema.specs.Outside.{Held, Rose, Stands, Lacks, AppendsPrefix}
+use Rattle.ipc_tool.specs.Refusal.{number_of, line_of}
+use Rattle.ipc_tool.specs.Request.{WordsCause}
+use Rattle.ipc_tool.specs.Transcode.{text_of, AddsStream, AddsPiece, AddsFrontOrNone}
+use Rattle.ipc_tool.specs.Input.{TakesTooMany, IsNoHex}
+use Rattle.ipc_tool.specs.declared.refusal.Refusal.{Refusal}
+use Rattle.ipc_tool.specs.declared.refusal.Refusal.TheVariants.{Ipc, Words, NotHex, InputTooLong, NoName}
+
+-- what clauses see of the shelf, the input and the output
+pub record Outside : Type 0 where
+  pub held : Option Held
+  pub shelf_faults : ℕ
+  pub rest : Option (List ℕ)
+  pub input_faults : ℕ
+  pub written : Option (List ℕ)
+  pub output_faults : ℕ
+
+-- by the members of their bounds
+abbrev pub outside_of : {H I W : Type 0} → (H → Option Held) → (H → ℕ) → (I → Option (List ℕ)) → (I → ℕ) → (W → Option (List ℕ)) → (W → ℕ) → H → I → W → Outside
+outside_of held shelf_faults rest input_faults written output_faults shelf input output = record {
+  held = held shelf;
+  shelf_faults = shelf_faults shelf;
+  rest = rest input;
+  input_faults = input_faults input;
+  written = written output;
+  output_faults = output_faults output;
+}
+
+-- the same where there is no shelf
+abbrev pub beside_shelf : {I W : Type 0} → (I → Option (List ℕ)) → (I → ℕ) → (W → Option (List ℕ)) → (W → ℕ) → I → W → Outside
+beside_shelf rest input_faults written output_faults input output = record {
+  held = None;
+  shelf_faults = 0;
+  rest = rest input;
+  input_faults = input_faults input;
+  written = written output;
+  output_faults = output_faults output;
+}
+
+-- the source's bytes, if there are any, where that is told: what the input's hex text stands for, or what stands under a name
+abbrev pub source_of : Option (List ℕ) → Option Held → Option (List ℕ) → Option (Option (List ℕ))
+source_of None held rest = option_map bytes_of_hex rest
+source_of (Some name) held rest = option_map (λ h. h name) held
+
+abbrev pub source_in : Stream → Outside → Option (Option (List ℕ))
+source_in s old = source_of s.name old.held old.rest
+
+abbrev pub shown_in : Stream → List ℕ → List ℕ
+shown_in s x = shown x s.raw
+
+-- The output has one whole stream more, shown as asked, that means what the source means.
+abbrev pub IsWhole : Stream → Outside → Outside → Type 0
+IsWhole s old new = IfSome (source_in s old) (λ bytes. IsSomeAnd bytes (λ b. AddsStream b s.request (shown_in s) old.written new.written))
+
+-- what a request that was refused added, of known bytes: nothing or a front; after a failed put a part of a stream; for want of memory maybe all but the line feed
+abbrev pub AddsBefore : Refusal → Stream → List ℕ → Option (List ℕ) → Option (List ℕ) → Type 0
+AddsBefore (Ipc errors.WriteFault) s b old new = AddsPiece b s.request (shown_in s) (text_of s.raw) old new
+AddsBefore (Ipc errors.Memory) s b old new = AddsFrontOrNone b s.request (text_of s.raw) old new ⊎ AddsStream b s.request (text_of s.raw) old new
+AddsBefore (Ipc e) s b old new = AddsFrontOrNone b s.request (text_of s.raw) old new
+AddsBefore _ s b old new = Keeps old new
+
+abbrev pub AddsPartOf : Refusal → Stream → Outside → Outside → Type 0
+AddsPartOf e s old new = IfSome (source_in s old) (λ bytes. MatchOption bytes (Keeps old.written new.written) (λ b. AddsBefore e s b old.written new.written))
+
+-- the source's bytes may be refused so
+abbrev pub MayBe : IpcError → Stream → Outside → Type 0
+MayBe e s old = IfSome (source_in s old) (λ bytes. IsSomeAnd bytes (λ b. may b s.request e))
+
+-- why a request is refused
+abbrev pub RequestCause : Refusal → Stream → Outside → Outside → Type 0
+RequestCause (Ipc errors.ReadFault) s old new = Rose old.shelf_faults new.shelf_faults ⊎ Rose old.input_faults new.input_faults
+RequestCause (Ipc errors.WriteFault) s old new = Rose old.output_faults new.output_faults
+RequestCause (Ipc errors.Memory) s old new = ⊤
+RequestCause (Ipc errors.SchemaMismatch) s old new = ⊥
+RequestCause (Ipc (errors.DictionaryReplaced id)) s old new = ⊥
+RequestCause (Ipc errors.NotRepresentable) s old new = ⊥
+RequestCause (Ipc errors.State) s old new = ⊥
+RequestCause (Ipc e) s old new = MayBe e s old
+RequestCause Words s old new = ⊥
+RequestCause NotHex s old new = IsNone s.name × IsNoHex old.rest new.rest
+RequestCause InputTooLong s old new = IsNone s.name × TakesTooMany old.rest new.rest
+RequestCause NoName s old new = IsSomeAnd s.name (Lacks old.held)
+
+-- a status other than 0: there is a refusal of that number, with its cause, and what was added is a part
+pub record IsRefused (status : ℕ) (e : Refusal) (words : List (List ℕ)) (old new : Outside) : Type 0 where
+  pub number : number_of e ≡ status
+  pub cause : MatchOption (request_of words) (WordsCause e words) (λ s. RequestCause e s old new)
+  pub added : MatchOption (request_of words) (Keeps old.written new.written) (λ s. AddsPartOf e s old new)
+
+-- the line of a refusal was noted, or a part of it where the notes failed or wanted memory
+pub record IsNoted (e : Refusal) (old new : Option (List ℕ)) (faults faults' wants wants' : ℕ) : Type 0 where
+  pub part : AppendsPrefix old new (line_of e)
+  pub whole : Stands faults faults' → Stands wants wants' → Appends old new (line_of e)
+
+-- no device failed
+pub record NoneFailed (old new : Outside) : Type 0 where
+  pub shelf : Stands old.shelf_faults new.shelf_faults
+  pub input : Stands old.input_faults new.input_faults
+  pub output : Stands old.output_faults new.output_faults
+
+-- the source's bytes are told, and mean a table
+abbrev pub HasMeaning : Stream → Outside → Type 0
+HasMeaning s old = IsSomeAnd (source_in s old) (λ bytes. IsSomeAnd bytes (λ b. IsSome (file_table b s.request)))
+
+-- the only refusals where the source means a table and no device failed
+abbrev pub IsLeft : Refusal → Stream → Outside → Type 0
+IsLeft e s old = (e ≡ Ipc errors.Memory) ⊎ ((e ≡ Ipc errors.TooLarge) × MayBe errors.TooLarge s old)
+
+abbrev pub IsComplete : Refusal → Stream → Outside → Outside → Type 0
+IsComplete e s old new = HasMeaning s old → NoneFailed old new → IsLeft e s old

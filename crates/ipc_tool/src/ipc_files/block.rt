@@ -1,0 +1,77 @@
+//! The messages of a file's blocks.
+ghost use Rattle.std.specs.Prelude.{◌≡◌, ◌+◌, ◌≤◌, ◌<◌, ◌^◌, IfOk, IfErr, OnOk};
+ghost use Rattle.ipc_schema.specs.Outside.{IsSize};
+ghost use Rattle.ipc_tool.specs.FileBlocks.{Lies, PrefixIn, BlockIn, file_block};
+ghost use Rattle.ipc_tool.specs.FileViews.{FileCause};
+
+use super::fetch::fetch;
+use crate::ipc_read::magnitude;
+use arrow_spec::{Block, IpcError, OutOfSpecKind};
+use ipc_schema::{RecordMessage, Source, is_continuation, metadata_length, read_record_message};
+use std::alloc::Global;
+
+/// Where the metadata begins behind a place, and its length, in a message whose prefix and metadata take `size` bytes
+/// there. What follows the prefix is not read.
+#[tactic(auto, using(crate::proofs::BlockPrefixes::too_short, crate::proofs::BlockPrefixes::plain, crate::proofs::BlockPrefixes::cut_off, crate::proofs::BlockPrefixes::marked, crate::proofs::BlockPrefixes::faulted))]
+fn read_prefix<S: Source>(
+    alloc: Global,
+    source: &mut S,
+    at: u64,
+    size: usize,
+) -> Result<(usize, usize), IpcError>
+    requires inside { Lies (S.content source.old) at size }
+    requires small { at < 2 ^ 63 }
+    ensures prefix { PrefixIn (S.content source.old) at size result }
+    ensures within { IfOk result (λ p. p.0 + p.1 ≤ size) }
+    ensures content { S.content source.new ≡ S.content source.old }
+    ensures faults { S.faults source.old ≤ S.faults source.new }
+    ensures cause { IfErr result (λ e. FileCause e (S.faults source.old) (S.faults source.new)) }
+    ensures fetched { S.fetched source.new ≤ S.fetched source.old + size }
+    ensures fetched_prefix { IfOk result (λ p. S.fetched source.new ≤ S.fetched source.old + p.0) }
+    ensures same_source { S.references source.new ≡ S.references source.old }
+{
+    if size < 4 {
+        return Err(IpcError::OutOfSpec(OutOfSpecKind::MessageRange));
+    }
+    let front = fetch(alloc, source, at, 4)?;
+    if !is_continuation(&front) {
+        return metadata_length(&front, 4, size);
+    }
+    if size < 8 {
+        return Err(IpcError::OutOfSpec(OutOfSpecKind::MessageRange));
+    }
+    let four = fetch(alloc, source, at + 4, 4)?;
+    metadata_length(&four, 8, size)
+}
+
+/// The message of a record batch in a block of a file of `size` bytes; of the block, the prefix and the metadata are read.
+///
+/// # Errors
+///
+/// `OutOfSpec(BlockRange)` where the block passes the end of the file, `OutOfSpec` with the kind of the part that is not
+/// as the format says, `Unsupported(Version)`, `ReadFault` and `Memory`.
+#[tactic(auto, using(crate::proofs::BlockMessages::out_of_range, crate::proofs::BlockMessages::prefix_refused, crate::proofs::BlockMessages::block_faulted, crate::proofs::BlockMessages::message_read))]
+pub(crate) fn read_block_message<S: Source>(
+    alloc: Global,
+    source: &mut S,
+    block: &Block,
+    size: u64,
+) -> Result<RecordMessage, IpcError>
+    requires { IsSize (S.content source.old) size }
+    ensures within { OnOk result ((file_block block.now).offset + (file_block block.now).metadata + (file_block block.now).body ≤ size) }
+    ensures message { BlockIn (S.content source.old) (file_block block.now) result }
+    ensures content { S.content source.new ≡ S.content source.old }
+    ensures faults { S.faults source.old ≤ S.faults source.new }
+    ensures cause { IfErr result (λ e. FileCause e (S.faults source.old) (S.faults source.new)) }
+    ensures same_source { S.references source.new ≡ S.references source.old }
+{
+    let offset = magnitude(block.offset);
+    let metadata = magnitude(i64::from(block.meta_data_length));
+    let body = magnitude(block.body_length);
+    if offset > size || metadata > size - offset || body > size - offset - metadata {
+        return Err(IpcError::OutOfSpec(OutOfSpecKind::BlockRange));
+    }
+    let (start, length) = read_prefix(alloc, source, offset, metadata as usize)?;
+    let bytes = fetch(alloc, source, offset + start as u64, length)?;
+    read_record_message(alloc, &bytes)
+}
