@@ -87,10 +87,12 @@ fn send_block<S: Source, W: Sink>(
     ensures same_sink { W.references sink.new ≡ W.references sink.old }
 {
     let batch = read_block(alloc, source, block, field_count, size)?;
-    let message = batch_message(alloc, batch.rows, &batch.columns)?;
+    let rows = batch.rows;
+    let message = batch_message(alloc, rows, &batch.columns)?;
+    drop(batch);
     put_text(alloc, sink, &message, raw)?;
     Ok(SentBlock {
-        rows: batch.rows,
+        rows,
         bytes: message.len(),
     })
 }

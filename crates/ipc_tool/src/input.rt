@@ -1,14 +1,14 @@
 //! Hex text from a feed.
-ghost use Rattle.std.specs.Prelude.{◌≡◌, ◌≤◌, ◌^◌, length, OnOk, IfOk, IfErr, IfSome, Some};
+ghost use Rattle.std.specs.Prelude.{◌≡◌, ◌≤◌, ◌^◌, ◌++◌, ◌∷◌, [], length, OnOk, IfOk, IfErr, IfSome, Some};
 ghost use Rattle.std.specs.Io.KnownBytes.{IsAtEnd};
 ghost use Rattle.arrow_spec.specs.Words.{is_white, bytes_of_hex};
-ghost use Rattle.ipc_tool.specs.Input.{ReadCause, HexCause};
+ghost use Rattle.ipc_tool.specs.Input.{ReadCause, HexCause, no_white};
 
 use crate::refusal::Refusal;
 use arrow_spec::IpcError;
 use hex::FromHexError;
 use ipc_schema::Feed;
-use std::alloc::Global;
+use std::alloc::{AllocError, Global};
 
 const MAX_INPUT: usize = 1 << 27;
 
@@ -18,25 +18,48 @@ fn is_white_space(c: u8) -> bool
     matches!(c, b' ' | b'\t' | b'\n' | 12 | b'\r')
 }
 
-// All of a feed, in pieces.
-fn read_all<I: Feed>(alloc: Global, input: &mut I) -> Result<Vec<u8>, Refusal>
-    ensures whole { IfOk result (λ text. IfSome (I.rest input.old) (λ xs. text.items ≡ xs)) }
+// Adds a byte that is no white space.
+fn push_digit(digits: &mut Vec<u8>, c: u8) -> Result<(), AllocError>
+    ensures { OnOk result (digits.new.items ≡ digits.old.items ++ no_white (c ∷ [])) }
+{
+    if is_white_space(c) {
+        return Ok(());
+    }
+    digits.push(c)?;
+    Ok(())
+}
+
+// Adds what is no white space.
+#[tactic(auto, using(crate::proofs::Digits::digit_more))]
+fn add_digits(digits: &mut Vec<u8>, text: &[u8]) -> Result<(), AllocError>
+    ensures { OnOk result (digits.new.items ≡ digits.old.items ++ no_white text.now) }
+{
+    for c in text {
+        push_digit(digits, *c)?;
+    }
+    Ok(())
+}
+
+// What is no white space of a feed, which is read to its end in pieces.
+fn read_digits<I: Feed>(alloc: Global, input: &mut I) -> Result<Vec<u8>, Refusal>
+    ensures whole { IfOk result (λ digits. IfSome (I.rest input.old) (λ text. (length text ≤ 2 ^ 27) × (digits.items ≡ no_white text))) }
     ensures at_end { OnOk result (IsAtEnd (I.rest input.new)) }
-    ensures short { IfOk result (λ text. length text.items ≤ 2 ^ 27) }
     ensures cause { IfErr result (λ e. ReadCause e (I.rest input.old) (I.rest input.new) (I.faults input.old) (I.faults input.new)) }
     ensures reads { I.faults input.old ≤ I.faults input.new }
 {
-    let mut text = Vec::new(alloc);
+    let mut digits = Vec::new(alloc);
+    let mut taken = 0;
     let mut piece = [0u8; 4096];
     'pieces: loop {
         let count = input.pull(&mut piece)?;
         if count == 0 {
-            return Ok(text);
+            return Ok(digits);
         }
-        if count > MAX_INPUT - text.len() {
+        if count > MAX_INPUT - taken {
             return Err(Refusal::InputTooLong);
         }
-        text.extend_from_slice(&piece[..count])?;
+        taken += count;
+        add_digits(&mut digits, &piece[..count])?;
     }
 }
 
@@ -48,12 +71,7 @@ pub fn read_hex<I: Feed>(alloc: Global, input: &mut I) -> Result<Vec<u8>, Refusa
     ensures cause { IfErr result (λ e. HexCause e (I.rest input.old) (I.rest input.new) (I.faults input.old) (I.faults input.new)) }
     ensures reads { I.faults input.old ≤ I.faults input.new }
 {
-    let text = read_all(alloc, input)?;
-    let digits: Vec<u8> = text
-        .iter()
-        .copied()
-        .filter(|c| !is_white_space(*c))
-        .collect(alloc)?;
+    let digits = read_digits(alloc, input)?;
     match hex::decode(alloc, digits.as_slice()) {
         Ok(bytes) => Ok(bytes),
         Err(FromHexError::OutOfMemory) => Err(Refusal::Ipc(IpcError::Memory)),

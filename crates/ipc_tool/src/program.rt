@@ -160,6 +160,3 @@ pub fn run<H: Shelf, I: Feed, W: Sink, N: Sink>(
         }
     }
 }
-
-#[cfg(test)]
-mod tests;

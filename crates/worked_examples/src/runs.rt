@@ -1,0 +1,171 @@
+//! Runs over memory, from words to status.
+use crate::files::{ONE_COLUMN, Part, text_of};
+use ipc_schema::{MemoryFeed, MemoryShelf, MemorySink};
+use ipc_tool::run;
+use std::test::Fail;
+
+// The input's text in parts, and the first `added` bytes of the text of a stream and a line feed.
+struct Case {
+    title: &'static str,
+    words: &'static [&'static str],
+    input: &'static [Part],
+    failing_pulls: &'static [u64],
+    room: Option<usize>,
+    notes_room: Option<usize>,
+    status: u8,
+    notes: &'static [u8],
+    stream: &'static [Part],
+    added: usize,
+}
+
+const WHOLE: Case = Case {
+    title: "one column, with a null",
+    words: &["stream"],
+    input: ONE_COLUMN,
+    failing_pulls: &[],
+    room: None,
+    notes_room: None,
+    status: 0,
+    notes: b"",
+    stream: &[
+        Part::Schema,
+        Part::OneNull,
+        Part::OneNullBody,
+        Part::EndMark,
+        Part::LineFeed,
+    ],
+    added: 849,
+};
+
+const REFUSED: Case = Case {
+    title: "nothing",
+    input: &[],
+    status: 1,
+    notes: b"refused 1 Truncated\n",
+    added: 0,
+    ..WHOLE
+};
+
+const CASES: &[Case] = &[
+    WHOLE,
+    REFUSED,
+    Case {
+        title: "white space is passed over",
+        input: &[
+            Part::WhiteSpace,
+            Part::Magic,
+            Part::WhiteSpace,
+            Part::Schema,
+            Part::LineFeed,
+            Part::OneNull,
+            Part::OneNullBody,
+            Part::EndMark,
+            Part::OneBlock,
+            Part::WhiteSpace,
+        ],
+        ..WHOLE
+    },
+    Case {
+        title: "no batch",
+        input: &[Part::Magic, Part::Schema, Part::EndMark, Part::NoBlock],
+        stream: &[Part::Schema, Part::EndMark, Part::LineFeed],
+        added: 289,
+        ..WHOLE
+    },
+    Case {
+        title: "room for the text and its line feed",
+        room: Some(849),
+        ..WHOLE
+    },
+    Case {
+        title: "no room for the line feed",
+        room: Some(848),
+        status: 12,
+        notes: b"refused 12 WriteFault\n",
+        added: 848,
+        ..WHOLE
+    },
+    Case {
+        title: "room for 400",
+        room: Some(400),
+        status: 12,
+        notes: b"refused 12 WriteFault\n",
+        added: 400,
+        ..WHOLE
+    },
+    Case {
+        title: "the second pull fails",
+        failing_pulls: &[1],
+        status: 11,
+        notes: b"refused 11 ReadFault\n",
+        added: 0,
+        ..WHOLE
+    },
+    Case {
+        title: "no hex digit",
+        input: &[Part::NotHex],
+        status: 15,
+        notes: b"refused 15 NotHex\n",
+        ..REFUSED
+    },
+    Case {
+        title: "half a byte",
+        input: &[Part::Magic, Part::HalfByte],
+        status: 15,
+        notes: b"refused 15 NotHex\n",
+        ..REFUSED
+    },
+    Case {
+        title: "no magic at the end",
+        input: &[Part::Magic, Part::Schema, Part::EndMark],
+        notes: b"refused 1 InvalidFooter\n",
+        ..REFUSED
+    },
+    Case {
+        title: "no words",
+        words: &[],
+        status: 14,
+        notes: b"refused 14 Words\n",
+        ..REFUSED
+    },
+    Case {
+        title: "a word that is not built yet, before the input",
+        words: &["stream", "--raw"],
+        failing_pulls: &[0],
+        status: 2,
+        notes: b"refused 2 NotYet\n",
+        ..REFUSED
+    },
+    Case {
+        title: "notes that fail change nothing else",
+        notes_room: Some(9),
+        notes: b"refused 1",
+        ..REFUSED
+    },
+];
+
+#[test]
+fn a_run_gives_its_text_its_status_and_its_note(rt: HostRuntime) -> Result<(), Fail> {
+    let alloc = rt.alloc();
+    for case in CASES {
+        let mut shelf = MemoryShelf::new(alloc, Vec::new(alloc), Vec::new(alloc));
+        let pulls = case.failing_pulls.to_vec(alloc)?;
+        let mut input = MemoryFeed::new(text_of(alloc, case.input)?, 100, pulls);
+        let mut output = MemorySink::new(alloc, case.room, Vec::new(alloc));
+        let mut notes = MemorySink::new(alloc, case.notes_room, Vec::new(alloc));
+        let status = run(
+            alloc,
+            case.words,
+            &mut shelf,
+            &mut input,
+            &mut output,
+            &mut notes,
+        );
+        assert_eq!(rt; status, case.status, "{}", case.title);
+        let mut text = text_of(alloc, case.stream)?;
+        text.truncate(case.added);
+        assert_eq!(rt; output.bytes(), text.as_slice(), "{}", case.title);
+        assert_eq!(rt; notes.bytes(), case.notes, "{}", case.title);
+    }
+    Ok(())
+}
