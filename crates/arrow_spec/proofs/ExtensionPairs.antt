@@ -75,10 +75,10 @@ extended (extension name metadata k) x = extension name metadata x
 extended (dictionary t ordered id (extension name metadata k)) x = extension name metadata x
 extended k x = x
 
-extension_there : (name : List ℕ) (metadata : Option (List ℕ)) (m : Metadata) (x : Kind) → value_of extension_name m ≡ Some name → value_of extension_metadata m ≡ metadata → with_extension m x ≡ extension name metadata x
+pub extension_there : (name : List ℕ) (metadata : Option (List ℕ)) (m : Metadata) (x : Kind) → value_of extension_name m ≡ Some name → value_of extension_metadata m ≡ metadata → with_extension m x ≡ extension name metadata x
 extension_there name metadata m x e f = rw (with_extension, e, f) refl
 
-no_extension : (m : Metadata) (x : Kind) → value_of extension_name m ≡ None → with_extension m x ≡ x
+pub no_extension : (m : Metadata) (x : Kind) → value_of extension_name m ≡ None → with_extension m x ≡ x
 no_extension m x e = rw (with_extension, e) refl
 
 pub extension_back : (k : Kind) (m : Metadata) (x : Kind) → ExtensionIs k m → with_extension m x ≡ extended k x

@@ -5,19 +5,19 @@ use Rattle.arrow_spec.specs.declared.error.IpcError.{IpcError}
 use Rattle.arrow_spec.specs.declared.error.IpcError.TheVariants.{Unsupported, TooLarge}
 use Rattle.arrow_spec.specs.declared.error.Feature.TheVariants as features
 use Rattle.arrow_spec.specs.declared.message.MetadataVersion.{MetadataVersion}
-use Rattle.arrow_spec.specs.Readings.{bind, ◌>>=◌, Reading, unless, only_if, meaning}
+use Rattle.arrow_spec.specs.Readings.{bind, ◌>>=◌, Reading, unless, only_if, meaning, place}
 use Rattle.arrow_spec.specs.Flat.{little}
-use Rattle.arrow_spec.specs.Kinds.{bare}
+use Rattle.arrow_spec.specs.Kinds.{Metadata, bare}
 use Rattle.arrow_spec.specs.Built.{so_far}
 use Rattle.arrow_spec.specs.Columns.{Dictionaries, chosen_floats}
 use Rattle.arrow_spec.specs.Messages.{BatchHeader}
-use Rattle.arrow_spec.specs.Sent.{schema_message, may_be_sent, dictionaries_in_fields, dictionary_messages, batch_message}
+use Rattle.arrow_spec.specs.Sent.{stream_schema, may_be_sent, dictionaries_in_fields, dictionary_messages, batch_message}
 use Rattle.arrow_spec.specs.Files.{Purpose, to_read, to_send, «all», Request, FileBlock, Meta, TableBatch, ArrowTable, Asked, meta_of, file_part, file_reading, file_table, batches_of, batch_of, batch_of_tables, dictionaries_of, dictionaries_read, dictionaries_sent, if_sent, taken, record_batch_of, has_any}
 use Rattle.arrow_spec.specs.WrittenTables.{AllMayBeWritten, Int32Field, MayBeWritten, TableMayBeWritten, WrittenBatch, fields_of, table_batch, written_batch, written_table}
 use Rattle.arrow_spec.specs.Counts.{RecordBatch, first_place}
 use Rattle.arrow_spec.proofs.SentBatches.{AreRead, batch_sent, good_read}
 use Rattle.arrow_spec.proofs.Projection.{nothing, on, went}
-use Rattle.arrow_spec.proofs.FirstSchemas.{IsInt32Schema}
+use Rattle.arrow_spec.proofs.FirstSchemas.{IsInt32Schema, integers_are}
 
 -- ── the schema ──
 
@@ -34,8 +34,8 @@ abbrev pub first_asked : List Int32Field → ℕ → Asked
 first_asked fs most = record { order = little; fields = fields_of fs; columns = None; dictionaries = []; most = most }
 
 -- a table of the first path
-abbrev pub first_table : List Int32Field → List TableBatch → ArrowTable
-first_table fs batches = record { metadata = []; fields = fields_of fs; batches = batches }
+abbrev pub first_table : List Int32Field → Metadata → List TableBatch → ArrowTable
+first_table fs pairs batches = record { metadata = pairs; fields = fields_of fs; batches = batches }
 
 -- nothing is left of a reading that ended
 pub on_err : {A B : Type 0} (r : Reading A) (f : A → Reading B) (es : List IpcError) → r ≡ Err es → (r >>= f) ≡ Err es
@@ -44,34 +44,43 @@ on_err (Ok x) f es h = cc
 on_err (Err e) f es h = cc
 
 -- a footer that is refused
-pub meta_refused : (purpose : Purpose) (b : List ℕ) (j : Option ℕ) (es : List IpcError) → meta_of so_far b ≡ Err es → file_reading so_far purpose b «all» j ≡ Err es
+pub meta_refused : (purpose : Purpose) (b : List ℕ) (j : Option ℕ) (es : List IpcError) → meta_of b ≡ Err es → file_reading so_far purpose b «all» j ≡ Err es
 unfolding file_reading
 meta_refused purpose b j es h = on _ _ tt refl ∙ on_err _ _ es h
+
+refused_place : (es : List IpcError) (e : IpcError) → place (es ++ e ∷ []) ≡ Err (es ++ e ∷ [])
+refused_place [] e = refl
+refused_place (x ∷ xs) e = refl
+
+-- kinds or an order beyond the first path are refused, and floats beside them by name
+pub kinds_refused : (purpose : Purpose) (b : List ℕ) (j : Option ℕ) (meta : Meta) → meta_of b ≡ Ok meta → so_far.chosen meta.schema.order meta.schema.fields ≡ false → file_reading so_far purpose b «all» j ≡ Err (chosen_floats None meta.schema.fields 0 ++ Unsupported features.NotYet ∷ [])
+unfolding file_reading
+kinds_refused purpose b j meta h beyond = on _ _ tt refl ∙ on _ _ meta h ∙ on _ _ tt refl ∙ rw beyond (on_err _ _ _ (refused_place (chosen_floats None meta.schema.fields 0) (Unsupported features.NotYet)))
 
 -- the reading of a file behind its metadata
 behind_meta : Purpose → List ℕ → Option ℕ → List Int32Field → Meta → Reading ArrowTable
 behind_meta purpose b j fs meta =
-    if_sent purpose (may_be_sent (schema_message (fields_of fs) [])) >>= λ size.
+    if_sent purpose (may_be_sent (stream_schema (fields_of fs) meta.schema.metadata)) >>= λ size.
     unless (not (has_any (dictionaries_read (taken j meta.blocks) meta.dictionaries))) (Unsupported features.NotYet) >>= λ read.
     dictionaries_of b meta [] (dictionaries_read (taken j meta.blocks) meta.dictionaries) >>= λ dictionaries.
     batches_of purpose b (record { order = little; fields = fields_of fs; columns = None; dictionaries = dictionaries; most = length b }) true (taken j meta.blocks) None >>= λ batches.
-    Ok (first_table fs batches)
+    Ok (first_table fs meta.schema.metadata batches)
 
-first_reading : (purpose : Purpose) (b : List ℕ) (j : Option ℕ) (meta : Meta) (fs : List Int32Field) → meta_of so_far b ≡ Ok meta → IsInt32Schema meta.schema fs → file_reading so_far purpose b «all» j ≡ behind_meta purpose b j fs meta
+first_reading : (purpose : Purpose) (b : List ℕ) (j : Option ℕ) (meta : Meta) (fs : List Int32Field) → meta_of b ≡ Ok meta → IsInt32Schema meta.schema fs → file_reading so_far purpose b «all» j ≡ behind_meta purpose b j fs meta
 unfolding file_reading behind_meta
 first_reading purpose b j meta fs h is =
-    on _ _ tt refl ∙ on _ _ meta h ∙ rw (is.fields, is.order, is.metadata) (on _ _ tt refl ∙ rw (no_floats fs 0) (on _ _ tt refl ∙ rw (bare_integers fs) refl))
+    on _ _ tt refl ∙ on _ _ meta h ∙ rw (is.fields, is.order) (on _ _ tt refl ∙ rw (no_floats fs 0, integers_are fs) (on _ _ tt refl ∙ rw (bare_integers fs) refl))
 
 -- a schema message that is too large
-pub schema_refused : (b : List ℕ) (meta : Meta) (fs : List Int32Field) → meta_of so_far b ≡ Ok meta → IsInt32Schema meta.schema fs → may_be_sent (schema_message (fields_of fs) []) ≡ false → file_reading so_far to_send b «all» None ≡ Err (TooLarge ∷ [])
+pub schema_refused : (b : List ℕ) (meta : Meta) (fs : List Int32Field) → meta_of b ≡ Ok meta → IsInt32Schema meta.schema fs → may_be_sent (stream_schema (fields_of fs) meta.schema.metadata) ≡ false → file_reading so_far to_send b «all» None ≡ Err (TooLarge ∷ [])
 unfolding behind_meta
 schema_refused b meta fs h is large = first_reading to_send b None meta fs h is ∙ on_err _ _ (TooLarge ∷ []) (rw large refl)
 
 -- dictionaries where there is a block
-pub dictionaries_refused : (b : List ℕ) (meta : Meta) (fs : List Int32Field) → meta_of so_far b ≡ Ok meta → IsInt32Schema meta.schema fs → may_be_sent (schema_message (fields_of fs) []) ≡ true → has_any (dictionaries_read meta.blocks meta.dictionaries) ≡ true → file_reading so_far to_send b «all» None ≡ Err (Unsupported features.NotYet ∷ [])
+pub dictionaries_refused : (b : List ℕ) (meta : Meta) (fs : List Int32Field) → meta_of b ≡ Ok meta → IsInt32Schema meta.schema fs → may_be_sent (stream_schema (fields_of fs) meta.schema.metadata) ≡ true → has_any (dictionaries_read meta.blocks meta.dictionaries) ≡ true → file_reading so_far to_send b «all» None ≡ Err (Unsupported features.NotYet ∷ [])
 unfolding behind_meta
 dictionaries_refused b meta fs h is small some =
-    let size : if_sent to_send (may_be_sent (schema_message (fields_of fs) [])) ≡ Ok tt = rw small refl in
+    let size : if_sent to_send (may_be_sent (stream_schema (fields_of fs) meta.schema.metadata)) ≡ Ok tt = rw small refl in
     first_reading to_send b None meta fs h is ∙ on _ _ tt size ∙ on_err _ _ (Unsupported features.NotYet ∷ []) (rw some refl)
 
 -- no dictionary is read of the first blocks where none is read of all
@@ -99,8 +108,8 @@ unfolding dictionaries_of
 nothing_read b meta = refl
 
 -- a file whose schema may be sent and that has no dictionaries is read block by block
-pub first_batches : (purpose : Purpose) (b : List ℕ) (j : Option ℕ) (meta : Meta) (fs : List Int32Field) → meta_of so_far b ≡ Ok meta → IsInt32Schema meta.schema fs → may_be_sent (schema_message (fields_of fs) []) ≡ true → has_any (dictionaries_read meta.blocks meta.dictionaries) ≡ false
-    → file_reading so_far purpose b «all» j ≡ (batches_of purpose b (first_asked fs (length b)) true (taken j meta.blocks) None >>= λ batches. Ok (first_table fs batches))
+pub first_batches : (purpose : Purpose) (b : List ℕ) (j : Option ℕ) (meta : Meta) (fs : List Int32Field) → meta_of b ≡ Ok meta → IsInt32Schema meta.schema fs → may_be_sent (stream_schema (fields_of fs) meta.schema.metadata) ≡ true → has_any (dictionaries_read meta.blocks meta.dictionaries) ≡ false
+    → file_reading so_far purpose b «all» j ≡ (batches_of purpose b (first_asked fs (length b)) true (taken j meta.blocks) None >>= λ batches. Ok (first_table fs meta.schema.metadata batches))
 unfolding behind_meta
 first_batches purpose b j meta fs h is small nothing =
     let none = none_taken j meta.blocks meta.dictionaries nothing in
@@ -210,27 +219,25 @@ one_more_sent b fs blocks block xs x s read sent fit = record {
 
 -- a file of the first path whose schema may be sent and that reads no dictionary
 pub record IsFirstFile (b : List ℕ) (meta : Meta) (fs : List Int32Field) : Type 0 where
-  pub read : meta_of so_far b ≡ Ok meta
+  pub read : meta_of b ≡ Ok meta
   pub schema : IsInt32Schema meta.schema fs
-  pub small : may_be_sent (schema_message (fields_of fs) []) ≡ true
+  pub small : may_be_sent (stream_schema (fields_of fs) meta.schema.metadata) ≡ true
   pub no_dictionaries : has_any (dictionaries_read meta.blocks meta.dictionaries) ≡ false
 
-pub table_may_be_written : (b : List ℕ) (meta : Meta) (fs : List Int32Field) (blocks : List FileBlock) (xs : List WrittenBatch) → IsFirstFile b meta fs → SentSoFar b fs blocks xs → TableMayBeWritten fs xs
+pub table_may_be_written : (b : List ℕ) (meta : Meta) (fs : List Int32Field) (blocks : List FileBlock) (xs : List WrittenBatch) → IsFirstFile b meta fs → SentSoFar b fs blocks xs → TableMayBeWritten fs meta.schema.metadata xs
 table_may_be_written b meta fs blocks xs file s = record {
-  texts = file.schema.texts;
-  few = file.schema.few;
-  distinct = file.schema.distinct;
+  schema = file.schema.may;
   size = file.small;
   batches = s.fit;
 }
 
 -- all blocks were sent: the file means the written table
-pub whole_file : (b : List ℕ) (meta : Meta) (fs : List Int32Field) (xs : List WrittenBatch) → IsFirstFile b meta fs → SentSoFar b fs meta.blocks xs → file_table b «all» ≡ Some (written_table fs xs)
+pub whole_file : (b : List ℕ) (meta : Meta) (fs : List Int32Field) (xs : List WrittenBatch) → IsFirstFile b meta fs → SentSoFar b fs meta.blocks xs → file_table b «all» ≡ Some (written_table fs meta.schema.metadata xs)
 unfolding file_table
 whole_file b meta fs xs file s = ap meaning (first_batches to_read b None meta fs file.read file.schema file.small file.no_dictionaries ∙ on _ _ _ s.read)
 
 -- the first blocks were sent: a part of the file means the written table
-pub part_of_file : (b : List ℕ) (meta : Meta) (fs : List Int32Field) (n : ℕ) (xs : List WrittenBatch) → IsFirstFile b meta fs → SentSoFar b fs (take n meta.blocks) xs → file_part b «all» n ≡ Some (written_table fs xs)
+pub part_of_file : (b : List ℕ) (meta : Meta) (fs : List Int32Field) (n : ℕ) (xs : List WrittenBatch) → IsFirstFile b meta fs → SentSoFar b fs (take n meta.blocks) xs → file_part b «all» n ≡ Some (written_table fs meta.schema.metadata xs)
 unfolding file_part
 part_of_file b meta fs n xs file s = ap meaning (first_batches to_read b (Some n) meta fs file.read file.schema file.small file.no_dictionaries ∙ on _ _ _ s.read)
 

@@ -2,15 +2,16 @@ use Rattle.std.proofs.Common.{◌≡◌, [], ◌∷◌, take, drop, refl, true}
 use Rattle.std.specs.Prelude.{pos}
 use Rattle.arrow_spec.proofs.Vectors.{int32_stream}
 use Rattle.arrow_spec.specs.declared.types.IntegerType.TheVariants.{Int32}
+use Rattle.arrow_spec.specs.Flat.{little}
 use Rattle.arrow_spec.specs.Kinds.{field, none, integer}
 use Rattle.arrow_spec.specs.Layout.{layout, size, table_head}
 use Rattle.arrow_spec.specs.Sent.{schema_message, message, batch_node}
 
-pub schema_laid : layout (schema_message (field (97 ∷ []) true [] (integer Int32) none) []).node ≡ take 128 (drop 8 int32_stream)
+pub schema_laid : layout (schema_message little (field (97 ∷ []) true [] (integer Int32) none) []).node ≡ take 128 (drop 8 int32_stream)
 unfolding layout table_head schema_message
 schema_laid = refl
 
-pub schema_laid-size : size (schema_message (field (97 ∷ []) true [] (integer Int32) none) []).node ≡ 128
+pub schema_laid-size : size (schema_message little (field (97 ∷ []) true [] (integer Int32) none) []).node ≡ 128
 unfolding size schema_message
 schema_laid-size = refl
 

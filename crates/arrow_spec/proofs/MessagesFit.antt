@@ -1,15 +1,13 @@
 -- The trees of messages fit.
-use Rattle.std.proofs.Common.{refl, ap, ◌≡◌, ℕ, suc, zero, ◌+◌, ◌^◌, ◌<◌, ◌≤◌, List, [], ◌∷◌, length, arith, true, false, Bool, pos}
-use Rattle.std.specs.Int.{Width, w8, w64}
+use Rattle.std.proofs.Common.{refl, ap, ◌≡◌, ℕ, suc, zero, ◌^◌, ◌<◌, ◌≤◌, List, [], ◌∷◌, length, arith, true, false, Bool, pos}
+use Rattle.std.specs.Int.{Width, w64}
 use Rattle.arrow_spec.specs.declared.types.IntegerType.{IntegerType}
 use Rattle.arrow_spec.specs.declared.types.IntegerType.TheVariants.{Int8, Int16, Int32, Int64, Int128, UInt8, UInt16, UInt32, UInt64}
 use Rattle.arrow_spec.specs.Layout as layout
 use Rattle.arrow_spec.specs.Layout.{Node, Slots, slot_count, one_more}
-use Rattle.arrow_spec.specs.Held.{Fits, AllFit, NodesFit}
+use Rattle.arrow_spec.specs.Held.{Fits, AllFit}
 use Rattle.arrow_spec.specs.Counts.{Written}
-use Rattle.arrow_spec.specs.Sent.{unless_zero, flag, int_node, nodes_node, buffers_node, placed, views_slot, batch_node, node_rows, dictionary_slots, field_nodes, message_slots, schema_slots}
-use Rattle.arrow_spec.specs.WrittenTables.{Int32Field, fields_of}
-use Rattle.arrow_spec.proofs.IntegerSchemas.{field_slots}
+use Rattle.arrow_spec.specs.Sent.{unless_zero, flag, int_node, nodes_node, buffers_node, placed, views_slot, batch_node, node_rows, dictionary_slots, message_slots}
 
 pub one_more-least : (k : ℕ) → one_more k ≤ suc k
 one_more-least zero = omega arith
@@ -65,15 +63,3 @@ int_fits UInt8 = (omega arith, (omega arith, tt))
 int_fits UInt16 = (omega arith, (omega arith, tt))
 int_fits UInt32 = (omega arith, (omega arith, tt))
 int_fits UInt64 = (omega arith, (omega arith, tt))
-
-field_fits : (name : List ℕ) (nullable : Bool) (i : IntegerType) → Fits (layout.table (field_slots name nullable i))
-field_fits name nullable i =
-    let s = layout.value w8 (pos 2) (layout.child (int_node i) (layout.absent (layout.child (layout.tables layout.none) (layout.absent layout.no_more)))) in
-    (omega (arith, count_flag nullable s), (tt, fit_flag nullable s (omega arith, (int_fits i, (tt, tt)))))
-
-fields_fit : (fs : List Int32Field) (id : ℕ) → NodesFit (field_nodes (fields_of fs) id)
-fields_fit [] id = tt
-fields_fit (f ∷ fs) id = (field_fits f.name f.nullable Int32, fields_fit fs (id + 0))
-
-pub schema_fits : (fs : List Int32Field) → Fits (layout.table (schema_slots (fields_of fs) []))
-schema_fits fs = (omega arith, (fields_fit fs 0, tt))

@@ -393,27 +393,27 @@ footer_depends b f h =
           on _ _ _ size' ∙ on _ _ _ feather' ∙ on _ _ _ trailer' ∙ on _ _ _ n' ∙ on _ _ _ whole' ∙ ap Ok bytes;
     }
 
-meta-same : (built : Built) (b b' f : List ℕ) → footer_of b ≡ Ok f → footer_of b' ≡ Ok f → meta_of built b' ≡ meta_of built b
+meta-same : (b b' f : List ℕ) → footer_of b ≡ Ok f → footer_of b' ≡ Ok f → meta_of b' ≡ meta_of b
 unfolding meta_of
-meta-same built b b' f h h' = on _ _ f h' ∙ sym (on _ _ f h)
+meta-same b b' f h h' = on _ _ f h' ∙ sym (on _ _ f h)
 
-meta-footer : (built : Built) (b : List ℕ) (meta : Meta) → meta_of built b ≡ Ok meta → (f : List ℕ) × (footer_of b ≡ Ok f)
+meta-footer : (b : List ℕ) (meta : Meta) → meta_of b ≡ Ok meta → (f : List ℕ) × (footer_of b ≡ Ok f)
 unfolding meta_of
-meta-footer built b meta h = let f = went (footer_of b) _ meta h in (f.got, f.first)
+meta-footer b meta h = let f = went (footer_of b) _ meta h in (f.got, f.first)
 
 -- ── the file ──
 
-parts_are : (built : Built) (b : List ℕ) (r : Request) (meta : Meta) (f : List ℕ) (ds bs : List Range) → meta_of built b ≡ Ok meta → footer_of b ≡ Ok f → all_need (λ block. dictionary_needs b meta block) (dictionaries_read meta.blocks meta.dictionaries) ≡ Ok ds → all_need (λ block. batch_needs b meta r block) meta.blocks ≡ Ok bs
-    → parts_needed built b r ≡ Ok (record { place = length b - 10; length = 10 } ∷ record { place = length b - 10 - length f; length = length f } ∷ ds ++ bs)
+parts_are : (b : List ℕ) (r : Request) (meta : Meta) (f : List ℕ) (ds bs : List Range) → meta_of b ≡ Ok meta → footer_of b ≡ Ok f → all_need (λ block. dictionary_needs b meta block) (dictionaries_read meta.blocks meta.dictionaries) ≡ Ok ds → all_need (λ block. batch_needs b meta r block) meta.blocks ≡ Ok bs
+    → parts_needed b r ≡ Ok (record { place = length b - 10; length = 10 } ∷ record { place = length b - 10 - length f; length = length f } ∷ ds ++ bs)
 unfolding parts_needed
-parts_are built b r meta f ds bs h1 h2 h3 h4 = on _ _ meta h1 ∙ on _ _ (length f) (on (footer_of b) (λ x. Ok (length x)) f h2) ∙ on _ _ ds h3 ∙ on _ _ bs h4
+parts_are b r meta f ds bs h1 h2 h3 h4 = on _ _ meta h1 ∙ on _ _ (length f) (on (footer_of b) (λ x. Ok (length x)) f h2) ∙ on _ _ ds h3 ∙ on _ _ bs h4
 
-file-same : (built : Built) (b b' : List ℕ) (r : Request) (t : ArrowTable) → file_reading built to_read b r None ≡ Ok t → length b' ≡ length b → AgreeOn b b' (or_nothing (meaning (parts_needed built b r))) → file_reading built to_read b' r None ≡ Ok t
+file-same : (built : Built) (b b' : List ℕ) (r : Request) (t : ArrowTable) → file_reading built to_read b r None ≡ Ok t → length b' ≡ length b → AgreeOn b b' (or_nothing (meaning (parts_needed b r))) → file_reading built to_read b' r None ≡ Ok t
 unfolding file_reading
 file-same built b b' r t h len agree =
     then _ _ _ t _ h λ known h'.
-    let meta = went (meta_of built b) _ t h' in
-    let footer = meta-footer built b meta.got meta.first in
+    let meta = went (meta_of b) _ t h' in
+    let footer = meta-footer b meta.got meta.first in
     let columns = went (Rattle.arrow_spec.specs.Files.columns_right r.columns _) _ t meta.rest in
     let floats = went (place _) _ t columns.rest in
     let size = went nothing _ t floats.rest in
@@ -422,10 +422,10 @@ file-same built b b' r t h len agree =
     let batches = went (batches_of to_read b (asked_in meta.got r dictionaries.got (length b)) true meta.got.blocks r.limit) _ t dictionaries.rest in
     let ds = dictionaries_depend b meta.got [] (dictionaries_read meta.got.blocks meta.got.dictionaries) dictionaries.got dictionaries.first in
     let bs = batches_depend b meta.got r true meta.got.blocks dictionaries.got r.limit batches.got batches.first in
-    let parts = parts_are built b r meta.got footer.0 ds.parts bs.parts meta.first footer.1 ds.needed bs.needed in
+    let parts = parts_are b r meta.got footer.0 ds.parts bs.parts meta.first footer.1 ds.needed bs.needed in
     let here : AgreeOn b b' (record { place = length b - 10; length = 10 } ∷ record { place = length b - 10 - length footer.0; length = length footer.0 } ∷ ds.parts ++ bs.parts) = rw parts at agree in
     let footer' = (footer_depends b footer.0 footer.1).same b' len here.0 here.1.0 in
-    let meta' : meta_of built b' ≡ Ok meta.got = meta-same built b b' footer.0 footer.1 footer' ∙ meta.first in
+    let meta' : meta_of b' ≡ Ok meta.got = meta-same b b' footer.0 footer.1 footer' ∙ meta.first in
     let dictionaries' = ds.same b' [] len (λ id. refl) (all_first _ ds.parts bs.parts here.1.1) in
     let batches' = bs.same b' dictionaries'.got len dictionaries'.same (all_second _ ds.parts bs.parts here.1.1) in
     let most : batches_of to_read b' (asked_in meta.got r dictionaries'.got (length b')) true meta.got.blocks r.limit ≡ Ok batches.got = rw len batches' in

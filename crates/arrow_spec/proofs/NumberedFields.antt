@@ -1,13 +1,14 @@
--- What numbering the dictionaries of fields keeps: counts, widths, names, uses that agree, and the fields without ids.
-use Rattle.std.proofs.Common.{length, ◌≡◌, ℕ, suc, zero, ◌+◌, ◌<◌, ◌≤◌, List, [], ◌∷◌, ◌++◌, None, Ok, refl, ap, subst, ◌∙◌, arith, true, false, pos}
+-- What numbering the dictionaries of fields keeps: counts, widths, names, and the fields without ids; and that numbered fields may be written.
+use Rattle.std.proofs.Common.{length, ◌≡◌, ℕ, suc, zero, ◌+◌, ◌^◌, ◌<◌, ◌≤◌, List, [], ◌∷◌, ◌++◌, None, Ok, refl, sym, ap, subst, ◌∙◌, arith, true, false, pos, SFits}
 use Rattle.std.specs.Prelude.{nat_eq, ◌||◌}
+use Rattle.std.specs.Int.{w64}
+use Rattle.std.specs.List.{AllByRecursion}
 use Rattle.std.specs.Str.{bytes_eq}
 use Rattle.arrow_spec.specs.Readings.{bind}
 use Rattle.arrow_spec.specs.Kinds as kind
-use Rattle.arrow_spec.specs.Kinds.{Kind, Fields, none, field, width, Use, uses_of, uses_in, values_under, bare, bare_kind}
-use Rattle.arrow_spec.specs.Schema.{Before, has_name, has_distinct_names, is_struct_of_two, first_is_struct_of_two, is_whole, uses_agree}
-use Rattle.arrow_spec.specs.Sent.{dictionary_count, dictionary_counts}
-use Rattle.arrow_spec.specs.WrittenSchemas.{KindFits, FieldsFit, Part, of_field, of_dictionary, of_extension, pairs_for, numbered, numbered_kind, after_kind, after_fields}
+use Rattle.arrow_spec.specs.Kinds.{Kind, Fields, Metadata, none, field, width, Use, uses_of, uses_in, values_under, bare, bare_kind, dictionary_count, dictionary_counts, numbered, numbered_kind}
+use Rattle.arrow_spec.specs.Schema.{Before, has_name, has_distinct_names, is_struct_of_two, first_is_struct_of_two, uses_agree}
+use Rattle.arrow_spec.specs.WrittenSchemas.{AreIds, IdsMayBeWritten, SchemaMayBeWritten, KindFits, FieldsFit, Part, of_field, of_dictionary, of_extension, pairs_for, after_kind, after_fields}
 
 pub width_numbered : (fs : Fields) (id : ℕ) → width (numbered fs id) ≡ width fs
 width_numbered none id = refl
@@ -29,16 +30,6 @@ struct_numbered k id = refl
 first_numbered : (fs : Fields) (id : ℕ) → first_is_struct_of_two (numbered fs id) ≡ first_is_struct_of_two fs
 first_numbered none id = refl
 first_numbered (field name nullable metadata k others) id = struct_numbered k id
-
-pub whole_numbered : (k : Kind) (at : Part) (levels id : ℕ) → KindFits at levels k → is_whole (numbered_kind k id) ≡ true
-whole_numbered (kind.map sorted fs) at levels id fits = first_numbered fs id ∙ fits.1
-whole_numbered (kind.dictionary t ordered old k) of_field levels id fits = whole_numbered k of_dictionary levels (suc id) fits
-whole_numbered (kind.dictionary t ordered old k) of_dictionary levels id fits = absurd fits
-whole_numbered (kind.dictionary t ordered old k) of_extension levels id fits = absurd fits
-whole_numbered (kind.extension name metadata k) of_field levels id fits = whole_numbered k of_extension levels id fits.2
-whole_numbered (kind.extension name metadata k) of_dictionary levels id fits = whole_numbered k of_extension levels id fits.2
-whole_numbered (kind.extension name metadata k) of_extension levels id fits = absurd fits
-whole_numbered k at levels id fits = refl
 
 -- ── how many fields and dictionaries stand before ──
 
@@ -173,3 +164,73 @@ mutual
   pub bare_numbered : (fs : Fields) (id : ℕ) → bare (numbered fs id) ≡ bare fs
   bare_numbered none id = refl
   bare_numbered (field name nullable metadata k others) id = rw (bare_kind_numbered k id, bare_numbered others (id + dictionary_count k)) refl
+
+-- ── what may be written ──
+
+pairs_numbered : (k : Kind) (id : ℕ) (m : Metadata) → pairs_for (numbered_kind k id) m ≡ pairs_for k m
+pairs_numbered (kind.extension name metadata k) id m = refl
+pairs_numbered (kind.dictionary t ordered old (kind.extension name metadata k)) id m = refl
+pairs_numbered (kind.dictionary t ordered old k) id m = refl
+pairs_numbered k id m = refl
+
+mutual
+  after_kind_numbered : (k : Kind) (id : ℕ) (p : Before) → after_kind (numbered_kind k id) p ≡ after_kind k p
+  after_kind_numbered (kind.«list» o fs) id p = after_numbered fs id p
+  after_kind_numbered (kind.fixed_size_list n fs) id p = after_numbered fs id p
+  after_kind_numbered (kind.struct fs) id p = after_numbered fs id p
+  after_kind_numbered (kind.map sorted fs) id p = after_numbered fs id p
+  after_kind_numbered (kind.union mode stated ids fs) id p = after_numbered fs id p
+  after_kind_numbered (kind.dictionary t ordered old k) id p = after_kind_numbered k (suc id) p
+  after_kind_numbered (kind.extension name metadata k) id p = after_kind_numbered k id p
+  after_kind_numbered k id p = refl
+
+  after_numbered : (fs : Fields) (id : ℕ) (p : Before) → after_fields (numbered fs id) p ≡ after_fields fs p
+  after_numbered none id p = refl
+  after_numbered (field name nullable metadata k others) id p =
+      let here : Before = record { fields = suc p.fields; pairs = p.pairs + length (pairs_for k metadata) } in
+      rw (pairs_numbered k id metadata) (rw (after_kind_numbered k id here) (after_numbered others (id + dictionary_count k) (after_kind k here)))
+
+mutual
+  kind_fits_numbered : (k : Kind) (at : Part) (levels id : ℕ) → KindFits at levels k → KindFits at levels (numbered_kind k id)
+  kind_fits_numbered (kind.«list» o fs) at levels id fits = (width_numbered fs id ∙ fits.0, fit_numbered fs levels id fits.1)
+  kind_fits_numbered (kind.fixed_size_list n fs) at levels id fits = (width_numbered fs id ∙ fits.0, fits.1, fits.2, fit_numbered fs levels id fits.3)
+  kind_fits_numbered (kind.struct fs) at levels id fits = fit_numbered fs levels id fits
+  kind_fits_numbered (kind.map sorted fs) at levels id fits = (width_numbered fs id ∙ fits.0, first_numbered fs id ∙ fits.1, fit_numbered fs levels id fits.2)
+  kind_fits_numbered (kind.union mode stated ids fs) at levels id fits = rw (width_numbered fs id) (fits.0, fits.1, fit_numbered fs levels id fits.2)
+  kind_fits_numbered (kind.dictionary t ordered old k) of_field levels id fits = kind_fits_numbered k of_dictionary levels (suc id) fits
+  kind_fits_numbered (kind.dictionary t ordered old k) of_dictionary levels id fits = absurd fits
+  kind_fits_numbered (kind.dictionary t ordered old k) of_extension levels id fits = absurd fits
+  kind_fits_numbered (kind.extension name metadata k) of_field levels id fits = (fits.0, fits.1, kind_fits_numbered k of_extension levels id fits.2)
+  kind_fits_numbered (kind.extension name metadata k) of_dictionary levels id fits = (fits.0, fits.1, kind_fits_numbered k of_extension levels id fits.2)
+  kind_fits_numbered (kind.extension name metadata k) of_extension levels id fits = absurd fits
+  kind_fits_numbered k at levels id fits = fits
+
+  fit_numbered : (fs : Fields) (levels id : ℕ) → FieldsFit levels fs → FieldsFit levels (numbered fs id)
+  fit_numbered none levels id fits = tt
+  fit_numbered (field name nullable metadata k others) zero id fits = absurd fits
+  fit_numbered (field name nullable metadata k others) (suc levels) id fits = (fits.0, fits.1, kind_fits_numbered k of_field levels id fits.2, fit_numbered others (suc levels) (id + dictionary_count k) fits.3)
+
+uses_end : (us : List Use) (low high : ℕ) → UsesFrom low us high → low ≤ high
+uses_end [] low high r = r
+uses_end (u ∷ us) low high r = omega (arith, r.2, uses_end us (suc r.0) high r.3)
+
+uses_within : (us : List Use) (low high : ℕ) → high < 2 ^ 63 → UsesFrom low us high → AreIds us
+uses_within [] low high few r = tt
+uses_within (u ∷ us) low high few r =
+    let small : r.0 < 2 ^ 63 = omega (arith, few, uses_end us (suc r.0) high r.3) in
+    (subst (λ z. SFits w64 z) (sym r.1) (record { sfits = small }), uses_within us (suc r.0) high few r.3)
+
+-- ids that count from 0 may be written
+pub numbered_may : (fs : Fields) (pairs : Metadata) → SchemaMayBeWritten fs pairs → SchemaMayBeWritten (numbered fs 0) pairs × IdsMayBeWritten (numbered fs 0)
+numbered_may fs pairs w =
+    let start : Before = record { fields = 0; pairs = length pairs } in
+    let count : 0 + dictionary_counts fs < 2 ^ 63 = omega (arith, fields_count fs 64 start w.fit, w.few_fields) in (
+      record {
+        fit = fit_numbered fs 64 0 w.fit;
+        ascend = w.ascend;
+        few_fields = rw (after_numbered fs 0 start) w.few_fields;
+        few_pairs = rw (after_numbered fs 0 start) w.few_pairs;
+        distinct = distinct_numbered fs 0 ∙ w.distinct;
+      },
+      record { within = uses_within (uses_in (numbered fs 0)) 0 (0 + dictionary_counts fs) count (uses_fields fs 0); agree = uses_numbered fs },
+    )

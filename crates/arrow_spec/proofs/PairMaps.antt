@@ -8,16 +8,16 @@ use Rattle.arrow_spec.specs.Schema.{stands_before, with_pair, without_key, value
 use Rattle.arrow_spec.specs.WrittenSchemas.{Ascend, IsBehind}
 use Rattle.arrow_spec.proofs.PairOrder.{before_never, before_or_behind, before_then, key_same}
 
-bool_cases : (b : Bool) → (b ≡ true) ⊎ (b ≡ false)
+pub bool_cases : (b : Bool) → (b ≡ true) ⊎ (b ≡ false)
 bool_cases true = inl refl
 bool_cases false = inr refl
 
-clash : {A : Type 0} (t : Bool) → t ≡ true → t ≡ false → A
+pub clash : {A : Type 0} (t : Bool) → t ≡ true → t ≡ false → A
 clash t p q = cc
 
 -- ── what stands under other keys ──
 
-value_other : (key k v : List ℕ) (m : Metadata) → bytes_eq key k ≡ false → value_of key (with_pair k v m) ≡ value_of key m
+pub value_other : (key k v : List ℕ) (m : Metadata) → bytes_eq key k ≡ false → value_of key (with_pair k v m) ≡ value_of key m
 value_other key k v [] h = rw h refl
 value_other key k v (x ∷ m) h =
     elim (bool_cases (bytes_eq k x.0)) [
@@ -29,7 +29,7 @@ value_other key k v (x ∷ m) h =
     ]
 
 -- a key that is not in a map
-no_key_parts : (key : List ℕ) (x : List ℕ × List ℕ) (m : Metadata) → value_of key (x ∷ m) ≡ None → (bytes_eq key x.0 ≡ false) × (value_of key m ≡ None)
+pub no_key_parts : (key : List ℕ) (x : List ℕ × List ℕ) (m : Metadata) → value_of key (x ∷ m) ≡ None → (bytes_eq key x.0 ≡ false) × (value_of key m ≡ None)
 no_key_parts key x m h = by_test (bytes_eq key x.0) h
   where
     by_test : (t : Bool) → Rattle.std.proofs.Common.cond t (Some x.1) (value_of key m) ≡ None → (t ≡ false) × (value_of key m ≡ None)
@@ -55,7 +55,7 @@ all_ascend (x ∷ xs) m up = ap (λ n. all_pairs n xs) (pair_last m x.0 x.1 up.2
 
 -- ── sorted maps ──
 
-abbrev AllBefore : List ℕ → Metadata → Type 0
+abbrev pub AllBefore : List ℕ → Metadata → Type 0
 AllBefore key m = AllByRecursion (λ x. stands_before key x.0 ≡ true) m
 
 abbrev pub IsSorted : Metadata → Type 0
@@ -66,7 +66,7 @@ all_behind : (a b : List ℕ) (m : Metadata) → stands_before a b ≡ true → 
 all_behind a b [] h g = tt
 all_behind a b (x ∷ m) h g = (before_then a b x.0 h g.0, all_behind a b m h g.1)
 
-other_key : (k y : List ℕ) → stands_before k y ≡ true → bytes_eq k y ≡ false
+pub other_key : (k y : List ℕ) → stands_before k y ≡ true → bytes_eq k y ≡ false
 other_key k y h = elim (bool_cases (bytes_eq k y)) [
   | inl e ↦ clash (stands_before k y) h (subst (λ z. stands_before k z ≡ false) (key_same k y e) (before_never k))
   | inr n ↦ n
@@ -87,7 +87,7 @@ before_with a k v (x ∷ m) h g =
       ]
     ]
 
-sorted_with : (k v : List ℕ) (m : Metadata) → IsSorted m → IsSorted (with_pair k v m)
+pub sorted_with : (k v : List ℕ) (m : Metadata) → IsSorted m → IsSorted (with_pair k v m)
 sorted_with k v [] g = (tt, tt)
 sorted_with k v (x ∷ m) g =
     elim (bool_cases (bytes_eq k x.0)) [

@@ -1,20 +1,21 @@
 -- The tree of a schema's message fits, for all kinds.
-use Rattle.std.proofs.Common.{ℕ, suc, zero, ◌+◌, ◌^◌, ◌<◌, ◌≤◌, List, [], ◌∷◌, length, Option, Some, None, arith, true, false, Bool, ℤ, pos}
+use Rattle.std.proofs.Common.{ℕ, suc, zero, ◌^◌, ◌<◌, ◌≤◌, List, [], ◌∷◌, Option, Some, None, arith, true, false, Bool, ℤ, pos, negsuc, SFits}
+use Rattle.std.proofs.Math.Facts.{Fits-of_z, Fits-lt-pow}
 use Rattle.std.specs.Int.{w8, w16, w32, w64, cast_unsigned}
 use Rattle.arrow_spec.specs.declared.types.TimeUnit.{TimeUnit}
 use Rattle.arrow_spec.specs.declared.types.TimeUnit.TheVariants.{Second, Millisecond, Microsecond, Nanosecond}
 use Rattle.arrow_spec.specs.declared.types.IntervalUnit.TheVariants.{YearMonth, DayTime, MonthDayNano}
 use Rattle.arrow_spec.specs.declared.types.UnionMode.TheVariants.{Dense, Sparse}
 use Rattle.arrow_spec.specs.Kinds as kind
-use Rattle.arrow_spec.specs.Kinds.{Kind, Fields, none, field, Metadata, small, large, unit_number}
-use Rattle.arrow_spec.specs.Schema.{Before}
+use Rattle.arrow_spec.specs.Flat.{Order, little, big}
+use Rattle.arrow_spec.specs.Kinds.{Kind, Fields, none, field, Metadata, small, large, unit_number, uses_of, uses_in}
 use Rattle.arrow_spec.specs.Layout as layout
 use Rattle.arrow_spec.specs.Layout.{Node, Slots, Nodes, slot_count}
 use Rattle.arrow_spec.specs.Held.{Fits, AllFit, NodesFit}
-use Rattle.arrow_spec.specs.Sent.{unless_zero, flag, int_node, type_tag, type_node, encoding_slot, field_pairs, pair_nodes, extension_pair, pairs_slot, child_nodes, field_nodes, dictionary_count, schema_slots, unit_slot, text_slot, ids_slot}
-use Rattle.arrow_spec.specs.WrittenSchemas.{Part, of_field, of_dictionary, of_extension, pairs_for, KindFits, FieldsFit, after_kind, after_fields}
+use Rattle.arrow_spec.specs.Sent.{unless_zero, flag, int_node, type_tag, type_node, encoding_slot, field_pairs, pair_nodes, extension_pair, pairs_slot, child_nodes, field_nodes, order_slot, schema_slots, unit_slot, text_slot, ids_slot}
+use Rattle.arrow_spec.specs.WrittenSchemas.{AreIds, Part, of_field, of_dictionary, of_extension, KindFits, FieldsFit}
 use Rattle.arrow_spec.proofs.MessagesFit.{count_flag, fit_flag, int_fits, one_more-least}
-use Rattle.arrow_spec.proofs.NumberedFields.{own, kind_count, kind_more, fields_more}
+use Rattle.arrow_spec.proofs.NestedFields.{within_both}
 
 -- slots that fit, of which there are at most so many
 abbrev Few : ℕ → Slots → Type 0
@@ -37,9 +38,10 @@ zero32_few : (n x : ℕ) (s : Slots) → x < 2 ^ 32 → Few n s → Few (suc n) 
 zero32_few n zero s h few = absent_few n s few
 zero32_few n (suc x) s h few = (omega (arith, few.0), (omega (arith, h), few.1))
 
-zero64_few : (n x : ℕ) (s : Slots) → x < 2 ^ 64 → Few n s → Few (suc n) (unless_zero w64 (pos x) s)
-zero64_few n zero s h few = absent_few n s few
-zero64_few n (suc x) s h few = (omega (arith, few.0), (omega (arith, h), few.1))
+zero64_few : (n : ℕ) (x : ℤ) (s : Slots) → SFits w64 x → Few n s → Few (suc n) (unless_zero w64 x s)
+zero64_few n (pos zero) s h few = absent_few n s few
+zero64_few n (pos (suc x)) s h few = (omega (arith, few.0), (Fits-lt-pow (Fits-of_z h), few.1))
+zero64_few n (negsuc x) s h few = (omega (arith, few.0), (Fits-lt-pow (Fits-of_z h), few.1))
 
 flag_few : (n : ℕ) (f : Bool) (s : Slots) → Few n s → Few (suc n) (flag f s)
 flag_few n f s few = (omega (arith, count_flag f s, few.0), fit_flag f s few.1)
@@ -110,12 +112,12 @@ type_fits (kind.extension name metadata k) of_dictionary levels fits = type_fits
 type_fits (kind.extension name metadata k) of_extension levels fits = absurd fits
 type_fits k at levels fits = (omega arith, tt)
 
-encoding_few : (n id : ℕ) (k : Kind) (s : Slots) → id < 2 ^ 64 → Few n s → Few (suc n) (encoding_slot id k s)
-encoding_few n id (kind.dictionary t ordered old k) s h few =
+encoding_few : (n : ℕ) (k : Kind) (s : Slots) → AreIds (uses_of k) → Few n s → Few (suc n) (encoding_slot k s)
+encoding_few n (kind.dictionary t ordered id k) s h few =
     let inner = layout.child (int_node t) (flag ordered layout.no_more) in
-    let table = few_fits 3 (unless_zero w64 (pos id) inner) (omega arith) (zero64_few 2 id inner h (child_few 1 (int_node t) (flag ordered layout.no_more) (int_fits t) (flag_few 0 ordered layout.no_more none_few))) in
-    child_few n (layout.table (unless_zero w64 (pos id) inner)) s table few
-encoding_few n id k s h few = absent_few n s few
+    let table = few_fits 3 (unless_zero w64 id inner) (omega arith) (zero64_few 2 id inner h.0 (child_few 1 (int_node t) (flag ordered layout.no_more) (int_fits t) (flag_few 0 ordered layout.no_more none_few))) in
+    child_few n (layout.table (unless_zero w64 id inner)) s table few
+encoding_few n k s h few = absent_few n s few
 
 pairs_fit : (xs : Metadata) → NodesFit (pair_nodes xs)
 pairs_fit [] = tt
@@ -135,46 +137,44 @@ pairs_few n layout.none s fit few = absent_few n s few
 pairs_few n (layout.also m ns) s fit few = child_few n (layout.tables (layout.also m ns)) s fit few
 
 mutual
-  children_fit : (k : Kind) (at : Part) (levels id : ℕ) (p : Before) → KindFits at levels k → (after_kind k p).fields ≤ 65536 → id + own at ≤ p.fields → NodesFit (child_nodes k id)
-  children_fit (kind.«list» o fs) at levels id p fits room low = fields_fit fs levels id p fits.1 room (omega (arith, low))
-  children_fit (kind.fixed_size_list n fs) at levels id p fits room low = fields_fit fs levels id p fits.3 room (omega (arith, low))
-  children_fit (kind.struct fs) at levels id p fits room low = fields_fit fs levels id p fits room (omega (arith, low))
-  children_fit (kind.map sorted fs) at levels id p fits room low = fields_fit fs levels id p fits.2 room (omega (arith, low))
-  children_fit (kind.union mode stated ids fs) at levels id p fits room low = fields_fit fs levels id p fits.2 room (omega (arith, low))
-  children_fit (kind.dictionary t ordered old k) of_field levels id p fits room low = children_fit k of_dictionary levels (suc id) p fits room (omega (arith, low))
-  children_fit (kind.dictionary t ordered old k) of_dictionary levels id p fits room low = absurd fits
-  children_fit (kind.dictionary t ordered old k) of_extension levels id p fits room low = absurd fits
-  children_fit (kind.extension name metadata k) of_field levels id p fits room low = children_fit k of_extension levels id p fits.2 room (omega (arith, low))
-  children_fit (kind.extension name metadata k) of_dictionary levels id p fits room low = children_fit k of_extension levels id p fits.2 room (omega (arith, low))
-  children_fit (kind.extension name metadata k) of_extension levels id p fits room low = absurd fits
-  children_fit k at levels id p fits room low = tt
+  children_fit : (k : Kind) (at : Part) (levels : ℕ) → KindFits at levels k → AreIds (uses_of k) → NodesFit (child_nodes k)
+  children_fit (kind.«list» o fs) at levels fits within = fields_fit fs levels fits.1 within
+  children_fit (kind.fixed_size_list n fs) at levels fits within = fields_fit fs levels fits.3 within
+  children_fit (kind.struct fs) at levels fits within = fields_fit fs levels fits within
+  children_fit (kind.map sorted fs) at levels fits within = fields_fit fs levels fits.2 within
+  children_fit (kind.union mode stated ids fs) at levels fits within = fields_fit fs levels fits.2 within
+  children_fit (kind.dictionary t ordered id k) of_field levels fits within = children_fit k of_dictionary levels fits within.1
+  children_fit (kind.dictionary t ordered id k) of_dictionary levels fits within = absurd fits
+  children_fit (kind.dictionary t ordered id k) of_extension levels fits within = absurd fits
+  children_fit (kind.extension name metadata k) of_field levels fits within = children_fit k of_extension levels fits.2 within
+  children_fit (kind.extension name metadata k) of_dictionary levels fits within = children_fit k of_extension levels fits.2 within
+  children_fit (kind.extension name metadata k) of_extension levels fits within = absurd fits
+  children_fit k at levels fits within = tt
 
-  fields_fit : (fs : Fields) (levels id : ℕ) (p : Before) → FieldsFit levels fs → (after_fields fs p).fields ≤ 65536 → id ≤ p.fields → NodesFit (field_nodes fs id)
-  fields_fit none levels id p fits room low = tt
-  fields_fit (field name nullable metadata k others) zero id p fits room low = absurd fits
-  fields_fit (field name nullable metadata k others) (suc levels) id p fits room low =
-      let here : Before = record { fields = suc p.fields; pairs = p.pairs + length (pairs_for k metadata) } in
-      let next = after_kind k here in
-      let later = fields_more others next in
-      let more = kind_more k here in
-      let count = kind_count k of_field levels here fits.2 in
+  fields_fit : (fs : Fields) (levels : ℕ) → FieldsFit levels fs → AreIds (uses_in fs) → NodesFit (field_nodes fs)
+  fields_fit none levels fits within = tt
+  fields_fit (field name nullable metadata k others) zero fits within = absurd fits
+  fields_fit (field name nullable metadata k others) (suc levels) fits within =
+      let both = within_both (uses_of k) (uses_in others) within in
       let ps = pairs_slot (field_pairs k metadata) layout.no_more in
-      let cs = layout.child (layout.tables (child_nodes k id)) ps in
-      let es = encoding_slot id k cs in
+      let cs = layout.child (layout.tables (child_nodes k)) ps in
+      let es = encoding_slot k cs in
       let ts = layout.value w8 (type_tag k) (layout.child (type_node k) es) in
       let pairs : Few 1 ps = pairs_few 0 (field_pairs k metadata) layout.no_more (field_pairs_fit k metadata) none_few in
-      let children : Few 2 cs = child_few 1 (layout.tables (child_nodes k id)) ps (children_fit k of_field levels id here fits.2 (omega (arith, room, later.0)) (omega (arith, low))) pairs in
-      let encoding : Few 3 es = encoding_few 2 id k cs (omega (arith, low, room, later.0, more.0)) children in
+      let children : Few 2 cs = child_few 1 (layout.tables (child_nodes k)) ps (children_fit k of_field levels fits.2 both.0) pairs in
+      let encoding : Few 3 es = encoding_few 2 k cs both.0 children in
       let type : Few 4 (layout.child (type_node k) es) = child_few 3 (type_node k) es (type_fits k of_field levels fits.2) encoding in
       let tag : Few 5 ts = (omega (arith, type.0), (tag_fits k, type.1)) in
-      let null : Few 6 (flag nullable ts) = flag_few 5 nullable ts tag in (
-        few_fits 7 (layout.child (layout.text name) (flag nullable ts)) (omega arith) (child_few 6 (layout.text name) (flag nullable ts) tt null),
-        fields_fit others (suc levels) (id + dictionary_count k) next fits.3 room (omega (arith, count, low)),
-      )
+      let null : Few 6 (flag nullable ts) = flag_few 5 nullable ts tag in
+      (few_fits 7 (layout.child (layout.text name) (flag nullable ts)) (omega arith) (child_few 6 (layout.text name) (flag nullable ts) tt null), fields_fit others (suc levels) fits.3 both.1)
 
-pub schema_fits : (fs : Fields) (pairs : Metadata) (p : Before) → FieldsFit 64 fs → (after_fields fs p).fields ≤ 65536 → Fits (layout.table (schema_slots fs pairs))
-schema_fits fs pairs p fits room =
+order_few : (n : ℕ) (order : Order) (s : Slots) → Few n s → Few (suc n) (order_slot order s)
+order_few n little s few = absent_few n s few
+order_few n big s few = (omega (arith, few.0), (omega arith, few.1))
+
+pub schema_fits : (order : Order) (fs : Fields) (pairs : Metadata) → FieldsFit 64 fs → AreIds (uses_in fs) → Fits (layout.table (schema_slots order fs pairs))
+schema_fits order fs pairs fits within =
     let ps = pairs_slot (pair_nodes pairs) layout.no_more in
     let last : Few 1 ps = pairs_few 0 (pair_nodes pairs) layout.no_more (pairs_fit pairs) none_few in
-    let fields : Few 2 (layout.child (layout.tables (field_nodes fs 0)) ps) = child_few 1 (layout.tables (field_nodes fs 0)) ps (fields_fit fs 64 0 p fits room (omega arith)) last in
-    few_fits 3 (schema_slots fs pairs) (omega arith) (absent_few 2 (layout.child (layout.tables (field_nodes fs 0)) ps) fields)
+    let fields : Few 2 (layout.child (layout.tables (field_nodes fs)) ps) = child_few 1 (layout.tables (field_nodes fs)) ps (fields_fit fs 64 fits within) last in
+    few_fits 3 (schema_slots order fs pairs) (omega arith) (order_few 2 order (layout.child (layout.tables (field_nodes fs)) ps) fields)

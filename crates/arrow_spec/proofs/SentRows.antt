@@ -10,7 +10,7 @@ use Rattle.arrow_spec.specs.declared.message.IpcBuffer.{IpcBuffer}
 use Rattle.arrow_spec.specs.declared.message.MetadataVersion.TheVariants.{V5}
 use Rattle.arrow_spec.specs.Counts.{RecordBatch, first_place}
 use Rattle.arrow_spec.specs.Layout.{size}
-use Rattle.arrow_spec.specs.Sent.{schema_message, top_written, written, body_of, dictionary_message}
+use Rattle.arrow_spec.specs.Sent.{stream_schema, top_written, written, body_of, dictionary_message}
 
 abbrev pub node : ℕ → ℕ → FieldNode
 node a b = record { length = pos a; null_count = pos b }
@@ -23,7 +23,7 @@ abbrev pub gen : Fields
 gen = field (codes "n") true [] (kind.integer Int64) (field (codes "t") false [] (kind.utf8 small) (field (codes "d") false [] (kind.dictionary Int16 false (pos 0) (kind.utf8 small)) (field (codes "p") false [] (kind.«list» small (field (codes "item") false [] (kind.integer Int32) none)) none)))
 
 -- 448 bytes with the prefix
-pub gen_schema : size (schema_message gen []).node ≡ 440
+pub gen_schema : size (stream_schema gen []).node ≡ 440
 unfolding computed
 gen_schema = refl
 

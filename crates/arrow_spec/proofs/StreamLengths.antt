@@ -10,8 +10,7 @@ use Rattle.arrow_spec.specs.declared.types.IntegerType.TheVariants.{Int32, Int64
 use Rattle.arrow_spec.specs.Readings.{Reading}
 use Rattle.arrow_spec.specs.Kinds.{field, none, integer}
 use Rattle.arrow_spec.specs.Layout.{size, up_to}
-use Rattle.arrow_spec.specs.Built.{everything}
-use Rattle.arrow_spec.specs.Sent.{SentMessage, schema_message, message, batch_node}
+use Rattle.arrow_spec.specs.Sent.{SentMessage, stream_schema, message, batch_node}
 use Rattle.arrow_spec.specs.Files.{Request, «all», sent, batch_sent, batches_sent}
 
 -- each message with its prefix and its body, and the end mark
@@ -20,7 +19,7 @@ length_of (Ok messages) = sum_by (λ x. 8 + up_to 8 (size x.node) + x.body) mess
 length_of (Err es) = 0
 
 abbrev pub stream_length : List ℕ → Request → ℕ
-stream_length b r = length_of (sent everything b r None)
+stream_length b r = length_of (sent b r None)
 
 pub whole : stream_length int32_file «all» ≡ 424
 unfolding computed sent batch_sent batches_sent
@@ -54,6 +53,6 @@ pub limit_3 : stream_length two_batches_file (request None (Some 3)) ≡ 480
 unfolding computed sent batch_sent batches_sent
 limit_3 = refl
 
-pub columns_as_asked : sent everything three_columns_file (request (Some (2 ∷ 0 ∷ [])) None) None ≡ Ok (schema_message (field (codes "c") false [] (integer Int64) (field (codes "a") false [] (integer Int32) none)) [] ∷ message 3 (batch_node 2 (record { nodes = record { length = pos 2; null_count = pos 0 } ∷ record { length = pos 2; null_count = pos 0 } ∷ []; lengths = 0 ∷ 16 ∷ 0 ∷ 8 ∷ []; views = [] })) 128 ∷ [])
+pub columns_as_asked : sent three_columns_file (request (Some (2 ∷ 0 ∷ [])) None) None ≡ Ok (stream_schema (field (codes "c") false [] (integer Int64) (field (codes "a") false [] (integer Int32) none)) [] ∷ message 3 (batch_node 2 (record { nodes = record { length = pos 2; null_count = pos 0 } ∷ record { length = pos 2; null_count = pos 0 } ∷ []; lengths = 0 ∷ 16 ∷ 0 ∷ 8 ∷ []; views = [] })) 128 ∷ [])
 unfolding computed sent batch_sent batches_sent
 columns_as_asked = refl

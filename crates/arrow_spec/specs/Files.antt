@@ -18,7 +18,7 @@ use Rattle.arrow_spec.specs.Schema.{Schema, schema_of, required}
 use Rattle.arrow_spec.specs.Messages.{Message, natural, as_kind, prefix_of, message_of, version_of, batch_at, BatchHeader, DictionaryBatch, dictionary_at}
 use Rattle.arrow_spec.specs.Counts.{RecordBatch, first_place, magnitude, is_negative}
 use Rattle.arrow_spec.specs.Columns.{columns_at, Dictionaries, HeldDictionary, found, stands_in, chosen_floats, float_faults, cause}
-use Rattle.arrow_spec.specs.Sent.{SentMessage, schema_message, batch_message, written, dictionary_messages, may_be_sent, all_may_be_sent}
+use Rattle.arrow_spec.specs.Sent.{SentMessage, stream_schema, batch_message, written, dictionary_messages, may_be_sent, all_may_be_sent}
 
 -- the columns that are asked for, and how many rows at most
 pub record Request : Type 0 where
@@ -107,20 +107,20 @@ abbrev pub no_blocks : Option Vector → Vector
 no_blocks v = or_default (record { first = 0; count = 0 }) v
 
 -- what a footer's bytes say
-unfoldable pub meta_in : Built → List ℕ → Reading Meta
-meta_in built f = do
+unfoldable pub meta_in : List ℕ → Reading Meta
+meta_in f = do
   t ← as_kind kinds.InvalidFlatbufferFooter (root f)
   record_vector ← as_kind kinds.InvalidFlatbufferRecordBatches (slot_vector 24 f t 3) >>= required (OutOfSpec kinds.MissingRecordBatches)
   blocks ← blocks_at (λ e. OutOfSpec (kinds.InvalidFlatbufferRecordBatches e)) f record_vector
   dictionary_vector ← as_kind kinds.InvalidFlatbufferDictionaries (slot_vector 24 f t 2)
   dictionaries ← blocks_at (λ e. OutOfSpec (kinds.InvalidFlatbufferDictionaries e)) f (no_blocks dictionary_vector)
   schema_table ← as_kind kinds.InvalidFlatbufferSchema (slot_table f t 1) >>= required (OutOfSpec kinds.MissingSchema)
-  schema ← schema_of built f schema_table
+  schema ← schema_of f schema_table
   Ok (record { schema = schema; blocks = blocks; dictionaries = dictionaries })
 
 -- what the footer of a file says
-unfoldable pub meta_of : Built → List ℕ → Reading Meta
-meta_of built b = footer_of b >>= λ f. meta_in built f
+unfoldable pub meta_of : List ℕ → Reading Meta
+meta_of b = footer_of b >>= λ f. meta_in f
 
 -- there is one
 abbrev pub has_any : {A : Type 0} → List A → Bool
@@ -298,10 +298,10 @@ is_given (Some x) = true
 unfoldable pub file_reading : Built → Purpose → List ℕ → Request → Option ℕ → Reading ArrowTable
 file_reading built purpose b r j = do
   known ← unless (built.requests || not (is_given r.columns || is_given r.limit)) (Unsupported features.NotYet)
-  meta ← meta_of built b
+  meta ← meta_of b
   columns ← columns_right r.columns (width meta.schema.fields)
   floats ← place (chosen_floats r.columns meta.schema.fields 0 ++ cause (not (built.chosen meta.schema.order (fields_as_asked r.columns meta.schema.fields))) (Unsupported features.NotYet))
-  size ← if_sent purpose (may_be_sent (schema_message (fields_as_asked r.columns meta.schema.fields) meta.schema.metadata))
+  size ← if_sent purpose (may_be_sent (stream_schema (fields_as_asked r.columns meta.schema.fields) meta.schema.metadata))
   read ← unless (built.dictionaries || not (has_any (dictionaries_read (taken j meta.blocks) meta.dictionaries))) (Unsupported features.NotYet)
   dictionaries ← dictionaries_of b meta [] (dictionaries_read (taken j meta.blocks) meta.dictionaries)
   let asked : Asked = record { order = meta.schema.order; fields = meta.schema.fields; columns = r.columns; dictionaries = dictionaries; most = length b }
@@ -333,14 +333,14 @@ dictionaries_before messages [] = []
 dictionaries_before messages (block ∷ blocks) = messages
 
 -- the schema, the dictionaries, and the batches
-unfoldable pub sent : Built → List ℕ → Request → Option ℕ → Reading (List SentMessage)
-sent built b r j = do
-  meta ← meta_of built b
+unfoldable pub sent : List ℕ → Request → Option ℕ → Reading (List SentMessage)
+sent b r j = do
+  meta ← meta_of b
   let fields = fields_as_asked r.columns meta.schema.fields
   dictionaries ← dictionaries_of b meta [] (dictionaries_read (taken j meta.blocks) meta.dictionaries)
   let asked : Asked = record { order = meta.schema.order; fields = meta.schema.fields; columns = r.columns; dictionaries = dictionaries; most = length b }
   batches ← batches_sent b asked (taken j meta.blocks) r.limit
-  Ok (schema_message fields meta.schema.metadata ∷ dictionaries_before (dictionary_messages dictionaries fields) (taken j meta.blocks) ++ batches)
+  Ok (stream_schema fields meta.schema.metadata ∷ dictionaries_before (dictionary_messages dictionaries fields) (taken j meta.blocks) ++ batches)
 
 -- what the first j blocks of a file mean
 unfoldable pub file_part : List ℕ → Request → ℕ → Option ArrowTable

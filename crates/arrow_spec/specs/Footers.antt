@@ -2,6 +2,7 @@
 use Rattle.std.specs.Prelude.{ℕ, List, ◌++◌, length, pos}
 use Rattle.std.specs.List.{flat_map}
 use Rattle.std.specs.Int.{w16, w32, to_le_bytes, cast_unsigned}
+use Rattle.arrow_spec.specs.Flat.{little}
 use Rattle.arrow_spec.specs.Kinds.{Fields, Metadata}
 use Rattle.arrow_spec.specs.Layout as layout
 use Rattle.arrow_spec.specs.Layout.{Node, zeros}
@@ -16,6 +17,6 @@ block_bytes x = i64_bytes (pos x.offset) ++ to_le_bytes w32 (cast_unsigned w32 (
 abbrev pub blocks_node : List FileBlock → Node
 blocks_node xs = layout.structs (length xs) (flat_map block_bytes xs)
 
--- a footer of version V5 with both lists of blocks, first the dictionaries' (File.fbs, Footer)
+-- a little-endian footer of version V5 with both lists of blocks, first the dictionaries' (File.fbs, Footer)
 abbrev pub footer_node : Fields → Metadata → List FileBlock → List FileBlock → Node
-footer_node fs pairs dictionaries records = layout.table (layout.value w16 (pos 4) (layout.child (schema_node fs pairs) (layout.child (blocks_node dictionaries) (layout.child (blocks_node records) layout.no_more))))
+footer_node fs pairs dictionaries records = layout.table (layout.value w16 (pos 4) (layout.child (schema_node little fs pairs) (layout.child (blocks_node dictionaries) (layout.child (blocks_node records) layout.no_more))))

@@ -1,5 +1,5 @@
 -- The types of columns. (Arrow Columnar Format, "Data Types" and "Serialization and Interprocess Communication", Schema.fbs.)
-use Rattle.std.specs.Prelude.{ℕ, suc, List, [], ◌∷◌, ◌++◌, Bool, true, false, Option, Some, None, ℤ, pos, negsuc, nat_eq, ◌&&◌, if◌then◌else◌}
+use Rattle.std.specs.Prelude.{ℕ, suc, ◌+◌, List, [], ◌∷◌, ◌++◌, Bool, true, false, Option, Some, None, ℤ, pos, negsuc, nat_eq, ◌&&◌, if◌then◌else◌}
 use Rattle.std.specs.Str.{bytes_eq}
 use Rattle.arrow_spec.specs.declared.types.IntegerType.{IntegerType}
 use Rattle.arrow_spec.specs.declared.types.TimeUnit.{TimeUnit}
@@ -80,6 +80,38 @@ abbrev mutual
   pub bare : Fields → Fields
   bare none = none
   bare (field name nullable metadata k others) = field name nullable metadata (bare_kind k) (bare others)
+
+-- how many dictionaries stand in a kind
+abbrev mutual
+  pub dictionary_count : Kind → ℕ
+  dictionary_count («list» o fs) = dictionary_counts fs
+  dictionary_count (fixed_size_list n fs) = dictionary_counts fs
+  dictionary_count (struct fs) = dictionary_counts fs
+  dictionary_count (map sorted fs) = dictionary_counts fs
+  dictionary_count (union mode stated ids fs) = dictionary_counts fs
+  dictionary_count (dictionary t ordered id k) = suc (dictionary_count k)
+  dictionary_count (extension name metadata k) = dictionary_count k
+  dictionary_count k = 0
+
+  pub dictionary_counts : Fields → ℕ
+  dictionary_counts none = 0
+  dictionary_counts (field name nullable metadata k others) = dictionary_count k + dictionary_counts others
+
+-- the same fields with ids that count from a number on in preorder
+abbrev mutual
+  pub numbered_kind : Kind → ℕ → Kind
+  numbered_kind («list» o fs) id = «list» o (numbered fs id)
+  numbered_kind (fixed_size_list n fs) id = fixed_size_list n (numbered fs id)
+  numbered_kind (struct fs) id = struct (numbered fs id)
+  numbered_kind (map sorted fs) id = map sorted (numbered fs id)
+  numbered_kind (union mode stated ids fs) id = union mode stated ids (numbered fs id)
+  numbered_kind (dictionary t ordered old k) id = dictionary t ordered (pos id) (numbered_kind k (suc id))
+  numbered_kind (extension name metadata k) id = extension name metadata (numbered_kind k id)
+  numbered_kind k id = k
+
+  pub numbered : Fields → ℕ → Fields
+  numbered none id = none
+  numbered (field name nullable metadata k others) id = field name nullable metadata (numbered_kind k id) (numbered others (id + dictionary_count k))
 
 -- ── uses of dictionaries ──
 

@@ -1,27 +1,28 @@
 -- What follows from the definitions. Each statement is the contract of a public function without a body (src/laws.rt).
-use Rattle.std.specs.Prelude.{◌≡◌, pos, false, FitsSigned, ℕ, ◌<◌, List, Option, Some, None, nat_eq, ◌^◌, ◌≤◌, [], ◌∷◌, ◌++◌, length, take, drop, Bool, true, Ok, Err, ◌⊎◌}
+use Rattle.std.specs.Prelude.{◌≡◌, pos, false, FitsSigned, ℕ, ◌<◌, List, Option, Some, None, nat_eq, ◌^◌, ◌≤◌, [], ◌∷◌, ◌++◌, length, take, drop, get_or, Bool, true, Ok, Err, ◌⊎◌}
 use Rattle.std.specs.Prelude.{map as each_of}
 use Rattle.std.specs.List.{AllByRecursion, IsDistinct}
 use Rattle.std.specs.Int.{w64}
 use Rattle.arrow_spec.specs.declared.error.IpcError.TheVariants.{TooLarge}
 use Rattle.arrow_spec.specs.declared.message.MetadataVersion.TheVariants.{V5}
 use Rattle.arrow_spec.specs.Readings.{meaning}
-use Rattle.arrow_spec.specs.Kinds.{width, Fields, Metadata}
+use Rattle.arrow_spec.specs.Kinds.{width, Fields, Metadata, numbered, uses_in}
+use Rattle.arrow_spec.specs.Regular.{regular, representable}
 use Rattle.arrow_spec.specs.Built.{Built, everything, so_far}
 use Rattle.arrow_spec.specs.Files.{Request, «all», ArrowTable, file_reading, to_read, project, cut, file_table, to_send}
 use Rattle.arrow_spec.specs.Needed.{Range, parts_needed, or_nothing}
 use Rattle.arrow_spec.specs.Layout as layout
 use Rattle.arrow_spec.specs.Layout.{Slots, size, table}
 use Rattle.arrow_spec.specs.Held.{Fits, HoldsSlots, Rooted}
-use Rattle.arrow_spec.specs.Flat.{little}
-use Rattle.arrow_spec.specs.Schema.{schema_of}
+use Rattle.arrow_spec.specs.Flat.{Order, Table}
+use Rattle.arrow_spec.specs.Schema.{Schema, schema_of}
 use Rattle.arrow_spec.specs.Counts.{Written}
 use Rattle.arrow_spec.specs.Columns.{Dictionaries}
 use Rattle.arrow_spec.specs.Messages.{BatchHeader, Message, batch_at, dictionary_at, message_of, version_of}
 use Rattle.arrow_spec.specs.Sent.{batch_node, batch_slots, body_of, dictionary_slots, message, message_slots, node_rows, placed, schema_message, schema_slots}
-use Rattle.arrow_spec.specs.Streams.{Framed, Reader, body_in, closed, next_message, stream_batches, stream_table}
+use Rattle.arrow_spec.specs.Streams.{Framed, Reader, body_in, closed, next_message, schema_message_of, stream_batches, stream_table}
 use Rattle.arrow_spec.specs.Framing.{message_bytes, padded_size}
-use Rattle.arrow_spec.specs.WrittenSchemas.{SchemaMayBeWritten, numbered}
+use Rattle.arrow_spec.specs.WrittenSchemas.{AreIds, Ascend, HaveTexts, IdsMayBeWritten, SchemaMayBeWritten}
 use Rattle.arrow_spec.specs.WrittenTables.{Int32Field, WrittenBatch, TableMayBeWritten, written_stream, written_table}
 
 -- ── flatbuffers and messages ──
@@ -47,10 +48,31 @@ abbrev pub FramedMessageIsNext : Type 0
 FramedMessageIsNext = (taken : ℕ → Bool) (tag : ℕ) (s : Slots) (body rest : List ℕ) → 0 < tag → tag ≤ 5 → taken tag ≡ true → length body < 2 ^ 63 → Fits (table (message_slots tag (table s) (length body)))
     → padded_size (table (message_slots tag (table s) (length body))) < 2 ^ 31 → IsNextMessage taken tag s body rest (message_bytes (table (message_slots tag (table s) (length body))) body ++ rest)
 
--- A schema's message is the next one, and is read as the schema with its dictionaries numbered.
+-- A schema's message is the next one, and is read as the schema, in either byte order.
 abbrev pub SchemaMessageReadsBack : Type 0
-SchemaMessageReadsBack = (fs : Fields) (pairs : Metadata) (rest : List ℕ) → SchemaMayBeWritten fs pairs → padded_size (schema_message fs pairs).node < 2 ^ 31
-    → (next : IsNextMessage (λ tag. nat_eq tag 1) 1 (schema_slots fs pairs) [] rest (message_bytes (schema_message fs pairs).node [] ++ rest)) × (schema_of everything next.framed.metadata next.found.header ≡ Ok (record { order = little; fields = numbered fs 0; metadata = pairs }))
+SchemaMessageReadsBack = (order : Order) (fs : Fields) (pairs : Metadata) (rest : List ℕ) → SchemaMayBeWritten fs pairs → IdsMayBeWritten fs → padded_size (schema_message order fs pairs).node < 2 ^ 31
+    → (next : IsNextMessage (λ tag. nat_eq tag 1) 1 (schema_slots order fs pairs) [] rest (message_bytes (schema_message order fs pairs).node [] ++ rest)) × (schema_of next.framed.metadata next.found.header ≡ Ok (record { order = order; fields = fs; metadata = pairs }))
+
+-- A schema message's own bytes are read as the schema, whatever stands behind them.
+abbrev pub SchemaBytesReadBack : Type 0
+SchemaBytesReadBack = (order : Order) (fs : Fields) (pairs : Metadata) (rest : List ℕ) → SchemaMayBeWritten fs pairs → IdsMayBeWritten fs → size (schema_message order fs pairs).node < 2 ^ 31
+    → (m : Message) × (schema_message_of (layout.layout (schema_message order fs pairs).node ++ rest) ≡ Ok (m, record { order = order; fields = fs; metadata = pairs }))
+
+-- A schema that may be written, its ids aside, may be written with its dictionaries numbered.
+abbrev pub NumberedMayBeWritten : Type 0
+NumberedMayBeWritten = (fs : Fields) (pairs : Metadata) → SchemaMayBeWritten fs pairs → SchemaMayBeWritten (numbered fs 0) pairs × IdsMayBeWritten (numbered fs 0)
+
+-- A regular schema that can be represented may be written, and its ids fit.
+abbrev pub RegularMayBeWritten : Type 0
+RegularMayBeWritten = (fs : Fields) (pairs : Metadata) → regular fs pairs ≡ true → representable fs ≡ true → HaveTexts fs → Ascend [] pairs → SchemaMayBeWritten fs pairs × AreIds (uses_in fs)
+
+-- bytes
+abbrev pub AreBytes : List ℕ → Type 0
+AreBytes b = (i : ℕ) → get_or b i 0 < 2 ^ 8
+
+-- A schema that is read of bytes may be written, with its ids.
+abbrev pub ReadSchemaMayBeWritten : Type 0
+ReadSchemaMayBeWritten = (b : List ℕ) (t : Table) (s : Schema) → AreBytes b → schema_of b t ≡ Ok s → SchemaMayBeWritten s.fields s.metadata × IdsMayBeWritten s.fields
 
 -- what a batch's tables say fits them
 pub record TablesFit (rows : ℕ) (w : Written) : Type 0 where
@@ -84,7 +106,7 @@ StreamFuelIsEnough = (s : Reader) (d : Dictionaries) (b : List ℕ) (most : ℕ)
 
 -- A stream that is framed batch by batch, and ended, is closed and means the table.
 abbrev pub WrittenStreamMeansItsTable : Type 0
-WrittenStreamMeansItsTable = (fs : List Int32Field) (xs : List WrittenBatch) → TableMayBeWritten fs xs → closed (written_stream fs xs) × (stream_table (written_stream fs xs) None ≡ Some (written_table fs xs))
+WrittenStreamMeansItsTable = (fs : List Int32Field) (pairs : Metadata) (xs : List WrittenBatch) → TableMayBeWritten fs pairs xs → closed (written_stream fs pairs xs) × (stream_table (written_stream fs pairs xs) None ≡ Some (written_table fs pairs xs))
 
 -- ── files that are sent ──
 
@@ -122,4 +144,4 @@ AgreeOn b b' ranges = AllByRecursion (λ x. take x.length (drop x.place b') ≡ 
 
 -- A file of the same length that agrees on the parts that a request needs means the same under it, whatever is built.
 abbrev pub DependsOnNeeded : Type 0
-DependsOnNeeded = (built : Built) (b b' : List ℕ) (r : Request) (t : ArrowTable) → meaning (file_reading built to_read b r None) ≡ Some t → length b' ≡ length b → AgreeOn b b' (or_nothing (meaning (parts_needed built b r))) → meaning (file_reading built to_read b' r None) ≡ Some t
+DependsOnNeeded = (built : Built) (b b' : List ℕ) (r : Request) (t : ArrowTable) → meaning (file_reading built to_read b r None) ≡ Some t → length b' ≡ length b → AgreeOn b b' (or_nothing (meaning (parts_needed b r))) → meaning (file_reading built to_read b' r None) ≡ Some t

@@ -20,4 +20,5 @@ pub mod WrittenTables
 pub mod WrittenSchemas
 pub mod Laws
 pub mod Words
+pub mod SchemaText
 pub mod Needed

@@ -5,7 +5,6 @@ use Rattle.arrow_spec.specs.declared.error.OutOfSpecKind.TheVariants.{InvalidId}
 use Rattle.arrow_spec.specs.declared.message.MetadataVersion.{MetadataVersion}
 use Rattle.arrow_spec.specs.Readings.{Reading, meaning, ◌>>=◌}
 use Rattle.arrow_spec.specs.Schema.{required}
-use Rattle.arrow_spec.specs.Built.{Built, so_far}
 use Rattle.arrow_spec.specs.declared.types.UnionMode.{UnionMode}
 use Rattle.arrow_spec.specs.declared.types.UnionMode.TheVariants.{Dense, Sparse}
 use Rattle.arrow_spec.specs.Kinds.{Kind, Fields, none, field, null, binary, utf8, binary_view, utf8_view, «list», fixed_size_list, struct, map, union, extension, uses_in, values_under}
@@ -110,9 +109,9 @@ abbrev pub footer_size : List ℕ → Reading ℕ
 footer_size b = Rattle.arrow_spec.specs.Files.footer_of b >>= λ f. Ok (length f)
 
 -- trailer, footer, dictionaries and record blocks
-unfoldable pub parts_needed : Built → List ℕ → Request → Reading (List Range)
-parts_needed built b r = do
-  meta ← meta_of built b
+unfoldable pub parts_needed : List ℕ → Request → Reading (List Range)
+parts_needed b r = do
+  meta ← meta_of b
   n ← footer_size b
   dictionaries ← all_need (λ block. dictionary_needs b meta block) (dictionaries_read meta.blocks meta.dictionaries)
   batches ← all_need (λ block. batch_needs b meta r block) meta.blocks
@@ -120,7 +119,7 @@ parts_needed built b r = do
 
 -- the ranges that a request needs
 unfoldable pub needed : List ℕ → Request → List Range
-needed b r = or_nothing (meaning (parts_needed so_far b r))
+needed b r = or_nothing (meaning (parts_needed b r))
 
 -- their lengths together
 abbrev pub lengths : List Range → ℕ

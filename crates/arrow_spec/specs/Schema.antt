@@ -19,7 +19,6 @@ use Rattle.arrow_spec.specs.declared.types.IntervalUnit.TheVariants.{YearMonth, 
 use Rattle.arrow_spec.specs.declared.types.UnionMode.TheVariants.{Dense, Sparse}
 use Rattle.arrow_spec.specs.Kinds as kind
 use Rattle.arrow_spec.specs.Kinds.{Kind, Fields, none, field, Metadata, Offsets, small, large, width, same, Use, uses_in, values_under, agrees_with}
-use Rattle.arrow_spec.specs.Built.{Built}
 
 -- byte order, fields and pairs (Schema.fbs, Schema)
 pub record Schema : Type 0 where
@@ -327,22 +326,23 @@ pub record Encoding : Type 0 where
   pub ordered : Bool
   pub id : ℤ
 
+-- an absent index type is Int32 (Schema.fbs, DictionaryEncoding)
+abbrev pub index_at : List ℕ → Option Table → Reading IntegerType
+index_at b None = Ok Int32
+index_at b (Some i) = integer_at b i
+
+-- a dictionary's table, where there is one
+abbrev pub encoding_in : List ℕ → Option Table → Reading (Option Encoding)
+encoding_in b None = Ok None
+encoding_in b (Some t) = do
+  id ← schema_part (slot_signed w64 (pos 0) b t 0)
+  index ← schema_part (slot_table b t 1) >>= λ i. index_at b i
+  ordered ← schema_part (slot_bool b t 2)
+  Ok (Some (record { index = index; ordered = ordered; id = id }))
+
 -- a field's dictionary (Schema.fbs, DictionaryEncoding)
 unfoldable pub encoding_at : List ℕ → Table → Reading (Option Encoding)
-encoding_at b t = do
-  e ← schema_part (slot_table b t 4)
-  elim e [ None ↦ Ok None | Some table ↦ encoding_of table ]
-  where
-    index_of : Option Table → Reading IntegerType
-    index_of None = Ok Int32
-    index_of (Some i) = integer_at b i
-
-    encoding_of : Table → Reading (Option Encoding)
-    encoding_of t' = do
-      id ← schema_part (slot_signed w64 (pos 0) b t' 0)
-      index ← schema_part (slot_table b t' 1) >>= index_of
-      ordered ← schema_part (slot_bool b t' 2)
-      Ok (Some (record { index = index; ordered = ordered; id = id }))
+encoding_at b t = schema_part (slot_table b t 4) >>= λ e. encoding_in b e
 
 -- the key of an extension's name (Arrow Columnar Format, "Extension Types")
 abbrev pub extension_name : List ℕ
@@ -380,8 +380,8 @@ tag_of zero = damaged MissingType
 tag_of (suc n) = required (OutOfSpec (InvalidFlatbufferSchema Number)) (one_of (suc n) tags)
 
 -- a field before its children (Schema.fbs, Field)
-unfoldable pub head_at : Built → List ℕ → ℕ → Before → Reading Head
-head_at built b at before = do
+unfoldable pub head_at : List ℕ → ℕ → Before → Reading Head
+head_at b at before = do
   room ← unless (nat_lt before.fields 65536) (TooMany counted.Fields)
   t ← schema_part (target b at >>= λ p. table_at b p)
   name ← schema_part (slot_text b t 0)
@@ -389,12 +389,10 @@ head_at built b at before = do
   number ← schema_part (slot_unsigned w8 0 b t 2)
   tag ← tag_of number
   type ← schema_part (slot_table b t 3) >>= required (OutOfSpec MissingType)
-  known ← unless (built.tag number) (Unsupported features.NotYet)
   encoding ← encoding_at b t
   children ← children_at b t tag
   pairs ← pairs_of b t 6 before.pairs
   kind ← type_at b type children.count tag
-  whole ← unless (built.field (with_encoding encoding (with_extension pairs.0 (kind none))) && (built.pairs || nat_eq pairs.1 before.pairs)) (Unsupported features.NotYet)
   Ok (record {
     name = or_default [] name;
     nullable = nullable;
@@ -431,11 +429,11 @@ fields_by one at (suc n) before = do
   Ok (field first.0.name first.0.nullable first.0.metadata first.1 others.0, others.1)
 
 -- a field and the fields below it, of which there may be so many levels
-unfoldable pub field_at : Built → ℕ → List ℕ → ℕ → Before → Reading (Head × Kind × Before)
-field_at built zero b at before = refuse TooDeep
-field_at built (suc levels) b at before = do
-  head ← head_at built b at before
-  children ← fields_by (λ p earlier. field_at built levels b p earlier) head.children.first head.children.count head.before
+unfoldable pub field_at : ℕ → List ℕ → ℕ → Before → Reading (Head × Kind × Before)
+field_at zero b at before = refuse TooDeep
+field_at (suc levels) b at before = do
+  head ← head_at b at before
+  children ← fields_by (λ p earlier. field_at levels b p earlier) head.children.first head.children.count head.before
   whole ← only_if (is_whole (head.of_children children.0)) InvalidDataType
   Ok (head, head.of_children children.0, children.1)
 
@@ -466,13 +464,12 @@ uses_agree earlier [] = Ok tt
 uses_agree earlier (u ∷ us) = only_if (agrees_with (values_under u.id earlier) u.values) (InvalidIdDataType u.id) >>= λ right. uses_agree (u ∷ earlier) us
 
 -- the schema's own slots stand before its fields, and what speaks of two fields at its end
-unfoldable pub schema_of : Built → List ℕ → Table → Reading Schema
-schema_of built b t = do
+unfoldable pub schema_of : List ℕ → Table → Reading Schema
+schema_of b t = do
   order ← schema_part (slot_unsigned w16 0 b t 0) >>= order_of
   pairs ← pairs_of b t 2 0
   v ← schema_part (slot_vector 4 b t 1) >>= required (OutOfSpec MissingFields)
-  fields ← fields_by (λ p before. field_at built 64 b p before) v.first v.count (record { fields = 0; pairs = pairs.1 })
+  fields ← fields_by (λ p before. field_at 64 b p before) v.first v.count (record { fields = 0; pairs = pairs.1 })
   distinct ← unless (has_distinct_names fields.0) (Unsupported features.DuplicateField)
   uses ← uses_agree [] (uses_in fields.0)
-  whole ← unless ((built.big_endian || is_little order) && (built.pairs || nat_eq pairs.1 0)) (Unsupported features.NotYet)
   Ok (record { order = order; fields = fields.0; metadata = pairs.0 })

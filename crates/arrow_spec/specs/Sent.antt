@@ -4,12 +4,12 @@ use Rattle.std.specs.Prelude.{map as each_of}
 use Rattle.std.specs.List.{flat_map}
 use Rattle.std.specs.Int.{Width, w8, w16, w32, w64, to_le_bytes, cast_unsigned, byte_len}
 use Rattle.arrow_spec.specs.declared.types.IntegerType.{IntegerType}
-use Rattle.arrow_spec.specs.Flat.{little}
+use Rattle.arrow_spec.specs.Flat.{Order, little, big}
 use Rattle.arrow_spec.specs.declared.types.TimeUnit.{TimeUnit}
 use Rattle.arrow_spec.specs.declared.types.TimeUnit.TheVariants.{Millisecond}
 use Rattle.arrow_spec.specs.declared.types.IntervalUnit.TheVariants.{YearMonth, DayTime, MonthDayNano}
 use Rattle.arrow_spec.specs.declared.types.UnionMode.TheVariants.{Dense, Sparse}
-use Rattle.arrow_spec.specs.Kinds.{Kind, Fields, none, field, null, boolean, integer, float, date32, date64, time32, time64, timestamp, duration, interval, decimal, decimal256, binary, utf8, binary_view, utf8_view, fixed_size_binary, «list», fixed_size_list, struct, map, union, dictionary, extension, Offsets, small, large, Metadata, unit_number, half, single, double}
+use Rattle.arrow_spec.specs.Kinds.{Kind, Fields, none, field, null, boolean, integer, float, date32, date64, time32, time64, timestamp, duration, interval, decimal, decimal256, binary, utf8, binary_view, utf8_view, fixed_size_binary, «list», fixed_size_list, struct, map, union, dictionary, extension, Offsets, small, large, Metadata, unit_number, half, single, double, dictionary_count, numbered}
 use Rattle.arrow_spec.specs.Layout.{Node, Slots, Nodes, up_to, size}
 use Rattle.arrow_spec.specs.Layout as layout
 use Rattle.arrow_spec.specs.declared.message.FieldNode.{FieldNode}
@@ -115,26 +115,10 @@ type_node (dictionary t ordered id k) = type_node k
 type_node (extension name metadata k) = type_node k
 type_node k = no_slots
 
--- ids count from a number on, in preorder
-abbrev pub encoding_slot : ℕ → Kind → Slots → Slots
-encoding_slot id (dictionary t ordered old k) s = layout.child (layout.table (unless_zero w64 (pos id) (layout.child (int_node t) (flag ordered layout.no_more)))) s
-encoding_slot id k s = layout.absent s
-
--- how many dictionaries stand in a kind
-abbrev mutual
-  pub dictionary_count : Kind → ℕ
-  dictionary_count («list» o fs) = dictionary_counts fs
-  dictionary_count (fixed_size_list n fs) = dictionary_counts fs
-  dictionary_count (struct fs) = dictionary_counts fs
-  dictionary_count (map sorted fs) = dictionary_counts fs
-  dictionary_count (union mode stated ids fs) = dictionary_counts fs
-  dictionary_count (dictionary t ordered id k) = suc (dictionary_count k)
-  dictionary_count (extension name metadata k) = dictionary_count k
-  dictionary_count k = 0
-
-  pub dictionary_counts : Fields → ℕ
-  dictionary_counts none = 0
-  dictionary_counts (field name nullable metadata k others) = dictionary_count k + dictionary_counts others
+-- a dictionary's index type, order flag and id (Schema.fbs, DictionaryEncoding)
+abbrev pub encoding_slot : Kind → Slots → Slots
+encoding_slot (dictionary t ordered id k) s = layout.child (layout.table (unless_zero w64 id (layout.child (int_node t) (flag ordered layout.no_more)))) s
+encoding_slot k s = layout.absent s
 
 -- a pair (Schema.fbs, KeyValue)
 abbrev pub pair_node : List ℕ → List ℕ → Node
@@ -161,21 +145,21 @@ abbrev pub pairs_slot : Nodes → Slots → Slots
 pairs_slot layout.none s = layout.absent s
 pairs_slot (layout.also n ns) s = layout.child (layout.tables (layout.also n ns)) s
 
--- a field's node, ids counted from a number on; and the nodes of the children of a kind
+-- a field's node, and the nodes of the children of a kind (Schema.fbs, Field)
 abbrev mutual
-  pub child_nodes : Kind → ℕ → Nodes
-  child_nodes («list» o fs) id = field_nodes fs id
-  child_nodes (fixed_size_list n fs) id = field_nodes fs id
-  child_nodes (struct fs) id = field_nodes fs id
-  child_nodes (map sorted fs) id = field_nodes fs id
-  child_nodes (union mode stated ids fs) id = field_nodes fs id
-  child_nodes (dictionary t ordered old k) id = child_nodes k (suc id)
-  child_nodes (extension name metadata k) id = child_nodes k id
-  child_nodes k id = layout.none
+  pub child_nodes : Kind → Nodes
+  child_nodes («list» o fs) = field_nodes fs
+  child_nodes (fixed_size_list n fs) = field_nodes fs
+  child_nodes (struct fs) = field_nodes fs
+  child_nodes (map sorted fs) = field_nodes fs
+  child_nodes (union mode stated ids fs) = field_nodes fs
+  child_nodes (dictionary t ordered id k) = child_nodes k
+  child_nodes (extension name metadata k) = child_nodes k
+  child_nodes k = layout.none
 
-  pub field_nodes : Fields → ℕ → Nodes
-  field_nodes none id = layout.none
-  field_nodes (field name nullable metadata k others) id = layout.also (layout.table (layout.child (layout.text name) (flag nullable (layout.value w8 (type_tag k) (layout.child (type_node k) (encoding_slot id k (layout.child (layout.tables (child_nodes k id)) (pairs_slot (field_pairs k metadata) layout.no_more)))))))) (field_nodes others (id + dictionary_count k))
+  pub field_nodes : Fields → Nodes
+  field_nodes none = layout.none
+  field_nodes (field name nullable metadata k others) = layout.also (layout.table (layout.child (layout.text name) (flag nullable (layout.value w8 (type_tag k) (layout.child (type_node k) (encoding_slot k (layout.child (layout.tables (child_nodes k)) (pairs_slot (field_pairs k metadata) layout.no_more)))))))) (field_nodes others)
 
 -- a message: its metadata, and how long its body is
 pub record SentMessage : Type 0 where
@@ -190,17 +174,26 @@ message_slots tag header body = layout.value w16 (pos 4) (layout.value w8 (pos t
 abbrev pub message : ℕ → Node → ℕ → SentMessage
 message tag header body = record { node = layout.table (message_slots tag header body); body = body }
 
--- the slots of a little-endian schema whose ids count in preorder (Schema.fbs, Schema)
-abbrev pub schema_slots : Fields → Metadata → Slots
-schema_slots fs pairs = layout.absent (layout.child (layout.tables (field_nodes fs 0)) (pairs_slot (pair_nodes pairs) layout.no_more))
+-- a byte order is left out where it is little-endian (Schema.fbs, Endianness)
+abbrev pub order_slot : Order → Slots → Slots
+order_slot little s = layout.absent s
+order_slot big s = layout.value w16 (pos 1) s
+
+-- the slots of a schema (Schema.fbs, Schema)
+abbrev pub schema_slots : Order → Fields → Metadata → Slots
+schema_slots order fs pairs = order_slot order (layout.child (layout.tables (field_nodes fs)) (pairs_slot (pair_nodes pairs) layout.no_more))
 
 -- its table
-abbrev pub schema_node : Fields → Metadata → Node
-schema_node fs pairs = layout.table (schema_slots fs pairs)
+abbrev pub schema_node : Order → Fields → Metadata → Node
+schema_node order fs pairs = layout.table (schema_slots order fs pairs)
 
 -- a schema message
-unfoldable pub schema_message : Fields → Metadata → SentMessage
-schema_message fs pairs = message 1 (schema_node fs pairs) 0
+unfoldable pub schema_message : Order → Fields → Metadata → SentMessage
+schema_message order fs pairs = message 1 (schema_node order fs pairs) 0
+
+-- the schema message of a stream that is written: little-endian, with ids that count from 0 in preorder
+abbrev pub stream_schema : Fields → Metadata → SentMessage
+stream_schema fs pairs = schema_message little (numbered fs 0) pairs
 
 -- ── arrays ──
 

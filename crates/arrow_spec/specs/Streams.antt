@@ -6,7 +6,6 @@ use Rattle.arrow_spec.specs.Readings.{◌>>=◌, Reading, damaged, only_if, mean
 use Rattle.arrow_spec.specs.Flat.{signed_at}
 use Rattle.arrow_spec.specs.Kinds.{bare, width}
 use Rattle.arrow_spec.specs.Schema.{Schema, schema_of}
-use Rattle.arrow_spec.specs.Built.{everything}
 use Rattle.arrow_spec.specs.Messages.{Message, natural, as_kind, is_mark, message_of, version_of, batch_at, dictionary_at}
 use Rattle.arrow_spec.specs.Files.{ArrowTable, TableBatch, batch_of_tables, to_read, dictionary_of, columns_right, fields_as_asked}
 use Rattle.arrow_spec.specs.Columns.{Dictionaries, HeldDictionary, chosen_floats}
@@ -100,17 +99,23 @@ unfoldable pub first_message : Option Framed → Reading Framed
 first_message None = damaged kinds.MissingSchema
 first_message (Some m) = Ok m
 
+-- a schema message by itself, and the schema that it has
+unfoldable pub schema_message_of : List ℕ → Reading (Message × Schema)
+schema_message_of metadata = do
+  m ← message_of metadata (λ tag. nat_eq tag 1)
+  version ← version_of metadata m
+  schema ← schema_of metadata m.header
+  Ok (m, schema)
+
 -- a schema message, then dictionaries and batches
 unfoldable pub stream_reading : List ℕ → Option (List ℕ) → Reading Stream
 stream_reading b columns = do
   f ← next_message b >>= first_message
-  m ← message_of f.metadata (λ tag. nat_eq tag 1)
-  version ← version_of f.metadata m
-  schema ← schema_of everything f.metadata m.header
-  body ← body_in f m
-  right ← columns_right columns (width schema.fields)
-  read ← stream_batches (length b) (record { schema = schema; columns = columns }) [] (drop m.body f.behind)
-  Ok (record { table = record { metadata = schema.metadata; fields = bare (fields_as_asked columns schema.fields); batches = read.batches }; left = read.left })
+  first ← schema_message_of f.metadata
+  body ← body_in f first.0
+  right ← columns_right columns (width first.1.fields)
+  read ← stream_batches (length b) (record { schema = first.1; columns = columns }) [] (drop first.0.body f.behind)
+  Ok (record { table = record { metadata = first.1.metadata; fields = bare (fields_as_asked columns first.1.fields); batches = read.batches }; left = read.left })
 
 -- what a stream means in some of its columns
 unfoldable pub stream_table : List ℕ → Option (List ℕ) → Option ArrowTable

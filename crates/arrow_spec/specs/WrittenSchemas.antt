@@ -1,25 +1,10 @@
 -- Schemas that are read back as they are written.
-use Rattle.std.specs.Prelude.{◌≡◌, ℕ, zero, suc, ◌+◌, ◌^◌, ◌<◌, ◌≤◌, List, [], ◌∷◌, ◌++◌, length, Bool, true, false, Option, Some, None, pos, ℤ, nat_le, nat_lt, nat_eq, ◌&&◌}
+use Rattle.std.specs.Prelude.{◌≡◌, ℕ, zero, suc, ◌+◌, ◌^◌, ◌<◌, ◌≤◌, List, [], ◌∷◌, ◌++◌, length, Bool, true, false, Option, Some, None, Ok, ℤ, FitsSigned, nat_le, nat_lt, nat_eq, ◌&&◌}
+use Rattle.std.specs.List.{AllByRecursion}
+use Rattle.std.specs.Int.{w64}
 use Rattle.std.specs.Str.{is_utf8, bytes_eq}
-use Rattle.arrow_spec.specs.Kinds.{Kind, Fields, none, field, Metadata, width, time32, time64, timestamp, decimal, decimal256, fixed_size_binary, «list», fixed_size_list, struct, map, union, dictionary, extension, unit_number}
-use Rattle.arrow_spec.specs.Schema.{Before, are_ids, counted_ids, extension_name, extension_metadata, first_is_struct_of_two, has_distinct_names, stands_before, value_of}
-use Rattle.arrow_spec.specs.Sent.{dictionary_count}
-
--- the same fields with the ids that are written, which count from a number on in preorder
-abbrev mutual
-  pub numbered_kind : Kind → ℕ → Kind
-  numbered_kind («list» o fs) id = «list» o (numbered fs id)
-  numbered_kind (fixed_size_list n fs) id = fixed_size_list n (numbered fs id)
-  numbered_kind (struct fs) id = struct (numbered fs id)
-  numbered_kind (map sorted fs) id = map sorted (numbered fs id)
-  numbered_kind (union mode stated ids fs) id = union mode stated ids (numbered fs id)
-  numbered_kind (dictionary t ordered old k) id = dictionary t ordered (pos id) (numbered_kind k (suc id))
-  numbered_kind (extension name metadata k) id = extension name metadata (numbered_kind k id)
-  numbered_kind k id = k
-
-  pub numbered : Fields → ℕ → Fields
-  numbered none id = none
-  numbered (field name nullable metadata k others) id = field name nullable metadata (numbered_kind k id) (numbered others (id + dictionary_count k))
+use Rattle.arrow_spec.specs.Kinds.{Kind, Fields, none, field, Metadata, width, time32, time64, timestamp, decimal, decimal256, fixed_size_binary, «list», fixed_size_list, struct, map, union, dictionary, extension, unit_number, Use, uses_in}
+use Rattle.arrow_spec.specs.Schema.{Before, are_ids, counted_ids, extension_name, extension_metadata, first_is_struct_of_two, has_distinct_names, stands_before, uses_agree, value_of}
 
 -- ── pairs ──
 
@@ -95,6 +80,50 @@ abbrev mutual
   FieldsFit zero (field name nullable metadata k others) = ⊥
   FieldsFit (suc levels) (field name nullable metadata k others) = (is_utf8 name ≡ true) × AreFieldPairs metadata × KindFits of_field levels k × FieldsFit (suc levels) others
 
+-- the texts of a kind and of fields are texts, and the fields' pairs ascend without reserved keys
+abbrev mutual
+  pub KindHasTexts : Kind → Type 0
+  KindHasTexts (timestamp u tz) = IsText tz
+  KindHasTexts («list» o fs) = HaveTexts fs
+  KindHasTexts (fixed_size_list n fs) = HaveTexts fs
+  KindHasTexts (struct fs) = HaveTexts fs
+  KindHasTexts (map sorted fs) = HaveTexts fs
+  KindHasTexts (union mode stated ids fs) = HaveTexts fs
+  KindHasTexts (dictionary t ordered id k) = KindHasTexts k
+  KindHasTexts (extension name metadata k) = (is_utf8 name ≡ true) × IsText metadata × KindHasTexts k
+  KindHasTexts k = Unit {0}
+
+  pub HaveTexts : Fields → Type 0
+  HaveTexts none = Unit {0}
+  HaveTexts (field name nullable metadata k others) = (is_utf8 name ≡ true) × AreFieldPairs metadata × KindHasTexts k × HaveTexts others
+
+-- the sizes, precisions and scales of a kind and of fields, in preorder
+abbrev mutual
+  pub sizes_of : Kind → List ℕ
+  sizes_of (decimal precision scale) = precision ∷ scale ∷ []
+  sizes_of (decimal256 precision scale) = precision ∷ scale ∷ []
+  sizes_of (fixed_size_binary n) = n ∷ []
+  sizes_of («list» o fs) = sizes_in fs
+  sizes_of (fixed_size_list n fs) = n ∷ sizes_in fs
+  sizes_of (struct fs) = sizes_in fs
+  sizes_of (map sorted fs) = sizes_in fs
+  sizes_of (union mode stated ids fs) = sizes_in fs
+  sizes_of (dictionary t ordered id k) = sizes_of k
+  sizes_of (extension name metadata k) = sizes_of k
+  sizes_of k = []
+
+  pub sizes_in : Fields → List ℕ
+  sizes_in none = []
+  sizes_in (field name nullable metadata k others) = sizes_of k ++ sizes_in others
+
+-- each is a signed number of 32 bits (Schema.fbs: byteWidth, listSize, precision, scale)
+abbrev pub AreSizes : List ℕ → Type 0
+AreSizes ns = AllByRecursion (λ n. n < 2 ^ 31) ns
+
+-- each is a signed number of 64 bits (Schema.fbs, DictionaryEncoding: id)
+abbrev pub AreIds : List Use → Type 0
+AreIds us = AllByRecursion (λ u. FitsSigned w64 u.id) us
+
 -- the fields and pairs that stand before what follows a kind or fields
 abbrev mutual
   pub after_kind : Kind → Before → Before
@@ -111,10 +140,15 @@ abbrev mutual
   after_fields none p = p
   after_fields (field name nullable metadata k others) p = after_fields others (after_kind k (record { fields = suc p.fields; pairs = p.pairs + length (pairs_for k metadata) }))
 
--- a schema that may be written
+-- a schema that may be written, its ids aside
 pub record SchemaMayBeWritten (fs : Fields) (pairs : Metadata) : Type 0 where
   pub fit : FieldsFit 64 fs
   pub ascend : Ascend [] pairs
   pub few_fields : (after_fields fs (record { fields = 0; pairs = length pairs })).fields ≤ 65536
   pub few_pairs : (after_fields fs (record { fields = 0; pairs = length pairs })).pairs ≤ 1048576
   pub distinct : has_distinct_names fs ≡ true
+
+-- ids that may be written: each is a signed number of 64 bits, and all values under one are of one kind
+pub record IdsMayBeWritten (fs : Fields) : Type 0 where
+  pub within : AreIds (uses_in fs)
+  pub agree : uses_agree [] (uses_in fs) ≡ Ok tt

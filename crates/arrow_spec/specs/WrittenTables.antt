@@ -1,41 +1,37 @@
 -- Tables of 32-bit integers as they are written to a stream.
-use Rattle.std.specs.Prelude.{◌≡◌, ℕ, zero, suc, ◌+◌, ◌^◌, ◌<◌, ◌≤◌, List, [], ◌∷◌, ◌++◌, length, get_or, Option, Some, None, Bool, true, false, ℤ, pos, FitsSigned, if◌then◌else◌}
+use Rattle.std.specs.Prelude.{◌≡◌, ℕ, zero, suc, ◌+◌, ◌^◌, ◌<◌, List, [], ◌∷◌, ◌++◌, length, get_or, Option, Some, None, Bool, true, false, ℤ, pos, FitsSigned, if◌then◌else◌}
 use Rattle.std.specs.Prelude.{map as each_of}
 use Rattle.std.specs.List.{flat_map, AllByRecursion}
-use Rattle.std.specs.Str.{is_utf8}
 use Rattle.std.specs.Int.{w32, to_le_bytes, cast_unsigned}
 use Rattle.arrow_spec.specs.declared.message.FieldNode.{FieldNode}
 use Rattle.arrow_spec.specs.declared.types.IntegerType.TheVariants.{Int32}
-use Rattle.arrow_spec.specs.Kinds.{Fields, none, field, integer}
+use Rattle.arrow_spec.specs.Kinds.{Fields, none, field, integer, Metadata}
 use Rattle.arrow_spec.specs.Cells as cells
 use Rattle.arrow_spec.specs.Cells.{Cell}
 use Rattle.arrow_spec.specs.Counts.{Written}
 use Rattle.arrow_spec.specs.Columns.{from_on}
-use Rattle.arrow_spec.specs.Schema.{has_distinct_names}
-use Rattle.arrow_spec.specs.Sent.{SentMessage, message, schema_message, batch_node, may_be_sent}
+use Rattle.arrow_spec.specs.Sent.{SentMessage, message, stream_schema, batch_node, may_be_sent}
 use Rattle.arrow_spec.specs.Framing.{message_bytes, body_bytes, packed}
 use Rattle.arrow_spec.specs.Files.{ArrowTable, TableBatch}
 use Rattle.arrow_spec.specs.Streams.{end_mark}
+use Rattle.arrow_spec.specs.WrittenSchemas.{SchemaMayBeWritten}
 
 -- ── the schema ──
 
--- the field of a column: its name, and whether it may have nulls
+-- the field of a column: its name, whether it may have nulls, and its own pairs
 pub record Int32Field : Type 0 where
   pub name : List ℕ
   pub nullable : Bool
+  pub metadata : Metadata
 
--- their fields, without metadata
+-- their fields
 abbrev pub fields_of : List Int32Field → Fields
 fields_of [] = none
-fields_of (f ∷ fs) = field f.name f.nullable [] (integer Int32) (fields_of fs)
+fields_of (f ∷ fs) = field f.name f.nullable f.metadata (integer Int32) (fields_of fs)
 
--- the names are texts
-abbrev pub AreTexts : List Int32Field → Type 0
-AreTexts fs = AllByRecursion (λ f. is_utf8 f.name ≡ true) fs
-
--- the schema message
-abbrev pub written_schema : List Int32Field → SentMessage
-written_schema fs = schema_message (fields_of fs) []
+-- the schema message, with the schema's pairs
+abbrev pub written_schema : List Int32Field → Metadata → SentMessage
+written_schema fs pairs = stream_schema (fields_of fs) pairs
 
 -- ── columns ──
 
@@ -142,11 +138,9 @@ AllMayBeWritten count xs = AllByRecursion (λ x. MayBeWritten count x) xs
 -- ── the stream ──
 
 -- a table that may be written
-pub record TableMayBeWritten (fs : List Int32Field) (xs : List WrittenBatch) : Type 0 where
-  pub texts : AreTexts fs
-  pub few : length fs ≤ 65536
-  pub distinct : has_distinct_names (fields_of fs) ≡ true
-  pub size : may_be_sent (written_schema fs) ≡ true
+pub record TableMayBeWritten (fs : List Int32Field) (pairs : Metadata) (xs : List WrittenBatch) : Type 0 where
+  pub schema : SchemaMayBeWritten (fields_of fs) pairs
+  pub size : may_be_sent (written_schema fs pairs) ≡ true
   pub batches : AllMayBeWritten (length fs) xs
 
 -- the bytes of a batch: its message with its body
@@ -154,13 +148,13 @@ abbrev pub batch_bytes : WrittenBatch → List ℕ
 batch_bytes x = message_bytes (written_batch x).node (body_for x.columns)
 
 -- what a writer has put after some batches
-abbrev pub written_so_far : List Int32Field → List WrittenBatch → List ℕ
-written_so_far fs xs = message_bytes (written_schema fs).node [] ++ flat_map batch_bytes xs
+abbrev pub written_so_far : List Int32Field → Metadata → List WrittenBatch → List ℕ
+written_so_far fs pairs xs = message_bytes (written_schema fs pairs).node [] ++ flat_map batch_bytes xs
 
 -- what it has put once the stream is ended
-abbrev pub written_stream : List Int32Field → List WrittenBatch → List ℕ
-written_stream fs xs = written_so_far fs xs ++ end_mark
+abbrev pub written_stream : List Int32Field → Metadata → List WrittenBatch → List ℕ
+written_stream fs pairs xs = written_so_far fs pairs xs ++ end_mark
 
 -- the table
-abbrev pub written_table : List Int32Field → List WrittenBatch → ArrowTable
-written_table fs xs = record { metadata = []; fields = fields_of fs; batches = each_of table_batch xs }
+abbrev pub written_table : List Int32Field → Metadata → List WrittenBatch → ArrowTable
+written_table fs pairs xs = record { metadata = pairs; fields = fields_of fs; batches = each_of table_batch xs }

@@ -1,5 +1,5 @@
 //! What follows from the definitions: each function's contract is a law, proved in `proofs/`.
-ghost use Rattle.arrow_spec.specs.Laws.{BatchMessageReadsBack, DependsOnNeeded, DictionaryMessageReadsBack, FramedMessageIsNext, LayoutReadsBack, ProjectsAndCuts, SchemaMessageReadsBack, SentMeans, SentOrTooLarge, StreamFuelIsEnough, WrittenStreamMeansItsTable};
+ghost use Rattle.arrow_spec.specs.Laws.{BatchMessageReadsBack, DependsOnNeeded, DictionaryMessageReadsBack, FramedMessageIsNext, LayoutReadsBack, NumberedMayBeWritten, ProjectsAndCuts, ReadSchemaMayBeWritten, RegularMayBeWritten, SchemaBytesReadBack, SchemaMessageReadsBack, SentMeans, SentOrTooLarge, StreamFuelIsEnough, WrittenStreamMeansItsTable};
 
 /// What a whole file means gives what it means under distinct columns and a limit.
 pub fn projects_and_cuts()
@@ -21,9 +21,29 @@ pub fn framed_message_is_next()
     ensures { FramedMessageIsNext }
 {}
 
-/// A schema is read back from its framed message, of all types: with its dictionaries numbered anew.
+/// A schema is read back from its framed message, of all types, with its ids and its byte order.
 pub fn schema_message_reads_back()
     ensures { SchemaMessageReadsBack }
+{}
+
+/// A schema message's own bytes, without prefix and padding, are read as the schema.
+pub fn schema_bytes_read_back()
+    ensures { SchemaBytesReadBack }
+{}
+
+/// A schema that may be written may be written with its dictionaries numbered from 0 in preorder.
+pub fn numbered_may_be_written()
+    ensures { NumberedMayBeWritten }
+{}
+
+/// A schema that is read of bytes may be written.
+pub fn read_schema_may_be_written()
+    ensures { ReadSchemaMayBeWritten }
+{}
+
+/// A regular schema that the format's tables can say may be written.
+pub fn regular_may_be_written()
+    ensures { RegularMayBeWritten }
 {}
 
 /// The message of a record batch of any types is read back: its nodes, buffers and variadic counts.
@@ -41,7 +61,7 @@ pub fn stream_fuel_is_enough()
     ensures { StreamFuelIsEnough }
 {}
 
-/// A written stream of Int32 columns, nullable or not, is closed and means the written table.
+/// A written stream of Int32 columns, nullable or not, with metadata or without, is closed and means the written table.
 pub fn written_stream_means_its_table()
     ensures { WrittenStreamMeansItsTable }
 {}

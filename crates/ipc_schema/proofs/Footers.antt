@@ -10,7 +10,6 @@ use Rattle.arrow_spec.specs.declared.error.OutOfSpecKind.TheVariants as kinds
 use Rattle.arrow_spec.specs.declared.message.Block.{Block}
 use Rattle.arrow_spec.specs.Readings.{damaged, bind, each, Gives, Reading, Refuses, refusals, in_terms_of}
 use Rattle.arrow_spec.specs.Flat.{signed_at}
-use Rattle.arrow_spec.specs.Built.{so_far}
 use Rattle.arrow_spec.specs.Files.{footer_of, FileBlock, block_of, block_at, meta_in}
 use Rattle.arrow_flat.specs.Read.{VectorIn, item}
 use Rattle.ipc_schema.specs.Footers.{footer_length_in, file_block, block_numbers_at, block_by, fault_in, block_in, blocks_in, records_part, dictionaries_part, schema_in_footer, footer_parts, footer_view}
@@ -73,12 +72,12 @@ unfolding bind
 bind_twice (Ok x) f g = refl
 bind_twice (Err e) f g = refl
 
-footer_same : (f : List ℕ) → meta_in so_far f ≡ footer_parts f
+footer_same : (f : List ℕ) → meta_in f ≡ footer_parts f
 unfolding meta_in footer_parts records_part dictionaries_part schema_in_footer
 footer_same f = simp bind_twice
 
 -- a footer is its parts
-pub footer_by_parts : (f : List ℕ) (r : Result Footer IpcError) → Gives footer_view r (footer_parts f) → Gives footer_view r (meta_in so_far f)
+pub footer_by_parts : (f : List ℕ) (r : Result Footer IpcError) → Gives footer_view r (footer_parts f) → Gives footer_view r (meta_in f)
 footer_by_parts f r h = subst (Gives footer_view r) (sym (footer_same f)) h
 
 -- ── where the footer stands ──

@@ -4,7 +4,4 @@ pub mod Pieces
 pub mod Shelves
 pub mod Parts
 pub mod Prefixed
-pub mod Int32Fields
-pub mod SchemaSteps
-pub mod Keys
 pub mod Footers

@@ -10,13 +10,12 @@ use Rattle.arrow_spec.specs.declared.error.OutOfSpecKind.TheVariants as kinds
 use Rattle.arrow_spec.specs.declared.message.Block.{Block}
 use Rattle.arrow_spec.specs.Readings.{Reading, ◌>>=◌, unless, only_if}
 use Rattle.arrow_spec.specs.Flat.{Table, root, signed_at, slot_table, slot_vector}
-use Rattle.arrow_spec.specs.Built.{so_far}
 use Rattle.arrow_spec.specs.Schema.{Schema, required, schema_of}
 use Rattle.arrow_spec.specs.Messages.{as_kind}
 use Rattle.arrow_spec.specs.Counts.{magnitude}
 use Rattle.arrow_spec.specs.Files.{FileBlock, Meta, arrow_1, block_of, block_at, blocks_at, feather_v1, footer_length, no_blocks}
 use Rattle.arrow_flat.specs.Read.{VectorIn}
-use Rattle.ipc_schema.specs.SchemaViews.{schema_in}
+use Rattle.ipc_fields.specs.IpcFields.{schema_view}
 use Rattle.ipc_schema.specs.declared.footer.BlockList.{BlockList}
 use Rattle.ipc_schema.specs.declared.footer.BlockList.TheVariants.{RecordBatches, Dictionaries}
 use Rattle.ipc_schema.specs.declared.footer.Footer.{Footer}
@@ -27,7 +26,7 @@ file_block x = record { offset = magnitude x.offset; metadata = magnitude x.meta
 
 -- what a footer says
 abbrev pub footer_view : Footer → Meta
-footer_view f = record { schema = schema_in f.schema; blocks = map file_block f.blocks.items; dictionaries = map file_block f.dictionaries.items }
+footer_view f = record { schema = schema_view (f.schema, f.ipc_schema, f.custom_metadata); blocks = map file_block f.blocks.items; dictionaries = map file_block f.dictionaries.items }
 
 -- the numbers of a block
 abbrev pub block_numbers_at : List ℕ → ℕ → Result Block FlatError
@@ -59,7 +58,7 @@ dictionaries_part f t = as_kind kinds.InvalidFlatbufferDictionaries (slot_vector
 
 -- the schema, which has to be there
 unfoldable pub schema_in_footer : List ℕ → Table → Reading Schema
-schema_in_footer f t = as_kind kinds.InvalidFlatbufferSchema (slot_table f t 1) >>= required (OutOfSpec kinds.MissingSchema) >>= λ s. schema_of so_far f s
+schema_in_footer f t = as_kind kinds.InvalidFlatbufferSchema (slot_table f t 1) >>= required (OutOfSpec kinds.MissingSchema) >>= λ s. schema_of f s
 
 -- a footer by its parts
 unfoldable pub footer_parts : List ℕ → Reading Meta

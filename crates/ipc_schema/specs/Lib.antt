@@ -3,7 +3,4 @@ pub mod Faults
 pub mod Memory
 pub mod Views
 pub mod Prefixes
-pub mod Int32Schemas
-pub mod SchemaViews
-pub mod Causes
 pub mod Footers

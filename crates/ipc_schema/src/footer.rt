@@ -2,24 +2,24 @@
 ghost use Rattle.std.specs.Prelude.{◌≡◌, ◌+◌, ◌<◌, ◌≤◌, ◌++◌, ◌∷◌, [], map, length, IfOk, OnErr, Err, IfErr};
 ghost use Rattle.arrow_spec.specs.declared.error.IpcError.TheVariants.{Memory};
 ghost use Rattle.arrow_spec.specs.Readings.{Gives};
-ghost use Rattle.arrow_spec.specs.Built.{so_far};
 ghost use Rattle.arrow_spec.specs.Files.{meta_in};
-ghost use Rattle.ipc_schema.specs.Int32Schemas.{IsInt32Keyed};
-ghost use Rattle.ipc_schema.specs.SchemaViews.{schema_in};
+ghost use Rattle.ipc_fields.specs.IpcFields.{AreNamed, schema_view};
 ghost use Rattle.ipc_schema.specs.Footers.{file_block, footer_view, block_numbers_at, block_by, fault_in, block_in, blocks_in, footer_length_in, records_part, dictionaries_part, schema_in_footer, footer_parts};
-ghost use Rattle.ipc_schema.specs.Causes.{IsOfBytes};
+ghost use Rattle.ipc_fields.specs.Causes.{IsOfBytes};
 
 use crate::number::{i32_at, i64_at};
-use crate::schema::read_schema;
 use arrow_flat::{Flat, Table, Vector};
 use arrow_spec::{Block, Feature, FlatError, IpcError, OutOfSpecKind};
-use arrow_types::ArrowSchema;
+use arrow_types::{ArrowSchema, Metadata};
+use ipc_fields::{IpcSchema, read_schema};
 use std::alloc::Global;
 
-/// The schema of a file, and its blocks of record batches and of dictionaries in the footer's order.
+/// The schema of a file with its IPC schema and its metadata, and the file's blocks of record batches and of dictionaries in the footer's order.
 #[derive(Drop)]
 pub struct Footer {
     pub schema: ArrowSchema,
+    pub ipc_schema: IpcSchema,
+    pub custom_metadata: Option<Metadata>,
     pub blocks: Vec<Block>,
     pub dictionaries: Vec<Block>,
 }
@@ -146,9 +146,12 @@ fn read_dictionary_blocks(alloc: Global, table: &Table<'_>) -> Result<Vec<Block>
 
 /// The schema of a footer.
 #[tactic(auto, unfolding(arrow_spec::specs::Readings::bind, crate::specs::Footers::schema_in_footer))]
-fn read_footer_schema(alloc: Global, table: &Table<'_>) -> Result<ArrowSchema, IpcError>
-    ensures gives { Gives schema_in result (schema_in_footer table.now.bytes table.now.table) }
-    ensures fields { IfOk result IsInt32Keyed }
+fn read_footer_schema(
+    alloc: Global,
+    table: &Table<'_>,
+) -> Result<(ArrowSchema, IpcSchema, Option<Metadata>), IpcError>
+    ensures gives { Gives schema_view result (schema_in_footer table.now.bytes table.now.table) }
+    ensures named { IfOk result (λ s. AreNamed s.0) }
     ensures quiet { IfErr result IsOfBytes }
 {
     let schema = table.slot_table(1).map_err(|e| IpcError::OutOfSpec(
@@ -163,7 +166,7 @@ fn read_footer_schema(alloc: Global, table: &Table<'_>) -> Result<ArrowSchema, I
 #[tactic(auto, unfolding(arrow_spec::specs::Readings::bind, crate::specs::Footers::footer_parts))]
 fn read_footer_parts(alloc: Global, bytes: &[u8]) -> Result<Footer, IpcError>
     ensures gives { Gives footer_view result (footer_parts bytes.now) }
-    ensures fields { IfOk result (λ f. IsInt32Keyed f.schema) }
+    ensures named { IfOk result (λ f. AreNamed f.schema) }
     ensures quiet { IfErr result IsOfBytes }
 {
     let table = Flat::root(bytes).map_err(|e| IpcError::OutOfSpec(
@@ -171,9 +174,11 @@ fn read_footer_parts(alloc: Global, bytes: &[u8]) -> Result<Footer, IpcError>
     ))?;
     let blocks = read_record_blocks(alloc, &table)?;
     let dictionaries = read_dictionary_blocks(alloc, &table)?;
-    let schema = read_footer_schema(alloc, &table)?;
+    let (schema, ipc_schema, custom_metadata) = read_footer_schema(alloc, &table)?;
     Ok(Footer {
         schema,
+        ipc_schema,
+        custom_metadata,
         blocks,
         dictionaries,
     })
@@ -186,10 +191,10 @@ fn read_footer_parts(alloc: Global, bytes: &[u8]) -> Result<Footer, IpcError>
 /// `OutOfSpec` with the kind of the part that is not as the format says, and what `read_schema` answers.
 #[tactic(auto, using(crate::proofs::Footers::footer_by_parts))]
 pub fn deserialize_footer(alloc: Global, bytes: &[u8]) -> Result<Footer, IpcError>
-    ensures gives { Gives footer_view result (meta_in so_far bytes.now) }
+    ensures gives { Gives footer_view result (meta_in bytes.now) }
 
-    // Each field is an Int32 without metadata, under its own name.
-    ensures fields { IfOk result (λ f. IsInt32Keyed f.schema) }
+    // Each field stands under its own name.
+    ensures named { IfOk result (λ f. AreNamed f.schema) }
     ensures quiet { IfErr result IsOfBytes }
 {
     read_footer_parts(alloc, bytes)

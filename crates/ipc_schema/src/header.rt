@@ -4,7 +4,7 @@ ghost use Rattle.arrow_spec.specs.declared.error.IpcError.TheVariants.{Memory, R
 ghost use Rattle.arrow_spec.specs.Readings.{Gives};
 ghost use Rattle.arrow_spec.specs.Messages.{message_of as message_tables, node_at, buffer_at, record_message};
 ghost use Rattle.ipc_schema.specs.Views.{message_in, version_at, node_of, buffer_of, number_of, nodes_in, buffers_in, numbers_in, nodes_part, buffers_part, variadic_part, batch_parts, record_parts, header_of, message_of};
-ghost use Rattle.ipc_schema.specs.Causes.{IsOfBytes};
+ghost use Rattle.ipc_fields.specs.Causes.{IsOfBytes};
 
 use crate::message::{BatchHeader, RecordMessage};
 use crate::number::i64_at;

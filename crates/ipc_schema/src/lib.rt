@@ -9,7 +9,6 @@ mod message;
 mod number;
 mod outside;
 mod prefix;
-mod schema;
 #[cfg(test)]
 mod worked;
 
@@ -19,8 +18,11 @@ pub use arrow_spec::{
 };
 pub use footer::{Footer, decode_footer_len, deserialize_footer};
 pub use header::read_record_message;
+pub use ipc_fields::{
+    IpcField, IpcSchema, default_ipc_fields, deserialize_schema, read_schema, schema_message,
+    schema_to_bytes, serialize_schema,
+};
 pub use memory::{Entry, MemoryFeed, MemoryShelf, MemorySink, MemorySource};
 pub use message::{BatchHeader, RecordMessage};
 pub use outside::{Failed, Feed, Got, PutError, Shelf, ShelfError, Sink, Source};
 pub use prefix::{is_continuation, message_prefix, metadata_length};
-pub use schema::read_schema;

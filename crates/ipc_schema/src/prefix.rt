@@ -4,7 +4,7 @@ ghost use Rattle.arrow_spec.specs.declared.error.IpcError.TheVariants.{ReadFault
 ghost use Rattle.arrow_spec.specs.Readings.{Gives};
 ghost use Rattle.arrow_spec.specs.Messages.{prefix_of, is_mark};
 ghost use Rattle.ipc_schema.specs.Prefixes.{length_in};
-ghost use Rattle.ipc_schema.specs.Causes.{IsOfBytes};
+ghost use Rattle.ipc_fields.specs.Causes.{IsOfBytes};
 
 use crate::number::i32_at;
 use arrow_spec::{IpcError, OutOfSpecKind};

@@ -76,7 +76,9 @@ fn a_schema_of_one_column_is_read(rt: HostRuntime) -> Result<(), Fail> {
     let Ok(Some(table)) = root.slot_table(2) else {
         return Err(Fail::from(IpcError::State));
     };
-    let schema = read_schema(alloc, &table)?;
+    let (schema, ipc_schema, metadata) = read_schema(alloc, &table)?;
+    assert!(rt; ipc_schema.is_little_endian);
+    assert!(rt; metadata.is_none());
     assert_eq!(rt; schema.len(), 1);
     let Some((name, field)) = schema.get_at_index(0) else {
         return Err(Fail::from(IpcError::State));

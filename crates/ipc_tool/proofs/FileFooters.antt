@@ -5,12 +5,8 @@ use Rattle.arrow_spec.specs.declared.error.IpcError.{IpcError}
 use Rattle.arrow_spec.specs.declared.error.IpcError.TheVariants.{OutOfSpec}
 use Rattle.arrow_spec.specs.declared.error.OutOfSpecKind.TheVariants as kinds
 use Rattle.arrow_spec.specs.Readings.{bind, Gives, Reading, Refuses, refusals}
-use Rattle.arrow_spec.specs.Built.{so_far}
 use Rattle.arrow_spec.specs.Files.{Meta, footer_of, meta_in, meta_of}
-use Rattle.arrow_spec.specs.WrittenTables.{Int32Field, fields_of}
-use Rattle.arrow_types.specs.Schemas.{Keyed, fields_in}
 use Rattle.ipc_schema.specs.Outside.{IsSize}
-use Rattle.ipc_schema.specs.Int32Schemas.{IsInt32Keyed}
 use Rattle.ipc_schema.specs.Footers.{footer_length_in, footer_view}
 use Rattle.ipc_schema.specs.declared.footer.Footer.{Footer}
 use Rattle.ipc_schema.proofs.Footers.{footer_by_end, footer_cut}
@@ -46,41 +42,30 @@ footer_fetched (Some b) after size end text view n x s long f t h same g =
 
 -- ── what the footer says ──
 
-refused_in : {X Y : Type 0} (content : Option (List ℕ)) (view : X → List ℕ) (meta : Y → Meta) (e : IpcError) → GivesIn content view (Err e) footer_of → IfSome content (λ b. Gives meta (Err e) (meta_of so_far b))
+refused_in : {X Y : Type 0} (content : Option (List ℕ)) (view : X → List ℕ) (meta : Y → Meta) (e : IpcError) → GivesIn content view (Err e) footer_of → IfSome content (λ b. Gives meta (Err e) (meta_of b))
 unfolding meta_of
 refused_in None view meta e h = tt
-refused_in (Some b) view meta e h = refused_first e (footer_of b) (λ f. meta_in so_far f) h
+refused_in (Some b) view meta e h = refused_first e (footer_of b) (λ f. meta_in f) h
 
-pub footer_refused : {X Y : Type 0} (content after : Option (List ℕ)) (view : X → List ℕ) (meta : Y → Meta) (r : Result Y IpcError) (e : IpcError) → after ≡ content → r ≡ Err e → GivesIn after view (Err e) footer_of → IfSome content (λ b. Gives meta r (meta_of so_far b))
+pub footer_refused : {X Y : Type 0} (content after : Option (List ℕ)) (view : X → List ℕ) (meta : Y → Meta) (r : Result Y IpcError) (e : IpcError) → after ≡ content → r ≡ Err e → GivesIn after view (Err e) footer_of → IfSome content (λ b. Gives meta r (meta_of b))
 footer_refused content after view meta r e same is h =
-    subst (λ q. IfSome content (λ b. Gives meta q (meta_of so_far b))) (sym is) (refused_in content view meta e (subst (λ c. GivesIn c view (Err e) footer_of) same h))
+    subst (λ q. IfSome content (λ b. Gives meta q (meta_of b))) (sym is) (refused_in content view meta e (subst (λ c. GivesIn c view (Err e) footer_of) same h))
 
-said_by : {X : Type 0} (b : List ℕ) (view : X → List ℕ) (x : X) (text : List ℕ) → footer_of b ≡ Ok (view x) → text ≡ view x → meta_in so_far text ≡ meta_of so_far b
+said_by : {X : Type 0} (b : List ℕ) (view : X → List ℕ) (x : X) (text : List ℕ) → footer_of b ≡ Ok (view x) → text ≡ view x → meta_in text ≡ meta_of b
 unfolding meta_of
-said_by b view x text h t = ap (λ f. meta_in so_far f) t ∙ after_prefix (footer_of b) (λ f. meta_in so_far f) (view x) h
+said_by b view x text h t = ap (λ f. meta_in f) t ∙ after_prefix (footer_of b) (λ f. meta_in f) (view x) h
 
-meta_refused_in : {X Y : Type 0} (content : Option (List ℕ)) (view : X → List ℕ) (x : X) (text : List ℕ) (meta : Y → Meta) (e : IpcError) → GivesIn content view (Ok x) footer_of → text ≡ view x → Gives footer_view (Err e) (meta_in so_far text) → IfSome content (λ b. Gives meta (Err e) (meta_of so_far b))
+meta_refused_in : {X Y : Type 0} (content : Option (List ℕ)) (view : X → List ℕ) (x : X) (text : List ℕ) (meta : Y → Meta) (e : IpcError) → GivesIn content view (Ok x) footer_of → text ≡ view x → Gives footer_view (Err e) (meta_in text) → IfSome content (λ b. Gives meta (Err e) (meta_of b))
 meta_refused_in None view x text meta e h t g = tt
 meta_refused_in (Some b) view x text meta e h t g = subst (λ r. Refuses e (refusals r)) (said_by b view x text h t) g
 
-pub meta_refused : {X Y : Type 0} (content after : Option (List ℕ)) (view : X → List ℕ) (x : X) (text : List ℕ) (meta : Y → Meta) (r : Result Y IpcError) (e : IpcError) → after ≡ content → r ≡ Err e → GivesIn after view (Ok x) footer_of → text ≡ view x → Gives footer_view (Err e) (meta_in so_far text) → IfSome content (λ b. Gives meta r (meta_of so_far b))
+pub meta_refused : {X Y : Type 0} (content after : Option (List ℕ)) (view : X → List ℕ) (x : X) (text : List ℕ) (meta : Y → Meta) (r : Result Y IpcError) (e : IpcError) → after ≡ content → r ≡ Err e → GivesIn after view (Ok x) footer_of → text ≡ view x → Gives footer_view (Err e) (meta_in text) → IfSome content (λ b. Gives meta r (meta_of b))
 meta_refused content after view x text meta r e same is h t g =
-    subst (λ q. IfSome content (λ b. Gives meta q (meta_of so_far b))) (sym is) (meta_refused_in content view x text meta e (subst (λ c. GivesIn c view (Ok x) footer_of) same h) t g)
+    subst (λ q. IfSome content (λ b. Gives meta q (meta_of b))) (sym is) (meta_refused_in content view x text meta e (subst (λ c. GivesIn c view (Ok x) footer_of) same h) t g)
 
-meta_said_in : {X Y : Type 0} (content : Option (List ℕ)) (view : X → List ℕ) (x : X) (text : List ℕ) (meta : Y → Meta) (y : Y) (footer : Footer) → GivesIn content view (Ok x) footer_of → text ≡ view x → Gives footer_view (Ok footer) (meta_in so_far text) → meta y ≡ footer_view footer → IfSome content (λ b. Gives meta (Ok y) (meta_of so_far b))
+meta_said_in : {X Y : Type 0} (content : Option (List ℕ)) (view : X → List ℕ) (x : X) (text : List ℕ) (meta : Y → Meta) (y : Y) (footer : Footer) → GivesIn content view (Ok x) footer_of → text ≡ view x → Gives footer_view (Ok footer) (meta_in text) → meta y ≡ footer_view footer → IfSome content (λ b. Gives meta (Ok y) (meta_of b))
 meta_said_in None view x text meta y footer h t g m = tt
 meta_said_in (Some b) view x text meta y footer h t g m = sym (said_by b view x text h t) ∙ g ∙ ap Ok (sym m)
 
-pub meta_said : {X Y : Type 0} (content after : Option (List ℕ)) (view : X → List ℕ) (x : X) (text : List ℕ) (meta : Y → Meta) (y : Y) (footer : Footer) → after ≡ content → GivesIn after view (Ok x) footer_of → text ≡ view x → Gives footer_view (Ok footer) (meta_in so_far text) → meta y ≡ footer_view footer → IfSome content (λ b. Gives meta (Ok y) (meta_of so_far b))
+pub meta_said : {X Y : Type 0} (content after : Option (List ℕ)) (view : X → List ℕ) (x : X) (text : List ℕ) (meta : Y → Meta) (y : Y) (footer : Footer) → after ≡ content → GivesIn after view (Ok x) footer_of → text ≡ view x → Gives footer_view (Ok footer) (meta_in text) → meta y ≡ footer_view footer → IfSome content (λ b. Gives meta (Ok y) (meta_of b))
 meta_said content after view x text meta y footer same h t g m = meta_said_in content view x text meta y footer (subst (λ c. GivesIn c view (Ok x) footer_of) same h) t g m
-
--- ── its fields ──
-
--- fields that are all Int32
-pub int32_fields_in : (s : List Keyed) → IsInt32Keyed s → (fs : List Int32Field) × (fields_in s ≡ fields_of fs)
-int32_fields_in [] h = ([], refl)
-int32_fields_in (p ∷ ps) h =
-    let rest = int32_fields_in ps h.1 in
-    let kind = ap (λ (q : Keyed). q.1.kind) h.0 in
-    let pairs = ap (λ (q : Keyed). q.1.metadata) h.0 in
-    ((record { name = p.1.name; nullable = p.1.nullable }) ∷ rest.0, rw (kind, pairs, rest.1) refl)

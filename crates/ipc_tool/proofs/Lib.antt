@@ -8,7 +8,7 @@ mod FirstStreams
 pub mod Bits
 pub mod BodyColumns
 pub mod HeaderColumns
-pub mod SchemaFields
+pub mod Int32Files
 pub mod Sendable
 pub mod Refusing
 pub mod BatchParts

@@ -10,12 +10,12 @@ use Rattle.std.proofs.lemmas.List.{length-map}
 use Rattle.arrow_spec.specs.declared.message.FieldNode.{FieldNode}
 use Rattle.arrow_spec.specs.Kinds.{Fields}
 use Rattle.arrow_spec.specs.Layout.{Node, Slots, Nodes, table, text, structs, numbers32, numbers64, tables, no_more, absent, value, child, none, also, end_of, end_of_children, inline_end, table_place, size}
-use Rattle.arrow_spec.specs.Sent.{SentMessage, message_slots, schema_message, schema_node, schema_slots, may_be_sent, unless_zero, batch_node, batch_slots, node_bytes, buffer_bytes, nodes_node, buffers_node, placed}
+use Rattle.arrow_spec.specs.Sent.{SentMessage, message_slots, may_be_sent, unless_zero, batch_node, batch_slots, node_bytes, buffer_bytes, nodes_node, buffers_node, placed}
 use Rattle.arrow_spec.specs.Framing.{padded_size, padded, prefixed, message_bytes}
 use Rattle.arrow_spec.specs.Held.{Fits, AllFit, NodesFit}
 use Rattle.arrow_spec.specs.WrittenTables.{Int32Column, Int32Field, fields_of, nodes_for, buffers_for, written_of, written_batch, body_for}
 use Rattle.arrow_spec.proofs.Ends.{end_above}
-use Rattle.arrow_spec.proofs.MessagesFit.{message_fits, batch_fits, schema_fits, length-placed}
+use Rattle.arrow_spec.proofs.MessagesFit.{message_fits, batch_fits, length-placed}
 use Rattle.arrow_spec.proofs.Int32Batches.{length-buffers}
 use Rattle.arrow_flat.specs.declared.build.BuildError.{BuildError}
 use Rattle.arrow_flat.specs.declared.build.BuildError.TheVariants.{TooLarge, Memory}
@@ -79,12 +79,8 @@ length-nodes : (rows : ℕ) (cs : List Int32Column) → length (nodes_for rows c
 length-nodes rows [] = refl
 length-nodes rows (c ∷ cs) = ap suc (length-nodes rows cs)
 
-pub schema_keeps_slot_limit : (n h : Node) (fs : List Int32Field) (fields : Fields) → n ≡ table (message_slots 1 h 0) → h ≡ schema_node fields [] → fields ≡ fields_of fs → KeepsSlotLimit n
-schema_keeps_slot_limit n h fs fields hn hh hf =
-    let fits = message_fits 1 0 (table (schema_slots (fields_of fs) [])) (omega arith) (omega arith) (schema_fits fs) in
-    let whole : Node = table (message_slots 1 (table (schema_slots (fields_of fs) [])) 0) in
-    let same : whole ≡ n = sym (hn ∙ ap (λ x. table (message_slots 1 x 0)) (hh ∙ ap (λ x. schema_node x []) hf)) in
-    subst KeepsSlotLimit same (limit_of_node whole fits)
+pub schema_keeps_slot_limit : (n h : Node) → n ≡ table (message_slots 1 h 0) → KeepsSlotLimit h → KeepsSlotLimit n
+schema_keeps_slot_limit n h hn k = subst KeepsSlotLimit (sym hn) (omega arith, (k, tt))
 
 pub batch_keeps_slot_limit : (n h : Node) (xs : List Int32Array) (rows body : ℕ) → n ≡ table (message_slots 3 h body) → h ≡ batch_node rows (written_of rows (columns_of xs)) → rows < 2 ^ 63 → body < 2 ^ 63 → length xs < 2 ^ 27 → KeepsSlotLimit n
 batch_keeps_slot_limit n h xs rows body hn hh few short narrow =
@@ -156,14 +152,6 @@ builds_framed (Err Memory) m n hn hb bytes small large = tt
 
 pub batch_same : (n h : Node) (rows body : ℕ) (xs : List Int32Array) → n ≡ table (message_slots 3 h body) → h ≡ batch_node rows (written_of rows (columns_of xs)) → body ≡ length (body_for (columns_of xs)) → n ≡ (written_batch (batch_of rows xs)).node
 batch_same n h rows body xs hn hh hb = hn ∙ ap (λ x. table (message_slots 3 x body)) hh ∙ ap (λ k. table (message_slots 3 (batch_node rows (written_of rows (columns_of xs))) k)) hb
-
-pub schema_same : (n h : Node) (fs : Fields) → n ≡ table (message_slots 1 h 0) → h ≡ schema_node fs [] → n ≡ (schema_message fs []).node
-unfolding schema_message
-schema_same n h fs hn hh = hn ∙ ap (λ x. table (message_slots 1 x 0)) hh
-
-pub schema_body : (fs : Fields) → (schema_message fs []).body ≡ 0
-unfolding schema_message
-schema_body fs = refl
 
 -- ── the header ──
 

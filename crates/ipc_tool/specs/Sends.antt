@@ -4,6 +4,7 @@ use Rattle.std.specs.Io.KnownBytes.{Appends, Keeps}
 use Rattle.arrow_spec.specs.declared.error.IpcError.{IpcError}
 use Rattle.arrow_spec.specs.declared.error.IpcError.TheVariants as errors
 use Rattle.arrow_spec.specs.Built.{so_far}
+use Rattle.arrow_spec.specs.Kinds.{Metadata}
 use Rattle.arrow_spec.specs.Readings.{◌>>=◌, Refuses, refusals}
 use Rattle.arrow_spec.specs.Sent.{may_be_sent}
 use Rattle.arrow_spec.specs.Files.{Asked, FileBlock, Meta, «all», batch_of, file_reading, if_sent, to_read, to_send}
@@ -69,18 +70,18 @@ SendCause e reads reads' writes writes' = ⊥
 -- the stream is begun: its schema's message was put
 pub record Begun (b : List ℕ) (meta : Meta) (fs : List Int32Field) (raw : Bool) (start new : Option (List ℕ)) (bytes : ℕ) : Type 0 where
   pub file : IsFirstFile b meta fs
-  pub added : Appends start new (text_of raw (written_so_far fs []))
-  pub bytes_are : bytes ≡ length (written_so_far fs [])
+  pub added : Appends start new (text_of raw (written_so_far fs meta.schema.metadata []))
+  pub bytes_are : bytes ≡ length (written_so_far fs meta.schema.metadata [])
 
--- the blocks so far were sent, each as a batch
-pub record SentBlocks (b : List ℕ) (fs : List Int32Field) (blocks : List FileBlock) (raw : Bool) (start new : Option (List ℕ)) (s : Summary) : Type 0 where
+-- the blocks so far were sent, each as a batch, behind the schema's message with its pairs
+pub record SentBlocks (b : List ℕ) (fs : List Int32Field) (pairs : Metadata) (blocks : List FileBlock) (raw : Bool) (start new : Option (List ℕ)) (s : Summary) : Type 0 where
   pub batches : List WrittenBatch
   pub sent : SentSoFar b fs blocks batches
   pub same : length batches ≡ length blocks
-  pub added : Appends start new (text_of raw (written_so_far fs batches))
+  pub added : Appends start new (text_of raw (written_so_far fs pairs batches))
   pub batches_are : s.batches ≡ length batches
   pub rows_are : s.rows ≡ sum_by (λ x. x.rows) batches
-  pub bytes_are : s.bytes ≡ length (written_so_far fs batches)
+  pub bytes_are : s.bytes ≡ length (written_so_far fs pairs batches)
 
 -- what a refusal says of the file's bytes, and what was added
 pub record Refused (e : IpcError) (b : List ℕ) (raw : Bool) (start new : Option (List ℕ)) : Type 0 where

@@ -1,10 +1,12 @@
 -- What writers of messages answer, and what putting a message does to a sink.
-use Rattle.std.specs.Prelude.{◌≡◌, ℕ, true, false, List, ⊤, Result, Ok, Err}
+use Rattle.std.specs.Prelude.{◌≡◌, ℕ, true, false, List, [], ⊤, Result, Ok, Err}
 use Rattle.std.specs.declared.alloc.Global.{Global}
 use Rattle.std.specs.declared.vec.Vec.{Vec}
 use Rattle.arrow_spec.specs.declared.error.IpcError.{IpcError}
 use Rattle.arrow_spec.specs.declared.error.IpcError.TheVariants as errors
-use Rattle.arrow_spec.specs.Sent.{SentMessage, may_be_sent}
+use Rattle.arrow_spec.specs.Sent.{SentMessage, may_be_sent, stream_schema}
+use Rattle.arrow_spec.specs.Kinds.{Fields, Metadata}
+use Rattle.arrow_spec.specs.Framing.{message_bytes}
 use Rattle.arrow_spec.specs.WrittenTables.{WrittenBatch}
 use Rattle.arrow_flat.specs.declared.build.BuildError.{BuildError}
 use Rattle.arrow_flat.specs.declared.build.BuildError.TheVariants as build
@@ -17,6 +19,10 @@ Writes (Ok bytes) message expected = (may_be_sent message ≡ true) × (bytes.it
 Writes (Err errors.TooLarge) message expected = may_be_sent message ≡ false
 Writes (Err errors.Memory) message expected = ⊤
 Writes (Err e) message expected = ⊥
+
+-- the same of a schema's message, with the schema's pairs
+abbrev pub WritesSchema : Result (Vec ℕ Global) IpcError → Fields → Metadata → Type 0
+WritesSchema r fs pairs = Writes r (stream_schema fs pairs) (message_bytes (stream_schema fs pairs).node [])
 
 -- the same of a builder's errors
 abbrev pub Builds : Result (Vec ℕ Global) BuildError → SentMessage → List ℕ → Type 0

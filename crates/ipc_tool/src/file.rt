@@ -1,23 +1,25 @@
 //! A file's table, sent batch by batch.
 ghost use Rattle.std.specs.Prelude.{◌≡◌, ◌+◌, ◌*◌, ◌^◌, ◌<◌, ◌≤◌, List, [], Option, length, map, IfOk, IfErr, IfSome, Ok, ℕ};
-ghost use Rattle.arrow_spec.specs.Built.{so_far};
 ghost use Rattle.arrow_spec.specs.Files.{«all», Meta, dictionaries_read, has_any, meta_of};
-ghost use Rattle.arrow_spec.specs.WrittenTables.{AreInt32Columns, Int32Field, fields_of};
+ghost use Rattle.arrow_spec.specs.WrittenTables.{AreInt32Columns, Int32Field};
 ghost use Rattle.arrow_spec.proofs.FirstSchemas.{IsInt32Schema};
-ghost use Rattle.arrow_types.specs.Schemas.{fields_in};
 ghost use Rattle.ipc_schema.specs.Outside.{IsSize};
 ghost use Rattle.ipc_tool.specs.Arrays.{columns_of};
 ghost use Rattle.ipc_tool.specs.FileBlocks.{file_block};
-ghost use Rattle.ipc_tool.specs.FileViews.{meta_view, FileCause};
+ghost use Rattle.ipc_tool.specs.FileViews.{meta_view, FileCause, IsBuilt};
 ghost use Rattle.ipc_tool.specs.Sends.{body_place, Begun, BlockRefused, BlockSent, ReadsBlock, Refused, SendCause, SentBlocks};
+ghost use Rattle.ipc_fields.specs.Serialized.{metadata_in};
+ghost use Rattle.ipc_tool.specs.Written.{WritesSchema};
 ghost use Rattle.ipc_tool.specs.Transcode.{text_of, Transcodes};
 
+use crate::built::is_built;
 use crate::conversion::Summary;
 use crate::ipc_files::{FileMetadata, read_block_message, read_file_metadata};
 use crate::ipc_read::{Body, RecordBatch, magnitude, read_record_batch};
 use crate::ipc_write::{END_MARK, batch_message, schema_message};
 use crate::text::put_text;
 use arrow_spec::{Block, Feature, IpcError};
+use arrow_types::Metadata;
 use ipc_schema::{Sink, Source};
 use std::alloc::Global;
 
@@ -111,7 +113,7 @@ fn send_blocks<S: Source, W: Sink>(
     requires most { size < 2 ^ 63 }
     requires whole { IsSize (S.content source.old) size }
     ensures sent { IfOk result (λ s. IfSome (S.content source.old) (λ b. (meta : Meta) (fs : List Int32Field) (start : Option (List ℕ)) → meta.blocks ≡ map file_block blocks.now → length fs ≡ field_count →
-        Begun b meta fs raw start (W.written sink.old) schema_length → SentBlocks b fs meta.blocks raw start (W.written sink.new) s)) }
+        Begun b meta fs raw start (W.written sink.old) schema_length → SentBlocks b fs meta.schema.metadata meta.blocks raw start (W.written sink.new) s)) }
     ensures refused { IfErr result (λ e. IfSome (S.content source.old) (λ b. (meta : Meta) (fs : List Int32Field) (start : Option (List ℕ)) → meta.blocks ≡ map file_block blocks.now → length fs ≡ field_count →
         Begun b meta fs raw start (W.written sink.old) schema_length → Refused e b raw start (W.written sink.new))) }
     ensures small { IfOk result (λ s. s.bytes ≤ (length blocks.now + 1) * 2 ^ 64) }
@@ -144,6 +146,23 @@ fn reads_dictionaries(file: &FileMetadata) -> bool
     !file.blocks.is_empty() && !file.dictionaries.is_empty()
 }
 
+fn metadata_of(file: &FileMetadata) -> Option<&Metadata>
+    ensures { metadata_in result ≡ (meta_view file.now).schema.metadata }
+{
+    match &file.custom_metadata {
+        Some(metadata) => Some(metadata),
+        None => None,
+    }
+}
+
+/// The schema's message.
+fn first_message(alloc: Global, file: &FileMetadata) -> Result<Vec<u8>, IpcError>
+    requires { IsBuilt (meta_view file.now) }
+    ensures { WritesSchema result (meta_view file.now).schema.fields (meta_view file.now).schema.metadata }
+{
+    schema_message(alloc, &file.schema, metadata_of(file))
+}
+
 /// Puts the schema's message, and answers how many bytes it has.
 fn begin_stream<W: Sink>(
     alloc: Global,
@@ -151,16 +170,16 @@ fn begin_stream<W: Sink>(
     file: &FileMetadata,
     raw: bool,
 ) -> Result<usize, IpcError>
-    requires fields { (fs : List Int32Field) × (fields_in file.now.schema ≡ fields_of fs) }
-    ensures begun { IfOk result (λ n. (b : List ℕ) (fs : List Int32Field) → meta_of so_far b ≡ Ok (meta_view file.now) → IsInt32Schema (meta_view file.now).schema fs → Begun b (meta_view file.now) fs raw (W.written sink.old) (W.written sink.new) n) }
-    ensures refused { IfErr result (λ e. (b : List ℕ) → meta_of so_far b ≡ Ok (meta_view file.now) → Refused e b raw (W.written sink.old) (W.written sink.new)) }
+    requires built { IsBuilt (meta_view file.now) }
+    ensures begun { IfOk result (λ n. (b : List ℕ) (fs : List Int32Field) → meta_of b ≡ Ok (meta_view file.now) → IsInt32Schema (meta_view file.now).schema fs → Begun b (meta_view file.now) fs raw (W.written sink.old) (W.written sink.new) n) }
+    ensures refused { IfErr result (λ e. (b : List ℕ) → meta_of b ≡ Ok (meta_view file.now) → Refused e b raw (W.written sink.old) (W.written sink.new)) }
     ensures small { IfOk result (λ n. n < 2 ^ 63) }
     ensures cause { IfErr result (λ e. SendCause e 0 0 (W.faults sink.old) (W.faults sink.new)) }
     ensures writes { W.faults sink.old ≤ W.faults sink.new }
     ensures wants { W.wants sink.old ≤ W.wants sink.new }
     ensures same_sink { W.references sink.new ≡ W.references sink.old }
 {
-    let message = schema_message(alloc, &file.schema)?;
+    let message = first_message(alloc, file)?;
     if reads_dictionaries(file) {
         return Err(IpcError::Unsupported(Feature::NotYet));
     }
@@ -176,11 +195,11 @@ fn send_table<S: Source, W: Sink>(
     file: &FileMetadata,
     raw: bool,
 ) -> Result<Summary, IpcError>
-    requires fields { (fs : List Int32Field) × (fields_in file.now.schema ≡ fields_of fs) }
+    requires built { IsBuilt (meta_view file.now) }
     requires most { file.now.size < 2 ^ 63 }
     requires whole { IsSize (S.content source.old) file.now.size }
-    ensures whole { IfOk result (λ s. IfSome (S.content source.old) (λ b. meta_of so_far b ≡ Ok (meta_view file.now) → Transcodes s b «all» (text_of raw) (W.written sink.old) (W.written sink.new))) }
-    ensures refused { IfErr result (λ e. IfSome (S.content source.old) (λ b. meta_of so_far b ≡ Ok (meta_view file.now) → Refused e b raw (W.written sink.old) (W.written sink.new))) }
+    ensures whole { IfOk result (λ s. IfSome (S.content source.old) (λ b. meta_of b ≡ Ok (meta_view file.now) → Transcodes s b «all» (text_of raw) (W.written sink.old) (W.written sink.new))) }
+    ensures refused { IfErr result (λ e. IfSome (S.content source.old) (λ b. meta_of b ≡ Ok (meta_view file.now) → Refused e b raw (W.written sink.old) (W.written sink.new))) }
     ensures cause { IfErr result (λ e. SendCause e (S.faults source.old) (S.faults source.new) (W.faults sink.old) (W.faults sink.new)) }
     ensures content { S.content source.new ≡ S.content source.old }
     ensures reads { S.faults source.old ≤ S.faults source.new }
@@ -224,5 +243,8 @@ pub(crate) fn send_file<S: Source, W: Sink>(
     ensures same_sink { W.references sink.new ≡ W.references sink.old }
 {
     let file = read_file_metadata(alloc, source)?;
+    if !is_built(&file) {
+        return Err(IpcError::Unsupported(Feature::NotYet));
+    }
     send_table(alloc, source, sink, &file, raw)
 }

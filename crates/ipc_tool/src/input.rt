@@ -15,7 +15,7 @@ const MAX_INPUT: usize = 1 << 27;
 fn is_white_space(c: u8) -> bool
     ensures { result ≡ is_white c }
 {
-    matches!(c, b' ' | b'\t' | b'\n' | 12 | b'\r')
+    c <= b' ' && matches!(c, b' ' | b'\t' | b'\n' | 12 | b'\r')
 }
 
 // Adds a byte that is no white space.

@@ -3,6 +3,7 @@
 
 mod adapters;
 mod array;
+mod built;
 mod conversion;
 mod file;
 mod input;

@@ -78,6 +78,59 @@ const CASES: &[Case] = &[
     EMPTY,
     TRUNCATED,
     Case {
+        title: "the footer of another writer",
+        file: &[
+            Part::Magic,
+            Part::Schema,
+            Part::OneNull,
+            Part::OneNullBody,
+            Part::EndMark,
+            Part::OtherWriter,
+        ],
+        length: 610,
+        ..WHOLE
+    },
+    Case {
+        title: "pairs go along, by key: the last value of a key, and no key without value",
+        file: &[
+            Part::Magic,
+            Part::Schema,
+            Part::OneNull,
+            Part::OneNullBody,
+            Part::EndMark,
+            Part::WithPairs,
+        ],
+        length: 890,
+        answer: Ok(Summary {
+            batches: 1,
+            rows: 3,
+            bytes: 632,
+        }),
+        stream: &[
+            Part::SchemaWithPairs,
+            Part::OneNull,
+            Part::OneNullBody,
+            Part::EndMark,
+        ],
+        added: 632,
+        ..WHOLE
+    },
+    Case {
+        title: "big-endian values are not built yet",
+        file: &[
+            Part::Magic,
+            Part::Schema,
+            Part::OneNull,
+            Part::OneNullBody,
+            Part::EndMark,
+            Part::BigEndian,
+        ],
+        length: 610,
+        answer: Err(IpcError::Unsupported(Feature::NotYet)),
+        added: 0,
+        ..WHOLE
+    },
+    Case {
         title: "each byte but the 351 that are needed cannot be read",
         unreadable: &[(0, 144), (297, 360), (372, 432)],
         ..WHOLE

@@ -1,24 +1,24 @@
 //! What a file's footer says (Arrow Columnar Format, "IPC File Format", File.fbs).
-ghost use Rattle.std.specs.Prelude.{◌≡◌, ◌+◌, ◌≤◌, ◌<◌, ◌^◌, List, length, IfOk, IfErr, IfSome};
+ghost use Rattle.std.specs.Prelude.{◌≡◌, ◌+◌, ◌≤◌, ◌<◌, ◌^◌, length, IfOk, IfErr, IfSome};
 ghost use Rattle.arrow_spec.specs.Readings.{Gives};
-ghost use Rattle.arrow_spec.specs.Built.{so_far};
 ghost use Rattle.arrow_spec.specs.Files.{footer_of, meta_of};
-ghost use Rattle.arrow_spec.specs.WrittenTables.{Int32Field, fields_of};
-ghost use Rattle.arrow_types.specs.Schemas.{fields_in};
 ghost use Rattle.ipc_tool.specs.FileBlocks.{GivesIn};
 ghost use Rattle.ipc_tool.specs.FileViews.{meta_view, FileCause};
 ghost use Rattle.ipc_schema.specs.Outside.{IsSize};
 
 use super::fetch::fetch;
 use arrow_spec::{Block, IpcError, OutOfSpecKind};
-use arrow_types::ArrowSchema;
-use ipc_schema::{Source, decode_footer_len, deserialize_footer};
+use arrow_types::{ArrowSchema, Metadata};
+use ipc_schema::{IpcSchema, Source, decode_footer_len, deserialize_footer};
 use std::alloc::Global;
 
-/// The schema, the blocks of record batches and of dictionaries in the footer's order, and the file's size in bytes.
+/// The schema with its IPC schema and its metadata, the blocks of record batches and of dictionaries in the footer's
+/// order, and the file's size in bytes.
 #[derive(Drop)]
 pub(crate) struct FileMetadata {
     pub schema: ArrowSchema,
+    pub ipc_schema: IpcSchema,
+    pub custom_metadata: Option<Metadata>,
     pub blocks: Vec<Block>,
     pub dictionaries: Vec<Block>,
     pub size: u64,
@@ -48,10 +48,9 @@ pub(crate) fn read_file_metadata<S: Source>(
     alloc: Global,
     source: &mut S,
 ) -> Result<FileMetadata, IpcError>
-    ensures gives { IfSome (S.content source.old) (λ b. Gives meta_view result (meta_of so_far b)) }
+    ensures gives { IfSome (S.content source.old) (λ b. Gives meta_view result (meta_of b)) }
     ensures size { IfOk result (λ m. IsSize (S.content source.old) m.size) }
     ensures most { IfOk result (λ m. m.size < 2 ^ 63) }
-    ensures fields { IfOk result (λ m. (fs : List Int32Field) × (fields_in m.schema ≡ fields_of fs)) }
     ensures cause { IfErr result (λ e. FileCause e (S.faults source.old) (S.faults source.new)) }
     ensures content { S.content source.new ≡ S.content source.old }
     ensures faults { S.faults source.old ≤ S.faults source.new }
@@ -62,6 +61,8 @@ pub(crate) fn read_file_metadata<S: Source>(
     let footer = deserialize_footer(alloc, &bytes)?;
     Ok(FileMetadata {
         schema: footer.schema,
+        ipc_schema: footer.ipc_schema,
+        custom_metadata: footer.custom_metadata,
         blocks: footer.blocks,
         dictionaries: footer.dictionaries,
         size,

@@ -48,7 +48,7 @@ const NO_ROWS: [u8; 120] = [
 ];
 
 fn schema(alloc: Global) -> Result<ArrowSchema, AllocError>
-    ensures { IfOk result (λ s. fields_in s ≡ fields_of (record { name = codes "a"; nullable = true } ∷ [])) }
+    ensures { IfOk result (λ s. fields_in s ≡ fields_of (record { name = codes "a"; nullable = true; metadata = [] } ∷ [])) }
 {
     let name = String::from_str(alloc, "a")?;
     let field = Field::new(alloc, name, ArrowDataType::Int32, true);
@@ -69,7 +69,7 @@ fn the_worked_stream(rt: HostRuntime) -> Result<(), Fail> {
     let mut sink = MemorySink::new(alloc, None, Vec::new(alloc));
     let schema = schema(alloc)?;
     let columns = one_null_three(alloc)?;
-    let first = schema_message(alloc, &schema)?;
+    let first = schema_message(alloc, &schema, None)?;
     put_text(alloc, &mut sink, &first, true)?;
     let batch = batch_message(alloc, 3, &columns)?;
     put_text(alloc, &mut sink, &batch, true)?;

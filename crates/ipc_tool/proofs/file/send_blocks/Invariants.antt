@@ -7,7 +7,7 @@ use Rattle.ipc_tool.proofs.file.send_blocks.Given as goal
 
 abbrev pub invariant-loop-block : goal.invariant-loop-block
 invariant-loop-block g l = record {
-  sent : IfSome (g.S.Source.content l.fn.source) (λ b. (meta : Meta) (fs : List Int32Field) (start : Option (List ℕ)) → meta.blocks ≡ map file_block l.blocks → length fs ≡ l.field_count → Begun b meta fs l.raw start (g.W.Sink.written l.fn.sink) l.schema_length → SentBlocks b fs (take l.block-index meta.blocks) l.raw start (g.W.Sink.written l.sink) l.summary);
+  sent : IfSome (g.S.Source.content l.fn.source) (λ b. (meta : Meta) (fs : List Int32Field) (start : Option (List ℕ)) → meta.blocks ≡ map file_block l.blocks → length fs ≡ l.field_count → Begun b meta fs l.raw start (g.W.Sink.written l.fn.sink) l.schema_length → SentBlocks b fs meta.schema.metadata (take l.block-index meta.blocks) l.raw start (g.W.Sink.written l.sink) l.summary);
   batches : l.summary.batches ≡ l.block-index;
   few : l.summary.rows ≤ l.block-index * 2 ^ 63;
   small : l.summary.bytes ≤ (l.block-index + 1) * 2 ^ 64;

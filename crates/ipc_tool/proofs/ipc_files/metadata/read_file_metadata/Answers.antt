@@ -2,7 +2,7 @@ use Rattle.std.proofs.Common.{◌≡◌, List, ℕ, Vec, Global, Err, refl}
 use Rattle.ipc_tool.specs.declared.ipc_files.metadata.FileMetadata.{FileMetadata}
 use Rattle.ipc_tool.specs.FileViews.{meta_view}
 use Rattle.ipc_tool.proofs.BatchParts.{is_err}
-use Rattle.ipc_tool.proofs.FileFooters.{footer_refused, meta_refused, meta_said, int32_fields_in}
+use Rattle.ipc_tool.proofs.FileFooters.{footer_refused, meta_refused, meta_said}
 use Rattle.ipc_tool.proofs.ipc_files.metadata.read_file_metadata.Goals as goal
 
 pub returns-in_err-bytes-clause-gives : goal.returns-in_err-bytes-clause-gives
@@ -20,8 +20,5 @@ returns-in_err-footer-clause-gives g c =
 pub returns-clause-gives : goal.returns-clause-gives
 returns-clause-gives g c =
     let view : Vec ℕ Global → List ℕ = λ v. v.items in
-    let read : FileMetadata = record { schema = c.in_ok-footer.footer.schema; blocks = c.in_ok-footer.footer.blocks; dictionaries = c.in_ok-footer.footer.dictionaries; size = c.in_ok-size.size } in
+    let read : FileMetadata = record { schema = c.in_ok-footer.footer.schema; ipc_schema = c.in_ok-footer.footer.ipc_schema; custom_metadata = c.in_ok-footer.footer.custom_metadata; blocks = c.in_ok-footer.footer.blocks; dictionaries = c.in_ok-footer.footer.dictionaries; size = c.in_ok-size.size } in
     meta_said (g.S.Source.content c.args.source.now) _ view c.in_ok-bytes.bytes c.deref.result.now meta_view read c.in_ok-footer.footer c.in_ok-size.ensures.content c.in_ok-bytes.ensures.footer c.deref.ensures.value c.in_ok-footer.ensures.gives refl
-
-pub returns-clause-fields : goal.returns-clause-fields
-returns-clause-fields g c = int32_fields_in c.in_ok-footer.footer.schema c.in_ok-footer.ensures.fields

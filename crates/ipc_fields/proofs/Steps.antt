@@ -1,0 +1,79 @@
+-- Steps of reading tables.
+use Rattle.std.proofs.Common.{◌≡◌, ℕ, suc, ◌+◌, ◌*◌, ◌<◌, List, [], ◌∷◌, length, drop, get_or, add-one, drop-cons, Option, Some, None, false, Result, Ok, Err, refl, sym, ◌∙◌, ap, arith}
+use Rattle.std.specs.Prelude.{nat_eq, not}
+use Rattle.std.specs.Int.{w8}
+use Rattle.std.specs.Result.{IsErr, IsErrAnd}
+use Rattle.arrow_spec.specs.declared.error.IpcError.{IpcError}
+use Rattle.arrow_spec.specs.declared.error.IpcError.TheVariants.{OutOfSpec, Unsupported, TooDeep, TooMany, Projection, TooLarge, SchemaMismatch, DictionaryReplaced, NotRepresentable, State, ReadFault, WriteFault, Memory}
+use Rattle.arrow_spec.specs.declared.error.FlatError.{FlatError}
+use Rattle.arrow_spec.specs.Readings.{bind, Refuses}
+use Rattle.arrow_spec.specs.Flat.{Table, slot, slot_bool, target, table_at, if_present, or_default, unsigned_at}
+use Rattle.arrow_flat.specs.Read.{VectorIn, slot_bool_or, item_table, is_set_or}
+
+bool_at : (r : Result ℕ FlatError) → bind (bind r (λ x. Ok (Some x))) (λ n. Ok (is_set_or false n)) ≡ bind (bind (bind r (λ x. Ok (Some x))) (λ n. Ok (or_default 0 n))) (λ n. Ok (not (nat_eq n 0)))
+unfolding bind
+bool_at (Ok n) = refl
+bool_at (Err e) = refl
+
+bool_of : (p : Result (Option ℕ) FlatError) (f : ℕ → Result ℕ FlatError) → bind p (λ q. bind (if_present f q) (λ n. Ok (is_set_or false n))) ≡ bind (bind p (λ q. bind (if_present f q) (λ n. Ok (or_default 0 n)))) (λ n. Ok (not (nat_eq n 0)))
+unfolding bind
+bool_of (Ok None) f = refl
+bool_of (Ok (Some q)) f = bool_at (f q)
+bool_of (Err e) f = refl
+
+-- a truth value whose default is false
+pub bool_slot : (b : List ℕ) (t : Table) (i : ℕ) → slot_bool_or false b t i ≡ slot_bool b t i
+bool_slot b t i = bool_of (slot b t i) (unsigned_at w8 b)
+
+-- the table to which an offset of a vector leads
+pub table_in : (v : VectorIn) (i : ℕ) → v.width ≡ 4 → item_table v i ≡ bind (target v.bytes (v.vector.first + 4 * i)) (λ p. table_at v.bytes p)
+table_in v i wide = let p : v.vector.first + i * 4 ≡ v.vector.first + 4 * i = omega arith in rw (wide, p) refl
+
+-- a refusal where nothing is refused is one of any refusals
+pub none_refused : (e : IpcError) (es : List IpcError) → Refuses e [] → Refuses e es
+none_refused Memory es h = tt
+none_refused ReadFault es h = tt
+none_refused WriteFault es h = tt
+none_refused (OutOfSpec x) es h = absurd h
+none_refused (Unsupported x) es h = absurd h
+none_refused TooDeep es h = absurd h
+none_refused (TooMany x) es h = absurd h
+none_refused (Projection x) es h = absurd h
+none_refused TooLarge es h = absurd h
+none_refused SchemaMismatch es h = absurd h
+none_refused (DictionaryReplaced x) es h = absurd h
+none_refused NotRepresentable es h = absurd h
+none_refused State es h = absurd h
+
+pub bind_twice : {A B C E : Type 0} (r : Result A E) (f : A → Result B E) (g : B → Result C E) → bind (bind r f) g ≡ bind r (λ x. bind (f x) g)
+unfolding bind
+bind_twice (Ok x) f g = refl
+bind_twice (Err e) f g = refl
+
+-- the same first reading, and the same behind it
+pub bind_same : {A B E : Type 0} (r : Result A E) (f g : A → Result B E) → ((x : A) → r ≡ Ok x → f x ≡ g x) → bind r f ≡ bind r g
+unfolding bind
+bind_same (Ok x) f g h = h x refl
+bind_same (Err e) f g h = refl
+
+-- one step of a reading that goes on in the same way
+pub step : {A B C E : Type 0} (r : Result A E) (f : A → Result B E) (g : B → Result C E) (k : A → Result C E) → ((x : A) → r ≡ Ok x → k x ≡ bind (f x) g) → bind r k ≡ bind (bind r f) g
+unfolding bind
+step (Ok x) f g k h = h x refl
+step (Err e) f g k h = refl
+
+pub ok_next : {A B E : Type 0} (x : A) (g : A → Result B E) → g x ≡ bind (Ok x) g
+unfolding bind
+ok_next x g = refl
+
+-- functions with the same values
+pub fun_same : {A B : Type 0} {f g : A → B} → ((x : A) → f x ≡ g x) → f ≡ g
+fun_same h = λ i x. h x i
+
+pub is_err : {X : Type 0} (r : Result X IpcError) (e : IpcError) (P : IpcError → Type 0) → IsErr r → IsErrAnd r P → ((f : IpcError) → P f → f ≡ e) → r ≡ Err e
+is_err (Ok x) e P h p k = cc
+is_err (Err f) e P h p k = ap Err (k f p)
+
+-- an item of a list, and those behind it
+pub drop_item : {A : Type 0} (xs : List A) (i : ℕ) (x d : A) → i < length xs → x ≡ get_or xs i d → drop i xs ≡ x ∷ drop (i + 1) xs
+drop_item xs i x d h e = drop-cons xs i d h ∙ ap (λ y. y ∷ drop (suc i) xs) (sym e) ∙ ap (λ n. x ∷ drop n xs) (sym (add-one i))

@@ -1,6 +1,0 @@
-use Rattle.std.proofs.Common.{arith}
-use Rattle.ipc_schema.proofs.Items.{all_read}
-use Rattle.ipc_schema.proofs.schema.read_fields.Goals as goal
-
-pub returns-clause-gives : goal.returns-clause-gives
-returns-clause-gives c = all_read _ _ _ _ _ (omega arith) c.loop-i.invariant
