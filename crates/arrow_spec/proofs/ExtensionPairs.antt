@@ -4,10 +4,10 @@ use Rattle.std.specs.Prelude.{ℕ}
 use Rattle.std.specs.Str.{is_utf8, chars}
 use lib.Utf8.{encode}
 use Rattle.arrow_spec.specs.Kinds.{Kind, Metadata, dictionary, extension}
-use Rattle.arrow_spec.specs.Schema.{value_of, with_extension, without_key, extension_name, extension_metadata}
+use Rattle.arrow_spec.specs.Schema.{value_of, with_extension, without_key, extension_name, extension_metadata, own_pairs}
 use Rattle.arrow_spec.specs.Sent.{field_pairs, pair_nodes}
 use Rattle.arrow_spec.specs.WrittenSchemas.{AreFieldPairs, IsText, KindFits, of_field, extension_first, pairs_for}
-use Rattle.arrow_spec.proofs.PairMaps.{IsSorted, all_ascend, all_pairs, sorted_without, value_kept, without_all}
+use Rattle.arrow_spec.proofs.PairMaps.{without_absent, IsSorted, all_ascend, all_pairs, sorted_without, value_kept, without_all}
 use Rattle.arrow_spec.proofs.SchemaPairs.{AreTexts, ascend_texts}
 
 -- a map that has the pairs of a kind's extension, or none of that name
@@ -40,10 +40,14 @@ extension_read name (Some value) own pairs =
     let reserved = (extension_metadata, value) ∷ (extension_name, name) ∷ [] in
     (value_kept extension_name own reserved pairs.no_name, value_kept extension_metadata own reserved pairs.no_metadata)
 
+-- pairs without reserved keys
+pub own_same : (own : Metadata) → AreFieldPairs own → own_pairs own ≡ own
+own_same own pairs = rw (without_absent extension_metadata own pairs.no_metadata) (without_absent extension_name own pairs.no_name)
+
 pub pairs_read : (k : Kind) (own : Metadata) → AreFieldPairs own → IsReadAs k own (all_pairs [] (pairs_for k own))
-pairs_read (extension name metadata k) own pairs = record { kept = extension_kept name metadata own pairs; extended = extension_read name metadata own pairs }
-pairs_read (dictionary t ordered id (extension name metadata k)) own pairs = record { kept = extension_kept name metadata own pairs; extended = extension_read name metadata own pairs }
-pairs_read k own pairs = record { kept = kept_by [] own pairs tt refl; extended = value_kept extension_name own [] pairs.no_name }
+pairs_read (extension name metadata k) own pairs = rw (own_same own pairs) (record { kept = extension_kept name metadata own pairs; extended = extension_read name metadata own pairs })
+pairs_read (dictionary t ordered id (extension name metadata k)) own pairs = rw (own_same own pairs) (record { kept = extension_kept name metadata own pairs; extended = extension_read name metadata own pairs })
+pairs_read k own pairs = rw (own_same own pairs) (record { kept = kept_by [] own pairs tt refl; extended = value_kept extension_name own [] pairs.no_name })
 
 name_text : is_utf8 extension_name ≡ true
 unfolding is_utf8 chars encode
@@ -58,9 +62,9 @@ extension_texts name None own text more texts = ((name_text, text), texts)
 extension_texts name (Some value) own text more texts = ((metadata_text, more), ((name_text, text), texts))
 
 pub pairs_texts : (k : Kind) (levels : ℕ) (own : Metadata) → KindFits of_field levels k → AreFieldPairs own → AreTexts (pairs_for k own)
-pairs_texts (extension name metadata k) levels own fits pairs = extension_texts name metadata own fits.0 fits.1 (ascend_texts own [] pairs.ascend)
-pairs_texts (dictionary t ordered id (extension name metadata k)) levels own fits pairs = extension_texts name metadata own fits.0 fits.1 (ascend_texts own [] pairs.ascend)
-pairs_texts k levels own fits pairs = ascend_texts own [] pairs.ascend
+pairs_texts (extension name metadata k) levels own fits pairs = rw (own_same own pairs) (extension_texts name metadata own fits.0 fits.1 (ascend_texts own [] pairs.ascend))
+pairs_texts (dictionary t ordered id (extension name metadata k)) levels own fits pairs = rw (own_same own pairs) (extension_texts name metadata own fits.0 fits.1 (ascend_texts own [] pairs.ascend))
+pairs_texts k levels own fits pairs = rw (own_same own pairs) (ascend_texts own [] pairs.ascend)
 
 pub pairs_written : (k : Kind) (own : Metadata) → field_pairs k own ≡ pair_nodes (pairs_for k own)
 pairs_written (extension name None k) own = refl

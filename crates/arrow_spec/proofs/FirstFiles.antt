@@ -25,7 +25,7 @@ no_floats : (fs : List Int32Field) (c : ℕ) → chosen_floats None (fields_of f
 no_floats [] c = refl
 no_floats (f ∷ fs) c = no_floats fs (suc c)
 
-bare_integers : (fs : List Int32Field) → bare (fields_of fs) ≡ fields_of fs
+pub bare_integers : (fs : List Int32Field) → bare (fields_of fs) ≡ fields_of fs
 bare_integers [] = refl
 bare_integers (f ∷ fs) = rw (bare_integers fs) refl
 

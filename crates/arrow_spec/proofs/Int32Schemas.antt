@@ -4,7 +4,7 @@ use Rattle.std.specs.List.{AllByRecursion}
 use Rattle.std.specs.Str.{is_utf8}
 use Rattle.arrow_spec.specs.declared.types.IntegerType.TheVariants.{Int32}
 use Rattle.arrow_spec.specs.Kinds.{field, integer, numbered, uses_in}
-use Rattle.arrow_spec.specs.Schema.{Before, has_distinct_names}
+use Rattle.arrow_spec.specs.Schema.{Before, has_distinct_names, own_pairs}
 use Rattle.arrow_spec.specs.WrittenSchemas.{AreFieldPairs, FieldsFit, SchemaMayBeWritten, after_fields, pairs_for}
 use Rattle.arrow_spec.specs.WrittenTables.{Int32Field, fields_of}
 
@@ -40,8 +40,8 @@ plain_fit (f ∷ fs) levels h = (h.0.0, subst AreFieldPairs (sym h.0.1) no_pairs
 plain_pairs : (fs : List Int32Field) (p : Before) → AllByRecursion IsPlain fs → (after_fields (fields_of fs) p).pairs ≡ p.pairs
 plain_pairs [] p h = refl
 plain_pairs (f ∷ fs) p h =
-    let nothing : length f.metadata ≡ 0 = ap length h.0.1 in
-    let rest = plain_pairs fs (record { fields = suc p.fields; pairs = p.pairs + length f.metadata }) h.1 in
+    let nothing : length (own_pairs f.metadata) ≡ 0 = ap (λ m. length (own_pairs m)) h.0.1 in
+    let rest = plain_pairs fs (record { fields = suc p.fields; pairs = p.pairs + length (own_pairs f.metadata) }) h.1 in
     omega (arith, rest, nothing)
 
 pub plain_may : (fs : List Int32Field) → AllByRecursion IsPlain fs → length fs ≤ 65536 → has_distinct_names (fields_of fs) ≡ true → SchemaMayBeWritten (fields_of fs) []

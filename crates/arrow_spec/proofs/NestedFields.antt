@@ -1,8 +1,7 @@
 -- Fields of nested kinds are read back, with their ids.
-use Rattle.std.proofs.Common.{◌≡◌, ℕ, suc, zero, ◌+◌, ◌<◌, ◌≤◌, List, [], ◌∷◌, ◌++◌, length, Option, Some, None, Ok, refl, sym, ap, subst, ◌∙◌, arith, true, false, Bool, ℤ, SFits}
+use Rattle.std.proofs.Common.{◌≡◌, ℕ, suc, zero, ◌+◌, ◌<◌, ◌≤◌, List, [], ◌∷◌, ◌++◌, length, Option, Some, None, Ok, refl, sym, ap, subst, ◌∙◌, arith, true, false, Bool, ℤ}
 use Rattle.std.specs.Prelude.{nat_lt}
 use Rattle.std.specs.Int.{w8, w64, cast_unsigned}
-use Rattle.std.specs.List.{AllByRecursion}
 use Rattle.std.specs.Str.{is_utf8}
 use Rattle.std.proofs.lemmas.Bool.{lt-ltb}
 use Rattle.arrow_spec.specs.declared.types.IntegerType.{IntegerType}

@@ -2,7 +2,6 @@
 use Rattle.std.proofs.Common.{length, ◌≡◌, ℕ, suc, zero, ◌+◌, ◌^◌, ◌<◌, ◌≤◌, List, [], ◌∷◌, ◌++◌, None, Ok, refl, sym, ap, subst, ◌∙◌, arith, true, false, pos, SFits}
 use Rattle.std.specs.Prelude.{nat_eq, ◌||◌}
 use Rattle.std.specs.Int.{w64}
-use Rattle.std.specs.List.{AllByRecursion}
 use Rattle.std.specs.Str.{bytes_eq}
 use Rattle.arrow_spec.specs.Readings.{bind}
 use Rattle.arrow_spec.specs.Kinds as kind
@@ -27,7 +26,7 @@ struct_numbered (kind.struct fs) id = ap (λ n. nat_eq n 2) (width_numbered fs i
 struct_numbered (kind.extension name metadata k) id = struct_numbered k id
 struct_numbered k id = refl
 
-first_numbered : (fs : Fields) (id : ℕ) → first_is_struct_of_two (numbered fs id) ≡ first_is_struct_of_two fs
+pub first_numbered : (fs : Fields) (id : ℕ) → first_is_struct_of_two (numbered fs id) ≡ first_is_struct_of_two fs
 first_numbered none id = refl
 first_numbered (field name nullable metadata k others) id = struct_numbered k id
 

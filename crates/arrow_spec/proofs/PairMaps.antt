@@ -135,3 +135,8 @@ without_all key [] m g h = refl
 without_all key (x ∷ xs) m g h =
     let parts = no_key_parts key x xs h in
     without_all key xs (with_pair x.0 x.1 m) (sorted_with x.0 x.1 m g) parts.1 ∙ ap (λ n. all_pairs n xs) (without_with key x.0 x.1 m g parts.0)
+
+-- a key that is not in a map
+pub without_absent : (key : List ℕ) (m : Metadata) → value_of key m ≡ None → without_key key m ≡ m
+without_absent key [] h = refl
+without_absent key (x ∷ m) h = let parts = no_key_parts key x m h in rw (parts.0, without_absent key m parts.1) refl

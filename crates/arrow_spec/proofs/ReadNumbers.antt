@@ -1,11 +1,9 @@
 -- Sizes and ids that are read of bytes fit their widths.
-use Rattle.std.proofs.Common.{◌≡◌, ℕ, zero, suc, ◌+◌, ◌*◌, ◌^◌, ◌<◌, List, [], ◌∷◌, length, take, drop, get_or, Option, Some, None, Result, Ok, Err, refl, ap, subst, sym, arith, true, false, Bool, ℤ, pos, negsuc, SFits, cond, Fits}
+use Rattle.std.proofs.Common.{◌≡◌, ℕ, zero, suc, ◌+◌, ◌^◌, ◌<◌, List, [], length, take, drop, get_or, Option, Some, None, Ok, refl, subst, sym, arith, true, false, Bool, ℤ, pos, negsuc, SFits, cond}
 use Rattle.std.specs.Prelude.{nat_eq, nat_le, nat_lt, ◌&&◌}
 use Rattle.std.specs.Int.{w32, w64, from_le_bytes, cast_signed}
 use Rattle.std.proofs.Math.Facts.{sfits_to_z}
 use Rattle.std.proofs.lemmas.List.{get_or-take, get_or-drop}
-use Rattle.arrow_spec.specs.declared.error.FlatError.{FlatError}
-use Rattle.arrow_spec.specs.declared.error.FlatError.TheVariants.{Range}
 use Rattle.arrow_spec.specs.declared.types.UnionMode.TheVariants.{Dense, Sparse}
 use Rattle.arrow_spec.specs.Readings.{bind, ◌>>=◌, Reading}
 use Rattle.arrow_spec.specs.Flat.{Table, slot, if_present, or_default, unsigned_at, signed_at, slot_signed}

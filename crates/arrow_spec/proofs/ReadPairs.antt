@@ -1,5 +1,5 @@
 -- Pairs that are read ascend, and so do a field's own pairs, which have no reserved key.
-use Rattle.std.proofs.Common.{◌≡◌, ℕ, zero, suc, ◌+◌, ◌≤◌, List, [], ◌∷◌, ◌++◌, length, Option, Some, None, Result, Ok, Err, refl, sym, ◌∙◌, subst, arith, true, false, Bool, cond, inl, inr}
+use Rattle.std.proofs.Common.{append_assoc, ◌≡◌, ℕ, zero, suc, ◌+◌, ◌≤◌, List, [], ◌∷◌, ◌++◌, length, Option, Some, None, Result, Ok, Err, refl, sym, ◌∙◌, subst, arith, true, false, Bool, cond, inl, inr}
 use Rattle.std.specs.List.{AllByRecursion}
 use Rattle.std.specs.Str.{is_utf8, bytes_eq}
 use Rattle.std.proofs.lemmas.Bool.{leb-true}
@@ -8,9 +8,9 @@ use Rattle.arrow_spec.specs.declared.error.FlatError.{FlatError}
 use Rattle.arrow_spec.specs.Readings.{bind, ◌>>=◌, Reading, unless}
 use Rattle.arrow_spec.specs.Flat.{Table, slot, text, items, if_present, slot_text}
 use Rattle.arrow_spec.specs.Kinds.{Metadata}
-use Rattle.arrow_spec.specs.Schema.{schema_part, empty_vector, stands_before, with_pair, without_key, value_of, with_read_pair, pairs_from, pairs_of, extension_name, extension_metadata}
+use Rattle.arrow_spec.specs.Schema.{schema_part, empty_vector, stands_before, with_pair, without_key, value_of, with_read_pair, pairs_from, pairs_of, extension_name, extension_metadata, own_pairs}
 use Rattle.arrow_spec.specs.WrittenSchemas.{AreFieldPairs, Ascend, IsBehind, IsText}
-use Rattle.arrow_spec.proofs.PairOrder.{before_never, before_then, key_same}
+use Rattle.arrow_spec.proofs.PairOrder.{before_never, before_or_behind, before_then, key_same}
 use Rattle.arrow_spec.proofs.PairMaps.{AllBefore, IsSorted, bool_cases, clash, other_key, sorted_with, sorted_without}
 use Rattle.arrow_spec.proofs.SchemaPairs.{AreTexts}
 
@@ -177,10 +177,28 @@ none_before (x ∷ xs) = (tt, none_before xs)
 pub sorted_ascend : (xs : Metadata) → AreTexts xs → IsSorted xs → Ascend [] xs
 sorted_ascend xs texts sorted = ascend_from [] xs texts sorted (none_before xs)
 
+-- a key behind one pair of a list
+behind_one : (front back : Metadata) (x : List ℕ × List ℕ) (key : List ℕ) → IsBehind (front ++ x ∷ back) key → stands_before x.0 key ≡ true
+behind_one [] back x key h = before_or_behind key x.0 h.0 h.1
+behind_one (y ∷ front) back x key h = behind_one front back x key h.2
+
+before_others : (x : List ℕ × List ℕ) (front back xs : Metadata) → Ascend (front ++ x ∷ back) xs → AllBefore x.0 xs
+before_others x front back [] up = tt
+before_others x front back (y ∷ xs) up =
+    let same : (front ++ x ∷ back) ++ y ∷ [] ≡ front ++ x ∷ (back ++ y ∷ []) = append_assoc front (x ∷ back) (y ∷ []) in
+    (behind_one front back x y.0 up.2, before_others x front (back ++ y ∷ []) xs (subst (λ m. Ascend m xs) same up.3))
+
+sorted_behind : (acc xs : Metadata) → Ascend acc xs → IsSorted xs
+sorted_behind acc [] up = tt
+sorted_behind acc (x ∷ xs) up = (before_others x acc [] xs up.3, sorted_behind (acc ++ x ∷ []) xs up.3)
+
+pub ascend_sorted : (xs : Metadata) → Ascend [] xs → IsSorted xs
+ascend_sorted xs up = sorted_behind [] xs up
+
 -- ── a field's own pairs ──
 
 -- no key of a map stands before each of its keys
-none_behind : (key : List ℕ) (m : Metadata) → AllBefore key m → value_of key m ≡ None
+pub none_behind : (key : List ℕ) (m : Metadata) → AllBefore key m → value_of key m ≡ None
 none_behind key [] h = refl
 none_behind key (x ∷ m) h = rw (other_key key x.0 h.0) (none_behind key m h.1)
 
@@ -192,7 +210,7 @@ left_out key (x ∷ m) h = elim (bool_cases (bytes_eq key x.0)) [
 ]
 
 -- a key that is left out changes nothing under another
-other_left : (key other : List ℕ) (m : Metadata) → bytes_eq key other ≡ false → value_of key (without_key other m) ≡ value_of key m
+pub other_left : (key other : List ℕ) (m : Metadata) → bytes_eq key other ≡ false → value_of key (without_key other m) ≡ value_of key m
 other_left key other [] h = refl
 other_left key other (x ∷ m) h = elim (bool_cases (bytes_eq other x.0)) [
   | inl e ↦ let no : bytes_eq key x.0 ≡ false = subst (λ y. bytes_eq key y ≡ false) (key_same other x.0 e) h in rw (e, no) refl
@@ -230,9 +248,8 @@ one_left_out key (x ∷ m) v h = elim (bool_cases (bytes_eq key x.0)) [
   | inr n ↦ let rest : value_of key m ≡ Some v = rw n at h in rw n (omega (arith, one_left_out key m v rest))
 ]
 
--- a field's pairs but those of reserved keys
-abbrev pub own_pairs : Metadata → Metadata
-own_pairs m = without_key extension_name (without_key extension_metadata m)
+pub length_own : (m : Metadata) → length (own_pairs m) ≤ length m
+length_own m = omega (arith, length_without extension_name (without_key extension_metadata m), length_without extension_metadata m)
 
 -- how many pairs an extension has
 abbrev pub extension_count : Option (List ℕ) → Option (List ℕ) → ℕ

@@ -7,12 +7,12 @@ use Rattle.arrow_spec.specs.Readings.{Reading}
 use Rattle.arrow_spec.specs.Flat.{Table, Vector, or_default}
 use Rattle.arrow_spec.specs.Kinds as kind
 use Rattle.arrow_spec.specs.Kinds.{Kind, Fields, Metadata, none, field, Use, uses_in, uses_of, width}
-use Rattle.arrow_spec.specs.Schema.{Before, Encoding, Head, Schema, Tag, empty_vector, is_nested, is_whole, children_at, type_at, with_extension, with_encoding, head_at, fields_by, field_at, uses_agree, schema_of}
-use Rattle.arrow_spec.specs.WrittenSchemas.{AreFieldPairs, AreIds, AreSizes, IdsMayBeWritten, FieldsFit, IsText, KindFits, SchemaMayBeWritten, of_field, after_fields, after_kind, pairs_for, sizes_in, sizes_of}
+use Rattle.arrow_spec.specs.Schema.{own_pairs, Before, Encoding, Head, Schema, Tag, empty_vector, is_nested, is_whole, children_at, type_at, with_extension, with_encoding, head_at, fields_by, field_at, uses_agree, schema_of}
+use Rattle.arrow_spec.specs.WrittenSchemas.{AreFieldPairs, AreIds, AreSizes, FieldsFit, IsText, KindFits, SchemaMayBeWritten, of_field, after_fields, after_kind, pairs_for, sizes_in, sizes_of}
 use Rattle.arrow_spec.proofs.SchemaPairs.{AreTexts}
 use Rattle.arrow_spec.proofs.PairMaps.{IsSorted}
 use Rattle.arrow_spec.proofs.NumberedFields.{IsNotBehind}
-use Rattle.arrow_spec.proofs.ReadPairs.{is_true, own_may, own_pairs, pairs_are_read, same_read, slot_text_is, sorted_ascend, through}
+use Rattle.arrow_spec.proofs.ReadPairs.{is_true, own_may, pairs_are_read, same_read, slot_text_is, sorted_ascend, through}
 use Rattle.arrow_spec.proofs.ReadTypes.{FieldKind, field_kind, type_read}
 use Rattle.arrow_spec.proofs.ReadNumbers.{IdFits, KindNumbers, NumbersFit, encoding_fits, field_numbers, type_numbers}
 use Rattle.arrow_spec.specs.Laws.{AreBytes, ReadSchemaMayBeWritten}

@@ -12,11 +12,11 @@ use Rattle.arrow_spec.specs.Flat.{Table, Vector, signed_at}
 use Rattle.arrow_spec.specs.Kinds as kind
 use Rattle.arrow_spec.specs.Kinds.{Kind, Fields, Metadata, none, small, large, width, unit_number}
 use Rattle.arrow_spec.specs.Schema as schema
-use Rattle.arrow_spec.specs.Schema.{Before, Encoding, Tag, is_absent, is_nested, are_ids, counted_ids, schema_part, natural_slot, choice, positive, required, one_of, time_of, unit_of, decimal_of, decimal_at, time_at, timestamp_at, of_one_child, flat, ids_at, union_at, integer_at, type_at, is_whole, first_is_struct_of_two, value_of, extension_name, extension_metadata, with_extension, with_encoding}
+use Rattle.arrow_spec.specs.Schema.{Before, Encoding, Tag, is_absent, is_nested, are_ids, counted_ids, schema_part, natural_slot, choice, positive, required, one_of, time_of, unit_of, decimal_of, decimal_at, time_at, timestamp_at, of_one_child, flat, ids_at, union_at, integer_at, type_at, is_whole, first_is_struct_of_two, value_of, extension_name, extension_metadata, own_pairs, with_extension, with_encoding}
 use Rattle.arrow_spec.specs.WrittenSchemas.{AreSizes, AreStated, FieldsFit, IsText, KindFits, Part, of_field, of_dictionary, of_extension, after_fields, after_kind, pairs_for, sizes_in, sizes_of}
 use Rattle.arrow_spec.proofs.SchemaPairs.{AreTexts}
 use Rattle.arrow_spec.proofs.ExtensionPairs.{extension_there, no_extension}
-use Rattle.arrow_spec.proofs.ReadPairs.{is_true, own_few, own_pairs, same_read, slot_text_is, through, value_is_text}
+use Rattle.arrow_spec.proofs.ReadPairs.{is_true, length_own, own_few, same_read, slot_text_is, through, value_is_text}
 
 -- neither a dictionary nor an extension
 abbrev pub is_plain : Kind → Bool
@@ -194,23 +194,23 @@ pub record FieldKind (levels : ℕ) (fs : Fields) (m : Metadata) (k : Kind) : Ty
   pub sizes : AreSizes (sizes_of k) → AreSizes (sizes_in fs)
   pub pairs : length (pairs_for k (own_pairs m)) ≤ length m
 
-plain_pairs : (k : Kind) (m : Metadata) → is_plain k ≡ true → pairs_for k m ≡ m
+plain_pairs : (k : Kind) (m : Metadata) → is_plain k ≡ true → pairs_for k m ≡ own_pairs m
 plain_pairs (kind.dictionary t ordered id k) m h = cc
 plain_pairs (kind.extension name metadata k) m h = cc
 plain_pairs k m h = refl
 
-plain_values_pairs : (t : IntegerType) (ordered : Bool) (id : ℤ) (k : Kind) (m : Metadata) → is_plain k ≡ true → pairs_for (kind.dictionary t ordered id k) m ≡ m
+plain_values_pairs : (t : IntegerType) (ordered : Bool) (id : ℤ) (k : Kind) (m : Metadata) → is_plain k ≡ true → pairs_for (kind.dictionary t ordered id k) m ≡ own_pairs m
 plain_values_pairs t ordered id (kind.dictionary u sorted other k) m h = cc
 plain_values_pairs t ordered id (kind.extension name metadata k) m h = cc
 plain_values_pairs t ordered id k m h = refl
 
 plain_kind : (e : Option Encoding) (levels : ℕ) (fs : Fields) (m : Metadata) (k : Kind) → value_of extension_name m ≡ None → TypeRead levels fs k → FieldKind levels fs m (with_encoding e k)
-plain_kind None levels fs m k n r = record { fits = r.fits of_field; counts = r.counts; sizes = r.sizes; pairs = omega (arith, ap length (plain_pairs k (own_pairs m) r.plain), own_few m None (value_of extension_metadata m) n refl) }
-plain_kind (Some e) levels fs m k n r = record { fits = r.fits of_dictionary; counts = r.counts; sizes = r.sizes; pairs = omega (arith, ap length (plain_values_pairs e.index e.ordered e.id k (own_pairs m) r.plain), own_few m None (value_of extension_metadata m) n refl) }
+plain_kind None levels fs m k n r = record { fits = r.fits of_field; counts = r.counts; sizes = r.sizes; pairs = omega (arith, ap length (plain_pairs k (own_pairs m) r.plain), length_own (own_pairs m), length_own m) }
+plain_kind (Some e) levels fs m k n r = record { fits = r.fits of_dictionary; counts = r.counts; sizes = r.sizes; pairs = omega (arith, ap length (plain_values_pairs e.index e.ordered e.id k (own_pairs m) r.plain), length_own (own_pairs m), length_own m) }
 
-extension_pairs_few : (m : Metadata) (name : List ℕ) (metadata : Option (List ℕ)) → value_of extension_name m ≡ Some name → value_of extension_metadata m ≡ metadata → length (Rattle.arrow_spec.specs.WrittenSchemas.extension_first metadata ((extension_name, name) ∷ own_pairs m)) ≤ length m
-extension_pairs_few m name None n d = omega (arith, own_few m (Some name) None n d)
-extension_pairs_few m name (Some value) n d = omega (arith, own_few m (Some name) (Some value) n d)
+extension_pairs_few : (m : Metadata) (name : List ℕ) (metadata : Option (List ℕ)) → value_of extension_name m ≡ Some name → value_of extension_metadata m ≡ metadata → length (Rattle.arrow_spec.specs.WrittenSchemas.extension_first metadata ((extension_name, name) ∷ own_pairs (own_pairs m))) ≤ length m
+extension_pairs_few m name None n d = omega (arith, own_few m (Some name) None n d, length_own (own_pairs m))
+extension_pairs_few m name (Some value) n d = omega (arith, own_few m (Some name) (Some value) n d, length_own (own_pairs m))
 
 extension_kind : (e : Option Encoding) (levels : ℕ) (fs : Fields) (m : Metadata) (k : Kind) (name : List ℕ) (metadata : Option (List ℕ)) → AreTexts m → value_of extension_name m ≡ Some name → value_of extension_metadata m ≡ metadata → TypeRead levels fs k
     → FieldKind levels fs m (with_encoding e (kind.extension name metadata k))

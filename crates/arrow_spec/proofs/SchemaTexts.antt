@@ -1,5 +1,5 @@
 -- The text of the worked file's schema, of each form of a type, and of pairs, quotes and nested fields; and the words that ask for it.
-use Rattle.std.proofs.Common.{◌≡◌, ℕ, List, [], ◌∷◌, ◌++◌, Some, None, Ok, Err, refl, true, false, pos, negsuc}
+use Rattle.std.proofs.Common.{◌≡◌, [], ◌∷◌, ◌++◌, Some, None, Ok, Err, refl, true, false, pos, negsuc}
 use Rattle.std.specs.Prelude.{codes}
 use Rattle.std.specs.Fmt.{digits}
 use Rattle.hex.specs.Hex.{encode_with}
@@ -19,7 +19,7 @@ use Rattle.arrow_spec.specs.Flat.{little, big}
 use Rattle.arrow_spec.specs.Kinds as kind
 use Rattle.arrow_spec.specs.Kinds.{Kind, Fields, none, field, small, large}
 use Rattle.arrow_spec.specs.SchemaText.{quoted, type_text, schema_text, schema_text_of}
-use Rattle.arrow_spec.specs.Words.{command_of, of_schema, of_stream, request_of, schema_request_of}
+use Rattle.arrow_spec.specs.Words.{command_of, of_schema, of_stream}
 use Rattle.arrow_spec.specs.Files.{«all»}
 
 -- ── worked files ──

@@ -9,6 +9,7 @@ use Rattle.arrow_spec.specs.declared.types.UnionMode.TheVariants.{Dense, Sparse}
 use Rattle.arrow_spec.specs.Kinds as kind
 use Rattle.arrow_spec.specs.Flat.{Order, little, big}
 use Rattle.arrow_spec.specs.Kinds.{Kind, Fields, none, field, Metadata, small, large, unit_number, uses_of, uses_in}
+use Rattle.arrow_spec.specs.Schema.{own_pairs}
 use Rattle.arrow_spec.specs.Layout as layout
 use Rattle.arrow_spec.specs.Layout.{Node, Slots, Nodes, slot_count}
 use Rattle.arrow_spec.specs.Held.{Fits, AllFit, NodesFit}
@@ -128,9 +129,9 @@ extension_fits None ns fit = fit
 extension_fits (Some x) ns fit = ((omega arith, (tt, (tt, tt))), fit)
 
 field_pairs_fit : (k : Kind) (xs : Metadata) → NodesFit (field_pairs k xs)
-field_pairs_fit (kind.extension name more k) xs = extension_fits more _ ((omega arith, (tt, (tt, tt))), pairs_fit xs)
-field_pairs_fit (kind.dictionary t ordered id (kind.extension name more k)) xs = extension_fits more _ ((omega arith, (tt, (tt, tt))), pairs_fit xs)
-field_pairs_fit k xs = pairs_fit xs
+field_pairs_fit (kind.extension name more k) xs = extension_fits more _ ((omega arith, (tt, (tt, tt))), pairs_fit (own_pairs xs))
+field_pairs_fit (kind.dictionary t ordered id (kind.extension name more k)) xs = extension_fits more _ ((omega arith, (tt, (tt, tt))), pairs_fit (own_pairs xs))
+field_pairs_fit k xs = pairs_fit (own_pairs xs)
 
 pairs_few : (n : ℕ) (ns : Nodes) (s : Slots) → NodesFit ns → Few n s → Few (suc n) (pairs_slot ns s)
 pairs_few n layout.none s fit few = absent_few n s few

@@ -1,5 +1,7 @@
-use Rattle.std.proofs.Common.{◌≡◌, ℕ, zero, suc, List, [], ◌∷◌, ◌++◌, refl, true, false}
-use Rattle.std.specs.Prelude.{pos, codes}
+use Rattle.std.proofs.Common.{◌≡◌, ℕ, zero, suc, List, [], ◌∷◌, ◌++◌, Some, refl, true, false}
+use Rattle.std.specs.Prelude.{pos, negsuc, codes, take, ℤ}
+use Rattle.arrow_spec.proofs.WorkedStreams.{dictionaries_stream}
+use Rattle.arrow_spec.specs.Framing.{message_bytes}
 use Rattle.arrow_spec.proofs.Int32Table.{computed}
 use Rattle.arrow_spec.specs.declared.types.IntegerType.TheVariants.{Int8, Int16, Int32, Int64}
 use Rattle.arrow_spec.specs.Kinds as kind
@@ -9,8 +11,10 @@ use Rattle.arrow_spec.specs.declared.message.FieldNode.{FieldNode}
 use Rattle.arrow_spec.specs.declared.message.IpcBuffer.{IpcBuffer}
 use Rattle.arrow_spec.specs.declared.message.MetadataVersion.TheVariants.{V5}
 use Rattle.arrow_spec.specs.Counts.{RecordBatch, first_place}
-use Rattle.arrow_spec.specs.Layout.{size}
-use Rattle.arrow_spec.specs.Sent.{stream_schema, top_written, written, body_of, dictionary_message}
+use Rattle.arrow_spec.specs.Layout as layout
+use Rattle.arrow_spec.specs.Layout.{layout, size, table_head}
+use Rattle.arrow_spec.specs.Schema.{extension_name, extension_metadata}
+use Rattle.arrow_spec.specs.Sent.{field_pairs, pair_node, schema_message, stream_schema, top_written, written, body_of, dictionary_message}
 
 abbrev pub node : ℕ → ℕ → FieldNode
 node a b = record { length = pos a; null_count = pos b }
@@ -65,3 +69,23 @@ views_kept = refl
 pub views_laid_anew : top_written (viewed 26) kind.utf8_view first_place 1 ≡ record { nodes = node 1 0 ∷ []; lengths = 0 ∷ 16 ∷ 13 ∷ []; views = 1 ∷ [] }
 unfolding computed
 views_laid_anew = refl
+
+-- a dictionary of structs that hold a dictionary of texts, under any ids
+abbrev pub nested_dictionaries : ℤ → ℤ → Fields
+nested_dictionaries outer inner = field (codes "s") true [] (kind.dictionary Int32 false outer (kind.struct (field (codes "d") true [] (kind.dictionary Int8 false inner (kind.utf8 small)) none))) none
+
+-- in a stream the ids count from 0, whatever the file has
+pub numbered_schema : message_bytes (stream_schema (nested_dictionaries (pos 7) (negsuc 2)) []).node [] ≡ take 296 dictionaries_stream
+unfolding computed message_bytes layout table_head
+numbered_schema = refl
+
+pub held_schema : message_bytes (schema_message little (nested_dictionaries (pos 0) (pos 1)) []).node [] ≡ take 296 dictionaries_stream
+unfolding computed message_bytes layout table_head
+held_schema = refl
+
+-- an extension's metadata, its name, then the field's own pairs without reserved keys
+pub extension_first : field_pairs (kind.extension (codes "e") (Some (codes "m")) (kind.integer Int16)) ((extension_name, codes "x") ∷ (codes "k", codes "v") ∷ []) ≡ layout.also (pair_node extension_metadata (codes "m")) (layout.also (pair_node extension_name (codes "e")) (layout.also (pair_node (codes "k") (codes "v")) layout.none))
+extension_first = refl
+
+pub reserved_left_out : field_pairs (kind.integer Int16) ((extension_metadata, []) ∷ (extension_name, codes "x") ∷ []) ≡ layout.none
+reserved_left_out = refl

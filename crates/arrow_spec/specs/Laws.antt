@@ -14,15 +14,15 @@ use Rattle.arrow_spec.specs.Needed.{Range, parts_needed, or_nothing}
 use Rattle.arrow_spec.specs.Layout as layout
 use Rattle.arrow_spec.specs.Layout.{Slots, size, table}
 use Rattle.arrow_spec.specs.Held.{Fits, HoldsSlots, Rooted}
-use Rattle.arrow_spec.specs.Flat.{Order, Table}
-use Rattle.arrow_spec.specs.Schema.{Schema, schema_of}
+use Rattle.arrow_spec.specs.Flat.{Order, Table, little}
+use Rattle.arrow_spec.specs.Schema.{Schema, schema_of, uses_agree}
 use Rattle.arrow_spec.specs.Counts.{Written}
 use Rattle.arrow_spec.specs.Columns.{Dictionaries}
 use Rattle.arrow_spec.specs.Messages.{BatchHeader, Message, batch_at, dictionary_at, message_of, version_of}
-use Rattle.arrow_spec.specs.Sent.{batch_node, batch_slots, body_of, dictionary_slots, message, message_slots, node_rows, placed, schema_message, schema_slots}
+use Rattle.arrow_spec.specs.Sent.{batch_node, batch_slots, body_of, dictionary_slots, message, message_slots, node_rows, placed, schema_message, schema_slots, stream_schema}
 use Rattle.arrow_spec.specs.Streams.{Framed, Reader, body_in, closed, next_message, schema_message_of, stream_batches, stream_table}
 use Rattle.arrow_spec.specs.Framing.{message_bytes, padded_size}
-use Rattle.arrow_spec.specs.WrittenSchemas.{AreIds, Ascend, HaveTexts, IdsMayBeWritten, SchemaMayBeWritten}
+use Rattle.arrow_spec.specs.WrittenSchemas.{AreIds, Ascend, HaveNoReserved, HaveTexts, IdsMayBeWritten, SchemaMayBeWritten, own_fields}
 use Rattle.arrow_spec.specs.WrittenTables.{Int32Field, WrittenBatch, TableMayBeWritten, written_stream, written_table}
 
 -- ── flatbuffers and messages ──
@@ -62,9 +62,19 @@ SchemaBytesReadBack = (order : Order) (fs : Fields) (pairs : Metadata) (rest : L
 abbrev pub NumberedMayBeWritten : Type 0
 NumberedMayBeWritten = (fs : Fields) (pairs : Metadata) → SchemaMayBeWritten fs pairs → SchemaMayBeWritten (numbered fs 0) pairs × IdsMayBeWritten (numbered fs 0)
 
--- A regular schema that can be represented may be written, and its ids fit.
+-- A regular schema that can be represented may be written where its fields have no reserved keys, and its ids fit.
 abbrev pub RegularMayBeWritten : Type 0
-RegularMayBeWritten = (fs : Fields) (pairs : Metadata) → regular fs pairs ≡ true → representable fs ≡ true → HaveTexts fs → Ascend [] pairs → SchemaMayBeWritten fs pairs × AreIds (uses_in fs)
+RegularMayBeWritten = (fs : Fields) (pairs : Metadata) → regular fs pairs ≡ true → representable fs ≡ true → HaveTexts fs → HaveNoReserved fs → Ascend [] pairs → SchemaMayBeWritten fs pairs × AreIds (uses_in fs)
+
+-- A regular schema that can be represented, and whose uses of one id have one kind of values, is read back from its message's bytes: all but the reserved keys among its fields' pairs.
+abbrev pub RegularReadsBack : Type 0
+RegularReadsBack = (order : Order) (fs : Fields) (pairs : Metadata) (rest : List ℕ) → regular fs pairs ≡ true → representable fs ≡ true → HaveTexts fs → Ascend [] pairs → uses_agree [] (uses_in fs) ≡ Ok tt → size (schema_message order fs pairs).node < 2 ^ 31
+    → (m : Message) × (schema_message_of (layout.layout (schema_message order fs pairs).node ++ rest) ≡ Ok (m, record { order = order; fields = own_fields fs; metadata = pairs }))
+
+-- The schema message of a stream that is written of such a schema is read as the schema, with its dictionaries numbered.
+abbrev pub StreamSchemaReadsBack : Type 0
+StreamSchemaReadsBack = (fs : Fields) (pairs : Metadata) (rest : List ℕ) → regular fs pairs ≡ true → representable fs ≡ true → HaveTexts fs → Ascend [] pairs → size (stream_schema fs pairs).node < 2 ^ 31
+    → (m : Message) × (schema_message_of (layout.layout (stream_schema fs pairs).node ++ rest) ≡ Ok (m, record { order = little; fields = own_fields (numbered fs 0); metadata = pairs }))
 
 -- bytes
 abbrev pub AreBytes : List ℕ → Type 0

@@ -352,6 +352,10 @@ extension_name = codes "ARROW:extension:name"
 abbrev pub extension_metadata : List ℕ
 extension_metadata = codes "ARROW:extension:metadata"
 
+-- a field's own pairs: those of its extension belong to its type
+abbrev pub own_pairs : Metadata → Metadata
+own_pairs pairs = without_key extension_name (without_key extension_metadata pairs)
+
 -- a field with an extension's name is of that extension
 abbrev pub with_extension : Metadata → Kind → Kind
 with_extension pairs k = elim (value_of extension_name pairs) [ None ↦ k | Some name ↦ kind.extension name (value_of extension_metadata pairs) k ]
@@ -396,7 +400,7 @@ head_at b at before = do
   Ok (record {
     name = or_default [] name;
     nullable = nullable;
-    metadata = without_key extension_name (without_key extension_metadata pairs.0);
+    metadata = own_pairs pairs.0;
     of_children = λ fs. with_encoding encoding (with_extension pairs.0 (kind fs));
     children = children;
     before = record { fields = suc before.fields; pairs = pairs.1 };

@@ -17,7 +17,7 @@ use Rattle.arrow_spec.specs.declared.message.IpcBuffer.{IpcBuffer}
 use Rattle.arrow_spec.specs.declared.message.MetadataVersion.TheVariants.{V5}
 use Rattle.arrow_spec.specs.Counts.{RecordBatch, Place, first_place, magnitude, count_at, union_buffers, after, inside, Written}
 use Rattle.arrow_spec.specs.Columns.{Dictionaries, HeldDictionary, held, has_nulls, valid, offset, offset_width, range_of, node_of, view_of, u32_of, integer_width, is_unsigned}
-use Rattle.arrow_spec.specs.Schema.{extension_name, extension_metadata}
+use Rattle.arrow_spec.specs.Schema.{extension_name, extension_metadata, own_pairs}
 
 -- ── the schema ──
 
@@ -134,11 +134,11 @@ abbrev pub extension_pair : Option (List ℕ) → Nodes → Nodes
 extension_pair None ns = ns
 extension_pair (Some value) ns = layout.also (pair_node extension_metadata value) ns
 
--- an extension's metadata pair and name pair stand before the other pairs
+-- an extension's metadata pair and name pair stand before the field's own pairs
 abbrev pub field_pairs : Kind → Metadata → Nodes
-field_pairs (extension name metadata k) pairs = extension_pair metadata (layout.also (pair_node extension_name name) (pair_nodes pairs))
-field_pairs (dictionary t ordered id (extension name metadata k)) pairs = extension_pair metadata (layout.also (pair_node extension_name name) (pair_nodes pairs))
-field_pairs k pairs = pair_nodes pairs
+field_pairs (extension name metadata k) pairs = extension_pair metadata (layout.also (pair_node extension_name name) (pair_nodes (own_pairs pairs)))
+field_pairs (dictionary t ordered id (extension name metadata k)) pairs = extension_pair metadata (layout.also (pair_node extension_name name) (pair_nodes (own_pairs pairs)))
+field_pairs k pairs = pair_nodes (own_pairs pairs)
 
 -- a list of pairs is left out where it is empty
 abbrev pub pairs_slot : Nodes → Slots → Slots

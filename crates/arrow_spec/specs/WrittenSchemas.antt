@@ -4,7 +4,7 @@ use Rattle.std.specs.List.{AllByRecursion}
 use Rattle.std.specs.Int.{w64}
 use Rattle.std.specs.Str.{is_utf8, bytes_eq}
 use Rattle.arrow_spec.specs.Kinds.{Kind, Fields, none, field, Metadata, width, time32, time64, timestamp, decimal, decimal256, fixed_size_binary, «list», fixed_size_list, struct, map, union, dictionary, extension, unit_number, Use, uses_in}
-use Rattle.arrow_spec.specs.Schema.{Before, are_ids, counted_ids, extension_name, extension_metadata, first_is_struct_of_two, has_distinct_names, stands_before, uses_agree, value_of}
+use Rattle.arrow_spec.specs.Schema.{Before, are_ids, counted_ids, extension_name, extension_metadata, first_is_struct_of_two, has_distinct_names, own_pairs, stands_before, uses_agree, value_of}
 
 -- ── pairs ──
 
@@ -31,9 +31,9 @@ extension_first (Some value) pairs = (extension_metadata, value) ∷ pairs
 
 -- by the field's kind
 abbrev pub pairs_for : Kind → Metadata → Metadata
-pairs_for (extension name metadata k) pairs = extension_first metadata ((extension_name, name) ∷ pairs)
-pairs_for (dictionary t ordered id (extension name metadata k)) pairs = extension_first metadata ((extension_name, name) ∷ pairs)
-pairs_for k pairs = pairs
+pairs_for (extension name metadata k) pairs = extension_first metadata ((extension_name, name) ∷ own_pairs pairs)
+pairs_for (dictionary t ordered id (extension name metadata k)) pairs = extension_first metadata ((extension_name, name) ∷ own_pairs pairs)
+pairs_for k pairs = own_pairs pairs
 
 -- ── kinds ──
 
@@ -80,7 +80,23 @@ abbrev mutual
   FieldsFit zero (field name nullable metadata k others) = ⊥
   FieldsFit (suc levels) (field name nullable metadata k others) = (is_utf8 name ≡ true) × AreFieldPairs metadata × KindFits of_field levels k × FieldsFit (suc levels) others
 
--- the texts of a kind and of fields are texts, and the fields' pairs ascend without reserved keys
+-- the same fields with their own pairs alone, without reserved keys
+abbrev mutual
+  pub own_kind : Kind → Kind
+  own_kind («list» o fs) = «list» o (own_fields fs)
+  own_kind (fixed_size_list n fs) = fixed_size_list n (own_fields fs)
+  own_kind (struct fs) = struct (own_fields fs)
+  own_kind (map sorted fs) = map sorted (own_fields fs)
+  own_kind (union mode stated ids fs) = union mode stated ids (own_fields fs)
+  own_kind (dictionary t ordered id k) = dictionary t ordered id (own_kind k)
+  own_kind (extension name metadata k) = extension name metadata (own_kind k)
+  own_kind k = k
+
+  pub own_fields : Fields → Fields
+  own_fields none = none
+  own_fields (field name nullable metadata k others) = field name nullable (own_pairs metadata) (own_kind k) (own_fields others)
+
+-- the texts of a kind and of fields are texts, and the fields' pairs ascend
 abbrev mutual
   pub KindHasTexts : Kind → Type 0
   KindHasTexts (timestamp u tz) = IsText tz
@@ -95,7 +111,23 @@ abbrev mutual
 
   pub HaveTexts : Fields → Type 0
   HaveTexts none = Unit {0}
-  HaveTexts (field name nullable metadata k others) = (is_utf8 name ≡ true) × AreFieldPairs metadata × KindHasTexts k × HaveTexts others
+  HaveTexts (field name nullable metadata k others) = (is_utf8 name ≡ true) × Ascend [] metadata × KindHasTexts k × HaveTexts others
+
+-- no field's pairs have reserved keys
+abbrev mutual
+  pub KindHasNoReserved : Kind → Type 0
+  KindHasNoReserved («list» o fs) = HaveNoReserved fs
+  KindHasNoReserved (fixed_size_list n fs) = HaveNoReserved fs
+  KindHasNoReserved (struct fs) = HaveNoReserved fs
+  KindHasNoReserved (map sorted fs) = HaveNoReserved fs
+  KindHasNoReserved (union mode stated ids fs) = HaveNoReserved fs
+  KindHasNoReserved (dictionary t ordered id k) = KindHasNoReserved k
+  KindHasNoReserved (extension name metadata k) = KindHasNoReserved k
+  KindHasNoReserved k = Unit {0}
+
+  pub HaveNoReserved : Fields → Type 0
+  HaveNoReserved none = Unit {0}
+  HaveNoReserved (field name nullable metadata k others) = (value_of extension_name metadata ≡ None) × (value_of extension_metadata metadata ≡ None) × KindHasNoReserved k × HaveNoReserved others
 
 -- the sizes, precisions and scales of a kind and of fields, in preorder
 abbrev mutual

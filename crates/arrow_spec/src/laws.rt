@@ -1,5 +1,5 @@
 //! What follows from the definitions: each function's contract is a law, proved in `proofs/`.
-ghost use Rattle.arrow_spec.specs.Laws.{BatchMessageReadsBack, DependsOnNeeded, DictionaryMessageReadsBack, FramedMessageIsNext, LayoutReadsBack, NumberedMayBeWritten, ProjectsAndCuts, ReadSchemaMayBeWritten, RegularMayBeWritten, SchemaBytesReadBack, SchemaMessageReadsBack, SentMeans, SentOrTooLarge, StreamFuelIsEnough, WrittenStreamMeansItsTable};
+ghost use Rattle.arrow_spec.specs.Laws.{BatchMessageReadsBack, DependsOnNeeded, DictionaryMessageReadsBack, FramedMessageIsNext, LayoutReadsBack, NumberedMayBeWritten, ProjectsAndCuts, ReadSchemaMayBeWritten, RegularMayBeWritten, RegularReadsBack, SchemaBytesReadBack, SchemaMessageReadsBack, SentMeans, SentOrTooLarge, StreamFuelIsEnough, StreamSchemaReadsBack, WrittenStreamMeansItsTable};
 
 /// What a whole file means gives what it means under distinct columns and a limit.
 pub fn projects_and_cuts()
@@ -34,6 +34,16 @@ pub fn schema_bytes_read_back()
 /// A schema that may be written may be written with its dictionaries numbered from 0 in preorder.
 pub fn numbered_may_be_written()
     ensures { NumberedMayBeWritten }
+{}
+
+/// A regular schema is read back from its message's bytes, all but the reserved keys among its fields' pairs.
+pub fn regular_reads_back()
+    ensures { RegularReadsBack }
+{}
+
+/// The schema message of a stream of a regular schema is read back with the dictionaries numbered from 0 in preorder.
+pub fn stream_schema_reads_back()
+    ensures { StreamSchemaReadsBack }
 {}
 
 /// A schema that is read of bytes may be written.

@@ -6,7 +6,7 @@ use Rattle.std.specs.Result.{IsErr, IsErrAnd}
 use Rattle.arrow_spec.specs.declared.error.IpcError.{IpcError}
 use Rattle.arrow_spec.specs.declared.error.IpcError.TheVariants.{OutOfSpec, Unsupported, TooDeep, TooMany, Projection, TooLarge, SchemaMismatch, DictionaryReplaced, NotRepresentable, State, ReadFault, WriteFault, Memory}
 use Rattle.arrow_spec.specs.declared.error.FlatError.{FlatError}
-use Rattle.arrow_spec.specs.Readings.{bind, Refuses}
+use Rattle.arrow_spec.specs.Readings.{bind, Reading, Refuses, refusals, Gives}
 use Rattle.arrow_spec.specs.Flat.{Table, slot, slot_bool, target, table_at, if_present, or_default, unsigned_at}
 use Rattle.arrow_flat.specs.Read.{VectorIn, slot_bool_or, item_table, is_set_or}
 
@@ -77,3 +77,7 @@ is_err (Err f) e P h p k = ap Err (k f p)
 -- an item of a list, and those behind it
 pub drop_item : {A : Type 0} (xs : List A) (i : ℕ) (x d : A) → i < length xs → x ≡ get_or xs i d → drop i xs ≡ x ∷ drop (i + 1) xs
 drop_item xs i x d h e = drop-cons xs i d h ∙ ap (λ y. y ∷ drop (suc i) xs) (sym e) ∙ ap (λ n. x ∷ drop n xs) (sym (add-one i))
+
+-- a refusal of a call that is handed on
+pub refused_with : {A B : Type 0} (view : A → B) (r : Result A IpcError) (R : Reading B) (e : IpcError) → r ≡ Err e → Refuses e (refusals R) → Gives view r R
+refused_with view r R e h told = rw h told

@@ -22,7 +22,7 @@ pub kind_of_Dictionary : (i : IntegerType) (t : Box ArrowDataType Global) (order
 kind_of_Dictionary i t ordered = search (rules, the_lemmas)
 
 -- the uses of fields are those of the first one and of the others
-first_uses : (c : Child) (fs : Fields) (below : Ids) → uses_in (fields_with (kind.field c.name c.nullable c.metadata c.kind fs) below) ≡ uses_of (kind_with c.kind (first_id below) (first_ids below)) ++ uses_in (fields_with fs (other_ids below))
+pub first_uses : (c : Child) (fs : Fields) (below : Ids) → uses_in (fields_with (kind.field c.name c.nullable c.metadata c.kind fs) below) ≡ uses_of (kind_with c.kind (first_id below) (first_ids below)) ++ uses_in (fields_with fs (other_ids below))
 first_uses c fs no_fields = refl
 first_uses c fs (ids id below others) = refl
 

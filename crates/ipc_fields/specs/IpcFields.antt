@@ -1,5 +1,6 @@
 -- What IPC fields stand for, and the schema that a list of keyed fields, IPC fields and metadata stand for together.
 use Rattle.std.specs.Prelude.{◌≡◌, List, [], ◌∷◌, map, Bool, true, false, Option, Some, None, String, is_some, ◌&&◌, if◌then◌else◌, ℤ, pos}
+use denote.Ref.{Bor}
 use Rattle.std.specs.BTreeMap.{BTreeMap}
 use Rattle.std.specs.declared.alloc.Global.{Global}
 use Rattle.arrow_spec.specs.Flat.{little, big, or_default}
@@ -90,6 +91,11 @@ abbrev mutual
 abbrev pub metadata_of : Option (BTreeMap (String Global) (String Global)) → Metadata
 metadata_of None = []
 metadata_of (Some m) = texts_of m.entries
+
+-- the same of metadata that is lent
+abbrev pub metadata_in : Option (Bor (BTreeMap (String Global) (String Global))) → Metadata
+metadata_in None = []
+metadata_in (Some m) = texts_of m.now.entries
 
 -- The schema of fields under their keys, of the ids of their IPC fields, of a byte order and of the schema's metadata.
 abbrev pub schema_with : List Keyed → Ids → Bool → Metadata → Schema

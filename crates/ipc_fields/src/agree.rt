@@ -45,7 +45,7 @@ fn take_use(latest: &mut BTreeMap<i64, Use>, found: Use) -> Result<(), IpcError>
 }
 
 /// Compares each use with the latest one of its id before it.
-pub(crate) fn check_uses(alloc: Global, uses: Vec<Use>) -> Result<(), IpcError>
+pub fn check_uses(alloc: Global, uses: Vec<Use>) -> Result<(), IpcError>
     ensures gives { Gives (λ u. tt) result (uses_agree [] (map use_in uses.items)) }
     ensures quiet { IfErr result IsOfBytes }
 {

@@ -7,7 +7,7 @@ ghost use Rattle.arrow_spec.specs.Schema.{counted_ids};
 ghost use Rattle.arrow_types.specs.Child.{fields_from};
 ghost use Rattle.arrow_types.specs.KindOf.{kind_of, child_of, ids_of as union_ids};
 ghost use Rattle.ipc_fields.specs.IpcFields.{ids_of, kind_with, fields_with};
-ghost use Rattle.ipc_fields.specs.ReadViews.{is_leaf};
+ghost use Rattle.ipc_fields.specs.Leaves.{is_leaf};
 ghost use Rattle.ipc_fields.specs.Uses.{use_in, id_under, first_id, first_ids};
 
 use crate::IpcField;

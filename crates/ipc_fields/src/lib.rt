@@ -1,26 +1,10 @@
-//! The dictionary ids of a schema's fields, and the schemas of messages and footers as they are read and written.
+//! The dictionary ids of a schema's fields, and whether the dictionaries under one id have values of one kind.
 #![tactic(auto)]
 
-mod agree;
-mod data_type;
-mod field;
-mod grow;
-mod head;
+pub mod agree;
 mod ipc_field;
 mod kinds;
-mod laws;
-mod pairs;
-mod schema;
-mod shape;
-mod union;
-mod uses;
-mod write;
+pub mod union_ids;
+pub mod uses;
 
-pub use arrow_spec::{Counted, Feature, FlatError, IpcError, OutOfSpecKind};
 pub use ipc_field::{IpcField, IpcSchema};
-pub use laws::written_schema_reads_back;
-pub use schema::{deserialize_schema, read_schema};
-pub use write::{default_ipc_fields, schema_message, schema_to_bytes, serialize_schema};
-
-#[cfg(test)]
-mod tests;

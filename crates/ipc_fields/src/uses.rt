@@ -1,7 +1,9 @@
 //! Uses of dictionaries (Schema.fbs, DictionaryEncoding).
-ghost use Rattle.std.specs.Prelude.{◌≡◌, ◌++◌, ◌∷◌, [], map, drop, None, IfOk, OnErr, Err, pos, length};
+ghost use Rattle.std.specs.Prelude.{◌≡◌, ◌++◌, ◌∷◌, [], map, drop, true, None, IfOk, OnErr, Err, pos};
 ghost use Rattle.arrow_spec.specs.declared.error.IpcError.TheVariants.{Memory};
+ghost use Rattle.arrow_spec.specs.Flat.{or_default};
 ghost use Rattle.arrow_spec.specs.Kinds.{uses_of, uses_in};
+ghost use Rattle.arrow_spec.specs.Regular.{is_dictionary_id};
 ghost use Rattle.arrow_types.specs.Child.{fields_from};
 ghost use Rattle.arrow_types.specs.KindOf.{kind_of, child_of};
 ghost use Rattle.ipc_fields.specs.IpcFields.{tree_of, ids_of, kind_with, fields_with};
@@ -14,31 +16,33 @@ use std::alloc::Global;
 
 /// A dictionary's id, the type of its values, and the IPC fields of that type's children.
 #[derive(Drop)]
-pub(crate) struct Use {
+pub struct Use {
     pub id: i64,
     pub values: ArrowDataType,
     pub fields: Vec<IpcField>,
 }
 
-/// The id of the field at a place, none where there is no field.
-pub(crate) fn id_at(fields: &[IpcField], i: usize) -> Option<i64>
-    ensures { result ≡ first_id (ids_of (drop i fields.now)) }
+/// The id of the IPC field at a place, none where there is none.
+pub fn id_at(fields: &[IpcField], i: usize) -> Option<i64>
+    ensures id { result ≡ first_id (ids_of (drop i fields.now)) }
+    ensures range { is_dictionary_id (or_default (pos 0) result) ≡ true }
 {
-    if i < fields.len() {
-        fields[i].dictionary_id
-    } else {
-        None
+    match fields.get(i) {
+        None => None,
+        Some(field) => match field.dictionary_id {
+            None => None,
+            Some(id) => Some(id),
+        },
     }
 }
 
-/// The fields below the one at a place, none where there is no field.
-pub(crate) fn fields_at(fields: &[IpcField], i: usize) -> &[IpcField]
+/// The IPC fields below the one at a place, none where there is none.
+pub fn fields_at(fields: &[IpcField], i: usize) -> &[IpcField]
     ensures { ids_of result.now ≡ first_ids (ids_of (drop i fields.now)) }
 {
-    if i < fields.len() {
-        fields[i].fields.as_slice()
-    } else {
-        &fields[..0]
+    match fields.get(i) {
+        None => &[],
+        Some(field) => field.fields.as_slice(),
     }
 }
 
@@ -117,8 +121,9 @@ fn push_uses(
     }
 }
 
+/// The uses in the child at a place, in preorder.
 #[cycle(uses)]
-fn push_child(
+pub fn push_child(
     alloc: Global,
     uses: &mut Vec<Use>,
     child: &Field,
@@ -139,7 +144,7 @@ fn push_child(
 
 /// The uses in fields, in preorder.
 #[cycle(uses)]
-pub(crate) fn push_children(
+pub fn push_children(
     alloc: Global,
     uses: &mut Vec<Use>,
     children: &[Field],

@@ -1,9 +1,11 @@
 -- A record batch is its parts, one after another.
-use Rattle.std.proofs.Common.{◌≡◌, ℕ, List, Result, Ok, Err, refl, sym, subst}
+use Rattle.std.proofs.Common.{◌≡◌, ℕ, zero, suc, List, Result, Ok, Err, refl, sym, subst, ap}
 use Rattle.arrow_spec.specs.Readings.{bind, Gives}
 use Rattle.arrow_spec.specs.Flat.{Table}
-use Rattle.arrow_spec.specs.Messages.{batch_at, record_message, version_of}
+use Rattle.arrow_spec.specs.Messages.{batch_at, dictionary_at, record_message, version_of}
 use Rattle.ipc_schema.specs.Views.{nodes_part, buffers_part, variadic_part, batch_parts, record_parts, message_of}
+use Rattle.ipc_schema.specs.Headers.{Header, dictionary, batch, whole_in, header_at, header_part, header_parts, dictionary_parts, message_header}
+use Rattle.ipc_schema.specs.declared.message.Message.{Message}
 use Rattle.ipc_schema.specs.declared.message.RecordMessage.{RecordMessage}
 use Rattle.arrow_spec.specs.declared.error.IpcError.{IpcError}
 
@@ -22,3 +24,25 @@ record_same b = simp batch_by_parts
 
 pub record_by_parts : (b : List ℕ) (r : Result RecordMessage IpcError) → Gives message_of r (record_parts b) → Gives message_of r (record_message b)
 record_by_parts b r h = subst (Gives message_of r) (sym (record_same b)) h
+
+bind_ok : {A B E : Type 0} (x : A) (f : A → Result B E) → bind {E = E} (Ok x) f ≡ f x
+unfolding bind
+bind_ok x f = refl
+
+dictionary_same : (b : List ℕ) (t : Table) → bind (dictionary_at b t) (λ x. Ok (dictionary x)) ≡ dictionary_parts b t
+unfolding dictionary_at dictionary_parts
+dictionary_same b t = simp (bind_twice, bind_ok, batch_by_parts)
+
+header_same : (tag : ℕ) (b : List ℕ) (t : Table) → header_at tag b t ≡ header_part tag b t
+header_same zero b t = refl
+header_same (suc zero) b t = refl
+header_same (suc (suc zero)) b t = dictionary_same b t
+header_same (suc (suc (suc zero))) b t = ap (λ r. bind r (λ x. Ok (batch x))) (batch_by_parts b t)
+header_same (suc (suc (suc (suc n)))) b t = refl
+
+whole_same : (b : List ℕ) → message_header b ≡ header_parts b
+unfolding message_header header_parts version_of
+whole_same b = simp header_same
+
+pub header_by_parts : (b : List ℕ) (r : Result Message IpcError) → Gives whole_in r (header_parts b) → Gives whole_in r (message_header b)
+header_by_parts b r h = subst (Gives whole_in r) (sym (whole_same b)) h

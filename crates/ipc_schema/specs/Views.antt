@@ -14,7 +14,7 @@ use Rattle.arrow_flat.specs.Read.{VectorIn}
 use Rattle.arrow_spec.specs.Messages.{BatchHeader as HeaderTables, RecordMessage as MessageTables, Message as MessageParts}
 use Rattle.ipc_schema.specs.declared.message.BatchHeader.{BatchHeader}
 use Rattle.ipc_schema.specs.declared.message.RecordMessage.{RecordMessage}
-use Rattle.ipc_schema.specs.declared.header.Message.{Message}
+use Rattle.schema_reader.specs.Messages.{version_at}
 
 abbrev pub header_of : BatchHeader → HeaderTables
 header_of h = record { length = h.length; nodes = h.nodes.items; buffers = h.buffers.items; compressed = h.compressed; variadic = h.variadic.items }
@@ -22,14 +22,7 @@ header_of h = record { length = h.length; nodes = h.nodes.items; buffers = h.buf
 abbrev pub message_of : RecordMessage → MessageTables
 message_of m = record { tables = header_of m.header; version = m.version }
 
-abbrev pub message_in : Message → MessageParts
-message_in m = record { table = m.table.table; tag = m.tag; header = m.header.table; body = m.body }
-
 -- ── parts of a message ──
-
--- the version of a message by its root table
-abbrev pub version_at : List ℕ → Table → Reading MetadataVersion
-version_at b t = as_kind kinds.InvalidFlatbufferVersion (slot_unsigned w16 0 b t 0) >>= version_of_number
 
 -- an item of a vector
 abbrev pub node_of : VectorIn → ℕ → Reading FieldNode

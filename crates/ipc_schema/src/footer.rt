@@ -11,7 +11,8 @@ use crate::number::{i32_at, i64_at};
 use arrow_flat::{Flat, Table, Vector};
 use arrow_spec::{Block, Feature, FlatError, IpcError, OutOfSpecKind};
 use arrow_types::{ArrowSchema, Metadata};
-use ipc_fields::{IpcSchema, read_schema};
+use ipc_fields::IpcSchema;
+use schema_reader::read_schema;
 use std::alloc::Global;
 
 /// The schema of a file with its IPC schema and its metadata, and the file's blocks of record batches and of dictionaries in the footer's order.

@@ -1,89 +1,18 @@
 //! Messages and their headers, by their metadata (Arrow Columnar Format, "Encapsulated message format", Message.fbs).
-ghost use Rattle.std.specs.Prelude.{◌≡◌, ◌≢◌, ◌<◌, ◌++◌, ◌∷◌, [], nat_eq, IfOk, OnErr, Err, IfErr};
+ghost use Rattle.std.specs.Prelude.{◌≡◌, ◌≢◌, ◌<◌, ◌++◌, ◌∷◌, [], IfOk, OnErr, Err, IfErr};
 ghost use Rattle.arrow_spec.specs.declared.error.IpcError.TheVariants.{Memory, ReadFault};
 ghost use Rattle.arrow_spec.specs.Readings.{Gives};
-ghost use Rattle.arrow_spec.specs.Messages.{message_of as message_tables, node_at, buffer_at, record_message};
-ghost use Rattle.ipc_schema.specs.Views.{message_in, version_at, node_of, buffer_of, number_of, nodes_in, buffers_in, numbers_in, nodes_part, buffers_part, variadic_part, batch_parts, record_parts, header_of, message_of};
+ghost use Rattle.arrow_spec.specs.Messages.{node_at, buffer_at, record_message};
+ghost use Rattle.ipc_schema.specs.Views.{node_of, buffer_of, number_of, nodes_in, buffers_in, numbers_in, nodes_part, buffers_part, variadic_part, batch_parts, record_parts, header_of, message_of};
+ghost use Rattle.ipc_schema.specs.Headers.{header_in, whole_in, batch_part, dictionary_parts, header_part, header_parts, message_header};
 ghost use Rattle.ipc_fields.specs.Causes.{IsOfBytes};
 
-use crate::message::{BatchHeader, RecordMessage};
+use crate::message::{BatchHeader, Message, MessageHeader, RecordMessage};
 use crate::number::i64_at;
-use arrow_flat::{ChoiceWidth, Flat, Table, Vector};
-use arrow_spec::{
-    Feature, FieldNode, FlatError, IpcBuffer, IpcError, MetadataVersion, OutOfSpecKind,
-};
+use arrow_flat::{Table, Vector};
+use arrow_spec::{FieldNode, FlatError, IpcBuffer, IpcError, OutOfSpecKind};
+use schema_reader::message::{Expected, read_message, read_version};
 use std::alloc::Global;
-
-/// A message: its root table, the tag and the table of its header, and the length of its body in bytes.
-#[derive(Drop)]
-pub(crate) struct Message<'a> {
-    pub table: Table<'a>,
-    pub tag: u8,
-    pub header: Table<'a>,
-    pub body: u64,
-}
-
-/// The message of a root table, with a header of this tag.
-#[tactic(auto, unfolding(arrow_spec::specs::Readings::bind, arrow_spec::specs::Messages::message_of))]
-pub(crate) fn read_message(bytes: &[u8], tag: u8) -> Result<Message<'_>, IpcError>
-    ensures message { Gives message_in result (message_tables bytes.now (λ n. nat_eq n tag)) }
-    ensures table { IfOk result (λ m. m.table.bytes ≡ bytes.now) }
-    ensures header { IfOk result (λ m. m.header.bytes ≡ bytes.now) }
-    ensures quiet { IfErr result IsOfBytes }
-{
-    let table = Flat::root(bytes).map_err(|e| IpcError::OutOfSpec(
-        OutOfSpecKind::InvalidFlatbufferMessage(e),
-    ))?;
-    let found = table.slot_u8(1, 0).map_err(|e| IpcError::OutOfSpec(
-        OutOfSpecKind::InvalidFlatbufferHeader(e),
-    ))?;
-    let is_there = table.has_slot(2).map_err(|e| IpcError::OutOfSpec(
-        OutOfSpecKind::InvalidFlatbufferHeader(e),
-    ))?;
-    if found == 0 || !is_there {
-        return Err(IpcError::OutOfSpec(OutOfSpecKind::MissingMessageHeader));
-    }
-    if found > 5 {
-        return Err(IpcError::OutOfSpec(OutOfSpecKind::InvalidFlatbufferHeader(FlatError::Number)));
-    }
-    if found != tag {
-        return Err(IpcError::OutOfSpec(OutOfSpecKind::UnexpectedMessageType));
-    }
-    let header = table.slot_table(2).map_err(|e| IpcError::OutOfSpec(
-        OutOfSpecKind::InvalidFlatbufferHeader(e),
-    ))?;
-    let Some(header) = header else {
-        return Err(IpcError::OutOfSpec(OutOfSpecKind::MissingMessageHeader));
-    };
-    let body = table.slot_i64(3, 0).map_err(|e| IpcError::OutOfSpec(
-        OutOfSpecKind::InvalidFlatbufferBodyLength(e),
-    ))?;
-    if body < 0 {
-        return Err(IpcError::OutOfSpec(OutOfSpecKind::UnexpectedNegativeInteger));
-    }
-    Ok(Message {
-        table,
-        tag: found,
-        header,
-        body: body as u64,
-    })
-}
-
-/// The version of a message.
-#[tactic(auto, unfolding(arrow_spec::specs::Readings::bind))]
-pub(crate) fn read_version(table: &Table<'_>) -> Result<MetadataVersion, IpcError>
-    ensures gives { Gives (λ v. v) result (version_at table.now.bytes table.now.table) }
-    ensures quiet { IfErr result IsOfBytes }
-{
-    let number = table.slot_choice(0, ChoiceWidth::Two, 0, 5).map_err(|e| IpcError::OutOfSpec(
-        OutOfSpecKind::InvalidFlatbufferVersion(e),
-    ))?;
-    match number {
-        3 => Ok(MetadataVersion::V4),
-        4 => Ok(MetadataVersion::V5),
-        _ => Err(IpcError::Unsupported(Feature::Version)),
-    }
-}
 
 /// One more at the end.
 fn push<T: Drop>(items: &mut Vec<T>, item: T) -> Result<(), IpcError>
@@ -285,7 +214,7 @@ fn read_record_parts(alloc: Global, bytes: &[u8]) -> Result<RecordMessage, IpcEr
     ensures gives { Gives message_of result (record_parts bytes.now) }
     ensures quiet { IfErr result IsOfBytes }
 {
-    let message = read_message(bytes, 3)?;
+    let message = read_message(bytes, Expected::Batch)?;
     let header = read_batch_header(alloc, &message.header)?;
     let version = read_version(&message.table)?;
     Ok(RecordMessage { header, version })
@@ -303,4 +232,81 @@ pub fn read_record_message(alloc: Global, bytes: &[u8]) -> Result<RecordMessage,
     ensures quiet { IfErr result IsOfBytes }
 {
     read_record_parts(alloc, bytes)
+}
+
+/// A dictionary batch: its id, whether it is a delta, and the tables of its values.
+#[tactic(auto, unfolding(arrow_spec::specs::Readings::bind, crate::specs::Headers::dictionary_parts))]
+fn read_dictionary(alloc: Global, table: &Table<'_>) -> Result<MessageHeader, IpcError>
+    ensures gives { Gives header_in result (dictionary_parts table.now.bytes table.now.table) }
+    ensures quiet { IfErr result IsOfBytes }
+{
+    let id = table.slot_i64(0, 0).map_err(|e| IpcError::OutOfSpec(
+        OutOfSpecKind::InvalidFlatbufferId(e),
+    ))?;
+    let is_delta = table.slot_bool(2, false).map_err(|e| IpcError::OutOfSpec(
+        OutOfSpecKind::InvalidFlatbufferIsDelta(e),
+    ))?;
+    let data = table.slot_table(1).map_err(|e| IpcError::OutOfSpec(
+        OutOfSpecKind::InvalidFlatbufferData(e),
+    ))?;
+    let Some(data) = data else {
+        return Err(IpcError::OutOfSpec(OutOfSpecKind::MissingData));
+    };
+    let batch = read_batch_header(alloc, &data)?;
+    Ok(MessageHeader::Dictionary {
+        id,
+        is_delta,
+        batch,
+    })
+}
+
+#[tactic(auto, unfolding(arrow_spec::specs::Readings::bind))]
+fn read_batch(alloc: Global, table: &Table<'_>) -> Result<MessageHeader, IpcError>
+    ensures gives { Gives header_in result (batch_part table.now.bytes table.now.table) }
+    ensures quiet { IfErr result IsOfBytes }
+{
+    let batch = read_batch_header(alloc, table)?;
+    Ok(MessageHeader::Batch(batch))
+}
+
+/// The header of a message by its tag.
+fn read_header(alloc: Global, tag: u8, table: &Table<'_>) -> Result<MessageHeader, IpcError>
+    ensures gives { Gives header_in result (header_part tag table.now.bytes table.now.table) }
+    ensures quiet { IfErr result IsOfBytes }
+{
+    match tag {
+        2 => read_dictionary(alloc, table),
+        3 => read_batch(alloc, table),
+        _ => Ok(MessageHeader::Schema),
+    }
+}
+
+#[tactic(auto, unfolding(arrow_spec::specs::Readings::bind, crate::specs::Headers::header_parts))]
+fn read_header_parts(alloc: Global, bytes: &[u8]) -> Result<Message, IpcError>
+    ensures gives { Gives whole_in result (header_parts bytes.now) }
+    ensures quiet { IfErr result IsOfBytes }
+{
+    let message = read_message(bytes, Expected::Any)?;
+    let header = read_header(alloc, message.tag, &message.header)?;
+    let version = read_version(&message.table)?;
+    Ok(Message {
+        version,
+        body_length: message.body,
+        header,
+    })
+}
+
+/// The version, the length of the body and the header of a message, by its metadata without the prefix (Message.fbs).
+/// Of a schema's message no more than the header is looked at.
+///
+/// # Errors
+///
+/// `OutOfSpec` with the kind of the part that is not as the format says, `UnexpectedMessageType` for tensors,
+/// `Unsupported(Version)` for versions 1 to 3, and `Memory`.
+#[tactic(auto, using(crate::proofs::Parts::header_by_parts))]
+pub fn read_message_header(alloc: Global, bytes: &[u8]) -> Result<Message, IpcError>
+    ensures gives { Gives whole_in result (message_header bytes.now) }
+    ensures quiet { IfErr result IsOfBytes }
+{
+    read_header_parts(alloc, bytes)
 }

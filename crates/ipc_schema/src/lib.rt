@@ -9,20 +9,17 @@ mod message;
 mod number;
 mod outside;
 mod prefix;
-#[cfg(test)]
-mod worked;
 
 pub use arrow_spec::{
     Block, Counted, Feature, FieldNode, FlatError, IpcBuffer, IpcError, MetadataVersion,
     OutOfSpecKind,
 };
 pub use footer::{Footer, decode_footer_len, deserialize_footer};
-pub use header::read_record_message;
-pub use ipc_fields::{
-    IpcField, IpcSchema, default_ipc_fields, deserialize_schema, read_schema, schema_message,
-    schema_to_bytes, serialize_schema,
-};
+pub use header::{read_message_header, read_record_message};
+pub use ipc_fields::{IpcField, IpcSchema};
 pub use memory::{Entry, MemoryFeed, MemoryShelf, MemorySink, MemorySource};
-pub use message::{BatchHeader, RecordMessage};
+pub use message::{BatchHeader, Message, MessageHeader, RecordMessage};
 pub use outside::{Failed, Feed, Got, PutError, Shelf, ShelfError, Sink, Source};
 pub use prefix::{is_continuation, message_prefix, metadata_length};
+pub use schema_reader::{deserialize_schema, read_schema};
+pub use schema_writer::{default_ipc_fields, schema_message, schema_to_bytes, serialize_schema};

@@ -18,3 +18,23 @@ pub struct RecordMessage {
     pub header: BatchHeader,
     pub version: MetadataVersion,
 }
+
+/// The header of a message: a schema, a dictionary with its id and whether it is a delta, or a record batch.
+#[derive(Debug, Drop)]
+pub enum MessageHeader {
+    Schema,
+    Dictionary {
+        id: i64,
+        is_delta: bool,
+        batch: BatchHeader,
+    },
+    Batch(BatchHeader),
+}
+
+/// A message: its version, the length of its body in bytes, and its header.
+#[derive(Debug, Drop)]
+pub struct Message {
+    pub version: MetadataVersion,
+    pub body_length: u64,
+    pub header: MessageHeader,
+}

@@ -1,25 +1,28 @@
--- Where the source means a table and no device failed, few refusals are left.
+-- Where the source means a table, or says a schema, and no device failed, few refusals are left.
 use Rattle.std.proofs.Common.{◌≡◌, ℕ, ◌<◌, ◌^◌, ◌⊎◌, inl, inr, List, length, Option, None, Some, IfSome, IsSome, IsSomeAnd, IsNone, option_map, subst, ap, ◌∙◌, refl, arith, length-append}
+use Rattle.std.specs.Prelude.{IsOk}
 use Rattle.std.specs.Io.KnownBytes.{Consumes}
 use Rattle.arrow_spec.specs.declared.error.IpcError.TheVariants as errors
-use Rattle.arrow_spec.specs.Files.{Request, «all», file_table}
-use Rattle.arrow_spec.specs.Words.{Stream, bytes_of_hex}
+use Rattle.arrow_spec.specs.Files.{«all», file_table}
+use Rattle.arrow_spec.specs.SchemaText.{schema_text_of}
+use Rattle.arrow_spec.specs.Words.{Stream, SchemaAsked, bytes_of_hex}
 use Rattle.ipc_schema.specs.Outside.{Held, Stands}
 use Rattle.ipc_tool.specs.declared.refusal.Refusal.{Refusal}
 use Rattle.ipc_tool.specs.declared.refusal.Refusal.TheVariants.{Ipc, Words, NotHex, InputTooLong, NoName}
 use Rattle.ipc_tool.specs.Refusal.{number_of}
-use Rattle.ipc_tool.specs.Request.{whole_input}
+use Rattle.ipc_tool.specs.Request.{whole_input, schema_of_input}
 use Rattle.ipc_tool.specs.Input.{TakesTooMany, IsNoHex, HexCause}
-use Rattle.ipc_tool.specs.Run.{Outside, source_of, MayBe, NoneFailed, HasMeaning, IsLeft, IsComplete}
+use Rattle.ipc_tool.specs.Run.{Outside, source_of, MayBe, NoneFailed, HasMeaning, HasText, IsLeft, IsComplete, IsTold}
 use Rattle.ipc_tool.proofs.Noting.{stood}
 
-abbrev Meant : Request → Option (Option (List ℕ)) → Type 0
-Meant r told = IsSomeAnd told (λ bytes. IsSomeAnd bytes (λ b. IsSome (file_table b r)))
+-- the source's bytes are told, and P holds of them
+abbrev OfSource : (List ℕ → Type 0) → Option (Option (List ℕ)) → Type 0
+OfSource P told = IsSomeAnd told (λ bytes. IsSomeAnd bytes P)
 
-not_hex : (name : Option (List ℕ)) (held : Option Held) (rest rest' : Option (List ℕ)) (r : Request) → IsNone name → IsNoHex rest rest' → Meant r (source_of name held rest) → ⊥
-not_hex None held None rest' r n x h = h
-not_hex None held (Some text) rest' r n x h = subst (λ bytes. IsSomeAnd bytes (λ b. IsSome (file_table b r))) x.no_hex.1 h
-not_hex (Some name) held rest rest' r n x h = cc
+not_hex : (P : List ℕ → Type 0) (name : Option (List ℕ)) (held : Option Held) (rest rest' : Option (List ℕ)) → IsNone name → IsNoHex rest rest' → OfSource P (source_of name held rest) → ⊥
+not_hex P None held None rest' n x h = h
+not_hex P None held (Some text) rest' n x h = subst (λ bytes. IsSomeAnd bytes P) x.no_hex.1 h
+not_hex P (Some name) held rest rest' n x h = cc
 
 -- a text that is too long stands for no bytes
 too_long_none : (text : List ℕ) → 2 ^ 27 < length text → bytes_of_hex text ≡ None
@@ -30,33 +33,36 @@ taken_long : (text taken : List ℕ) (new : Option (List ℕ)) → Consumes (Som
 taken_long text taken None c lt = absurd c
 taken_long text taken (Some ys) c lt = omega (arith, ap length c, length-append taken ys)
 
-too_long : (name : Option (List ℕ)) (held : Option Held) (rest rest' : Option (List ℕ)) (r : Request) → IsNone name → TakesTooMany rest rest' → Meant r (source_of name held rest) → ⊥
-too_long None held None rest' r n x h = h
-too_long None held (Some text) rest' r n x h = subst (λ bytes. IsSomeAnd bytes (λ b. IsSome (file_table b r))) (too_long_none text (taken_long text x.0 rest' x.1 x.2)) h
-too_long (Some name) held rest rest' r n x h = cc
+too_long : (P : List ℕ → Type 0) (name : Option (List ℕ)) (held : Option Held) (rest rest' : Option (List ℕ)) → IsNone name → TakesTooMany rest rest' → OfSource P (source_of name held rest) → ⊥
+too_long P None held None rest' n x h = h
+too_long P None held (Some text) rest' n x h = subst (λ bytes. IsSomeAnd bytes P) (too_long_none text (taken_long text x.0 rest' x.1 x.2)) h
+too_long P (Some name) held rest rest' n x h = cc
 
 -- reading that was refused
-hex_left : (e : Refusal) (rest rest' : Option (List ℕ)) (faults faults' : ℕ) → HexCause e rest rest' faults faults' → Meant «all» (option_map bytes_of_hex rest) → Stands faults faults' → e ≡ Ipc errors.Memory
-hex_left (Ipc errors.ReadFault) rest rest' faults faults' c h f = absurd (stood _ _ f c)
-hex_left (Ipc errors.Memory) rest rest' faults faults' c h f = refl
-hex_left NotHex rest rest' faults faults' c h f = absurd (not_hex None None rest rest' «all» refl c h)
-hex_left InputTooLong rest rest' faults faults' c h f = absurd (too_long None None rest rest' «all» refl c h)
-hex_left (Ipc errors.WriteFault) rest rest' faults faults' c h f = absurd c
-hex_left (Ipc errors.SchemaMismatch) rest rest' faults faults' c h f = absurd c
-hex_left (Ipc (errors.DictionaryReplaced id)) rest rest' faults faults' c h f = absurd c
-hex_left (Ipc errors.NotRepresentable) rest rest' faults faults' c h f = absurd c
-hex_left (Ipc errors.State) rest rest' faults faults' c h f = absurd c
-hex_left (Ipc (errors.OutOfSpec kind)) rest rest' faults faults' c h f = absurd c
-hex_left (Ipc (errors.Unsupported feature)) rest rest' faults faults' c h f = absurd c
-hex_left (Ipc errors.TooDeep) rest rest' faults faults' c h f = absurd c
-hex_left (Ipc (errors.TooMany counted)) rest rest' faults faults' c h f = absurd c
-hex_left (Ipc (errors.Projection index)) rest rest' faults faults' c h f = absurd c
-hex_left (Ipc errors.TooLarge) rest rest' faults faults' c h f = absurd c
-hex_left Words rest rest' faults faults' c h f = absurd c
-hex_left NoName rest rest' faults faults' c h f = absurd c
+hex_left : (P : List ℕ → Type 0) (e : Refusal) (rest rest' : Option (List ℕ)) (faults faults' : ℕ) → HexCause e rest rest' faults faults' → OfSource P (option_map bytes_of_hex rest) → Stands faults faults' → e ≡ Ipc errors.Memory
+hex_left P (Ipc errors.ReadFault) rest rest' faults faults' c h f = absurd (stood _ _ f c)
+hex_left P (Ipc errors.Memory) rest rest' faults faults' c h f = refl
+hex_left P NotHex rest rest' faults faults' c h f = absurd (not_hex P None None rest rest' refl c h)
+hex_left P InputTooLong rest rest' faults faults' c h f = absurd (too_long P None None rest rest' refl c h)
+hex_left P (Ipc errors.WriteFault) rest rest' faults faults' c h f = absurd c
+hex_left P (Ipc errors.SchemaMismatch) rest rest' faults faults' c h f = absurd c
+hex_left P (Ipc (errors.DictionaryReplaced id)) rest rest' faults faults' c h f = absurd c
+hex_left P (Ipc errors.NotRepresentable) rest rest' faults faults' c h f = absurd c
+hex_left P (Ipc errors.State) rest rest' faults faults' c h f = absurd c
+hex_left P (Ipc (errors.OutOfSpec kind)) rest rest' faults faults' c h f = absurd c
+hex_left P (Ipc (errors.Unsupported feature)) rest rest' faults faults' c h f = absurd c
+hex_left P (Ipc errors.TooDeep) rest rest' faults faults' c h f = absurd c
+hex_left P (Ipc (errors.TooMany counted)) rest rest' faults faults' c h f = absurd c
+hex_left P (Ipc (errors.Projection index)) rest rest' faults faults' c h f = absurd c
+hex_left P (Ipc errors.TooLarge) rest rest' faults faults' c h f = absurd c
+hex_left P Words rest rest' faults faults' c h f = absurd c
+hex_left P NoName rest rest' faults faults' c h f = absurd c
 
 pub read_left : (e : Refusal) (old new : Outside) → HexCause e old.rest new.rest old.input_faults new.input_faults → IsComplete e whole_input old new
-read_left e old new c = λ h f. inl (hex_left e old.rest new.rest old.input_faults new.input_faults c h f.input)
+read_left e old new c = λ h f. inl (hex_left (λ b. IsSome (file_table b «all»)) e old.rest new.rest old.input_faults new.input_faults c h f.input)
+
+pub schema_left : (e : Refusal) (old new : Outside) → HexCause e old.rest new.rest old.input_faults new.input_faults → IsTold e schema_of_input old new
+schema_left e old new c = λ h f. hex_left (λ b. IsOk (schema_text_of b)) e old.rest new.rest old.input_faults new.input_faults c h f.input
 
 -- the statuses that are left
 abbrev Left : ℕ → Stream → Outside → Type 0
@@ -69,3 +75,7 @@ left e s old n is (inr h) = inr (inr (is ∙ ap number_of h.0, h.1))
 pub completes : (o : Option Stream) (e : Refusal) (old new : Outside) (n : ℕ) → n ≡ number_of e → IfSome o (λ s. IsComplete e s old new) → IfSome o (λ s. HasMeaning s old → NoneFailed old new → Left n s old)
 completes None e old new n is c = tt
 completes (Some s) e old new n is c = λ h f. left e s old n is (c h f)
+
+pub tells : (o : Option SchemaAsked) (e : Refusal) (old new : Outside) (n : ℕ) → n ≡ number_of e → IfSome o (λ s. IsTold e s old new) → IfSome o (λ s. HasText s old → NoneFailed old new → (n ≡ 0) ⊎ (n ≡ 13))
+tells None e old new n is c = tt
+tells (Some s) e old new n is c = λ h f. inr (is ∙ ap number_of (c h f))

@@ -24,7 +24,7 @@ use Rattle.ipc_tool.specs.Written.{WritesSchema}
 use Rattle.ipc_tool.specs.declared.ipc_files.metadata.FileMetadata.{FileMetadata}
 use Rattle.arrow_flat.specs.declared.node.Node.{Node as Built}
 use Rattle.ipc_fields.specs.IpcFields.{Ids, no_fields, ids, ids_of, fields_with, have_shapes, kind_with}
-use Rattle.ipc_fields.specs.Serialized.{belong_to, serialized, IsOfTable}
+use Rattle.schema_writer.specs.Serialized.{belong_to, serialized, IsOfTable}
 
 -- ── ids ──
 

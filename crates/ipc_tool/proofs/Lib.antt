@@ -24,3 +24,5 @@ pub mod FirstMeta
 pub mod StreamSteps
 pub mod Asking
 pub mod FileFooters
+pub mod SchemaTexts
+pub mod Commands

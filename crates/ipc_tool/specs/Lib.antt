@@ -1,6 +1,7 @@
 pub mod Refusal
 pub mod Request
 pub mod Transcode
+pub mod SchemaPuts
 pub mod Input
 pub mod Run
 pub mod Arrays

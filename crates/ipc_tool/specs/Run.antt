@@ -1,13 +1,15 @@
 -- What a run adds to its output, and when it is refused.
-use Rattle.std.specs.Prelude.{◌≡◌, ◌⊎◌, ℕ, List, ⊤, Option, Some, None, IfSome, IsSome, IsNone, IsSomeAnd, MatchOption, option_map}
+use Rattle.std.specs.Prelude.{◌≡◌, ◌⊎◌, ℕ, List, ⊤, Option, Some, None, IfSome, IsSome, IsNone, IsSomeAnd, MatchOption, option_map, IsOk}
 use Rattle.std.specs.Io.KnownBytes.{Appends, Keeps}
 use Rattle.arrow_spec.specs.declared.error.IpcError.{IpcError}
 use Rattle.arrow_spec.specs.declared.error.IpcError.TheVariants as errors
 use Rattle.arrow_spec.specs.Files.{file_table, may}
-use Rattle.arrow_spec.specs.Words.{Stream, request_of, bytes_of_hex, shown}
+use Rattle.arrow_spec.specs.Words.{Stream, SchemaAsked, Command, of_stream, of_schema, command_of, bytes_of_hex, shown}
+use Rattle.arrow_spec.specs.SchemaText.{schema_text_of}
 use Rattle.ipc_schema.specs.Outside.{Held, Rose, Stands, Lacks, AppendsPrefix}
 use Rattle.ipc_tool.specs.Refusal.{number_of, line_of}
 use Rattle.ipc_tool.specs.Request.{WordsCause}
+use Rattle.ipc_tool.specs.SchemaPuts.{AddsText, AddsTextFront, may_print}
 use Rattle.ipc_tool.specs.Transcode.{text_of, AddsStream, AddsPiece, AddsFrontOrNone}
 use Rattle.ipc_tool.specs.Input.{TakesTooMany, IsNoHex}
 use Rattle.ipc_tool.specs.declared.refusal.Refusal.{Refusal}
@@ -49,15 +51,22 @@ abbrev pub source_of : Option (List ℕ) → Option Held → Option (List ℕ) �
 source_of None held rest = option_map bytes_of_hex rest
 source_of (Some name) held rest = option_map (λ h. h name) held
 
-abbrev pub source_in : Stream → Outside → Option (Option (List ℕ))
-source_in s old = source_of s.name old.held old.rest
+abbrev pub source_in : Option (List ℕ) → Outside → Option (Option (List ℕ))
+source_in name old = source_of name old.held old.rest
+
+-- the name of a request's source
+abbrev pub name_in : Command → Option (List ℕ)
+name_in (of_stream s) = s.name
+name_in (of_schema s) = s.name
+
+-- ── a stream ──
 
 abbrev pub shown_in : Stream → List ℕ → List ℕ
 shown_in s x = shown x s.raw
 
 -- The output has one whole stream more, shown as asked, that means what the source means.
 abbrev pub IsWhole : Stream → Outside → Outside → Type 0
-IsWhole s old new = IfSome (source_in s old) (λ bytes. IsSomeAnd bytes (λ b. AddsStream b s.request (shown_in s) old.written new.written))
+IsWhole s old new = IfSome (source_in s.name old) (λ bytes. IsSomeAnd bytes (λ b. AddsStream b s.request (shown_in s) old.written new.written))
 
 -- what a request that was refused added, of known bytes: nothing or a front; after a failed put a part of a stream; for want of memory maybe all but the line feed
 abbrev pub AddsBefore : Refusal → Stream → List ℕ → Option (List ℕ) → Option (List ℕ) → Type 0
@@ -67,11 +76,11 @@ AddsBefore (Ipc e) s b old new = AddsFrontOrNone b s.request (text_of s.raw) old
 AddsBefore _ s b old new = Keeps old new
 
 abbrev pub AddsPartOf : Refusal → Stream → Outside → Outside → Type 0
-AddsPartOf e s old new = IfSome (source_in s old) (λ bytes. MatchOption bytes (Keeps old.written new.written) (λ b. AddsBefore e s b old.written new.written))
+AddsPartOf e s old new = IfSome (source_in s.name old) (λ bytes. MatchOption bytes (Keeps old.written new.written) (λ b. AddsBefore e s b old.written new.written))
 
 -- the source's bytes may be refused so
 abbrev pub MayBe : IpcError → Stream → Outside → Type 0
-MayBe e s old = IfSome (source_in s old) (λ bytes. IsSomeAnd bytes (λ b. may b s.request e))
+MayBe e s old = IfSome (source_in s.name old) (λ bytes. IsSomeAnd bytes (λ b. may b s.request e))
 
 -- why a request is refused
 abbrev pub RequestCause : Refusal → Stream → Outside → Outside → Type 0
@@ -88,11 +97,57 @@ RequestCause NotHex s old new = IsNone s.name × IsNoHex old.rest new.rest
 RequestCause InputTooLong s old new = IsNone s.name × TakesTooMany old.rest new.rest
 RequestCause NoName s old new = IsSomeAnd s.name (Lacks old.held)
 
+-- ── the text of a schema ──
+
+-- The output has the text of the schema more that the source's bytes say.
+abbrev pub IsText : SchemaAsked → Outside → Outside → Type 0
+IsText s old new = IfSome (source_in s.name old) (λ bytes. IsSomeAnd bytes (λ b. AddsText b old.written new.written))
+
+-- what a schema's request that was refused added: nothing; after a failed put a part of the text
+abbrev pub AddsTextOf : Refusal → SchemaAsked → Outside → Outside → Type 0
+AddsTextOf (Ipc errors.WriteFault) s old new = IfSome (source_in s.name old) (λ bytes. IsSomeAnd bytes (λ b. AddsTextFront b old.written new.written))
+AddsTextOf _ s old new = Keeps old.written new.written
+
+-- the source's bytes may be refused so
+abbrev pub MayPrint : IpcError → SchemaAsked → Outside → Type 0
+MayPrint e s old = IfSome (source_in s.name old) (λ bytes. IsSomeAnd bytes (λ b. may_print b e))
+
+-- why a schema's request is refused
+abbrev pub SchemaCause : Refusal → SchemaAsked → Outside → Outside → Type 0
+SchemaCause (Ipc (errors.OutOfSpec kind)) s old new = MayPrint (errors.OutOfSpec kind) s old
+SchemaCause (Ipc (errors.Unsupported feature)) s old new = MayPrint (errors.Unsupported feature) s old
+SchemaCause (Ipc errors.TooDeep) s old new = MayPrint errors.TooDeep s old
+SchemaCause (Ipc (errors.TooMany counted)) s old new = MayPrint (errors.TooMany counted) s old
+SchemaCause (Ipc errors.ReadFault) s old new = Rose old.shelf_faults new.shelf_faults ⊎ Rose old.input_faults new.input_faults
+SchemaCause (Ipc errors.WriteFault) s old new = Rose old.output_faults new.output_faults
+SchemaCause (Ipc errors.Memory) s old new = ⊤
+SchemaCause (Ipc _) s old new = ⊥
+SchemaCause Words s old new = ⊥
+SchemaCause NotHex s old new = IsNone s.name × IsNoHex old.rest new.rest
+SchemaCause InputTooLong s old new = IsNone s.name × TakesTooMany old.rest new.rest
+SchemaCause NoName s old new = IsSomeAnd s.name (Lacks old.held)
+
+-- the source's bytes are told, and say a schema
+abbrev pub HasText : SchemaAsked → Outside → Type 0
+HasText s old = IsSomeAnd (source_in s.name old) (λ bytes. IsSomeAnd bytes (λ b. IsOk (schema_text_of b)))
+
+-- ── either command ──
+
+-- why a request is refused
+abbrev pub CommandCause : Refusal → Command → Outside → Outside → Type 0
+CommandCause e (of_stream s) old new = RequestCause e s old new
+CommandCause e (of_schema s) old new = SchemaCause e s old new
+
+-- what a request that was refused added
+abbrev pub CommandAdds : Refusal → Command → Outside → Outside → Type 0
+CommandAdds e (of_stream s) old new = AddsPartOf e s old new
+CommandAdds e (of_schema s) old new = AddsTextOf e s old new
+
 -- a status other than 0: there is a refusal of that number, with its cause, and what was added is a part
 pub record IsRefused (status : ℕ) (e : Refusal) (words : List (List ℕ)) (old new : Outside) : Type 0 where
   pub number : number_of e ≡ status
-  pub cause : MatchOption (request_of words) (WordsCause e words) (λ s. RequestCause e s old new)
-  pub added : MatchOption (request_of words) (Keeps old.written new.written) (λ s. AddsPartOf e s old new)
+  pub cause : MatchOption (command_of words) (WordsCause e words) (λ c. CommandCause e c old new)
+  pub added : MatchOption (command_of words) (Keeps old.written new.written) (λ c. CommandAdds e c old new)
 
 -- the line of a refusal was noted, or a part of it where the notes failed or wanted memory
 pub record IsNoted (e : Refusal) (old new : Option (List ℕ)) (faults faults' wants wants' : ℕ) : Type 0 where
@@ -107,7 +162,7 @@ pub record NoneFailed (old new : Outside) : Type 0 where
 
 -- the source's bytes are told, and mean a table
 abbrev pub HasMeaning : Stream → Outside → Type 0
-HasMeaning s old = IsSomeAnd (source_in s old) (λ bytes. IsSomeAnd bytes (λ b. IsSome (file_table b s.request)))
+HasMeaning s old = IsSomeAnd (source_in s.name old) (λ bytes. IsSomeAnd bytes (λ b. IsSome (file_table b s.request)))
 
 -- the only refusals where the source means a table and no device failed
 abbrev pub IsLeft : Refusal → Stream → Outside → Type 0
@@ -115,3 +170,7 @@ IsLeft e s old = (e ≡ Ipc errors.Memory) ⊎ ((e ≡ Ipc errors.TooLarge) × M
 
 abbrev pub IsComplete : Refusal → Stream → Outside → Outside → Type 0
 IsComplete e s old new = HasMeaning s old → NoneFailed old new → IsLeft e s old
+
+-- the only refusal where the source says a schema and no device failed
+abbrev pub IsTold : Refusal → SchemaAsked → Outside → Outside → Type 0
+IsTold e s old new = HasText s old → NoneFailed old new → e ≡ Ipc errors.Memory

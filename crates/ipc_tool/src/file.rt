@@ -8,7 +8,7 @@ ghost use Rattle.ipc_tool.specs.Arrays.{columns_of};
 ghost use Rattle.ipc_tool.specs.FileBlocks.{file_block};
 ghost use Rattle.ipc_tool.specs.FileViews.{meta_view, FileCause, IsBuilt};
 ghost use Rattle.ipc_tool.specs.Sends.{body_place, Begun, BlockRefused, BlockSent, ReadsBlock, Refused, SendCause, SentBlocks};
-ghost use Rattle.ipc_fields.specs.Serialized.{metadata_in};
+ghost use Rattle.ipc_fields.specs.IpcFields.{metadata_in};
 ghost use Rattle.ipc_tool.specs.Written.{WritesSchema};
 ghost use Rattle.ipc_tool.specs.Transcode.{text_of, Transcodes};
 
@@ -146,7 +146,8 @@ fn reads_dictionaries(file: &FileMetadata) -> bool
     !file.blocks.is_empty() && !file.dictionaries.is_empty()
 }
 
-fn metadata_of(file: &FileMetadata) -> Option<&Metadata>
+/// The metadata of a file's schema, where it has any.
+pub(crate) fn metadata_of(file: &FileMetadata) -> Option<&Metadata>
     ensures { metadata_in result ≡ (meta_view file.now).schema.metadata }
 {
     match &file.custom_metadata {

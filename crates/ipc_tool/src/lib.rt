@@ -1,4 +1,4 @@
-//! From an Arrow file to an Arrow stream, for columns of 32-bit integers; the run of the program, over objects that it is lent.
+//! From an Arrow file to an Arrow stream, for columns of 32-bit integers, and the text of a file's schema; the run of the program, over objects that it is lent.
 #![tactic(auto)]
 
 mod adapters;
@@ -14,6 +14,7 @@ mod note;
 mod program;
 mod refusal;
 mod request;
+mod schema_output;
 mod text;
 
 pub use adapters::{InputFeed, OutputSink};

@@ -1,12 +1,12 @@
 //! A run from words to status.
-ghost use Rattle.std.specs.Prelude.{◌≡◌, ◌⊎◌, ◌↔◌, ◌<◌, ◌≤◌, ◌^◌, ℕ, IsNone, IsSomeAnd, MatchOption, IsTrue, IsFalse, List, Option, Some, None, [], length, OnOk, IfOk, IfErr, IfSome};
+ghost use Rattle.std.specs.Prelude.{◌≡◌, ◌⊎◌, ◌↔◌, ◌<◌, ◌≤◌, ◌^◌, ℕ, IsNone, IsSome, IsSomeAnd, MatchOption, IsTrue, IsFalse, List, Option, Some, None, [], length, OnOk, IfOk, IfErr, IfSome};
 ghost use Rattle.std.specs.Io.KnownBytes.{Keeps, IsAtEnd};
-ghost use Rattle.arrow_spec.specs.Words.{request_of};
+ghost use Rattle.arrow_spec.specs.Words.{command_of, request_of, schema_request_of};
 ghost use Rattle.ipc_schema.specs.Outside.{Rose, Lacks};
 ghost use Rattle.ipc_tool.specs.Refusal.{number_of};
-ghost use Rattle.ipc_tool.specs.Request.{texts, whole_input, begins_with_stream, WordsCause};
+ghost use Rattle.ipc_tool.specs.Request.{texts, whole_input, schema_of_input, begins_with_stream, WordsCause};
 ghost use Rattle.ipc_tool.specs.Input.{TakesTooMany, IsNoHex};
-ghost use Rattle.ipc_tool.specs.Run.{HasMeaning, IsRefused, IsWhole, AddsPartOf, RequestCause, NoneFailed, IsNoted, MayBe, IsComplete, outside_of, beside_shelf};
+ghost use Rattle.ipc_tool.specs.Run.{HasMeaning, HasText, IsRefused, IsWhole, IsText, AddsPartOf, AddsTextOf, RequestCause, SchemaCause, CommandAdds, CommandCause, NoneFailed, IsNoted, MayBe, IsComplete, IsTold, name_in, outside_of, beside_shelf};
 ghost use Rattle.ipc_tool.specs.declared.refusal.Refusal.{Refusal};
 ghost use Rattle.arrow_spec.specs.declared.error.IpcError.TheVariants.{TooLarge};
 
@@ -14,7 +14,8 @@ use crate::conversion::send;
 use crate::input::read_hex;
 use crate::note::note_refusal;
 use crate::refusal::Refusal;
-use crate::request::check_words;
+use crate::request::{Command, read_words};
+use crate::schema_output::write_schema;
 use ipc_schema::{Failed, Feed, Got, Shelf, Sink, Source};
 use std::alloc::Global;
 
@@ -46,8 +47,12 @@ impl Source for Bytes {
     }
 }
 
-// A run over the input.
-fn from_input<I: Feed, W: Sink>(alloc: Global, input: &mut I, output: &mut W) -> Result<(), Refusal>
+// A stream of the input.
+fn stream_from_input<I: Feed, W: Sink>(
+    alloc: Global,
+    input: &mut I,
+    output: &mut W,
+) -> Result<(), Refusal>
     ensures whole { OnOk result (IsWhole whole_input
         (beside_shelf I.rest I.faults W.written W.faults input.old output.old)
         (beside_shelf I.rest I.faults W.written W.faults input.new output.new)) }
@@ -72,6 +77,36 @@ fn from_input<I: Feed, W: Sink>(alloc: Global, input: &mut I, output: &mut W) ->
     Ok(())
 }
 
+// The text of the schema of the input.
+fn schema_from_input<I: Feed, W: Sink>(
+    alloc: Global,
+    input: &mut I,
+    output: &mut W,
+) -> Result<(), Refusal>
+    ensures text { OnOk result (IsText schema_of_input
+        (beside_shelf I.rest I.faults W.written W.faults input.old output.old)
+        (beside_shelf I.rest I.faults W.written W.faults input.new output.new)) }
+    ensures part { IfErr result (λ e. AddsTextOf e schema_of_input
+        (beside_shelf I.rest I.faults W.written W.faults input.old output.old)
+        (beside_shelf I.rest I.faults W.written W.faults input.new output.new)) }
+    ensures cause { IfErr result (λ e. SchemaCause e schema_of_input
+        (beside_shelf I.rest I.faults W.written W.faults input.old output.old)
+        (beside_shelf I.rest I.faults W.written W.faults input.new output.new)) }
+    ensures told { IfErr result (λ e. IsTold e schema_of_input
+        (beside_shelf I.rest I.faults W.written W.faults input.old output.old)
+        (beside_shelf I.rest I.faults W.written W.faults input.new output.new)) }
+    ensures few { IfErr result (λ e. (number_of e ≤ 4) ⊎ (11 ≤ number_of e)) }
+    ensures at_end { OnOk result (IsAtEnd (I.rest input.new)) }
+    ensures reads { I.faults input.old ≤ I.faults input.new }
+    ensures writes { W.faults output.old ≤ W.faults output.new }
+    ensures untouched { IfErr result (λ e. 14 ≤ number_of e → Keeps (W.written output.old) (W.written output.new)) }
+    ensures not_read { IfErr result (λ e. number_of e ≡ 11 → Keeps (W.written output.old) (W.written output.new)) }
+{
+    let bytes = read_hex(alloc, input)?;
+    write_schema(alloc, &mut Bytes { bytes }, output)?;
+    Ok(())
+}
+
 // A run but for its notes.
 fn work<H: Shelf, I: Feed, W: Sink>(
     alloc: Global,
@@ -80,33 +115,44 @@ fn work<H: Shelf, I: Feed, W: Sink>(
     input: &mut I,
     output: &mut W,
 ) -> Result<(), Refusal>
-    ensures whole { OnOk result (IsSomeAnd (request_of (texts words.now)) (λ s. IsWhole s
+    ensures request { OnOk result (IsSome (command_of (texts words.now))) }
+    ensures whole { OnOk result (IfSome (request_of (texts words.now)) (λ s. IsWhole s
         (outside_of H.held H.faults I.rest I.faults W.written W.faults shelf.old input.old output.old)
         (outside_of H.held H.faults I.rest I.faults W.written W.faults shelf.new input.new output.new))) }
-    ensures part { IfErr result (λ e. MatchOption (request_of (texts words.now)) (Keeps (W.written output.old) (W.written output.new)) (λ s. AddsPartOf e s
+    ensures text { OnOk result (IfSome (schema_request_of (texts words.now)) (λ s. IsText s
         (outside_of H.held H.faults I.rest I.faults W.written W.faults shelf.old input.old output.old)
         (outside_of H.held H.faults I.rest I.faults W.written W.faults shelf.new input.new output.new))) }
-    ensures cause { IfErr result (λ e. MatchOption (request_of (texts words.now)) (WordsCause e (texts words.now)) (λ s. RequestCause e s
+    ensures part { IfErr result (λ e. MatchOption (command_of (texts words.now)) (Keeps (W.written output.old) (W.written output.new)) (λ c. CommandAdds e c
+        (outside_of H.held H.faults I.rest I.faults W.written W.faults shelf.old input.old output.old)
+        (outside_of H.held H.faults I.rest I.faults W.written W.faults shelf.new input.new output.new))) }
+    ensures cause { IfErr result (λ e. MatchOption (command_of (texts words.now)) (WordsCause e (texts words.now)) (λ c. CommandCause e c
         (outside_of H.held H.faults I.rest I.faults W.written W.faults shelf.old input.old output.old)
         (outside_of H.held H.faults I.rest I.faults W.written W.faults shelf.new input.new output.new))) }
     ensures complete { IfErr result (λ e. IfSome (request_of (texts words.now)) (λ s. IsComplete e s
         (outside_of H.held H.faults I.rest I.faults W.written W.faults shelf.old input.old output.old)
         (outside_of H.held H.faults I.rest I.faults W.written W.faults shelf.new input.new output.new))) }
+    ensures told { IfErr result (λ e. IfSome (schema_request_of (texts words.now)) (λ s. IsTold e s
+        (outside_of H.held H.faults I.rest I.faults W.written W.faults shelf.old input.old output.old)
+        (outside_of H.held H.faults I.rest I.faults W.written W.faults shelf.new input.new output.new))) }
+    ensures few { IfErr result (λ e. IfSome (schema_request_of (texts words.now)) (λ s. (number_of e ≤ 4) ⊎ (11 ≤ number_of e))) }
     ensures at_end { OnOk result (IsAtEnd (I.rest input.new)) }
-    ensures unread { IsNone (request_of (texts words.now)) → input.new ≡ input.old }
+    ensures unread { IsNone (command_of (texts words.now)) → input.new ≡ input.old }
     ensures shelf { shelf.new ≡ shelf.old }
     ensures input_reads { I.faults input.old ≤ I.faults input.new }
     ensures writes { W.faults output.old ≤ W.faults output.new }
     ensures untouched { IfErr result (λ e. 14 ≤ number_of e → Keeps (W.written output.old) (W.written output.new)) }
     ensures not_read { IfErr result (λ e. number_of e ≡ 11 → Keeps (W.written output.old) (W.written output.new)) }
 {
-    check_words(words)?;
-    from_input(alloc, input, output)
+    match read_words(words)? {
+        Command::Stream => stream_from_input(alloc, input, output),
+        Command::Schema => schema_from_input(alloc, input, output),
+    }
 }
 
 /// Answers what the words ask for.
 ///
-/// `stream` alone reads hex text from the input to its end, and adds to the output the hex text of one stream that means what the file means, and a line feed.
+/// Both commands read hex text from the input to its end, which stands for the bytes of a file. `stream` alone adds to the output the hex text of one stream that means what the file means, and a line feed.
+/// `schema` alone adds the text of the schema that the file's footer says, for columns of all types and in either byte order, as it is and in one put.
 /// The status is 0 then, and else that of a refusal, of which one line is noted: `refused`, the status, the name. What the notes answer changes nothing.
 pub fn run<H: Shelf, I: Feed, W: Sink, N: Sink>(
     alloc: Global,
@@ -116,8 +162,12 @@ pub fn run<H: Shelf, I: Feed, W: Sink, N: Sink>(
     output: &mut W,
     notes: &mut N,
 ) -> u8
-    // At 0 the words are a request, the output has one whole stream more that means what the source means, and nothing was noted.
-    ensures whole { result ≡ 0 → IsSomeAnd (request_of (texts words.now)) (λ s. IsWhole s
+    // At 0 the words are a request. For a stream the output has one whole stream more that means what the source means, for a schema the text of the source's schema more; and nothing was noted.
+    ensures request { result ≡ 0 → IsSome (command_of (texts words.now)) }
+    ensures whole { result ≡ 0 → IfSome (request_of (texts words.now)) (λ s. IsWhole s
+        (outside_of H.held H.faults I.rest I.faults W.written W.faults shelf.old input.old output.old)
+        (outside_of H.held H.faults I.rest I.faults W.written W.faults shelf.new input.new output.new)) }
+    ensures text { result ≡ 0 → IfSome (schema_request_of (texts words.now)) (λ s. IsText s
         (outside_of H.held H.faults I.rest I.faults W.written W.faults shelf.old input.old output.old)
         (outside_of H.held H.faults I.rest I.faults W.written W.faults shelf.new input.new output.new)) }
     ensures at_end { result ≡ 0 → IsAtEnd (I.rest input.new) }
@@ -130,26 +180,30 @@ pub fn run<H: Shelf, I: Feed, W: Sink, N: Sink>(
         (outside_of H.held H.faults I.rest I.faults W.written W.faults shelf.new input.new output.new)
         × IsNoted e (N.written notes.old) (N.written notes.new) (N.faults notes.old) (N.faults notes.new) (N.wants notes.old) (N.wants notes.new) }
 
-    // Where the source means a table and no device failed, memory may be wanting, or a message of it is too large.
+    // Where the source means a table and no device failed, memory may be wanting, or a message of it is too large; where it says a schema, memory may be wanting.
     ensures complete { let old = outside_of H.held H.faults I.rest I.faults W.written W.faults shelf.old input.old output.old in
         let new = outside_of H.held H.faults I.rest I.faults W.written W.faults shelf.new input.new output.new in
         IfSome (request_of (texts words.now)) (λ s. HasMeaning s old → NoneFailed old new → (result ≡ 0) ⊎ (result ≡ 13) ⊎ ((result ≡ 6) × MayBe TooLarge s old)) }
+    ensures told { let old = outside_of H.held H.faults I.rest I.faults W.written W.faults shelf.old input.old output.old in
+        let new = outside_of H.held H.faults I.rest I.faults W.written W.faults shelf.new input.new output.new in
+        IfSome (schema_request_of (texts words.now)) (λ s. HasText s old → NoneFailed old new → (result ≡ 0) ⊎ (result ≡ 13)) }
 
     // Each status has its cause.
     ensures never { (result ≤ 6) ⊎ (11 ≤ result) }
+    ensures of_schema { IfSome (schema_request_of (texts words.now)) (λ s. (result ≤ 4) ⊎ (11 ≤ result)) }
     ensures at_most { result ≤ 17 }
     ensures read_fault { result ≡ 11 → Rose (H.faults shelf.old) (H.faults shelf.new) ⊎ Rose (I.faults input.old) (I.faults input.new) }
     ensures write_fault { result ≡ 12 → Rose (W.faults output.old) (W.faults output.new) }
-    ensures words { (result ≡ 14) ↔ (IsNone (request_of (texts words.now)) × IsFalse (begins_with_stream (texts words.now))) }
-    ensures later_words { IsNone (request_of (texts words.now)) → IsTrue (begins_with_stream (texts words.now)) → result ≡ 2 }
+    ensures words { (result ≡ 14) ↔ (IsNone (command_of (texts words.now)) × IsFalse (begins_with_stream (texts words.now))) }
+    ensures later_words { IsNone (command_of (texts words.now)) → IsTrue (begins_with_stream (texts words.now)) → result ≡ 2 }
     ensures not_hex { result ≡ 15 → IsNoHex (I.rest input.old) (I.rest input.new) }
     ensures too_long { result ≡ 16 → TakesTooMany (I.rest input.old) (I.rest input.new) }
-    ensures no_name { result ≡ 17 → IsSomeAnd (request_of (texts words.now)) (λ s. IsSomeAnd s.name (Lacks (H.held shelf.old))) }
+    ensures no_name { result ≡ 17 → IsSomeAnd (command_of (texts words.now)) (λ c. IsSomeAnd (name_in c) (Lacks (H.held shelf.old))) }
 
-    // What was refused before the transcoding added nothing, and words that are no request are refused before the input is read.
+    // What was refused before a file was read added nothing, and words that are no request are refused before the input is read.
     ensures untouched { 14 ≤ result → Keeps (W.written output.old) (W.written output.new) }
-    ensures not_read { result ≡ 11 → IfSome (request_of (texts words.now)) (λ s. IsNone s.name → Keeps (W.written output.old) (W.written output.new)) }
-    ensures unread { IsNone (request_of (texts words.now)) → input.new ≡ input.old }
+    ensures not_read { result ≡ 11 → IfSome (command_of (texts words.now)) (λ c. IsNone (name_in c) → Keeps (W.written output.old) (W.written output.new)) }
+    ensures unread { IsNone (command_of (texts words.now)) → input.new ≡ input.old }
     ensures shelf { shelf.new ≡ shelf.old }
 {
     match work(alloc, words, shelf, input, output) {

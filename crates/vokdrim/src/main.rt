@@ -1,4 +1,4 @@
-//! An Arrow file as hex text on standard input, an Arrow stream as hex text on standard output.
+//! An Arrow file as hex text on standard input; on standard output an Arrow stream as hex text, or the text of its schema.
 #![tactic(auto)]
 
 use ipc_schema::{MemoryShelf, Sink};

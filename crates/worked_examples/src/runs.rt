@@ -2,9 +2,11 @@
 use crate::files::{ONE_COLUMN, Part, text_of};
 use ipc_schema::{MemoryFeed, MemoryShelf, MemorySink};
 use ipc_tool::run;
+use std::alloc::Global;
+use std::process::Abort;
 use std::test::Fail;
 
-// The input's text in parts, and the first `added` bytes of the text of a stream and a line feed.
+// The input's text in parts, and the first `added` bytes of the text that the output gets.
 struct Case {
     title: &'static str,
     words: &'static [&'static str],
@@ -14,7 +16,7 @@ struct Case {
     notes_room: Option<usize>,
     status: u8,
     notes: &'static [u8],
-    stream: &'static [Part],
+    text: &'static [Part],
     added: usize,
 }
 
@@ -27,7 +29,7 @@ const WHOLE: Case = Case {
     notes_room: None,
     status: 0,
     notes: b"",
-    stream: &[
+    text: &[
         Part::Schema,
         Part::OneNull,
         Part::OneNullBody,
@@ -68,7 +70,7 @@ const CASES: &[Case] = &[
     Case {
         title: "no batch",
         input: &[Part::Magic, Part::Schema, Part::EndMark, Part::NoBlock],
-        stream: &[Part::Schema, Part::EndMark, Part::LineFeed],
+        text: &[Part::Schema, Part::EndMark, Part::LineFeed],
         added: 289,
         ..WHOLE
     },
@@ -144,10 +146,33 @@ const CASES: &[Case] = &[
     },
 ];
 
-#[test]
-fn a_run_gives_its_text_its_status_and_its_note(rt: HostRuntime) -> Result<(), Fail> {
-    let alloc = rt.alloc();
-    for case in CASES {
+const OF_SCHEMAS: &[Case] = &[
+    Case {
+        title: "the schema of one column",
+        words: &["schema"],
+        text: &[Part::SchemaText],
+        added: 26,
+        ..WHOLE
+    },
+    Case {
+        title: "a word behind the command",
+        words: &["schema", "x"],
+        failing_pulls: &[0],
+        status: 14,
+        notes: b"refused 14 Words\n",
+        ..REFUSED
+    },
+    Case {
+        title: "no schema without a footer",
+        words: &["schema"],
+        input: &[Part::Magic, Part::Schema, Part::EndMark],
+        notes: b"refused 1 InvalidFooter\n",
+        ..REFUSED
+    },
+];
+
+fn run_cases(rt: &impl Abort, alloc: Global, cases: &[Case]) -> Result<(), Fail> {
+    for case in cases {
         let mut shelf = MemoryShelf::new(alloc, Vec::new(alloc), Vec::new(alloc));
         let pulls = case.failing_pulls.to_vec(alloc)?;
         let mut input = MemoryFeed::new(text_of(alloc, case.input)?, 100, pulls);
@@ -162,10 +187,20 @@ fn a_run_gives_its_text_its_status_and_its_note(rt: HostRuntime) -> Result<(), F
             &mut notes,
         );
         assert_eq!(rt; status, case.status, "{}", case.title);
-        let mut text = text_of(alloc, case.stream)?;
+        let mut text = text_of(alloc, case.text)?;
         text.truncate(case.added);
         assert_eq!(rt; output.bytes(), text.as_slice(), "{}", case.title);
         assert_eq!(rt; notes.bytes(), case.notes, "{}", case.title);
     }
     Ok(())
+}
+
+#[test]
+fn a_run_gives_its_text_its_status_and_its_note(rt: HostRuntime) -> Result<(), Fail> {
+    run_cases(&rt, rt.alloc(), CASES)
+}
+
+#[test]
+fn a_run_gives_the_text_of_a_schema(rt: HostRuntime) -> Result<(), Fail> {
+    run_cases(&rt, rt.alloc(), OF_SCHEMAS)
 }

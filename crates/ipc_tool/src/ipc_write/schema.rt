@@ -8,7 +8,7 @@ ghost use Rattle.arrow_spec.specs.Framing.{message_bytes};
 ghost use Rattle.arrow_spec.specs.WrittenTables.{Int32Field, fields_of};
 ghost use Rattle.arrow_types.specs.Schemas.{fields_in};
 ghost use Rattle.arrow_flat.specs.Nodes.{node_of, KeepsSlotLimit};
-ghost use Rattle.ipc_fields.specs.Serialized.{metadata_in};
+ghost use Rattle.ipc_fields.specs.IpcFields.{metadata_in};
 ghost use Rattle.ipc_tool.specs.Written.{WritesSchema, Builds};
 
 use super::frame::{framed, message_node};

@@ -4,8 +4,7 @@ use Rattle.std.proofs.lemmas.Grind.{common_steps}
 use Rattle.arrow_spec.specs.Schema.{uses_agree}
 use Rattle.ipc_fields.specs.Uses.{use_in}
 use Rattle.ipc_fields.proofs.Agreement.{agree_more, agree_stopped, agree_done, nothing_held}
-use Rattle.ipc_fields.proofs.Fields.{refused_with}
-use Rattle.ipc_fields.proofs.Steps.{is_err}
+use Rattle.ipc_fields.proofs.Steps.{refused_with, is_err}
 use Rattle.ipc_fields.proofs.agree.check_uses.Goals as goal
 
 pub loop-found-init : goal.loop-found-init

@@ -4,7 +4,8 @@ use Rattle.arrow_types.specs.Schemas.{fields_in}
 use Rattle.arrow_flat.specs.Nodes.{node_of}
 use Rattle.arrow_spec.specs.Readings.{Gives}
 use Rattle.ipc_fields.specs.IpcFields.{ids_of}
-use Rattle.ipc_fields.specs.Serialized.{metadata_in, serialized}
+use Rattle.schema_writer.specs.Serialized.{serialized}
+use Rattle.ipc_fields.specs.IpcFields.{metadata_in}
 use Rattle.ipc_tool.proofs.Int32Files.{header_is, header_memory}
 use Rattle.ipc_tool.proofs.ipc_write.schema.header.Goals as goal
 

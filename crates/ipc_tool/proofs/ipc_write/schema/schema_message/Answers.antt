@@ -5,7 +5,7 @@ use Rattle.arrow_spec.specs.Layout.{table}
 use Rattle.ipc_tool.specs.Written.{Builds}
 use Rattle.arrow_types.specs.Schemas.{fields_in}
 use Rattle.arrow_flat.specs.Nodes.{node_of}
-use Rattle.ipc_fields.specs.Serialized.{metadata_in}
+use Rattle.ipc_fields.specs.IpcFields.{metadata_in}
 use Rattle.ipc_tool.proofs.Int32Files.{stream_schema_is}
 use Rattle.ipc_tool.proofs.ipc_write.schema.schema_message.Goals as goal
 

@@ -1,6 +1,0 @@
-use Rattle.std.proofs.Common.{arith}
-use Rattle.ipc_fields.proofs.PairSteps.{pairs_done}
-use Rattle.ipc_fields.proofs.pairs.read_pairs.Goals as goal
-
-pub returns-clause-gives : goal.returns-clause-gives
-returns-clause-gives c = pairs_done _ _ _ _ _ _ (omega arith) c.loop-i.invariant

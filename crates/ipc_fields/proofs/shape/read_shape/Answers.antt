@@ -1,5 +1,0 @@
-use Rattle.ipc_fields.proofs.Shapes.{applied}
-use Rattle.ipc_fields.proofs.shape.read_shape.Goals as goal
-
-pub returns-clause-gives : goal.returns-clause-gives
-returns-clause-gives c = applied c.args.children c.read_applied.result _ c.read_applied.ensures.gives

@@ -1,9 +1,0 @@
-use Rattle.std.proofs.Common.{◌≡◌}
-use Rattle.arrow_types.specs.KindOf.{fields_of}
-use Rattle.ipc_fields.specs.IpcFields.{ids_of, fields_with}
-use Rattle.ipc_fields.specs.Built.{all_fit}
-use Rattle.ipc_fields.proofs.Saying.{left_fit}
-use Rattle.ipc_fields.proofs.write.sayable.+fits.Given as goal
-
-abbrev pub invariant-all_fit-loop-i : goal.invariant-all_fit-loop-i
-invariant-all_fit-loop-i l = left_fit l.fields l.below l.i ≡ all_fit (fields_with (fields_of l.fields) (ids_of l.below))

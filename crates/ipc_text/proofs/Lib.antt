@@ -1,0 +1,4 @@
+pub mod IdSteps
+pub mod PairSteps
+pub mod Growing
+pub mod LineSteps

@@ -1,0 +1,4 @@
+pub mod Ids
+pub mod Types
+pub mod Pairs
+pub mod Lines

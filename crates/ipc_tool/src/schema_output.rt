@@ -1,0 +1,34 @@
+//! The text of a file's schema, as it is put.
+ghost use Rattle.std.specs.Prelude.{◌≡◌, ◌≤◌, OnOk, IfErr, IfSome};
+ghost use Rattle.ipc_tool.specs.SchemaPuts.{AddsText, AddsTextPart, PrintCause};
+
+use crate::file::metadata_of;
+use crate::ipc_files::read_file_metadata;
+use arrow_spec::IpcError;
+use ipc_schema::{Sink, Source};
+use ipc_text::schema_text;
+use std::alloc::Global;
+
+/// Reads the footer of a file and puts the text of its schema, in one piece. Schemas of all types are read, in either byte order.
+pub(crate) fn write_schema<S: Source, W: Sink>(
+    alloc: Global,
+    source: &mut S,
+    sink: &mut W,
+) -> Result<(), IpcError>
+    ensures text { OnOk result (IfSome (S.content source.old) (λ b. AddsText b (W.written sink.old) (W.written sink.new))) }
+    ensures cause { IfErr result (λ e. PrintCause e (S.content source.old) (S.faults source.old) (S.faults source.new) (W.faults sink.old) (W.faults sink.new)) }
+    ensures part { IfErr result (λ e. AddsTextPart e (S.content source.old) (W.written sink.old) (W.written sink.new)) }
+    ensures content { S.content source.new ≡ S.content source.old }
+    ensures reads { S.faults source.old ≤ S.faults source.new }
+    ensures writes { W.faults sink.old ≤ W.faults sink.new }
+    ensures wants { W.wants sink.old ≤ W.wants sink.new }
+    ensures same_source { S.references source.new ≡ S.references source.old }
+    ensures same_sink { W.references sink.new ≡ W.references sink.old }
+{
+    let file = read_file_metadata(alloc, source)?;
+    let Ok(text) = schema_text(alloc, &file.schema, &file.ipc_schema, metadata_of(&file)) else {
+        return Err(IpcError::Memory);
+    };
+    sink.put(&text)?;
+    Ok(())
+}

@@ -1,0 +1,9 @@
+pub mod Entries
+pub mod Fields
+pub mod ExtensionKeys
+pub mod Heads
+pub mod Keys
+pub mod PairSteps
+pub mod Schemas
+pub mod Shapes
+pub mod Tags

@@ -1,0 +1,15 @@
+//! The schemas of messages and footers as they are read (Arrow Columnar Format, "Schema message").
+#![tactic(auto)]
+
+mod data_type;
+mod field;
+mod grow;
+mod head;
+pub mod message;
+mod pairs;
+mod schema;
+mod shape;
+mod union;
+
+pub use arrow_spec::{Counted, Feature, FlatError, IpcError, OutOfSpecKind};
+pub use schema::{deserialize_schema, read_schema};

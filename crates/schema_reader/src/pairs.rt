@@ -1,0 +1,133 @@
+//! Pairs of a key and a value (Schema.fbs, KeyValue).
+ghost use Rattle.std.specs.Prelude.{◌≡◌, ◌+◌, ◌*◌, ◌<◌, ◌≤◌, [], IfOk, IfErr, OnErr, Err, string_bytes};
+ghost use Rattle.std.specs.Option.{option_map};
+ghost use Rattle.arrow_spec.specs.declared.error.IpcError.TheVariants.{Memory};
+ghost use Rattle.arrow_spec.specs.Readings.{Gives};
+ghost use Rattle.arrow_spec.specs.Schema.{pairs_from, pairs_of, with_read_pair};
+ghost use Rattle.arrow_types.specs.KindOf.{texts_of};
+ghost use Rattle.ipc_fields.specs.Causes.{IsOfBytes};
+ghost use Rattle.schema_reader.specs.Parts.{text_at, pair_put};
+ghost use Rattle.schema_reader.specs.ReadViews.{pairs_in};
+
+use arrow_flat::{Table, Vector};
+use arrow_spec::{Counted, IpcError, OutOfSpecKind};
+use arrow_types::Metadata;
+use std::alloc::Global;
+
+/// The pairs of a table, and how many pairs of the schema there are up to their end.
+#[derive(Drop)]
+pub(crate) struct Pairs {
+    pub metadata: Metadata,
+    pub counted: usize,
+}
+
+/// A text of a table.
+pub(crate) fn read_text(
+    alloc: Global,
+    table: &Table<'_>,
+    slot: usize,
+) -> Result<Option<String>, IpcError>
+    ensures gives { Gives (option_map string_bytes) result (text_at table.now.bytes table.now.table slot) }
+    ensures quiet { IfErr result IsOfBytes }
+{
+    match table.slot_text(slot) {
+        Err(e) => Err(IpcError::OutOfSpec(OutOfSpecKind::InvalidFlatbufferSchema(e))),
+        Ok(None) => Ok(None),
+        Ok(Some(text)) => match text.to_string(alloc) {
+            Ok(text) => Ok(Some(text)),
+            Err(_) => Err(IpcError::Memory),
+        },
+    }
+}
+
+/// Puts a pair under its key; one without key or value is passed over, and a repeated key's last value stands.
+fn put_pair(
+    metadata: &mut Metadata,
+    key: Option<String>,
+    value: Option<String>,
+) -> Result<(), IpcError>
+    ensures ok { IfOk result (λ _. texts_of metadata.new.entries ≡ with_read_pair (option_map string_bytes key) (option_map string_bytes value) (texts_of metadata.old.entries)) }
+    ensures err { OnErr result (result ≡ Err Memory) }
+    ensures quiet { IfErr result IsOfBytes }
+{
+    let Some(key) = key else {
+        return Ok(());
+    };
+    let Some(value) = value else {
+        return Ok(());
+    };
+    match metadata.insert(key, value) {
+        Ok(old) => {
+            drop(old);
+            Ok(())
+        }
+        Err(_) => Err(IpcError::Memory),
+    }
+}
+
+/// Reads one of the pairs of a vector and puts it to those before it.
+#[tactic(auto, using(ipc_fields::proofs::Steps::table_in), unfolding(arrow_spec::specs::Readings::bind, crate::specs::Parts::pair_put))]
+fn read_pair(
+    alloc: Global,
+    pairs: &Vector<'_>,
+    i: usize,
+    metadata: &mut Metadata,
+) -> Result<(), IpcError>
+    requires width { pairs.now.width ≡ 4 }
+    requires within { i < pairs.now.vector.count }
+    ensures gives { Gives (λ u. texts_of metadata.new.entries) result (pair_put pairs.now.bytes (pairs.now.vector.first + 4 * i) (texts_of metadata.old.entries)) }
+    ensures quiet { IfErr result IsOfBytes }
+{
+    let pair = pairs.get_table(i).map_err(|e| IpcError::OutOfSpec(
+        OutOfSpecKind::InvalidFlatbufferSchema(e),
+    ))?;
+    let key = read_text(alloc, &pair, 0)?;
+    let value = read_text(alloc, &pair, 1)?;
+    put_pair(metadata, key, value)
+}
+
+/// The pairs of a vector.
+#[tactic(auto, using(crate::proofs::PairSteps::pairs_begun, crate::proofs::PairSteps::pairs_more, crate::proofs::PairSteps::pairs_stopped))]
+fn read_pairs(alloc: Global, pairs: &Vector<'_>) -> Result<Metadata, IpcError>
+    requires { pairs.now.width ≡ 4 }
+    ensures gives { Gives (λ m. texts_of m.entries) result (pairs_from pairs.now.bytes pairs.now.vector.first pairs.now.vector.count []) }
+    ensures quiet { IfErr result IsOfBytes }
+{
+    let mut metadata = Metadata::new(alloc);
+    for i in 0..pairs.len() {
+        read_pair(alloc, pairs, i, &mut metadata)?;
+    }
+    Ok(metadata)
+}
+
+/// The pairs in a slot, where so many pairs of the schema stand before them.
+#[tactic(auto, using(crate::proofs::PairSteps::no_pairs_at), unfolding(arrow_spec::specs::Readings::bind, arrow_spec::specs::Schema::pairs_of))]
+pub(crate) fn read_metadata(
+    alloc: Global,
+    table: &Table<'_>,
+    slot: usize,
+    before: usize,
+) -> Result<Pairs, IpcError>
+    requires { before ≤ 1048576 }
+    ensures gives { Gives pairs_in result (pairs_of table.now.bytes table.now.table slot before) }
+    ensures within { IfOk result (λ p. p.counted ≤ 1048576) }
+    ensures quiet { IfErr result IsOfBytes }
+{
+    let pairs = table.slot_vector(slot, 4).map_err(|e| IpcError::OutOfSpec(
+        OutOfSpecKind::InvalidFlatbufferSchema(e),
+    ))?;
+    let Some(pairs) = pairs else {
+        return Ok(Pairs {
+            metadata: Metadata::new(alloc),
+            counted: before,
+        });
+    };
+    if pairs.len() > 1_048_576 - before {
+        return Err(IpcError::TooMany(Counted::Pairs));
+    }
+    let metadata = read_pairs(alloc, &pairs)?;
+    Ok(Pairs {
+        metadata,
+        counted: before + pairs.len(),
+    })
+}

@@ -1,0 +1,12 @@
+pub mod Building
+pub mod Counting
+pub mod Joining
+pub mod Limits
+pub mod RoundTrip
+pub mod Saying
+pub mod Serializing
+pub mod Shaping
+pub mod SlotValues
+pub mod Tops
+pub mod WrittenPairs
+pub mod SchemaUses

@@ -1,0 +1,29 @@
+use Rattle.std.proofs.Common.{◌≡◌, ◌<◌, ◌≤◌, [], ◌∷◌, ◌++◌, map, drop, length, ap, ◌∙◌, arith}
+use Rattle.std.proofs.lemmas.List.{map-append}
+use Rattle.arrow_flat.specs.Nodes.{node_of}
+use Rattle.arrow_types.specs.KindOf.{child_of}
+use Rattle.ipc_fields.specs.IpcFields.{ids_of}
+use Rattle.schema_writer.specs.Nodes.{field_table}
+use Rattle.schema_writer.specs.Built.{below_nodes}
+use Rattle.ipc_fields.specs.Uses.{first_ids, first_id}
+use Rattle.schema_writer.proofs.Building.{node_step, nodes_done, fits_at}
+use Rattle.schema_writer.proofs.write.fields.+nodes.Goals as goal
+
+pub field_nodes-loop-i-preserved : goal.field_nodes-loop-i-preserved
+field_nodes-loop-i-preserved t c =
+    let x = c.index-fields-i.result in
+    let n = c.in_ok-field_node.field-0 in
+    let own = ids_of (drop c.loop-i.i c.args.below.now) in
+    let lt : c.loop-i.i < length c.args.fields.now = omega (arith, c.loop-i-test.true) in
+    let pushed : map node_of c.push.new.self.items ≡ map node_of c.loop-i.nodes.items ++ node_of n ∷ [] = ap (map node_of) c.in_ok-push.ensures.items ∙ map-append node_of c.loop-i.nodes.items (n ∷ []) in
+    let made : node_of n ≡ field_table (child_of x) (first_id own) (below_nodes (child_of x).kind (first_ids own)) =
+    c.in_ok-field_node.ensures ∙ ap (λ z. field_table (child_of x) z (below_nodes (child_of x).kind (ids_of c.fields_at.result.now))) c.id_at.ensures.id ∙ ap (λ z. field_table (child_of x) (first_id own) (below_nodes (child_of x).kind z)) c.fields_at.ensures in
+    record {
+      fit = (fits_at c.args.fields.now c.loop-i.i x lt c.index-fields-i.is c.loop-i.invariant.fit).1;
+      nodes = node_step c.args.fields.now c.args.below.now c.loop-i.i x (map node_of c.loop-i.nodes.items) (map node_of c.push.new.self.items) (node_of n) _ lt c.index-fields-i.is pushed made c.loop-i.invariant.nodes;
+    }
+
+pub field_nodes-returns : goal.field_nodes-returns
+field_nodes-returns t c =
+    let le : length c.args.fields.now ≤ c.loop-i.i = omega (arith, c.loop-i-test.false) in
+    nodes_done c.args.fields.now c.args.below.now c.loop-i.i (map node_of c.loop-i.nodes.items) _ le c.loop-i.invariant.nodes

@@ -1,0 +1,9 @@
+use Rattle.std.proofs.Common.{◌≡◌}
+use Rattle.arrow_types.specs.Schemas.{fields_in}
+use Rattle.ipc_fields.specs.IpcFields.{ids_of, fields_with}
+use Rattle.schema_writer.specs.Built.{all_fit}
+use Rattle.schema_writer.proofs.Tops.{fit_left}
+use Rattle.schema_writer.proofs.write.schema.is_sayable.Given as goal
+
+abbrev pub invariant-loop-i : goal.invariant-loop-i
+invariant-loop-i l = fit_left l.schema l.ipc_fields l.i ≡ all_fit (fields_with (fields_in l.schema) (ids_of l.ipc_fields))

@@ -1,0 +1,6 @@
+pub mod Built
+pub mod Defaults
+pub mod Nodes
+pub mod Serialized
+pub mod SlotValues
+pub mod Laws

@@ -1,0 +1,183 @@
+//! Schemas as they are written (Arrow Columnar Format, "Schema message").
+ghost use Rattle.std.specs.Prelude.{◌≡◌, ◌<◌, ◌≤◌, ◌^◌, true, Err, IfOk, OnOk, IfErr};
+ghost use Rattle.arrow_spec.specs.Flat.{little};
+ghost use Rattle.arrow_spec.specs.Kinds.{numbered};
+ghost use Rattle.arrow_spec.specs.Layout.{layout, size};
+ghost use Rattle.arrow_spec.specs.Readings.{Gives};
+ghost use Rattle.arrow_flat.specs.Nodes.{node_of, IsTable, KeepsSlotLimit};
+ghost use Rattle.arrow_types.specs.Schemas.{fields_in};
+ghost use Rattle.ipc_fields.specs.IpcFields.{ids_of, fields_with, have_shapes, metadata_in};
+ghost use Rattle.schema_writer.specs.Defaults.{are_apart};
+ghost use Rattle.schema_writer.specs.Serialized.{belong_to, message_node, serialized, written, order_by, IsOfTable, IsOfMessage};
+
+mod defaults;
+mod fields;
+mod pairs;
+mod sayable;
+mod schema;
+mod shape;
+mod types;
+mod uses;
+
+use arrow_flat::{BuildError, Node, Slot, finish};
+use arrow_spec::IpcError;
+use arrow_types::{ArrowSchema, Metadata};
+use ipc_fields::{IpcField, IpcSchema};
+use schema::{is_sayable, schema_node};
+use std::alloc::{AllocError, Global};
+
+/// An IPC field for each field of the schema, with ids that count 0, 1, .. over the dictionaries in preorder. A
+/// dictionary's IPC field is that of its values with the id (Schema.fbs, DictionaryEncoding).
+pub fn default_ipc_fields(alloc: Global, schema: &ArrowSchema) -> Result<Vec<IpcField>, AllocError>
+    ensures shape { IfOk result (λ v. have_shapes (fields_in schema.now) (ids_of v.items) ≡ true) }
+
+    // A dictionary whose values are a dictionary cannot be written, and its inner one gets no id of its own.
+    ensures ids { are_apart (fields_in schema.now) ≡ true → IfOk result (λ v. fields_with (fields_in schema.now) (ids_of v.items) ≡ numbered (fields_in schema.now) 0) }
+{
+    Ok(defaults::numbered(alloc, schema)?)
+}
+
+// The table of a schema whose IPC fields are its own.
+fn own_table(
+    alloc: Global,
+    schema: &ArrowSchema,
+    ipc_fields: &[IpcField],
+    is_little_endian: bool,
+    metadata: Option<&Metadata>,
+) -> Result<Node, IpcError>
+    requires { belong_to (ids_of ipc_fields.now) (fields_in schema.now) ≡ true }
+    ensures gives { Gives node_of result (serialized (order_by is_little_endian) (fields_in schema.now) (ids_of ipc_fields.now) (metadata_in metadata.entry)) }
+    ensures refusals { IfErr result IsOfTable }
+{
+    if !is_sayable(schema, ipc_fields) {
+        return Err(IpcError::NotRepresentable);
+    }
+    match schema_node(alloc, schema, ipc_fields, is_little_endian, metadata) {
+        Ok(node) => Ok(node),
+        Err(_) => Err(IpcError::Memory),
+    }
+}
+
+fn table(
+    alloc: Global,
+    schema: &ArrowSchema,
+    ipc_fields: &[IpcField],
+    is_little_endian: bool,
+    metadata: Option<&Metadata>,
+) -> Result<Node, IpcError>
+    ensures gives { Gives node_of result (serialized (order_by is_little_endian) (fields_in schema.now) (ids_of ipc_fields.now) (metadata_in metadata.entry)) }
+    ensures refusals { IfErr result IsOfTable }
+{
+    if !schema::have_shapes(schema, ipc_fields) {
+        return Err(IpcError::SchemaMismatch);
+    }
+    match uses::agree(alloc, schema, ipc_fields) {
+        Ok(true) => own_table(alloc, schema, ipc_fields, is_little_endian, metadata),
+        Ok(false) => Err(IpcError::SchemaMismatch),
+        Err(_) => Err(IpcError::Memory),
+    }
+}
+
+// The table of a message of version V5 around a schema, without a body (Message.fbs, Message).
+fn message_table(alloc: Global, header: Node) -> Result<Node, AllocError>
+    ensures { IfOk result (λ n. node_of n ≡ message_node (node_of header)) }
+{
+    let header = Slot::Child(header);
+    Ok(Node::Table(vec![in alloc; Slot::I16(4), Slot::U8(1), header, Slot::Absent]?))
+}
+
+fn message(alloc: Global, header: Node) -> Result<Vec<u8>, BuildError>
+    requires { KeepsSlotLimit (node_of header) }
+    ensures bytes { IfOk result (λ v. v.items ≡ layout (message_node (node_of header))) }
+    ensures small { OnOk result (size (message_node (node_of header)) < 2 ^ 31) }
+    ensures large { result ≡ Err BuildError.TooLarge → 2 ^ 31 ≤ size (message_node (node_of header)) }
+{
+    let node = message_table(alloc, header)?;
+    finish(alloc, &node)
+}
+
+fn bytes(
+    alloc: Global,
+    schema: &ArrowSchema,
+    ipc_fields: &[IpcField],
+    is_little_endian: bool,
+    metadata: Option<&Metadata>,
+) -> Result<Vec<u8>, IpcError>
+    ensures gives { Gives (λ v. v.items) result (written (order_by is_little_endian) (fields_in schema.now) (ids_of ipc_fields.now) (metadata_in metadata.entry)) }
+    ensures refusals { IfErr result IsOfMessage }
+{
+    let header = match table(alloc, schema, ipc_fields, is_little_endian, metadata) {
+        Ok(header) => header,
+        Err(e) => return Err(e),
+    };
+    match message(alloc, header) {
+        Ok(bytes) => Ok(bytes),
+        Err(BuildError::TooLarge) => Err(IpcError::TooLarge),
+        Err(BuildError::Memory) => Err(IpcError::Memory),
+    }
+}
+
+/// The little-endian table of a schema, with the ids of its IPC fields and with its metadata (Schema.fbs, Schema).
+///
+/// # Errors
+///
+/// `SchemaMismatch` where the IPC fields have not the schema's shape (one for each field, an id exactly at each
+/// dictionary) or values of two kinds stand under one id; else `NotRepresentable` where a dictionary stands directly
+/// in a dictionary or in an extension, where a size, a precision or a scale passes 2^31 - 1, or where a union's ids
+/// are not distinct, from 0 to 127 and one for each child. `Memory` where memory runs out.
+pub fn serialize_schema(
+    alloc: Global,
+    schema: &ArrowSchema,
+    ipc_fields: &[IpcField],
+    custom_metadata: Option<&Metadata>,
+) -> Result<Node, IpcError>
+    ensures gives { Gives node_of result (serialized little (fields_in schema.now) (ids_of ipc_fields.now) (metadata_in custom_metadata.entry)) }
+    ensures refusals { IfErr result IsOfTable }
+
+    // What `finish` asks.
+    ensures root { IfOk result (λ n. IsTable (node_of n)) }
+    ensures slot_limit { IfOk result (λ n. KeepsSlotLimit (node_of n)) }
+{
+    table(alloc, schema, ipc_fields, true, custom_metadata)
+}
+
+/// The flatbuffer of a schema's message: version V5, little-endian, no body (Message.fbs, Message).
+///
+/// # Errors
+///
+/// Those of [`serialize_schema`], else `TooLarge` where the flatbuffer passes 2^31 - 1 bytes.
+pub fn schema_to_bytes(
+    alloc: Global,
+    schema: &ArrowSchema,
+    ipc_fields: &[IpcField],
+    custom_metadata: Option<&Metadata>,
+) -> Result<Vec<u8>, IpcError>
+    ensures gives { Gives (λ v. v.items) result (written little (fields_in schema.now) (ids_of ipc_fields.now) (metadata_in custom_metadata.entry)) }
+    ensures refusals { IfErr result IsOfMessage }
+{
+    bytes(alloc, schema, ipc_fields, true, custom_metadata)
+}
+
+/// The same in the byte order of the IPC schema.
+///
+/// # Errors
+///
+/// As for [`schema_to_bytes`].
+pub fn schema_message(
+    alloc: Global,
+    schema: &ArrowSchema,
+    ipc_schema: &IpcSchema,
+    custom_metadata: Option<&Metadata>,
+) -> Result<Vec<u8>, IpcError>
+    ensures gives { Gives (λ v. v.items) result (written (order_by ipc_schema.now.is_little_endian) (fields_in schema.now) (ids_of ipc_schema.now.fields.items) (metadata_in custom_metadata.entry)) }
+    ensures refusals { IfErr result IsOfMessage }
+{
+    let fields = ipc_schema.fields.as_slice();
+    bytes(
+        alloc,
+        schema,
+        fields,
+        ipc_schema.is_little_endian,
+        custom_metadata,
+    )
+}
