@@ -1,0 +1,12 @@
+pub mod Parts
+pub mod Counts
+pub mod Masks
+pub mod Sound
+pub mod Fixed
+pub mod Utf8Tests
+pub mod Rows
+pub mod Rising
+pub mod Variable
+pub mod Views
+pub mod ViewParts
+pub mod OneText

@@ -1,0 +1,7 @@
+use Rattle.std.proofs.Common.{◌≡◌, drop, map}
+use Rattle.arrow_buffers.specs.Variable.{rise_from, are_offsets}
+use Rattle.arrow_buffers.proofs.offsets.rise_within.Given as goal
+
+abbrev pub invariant-loop-offset : goal.invariant-loop-offset
+invariant-loop-offset g l =
+    rise_from l.low (map g.O.Offset.number (drop l.offset-index l.offsets)) l.limit ≡ are_offsets (map g.O.Offset.number l.offsets) l.limit

@@ -1,0 +1,64 @@
+-- Which layouts the parts of an array have. (Arrow Columnar Format, "Physical Memory Layout".)
+use Rattle.std.specs.Prelude.{ℕ, Bool, true, false, nat_eq}
+use Rattle.arrow_spec.specs.Kinds.{Kind, fixed_size_binary, extension}
+use Rattle.arrow_types.specs.declared.physical.PhysicalType.{PhysicalType}
+use Rattle.arrow_types.specs.declared.physical.PhysicalType.TheVariants.{Null, Boolean, Primitive, Binary, LargeBinary, Utf8, LargeUtf8, BinaryView, Utf8View}
+use Rattle.arrow_types.specs.declared.physical.PrimitiveType.{PrimitiveType}
+use Rattle.arrow_types.specs.declared.physical.PrimitiveType.TheVariants as primitive
+
+-- primitive types by number
+abbrev pub primitive_number : PrimitiveType → ℕ
+primitive_number primitive.Int8 = 0
+primitive_number primitive.Int16 = 1
+primitive_number primitive.Int32 = 2
+primitive_number primitive.Int64 = 3
+primitive_number primitive.Int128 = 4
+primitive_number primitive.Int256 = 5
+primitive_number primitive.UInt8 = 6
+primitive_number primitive.UInt16 = 7
+primitive_number primitive.UInt32 = 8
+primitive_number primitive.UInt64 = 9
+primitive_number primitive.Float16 = 10
+primitive_number primitive.Float32 = 11
+primitive_number primitive.Float64 = 12
+primitive_number primitive.DaysMs = 13
+primitive_number primitive.MonthDayNano = 14
+
+-- the layout is that of numbers of this primitive type
+abbrev pub is_primitive : PrimitiveType → PhysicalType → Bool
+is_primitive p (Primitive q) = nat_eq (primitive_number q) (primitive_number p)
+is_primitive p layout = false
+
+-- the layout is that of bits
+abbrev pub is_boolean : PhysicalType → Bool
+is_boolean Boolean = true
+is_boolean layout = false
+
+-- the layout is that of nulls alone
+abbrev pub is_null : PhysicalType → Bool
+is_null Null = true
+is_null layout = false
+
+-- the layout is that of byte strings between offsets of 64 bits, or of 32
+abbrev pub is_binary : Bool → PhysicalType → Bool
+is_binary false Binary = true
+is_binary true LargeBinary = true
+is_binary large layout = false
+
+-- the layout is that of texts between offsets of 64 bits, or of 32
+abbrev pub is_text : Bool → PhysicalType → Bool
+is_text false Utf8 = true
+is_text true LargeUtf8 = true
+is_text large layout = false
+
+-- the layout is that of views of texts, or of byte strings
+abbrev pub is_view : Bool → PhysicalType → Bool
+is_view false BinaryView = true
+is_view true Utf8View = true
+is_view is_text layout = false
+
+-- the size of byte strings of one size, extensions looked through; 0 for other kinds
+abbrev pub binary_size : Kind → ℕ
+binary_size (fixed_size_binary size) = size
+binary_size (extension name metadata k) = binary_size k
+binary_size k = 0

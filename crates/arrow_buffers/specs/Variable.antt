@@ -1,0 +1,86 @@
+-- Arrays of byte strings and texts between offsets: what they are seen as, their cells, and why their parts are refused. (Arrow Columnar Format, "Variable-size Binary Layout".)
+use Rattle.std.specs.Prelude.{ℕ, suc, ◌+◌, ◌-◌, List, [], ◌∷◌, ◌&&◌, Bool, true, false, Option, Some, None, ℤ, pos, negsuc, length, nat_le, not, slice_index_or, if◌then◌else◌, refl}
+use Rattle.std.specs.Option.{option_map}
+use Rattle.std.specs.Str.{is_utf8}
+use Rattle.std.specs.Coded.{Coded, code_by, coded×, coded_ℕ, coded_ℤ, coded_list, coded_option, coded_bool}
+use Rattle.arrow_spec.specs.Kinds.{Kind}
+use Rattle.arrow_spec.specs.Cells.{Cell, bytes, text}
+use Rattle.arrow_spec.specs.Counts.{magnitude}
+use Rattle.arrow_spec.specs.Columns.{from_on, slice, some_row}
+use Rattle.arrow_types.specs.KindCode.{kind_code}
+use Rattle.arrow_buffers.specs.Rows.{part, has_rows, is_valid, masked}
+use Rattle.arrow_buffers.specs.declared.error.ArrayError.{ArrayError}
+use Rattle.arrow_buffers.specs.declared.error.ArrayError.TheVariants.{DataType, Length, Offsets, Utf8}
+
+-- the kind, the offsets and the bytes as held, and the validity, where there is one
+pub record Variable : Type 0 where
+  pub kind : Kind
+  pub offsets : List ℤ
+  pub values : List ℕ
+  pub validity : Option (List Bool)
+
+-- such a record is stored as its fields
+abbrev pub variable_code : Coded Variable
+variable_code =
+    code_by (Kind × (List ℤ × (List ℕ × Option (List Bool)))) (coded× kind_code (coded× (coded_list coded_ℤ) (coded× (coded_list coded_ℕ) (coded_option (coded_list coded_bool)))))
+    (λ p. (p.kind, (p.offsets, (p.values, p.validity)))) (λ p. record { kind = p.0; offsets = p.1.0; values = p.1.1.0; validity = p.1.1.1 }) (λ _. refl)
+
+-- the place that the i-th offset is
+abbrev pub place_at : List ℤ → ℕ → ℕ
+place_at offsets i = magnitude (slice_index_or offsets i (pos 0))
+
+-- from a place on, no offset is negative, below the one before it, or past a limit
+abbrev pub rise_from : ℕ → List ℤ → ℕ → Bool
+rise_from low [] limit = true
+rise_from low (pos offset ∷ offsets) limit = nat_le low offset && nat_le offset limit && rise_from offset offsets limit
+rise_from low (negsuc n ∷ offsets) limit = false
+
+-- the same, and there is an offset
+abbrev pub are_offsets : List ℤ → ℕ → Bool
+are_offsets [] limit = false
+are_offsets (offset ∷ offsets) limit = rise_from 0 (offset ∷ offsets) limit
+
+-- how many rows stand between offsets
+abbrev pub variable_rows : List ℤ → ℕ
+variable_rows offsets = length offsets - 1
+
+-- the bytes of a row
+abbrev pub row_bytes : List ℤ → List ℕ → ℕ → List ℕ
+row_bytes offsets values row = slice values (place_at offsets row) (place_at offsets (suc row))
+
+-- some row that is not null is not UTF-8
+unfoldable pub has_bad_text : List ℤ → List ℕ → Option (List Bool) → Bool
+has_bad_text offsets values validity = some_row (λ row. is_valid validity row && not (is_utf8 (row_bytes offsets values row))) (variable_rows offsets)
+
+-- the cells: each row's bytes as a cell, null where the row is null
+abbrev pub variable_cells : (List ℕ → Cell) → Variable → List Cell
+variable_cells cell p = masked p.validity (from_on (λ row. cell (row_bytes p.offsets p.values row)) 0 (variable_rows p.offsets))
+
+-- the cells of byte strings
+abbrev pub binary_cells : Variable → List Cell
+binary_cells = variable_cells bytes
+
+-- the cells of texts
+abbrev pub text_cells : Variable → List Cell
+text_cells = variable_cells text
+
+-- the rows from a place on, so many of them
+abbrev pub variable_part : ℕ → ℕ → Variable → Variable
+variable_part offset rows p = record { kind = p.kind; offsets = part offset (rows + 1) p.offsets; values = p.values; validity = option_map (part offset rows) p.validity }
+
+-- why parts are refused: the layout is another, the validity is not of as many rows, or the offsets do not rise within the bytes
+abbrev pub binary_fault : Bool → Variable → Option ArrayError
+binary_fault suits p =
+    if not suits then Some DataType
+    else (if not (has_rows p.validity (variable_rows p.offsets)) then Some Length
+    else (if not (are_offsets p.offsets (length p.values)) then Some Offsets
+    else None))
+
+-- the same, or a row that is not null is not UTF-8
+abbrev pub text_fault : Bool → Variable → Option ArrayError
+text_fault suits p =
+    if not suits then Some DataType
+    else (if not (has_rows p.validity (variable_rows p.offsets)) then Some Length
+    else (if not (are_offsets p.offsets (length p.values)) then Some Offsets
+    else (if has_bad_text p.offsets p.values p.validity then Some Utf8
+    else None)))
