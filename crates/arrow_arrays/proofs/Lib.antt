@@ -1,0 +1,6 @@
+pub mod NumberParts
+pub mod Heights
+pub mod NoRows
+pub mod PieceLaws
+pub mod Sliced
+pub mod CellRows

@@ -1,0 +1,9 @@
+use Rattle.std.proofs.Common.{◌∙◌}
+use Rattle.arrow_types.specs.KindOf.{kind_of}
+use Rattle.arrow_types.specs.Physical.{physical_of}
+use Rattle.arrow_buffers.specs.Layouts.{is_view}
+use Rattle.arrow_arrays.proofs.NoRows.{no_view_fault}
+use Rattle.arrow_arrays.proofs.empty.no_views.Goals as goal
+
+pub unreachable-requires : goal.unreachable-requires
+unreachable-requires g c = no_view_fault g.V.ViewType.IS_TEXT (is_view g.V.ViewType.IS_TEXT (physical_of (kind_of c.args.dtype))) (kind_of c.args.dtype) c.in_ok-views.views c.new-2.result.items c.in-Err.field-0 c.requires (c.in_ok-views.ensures ∙ c.new.ensures.items) c.in-Err.ensures.err

@@ -1,0 +1,10 @@
+pub mod Parts
+pub mod PartsCode
+pub mod PartsOf
+pub mod Batches
+pub mod FlatKinds
+pub mod PieceViews
+pub mod CellCode
+pub mod RowLaws
+pub mod RowCells
+pub mod Contents

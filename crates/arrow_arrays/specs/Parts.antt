@@ -1,0 +1,185 @@
+-- What an array is seen as: the tree of its parts, how many rows it has and what stands in them. (Arrow Columnar Format, "Physical Memory Layout".)
+use Rattle.std.specs.Prelude.{ℕ, List, Bool, true, false, ◌&&◌, ◌||◌, Option, None, ℤ, pos, map, length, nat_eq, nat_lt}
+use Rattle.std.specs.List.{list_all}
+use Rattle.std.specs.Int.{Width, w8, w16, w32, w64, w128, cast_signed}
+use Rattle.arrow_spec.specs.Flat.{little, num}
+use Rattle.arrow_spec.specs.Kinds.{Kind}
+use Rattle.arrow_spec.specs.Cells as cells
+use Rattle.arrow_spec.specs.Cells.{Cell}
+use Rattle.arrow_spec.specs.Columns.{or_0}
+use Rattle.arrow_types.specs.Physical.{physical_of}
+use Rattle.arrow_types.specs.declared.physical.PhysicalType.{PhysicalType}
+use Rattle.arrow_types.specs.declared.physical.PhysicalType.TheVariants as physical
+use Rattle.arrow_types.specs.declared.physical.PrimitiveType.{PrimitiveType}
+use Rattle.arrow_types.specs.declared.physical.PrimitiveType.TheVariants as primitive
+use Rattle.arrow_buffers.specs.declared.error.ArrayError.{ArrayError}
+use Rattle.arrow_buffers.specs.Rows.{null_rows}
+use Rattle.arrow_buffers.specs.Layouts.{is_null, is_boolean, is_binary, is_text, is_view}
+use Rattle.arrow_buffers.specs.Flat.{Flat, flat_cells, flat_part, flat_fault, fixed_rows, fixed_cells, fixed_part, fixed_fault, Nulls, null_cells, nulls_fault}
+use Rattle.arrow_buffers.specs.Variable.{Variable, variable_rows, variable_part, binary_cells, text_cells, binary_fault, text_fault}
+use Rattle.arrow_buffers.specs.Views.{Views, view_rows, view_part, view_cells, view_fault}
+
+-- The parts of an array, by its layout.
+pub data Parts : Type 0 where
+  -- nulls alone
+  nulls : Nulls → Parts
+  -- truth values
+  bits : Flat Bool → Parts
+  -- numbers of one width, each as its bytes, the lowest first
+  numbers : Flat (List ℕ) → Parts
+  -- byte strings of one size, one after another
+  fixed : Flat ℕ → Parts
+  -- byte strings and texts between offsets
+  binary : Variable → Parts
+  text : Variable → Parts
+  -- views of byte strings and of texts
+  binary_views : Views → Parts
+  text_views : Views → Parts
+
+-- numbers in place of which their bytes stand
+abbrev pub as_bytes : {A : Type 0} → (A → List ℕ) → Flat A → Flat (List ℕ)
+as_bytes write f = record { kind = f.kind; values = map write f.values; validity = f.validity }
+
+-- the kind of its rows
+abbrev pub kind_in : Parts → Kind
+kind_in (nulls n) = n.kind
+kind_in (bits f) = f.kind
+kind_in (numbers f) = f.kind
+kind_in (fixed f) = f.kind
+kind_in (binary p) = p.kind
+kind_in (text p) = p.kind
+kind_in (binary_views p) = p.kind
+kind_in (text_views p) = p.kind
+
+-- how many rows it has
+abbrev pub rows_in : Parts → ℕ
+rows_in (nulls n) = n.rows
+rows_in (bits f) = length f.values
+rows_in (numbers f) = length f.values
+rows_in (fixed f) = fixed_rows f
+rows_in (binary p) = variable_rows p.offsets
+rows_in (text p) = variable_rows p.offsets
+rows_in (binary_views p) = view_rows p.views
+rows_in (text_views p) = view_rows p.views
+
+-- which rows are valid, where that is given
+abbrev pub validity_in : Parts → Option (List Bool)
+validity_in (nulls n) = None
+validity_in (bits f) = f.validity
+validity_in (numbers f) = f.validity
+validity_in (fixed f) = f.validity
+validity_in (binary p) = p.validity
+validity_in (text p) = p.validity
+validity_in (binary_views p) = p.validity
+validity_in (text_views p) = p.validity
+
+-- how many rows are null
+abbrev pub null_rows_in : Parts → ℕ
+null_rows_in (nulls n) = n.rows
+null_rows_in (bits f) = null_rows f.validity
+null_rows_in (numbers f) = null_rows f.validity
+null_rows_in (fixed f) = null_rows f.validity
+null_rows_in (binary p) = null_rows p.validity
+null_rows_in (text p) = null_rows p.validity
+null_rows_in (binary_views p) = null_rows p.validity
+null_rows_in (text_views p) = null_rows p.validity
+
+-- ── the cells of numbers ──
+
+-- the number of a width at a place of some bytes, without a sign and with one
+abbrev pub unsigned_at : Width → ℕ → List ℕ → ℕ
+unsigned_at w at bytes = or_0 (num bytes at w little)
+
+abbrev pub signed_at : Width → ℕ → List ℕ → ℤ
+signed_at w at bytes = cast_signed w (unsigned_at w at bytes)
+
+-- the cell that a number's bytes are, by its primitive type; null for those whose numbers no array holds, floats and integers of 256 bits
+abbrev pub primitive_cell : PrimitiveType → List ℕ → Cell
+primitive_cell primitive.Int8 bytes = cells.number (signed_at w8 0 bytes)
+primitive_cell primitive.Int16 bytes = cells.number (signed_at w16 0 bytes)
+primitive_cell primitive.Int32 bytes = cells.number (signed_at w32 0 bytes)
+primitive_cell primitive.Int64 bytes = cells.number (signed_at w64 0 bytes)
+primitive_cell primitive.Int128 bytes = cells.number (signed_at w128 0 bytes)
+primitive_cell primitive.Int256 bytes = cells.null
+primitive_cell primitive.UInt8 bytes = cells.number (pos (unsigned_at w8 0 bytes))
+primitive_cell primitive.UInt16 bytes = cells.number (pos (unsigned_at w16 0 bytes))
+primitive_cell primitive.UInt32 bytes = cells.number (pos (unsigned_at w32 0 bytes))
+primitive_cell primitive.UInt64 bytes = cells.number (pos (unsigned_at w64 0 bytes))
+primitive_cell primitive.Float16 bytes = cells.null
+primitive_cell primitive.Float32 bytes = cells.null
+primitive_cell primitive.Float64 bytes = cells.null
+primitive_cell primitive.DaysMs bytes = cells.interval (signed_at w32 0 bytes) (signed_at w32 4 bytes) (pos 0)
+primitive_cell primitive.MonthDayNano bytes = cells.interval (signed_at w32 0 bytes) (signed_at w32 4 bytes) (signed_at w64 8 bytes)
+
+-- the same in a layout; null where it is not of numbers
+abbrev pub layout_cell : PhysicalType → List ℕ → Cell
+layout_cell (physical.Primitive p) bytes = primitive_cell p bytes
+layout_cell layout bytes = cells.null
+
+-- the cell that a number's bytes are under a kind, extensions looked through
+abbrev pub number_cell : Kind → List ℕ → Cell
+number_cell k bytes = layout_cell (physical_of k) bytes
+
+-- ── rows ──
+
+-- the cells of its rows
+abbrev pub cells_in : Parts → List Cell
+cells_in (nulls n) = null_cells n
+cells_in (bits f) = flat_cells cells.bool f
+cells_in (numbers f) = flat_cells (number_cell f.kind) f
+cells_in (fixed f) = fixed_cells f
+cells_in (binary p) = binary_cells p
+cells_in (text p) = text_cells p
+cells_in (binary_views p) = view_cells false p
+cells_in (text_views p) = view_cells true p
+
+-- the rows from a place on, so many of them
+abbrev pub part_of : ℕ → ℕ → Parts → Parts
+part_of offset rows (nulls n) = nulls (record { kind = n.kind; rows = rows })
+part_of offset rows (bits f) = bits (flat_part offset rows f)
+part_of offset rows (numbers f) = numbers (flat_part offset rows f)
+part_of offset rows (fixed f) = fixed (fixed_part offset rows f)
+part_of offset rows (binary p) = binary (variable_part offset rows p)
+part_of offset rows (text p) = text (variable_part offset rows p)
+part_of offset rows (binary_views p) = binary_views (view_part offset rows p)
+part_of offset rows (text_views p) = text_views (view_part offset rows p)
+
+-- ── which trees arrays have ──
+
+-- the bytes of a number of a primitive type; 0 for those whose numbers no array holds, floats and integers of 256 bits
+abbrev pub primitive_size : PrimitiveType → ℕ
+primitive_size primitive.Int8 = 1
+primitive_size primitive.Int16 = 2
+primitive_size primitive.Int32 = 4
+primitive_size primitive.Int64 = 8
+primitive_size primitive.Int128 = 16
+primitive_size primitive.Int256 = 0
+primitive_size primitive.UInt8 = 1
+primitive_size primitive.UInt16 = 2
+primitive_size primitive.UInt32 = 4
+primitive_size primitive.UInt64 = 8
+primitive_size primitive.Float16 = 0
+primitive_size primitive.Float32 = 0
+primitive_size primitive.Float64 = 0
+primitive_size primitive.DaysMs = 8
+primitive_size primitive.MonthDayNano = 16
+
+-- the bytes of a number in a layout; 0 where no array holds numbers
+abbrev pub number_size : PhysicalType → ℕ
+number_size (physical.Primitive p) = primitive_size p
+number_size layout = 0
+
+-- the layout is that of numbers, and each is of the layout's size
+abbrev pub are_numbers : ℕ → List (List ℕ) → Bool
+are_numbers size values = nat_lt 0 size && list_all (λ bytes. nat_eq (length bytes) size) values
+
+-- why no array has such parts; none for the parts that arrays have
+abbrev pub fault_in : Parts → Option ArrayError
+fault_in (nulls n) = nulls_fault (is_null (physical_of n.kind))
+fault_in (bits f) = flat_fault (is_boolean (physical_of f.kind)) (length f.values) f.validity
+fault_in (numbers f) = flat_fault (are_numbers (number_size (physical_of f.kind)) f.values) (length f.values) f.validity
+fault_in (fixed f) = fixed_fault f
+fault_in (binary p) = binary_fault (is_binary false (physical_of p.kind) || is_binary true (physical_of p.kind)) p
+fault_in (text p) = text_fault (is_text false (physical_of p.kind) || is_text true (physical_of p.kind)) p
+fault_in (binary_views p) = view_fault false (is_view false (physical_of p.kind)) p
+fault_in (text_views p) = view_fault true (is_view true (physical_of p.kind)) p

@@ -1,0 +1,228 @@
+//! The array of any kind. A contract sees it as the tree of its parts.
+ghost use Rattle.std.specs.Prelude.{◌≡◌, ◌+◌, ◌≤◌, length, None, IfOk};
+ghost use Rattle.std.specs.Option.{option_map};
+ghost use Rattle.arrow_types.specs.KindOf.{kind_of};
+ghost use Rattle.arrow_buffers.specs.Rows.{part};
+ghost use Rattle.arrow_arrays.specs.Parts.{kind_in, rows_in, validity_in, null_rows_in, cells_in, part_of, fault_in};
+ghost use Rattle.arrow_arrays.specs.PartsOf.{parts_of};
+
+use crate::numbers::{narrow_numbers, number_rows};
+use arrow_buffers::{
+    BinaryArray, BinaryViewArray, Bitmap, BooleanArray, FixedSizeBinaryArray, NullArray,
+    PrimitiveArray, Utf8Array, Utf8ViewArray,
+};
+use arrow_types::{ArrowDataType, days_ms, months_days_ns};
+use std::alloc::{AllocError, Global};
+
+/// An array of any kind.
+#[derive(Drop)]
+pub enum Array {
+    Null(NullArray),
+    Boolean(BooleanArray),
+    Int8(PrimitiveArray<i8>),
+    Int16(PrimitiveArray<i16>),
+    Int32(PrimitiveArray<i32>),
+    Int64(PrimitiveArray<i64>),
+    Int128(PrimitiveArray<i128>),
+    UInt8(PrimitiveArray<u8>),
+    UInt16(PrimitiveArray<u16>),
+    UInt32(PrimitiveArray<u32>),
+    UInt64(PrimitiveArray<u64>),
+    DaysMs(PrimitiveArray<days_ms>),
+    MonthsDaysNs(PrimitiveArray<months_days_ns>),
+    Binary(BinaryArray<i32>),
+    LargeBinary(BinaryArray<i64>),
+    Utf8(Utf8Array<i32>),
+    LargeUtf8(Utf8Array<i64>),
+    BinaryView(BinaryViewArray),
+    Utf8View(Utf8ViewArray),
+    FixedSizeBinary(FixedSizeBinaryArray),
+}
+
+/// An array, which shares its memory with those that were cloned from it.
+pub type ArrayRef = Array;
+
+impl Array {
+    /// How many rows there are.
+    pub fn len(&self) -> usize
+        ensures rows { result ≡ rows_in (parts_of self.now) }
+        ensures cells { result ≡ length (cells_in (parts_of self.now)) }
+        ensures sound { fault_in (parts_of self.now) ≡ None }
+    {
+        match self {
+            Array::Null(array) => array.len(),
+            Array::Boolean(array) => array.len(),
+            Array::Int8(array) => number_rows(array),
+            Array::Int16(array) => number_rows(array),
+            Array::Int32(array) => number_rows(array),
+            Array::Int64(array) => number_rows(array),
+            Array::Int128(array) => number_rows(array),
+            Array::UInt8(array) => number_rows(array),
+            Array::UInt16(array) => number_rows(array),
+            Array::UInt32(array) => number_rows(array),
+            Array::UInt64(array) => number_rows(array),
+            Array::DaysMs(array) => number_rows(array),
+            Array::MonthsDaysNs(array) => number_rows(array),
+            Array::Binary(array) => array.len(),
+            Array::LargeBinary(array) => array.len(),
+            Array::Utf8(array) => array.len(),
+            Array::LargeUtf8(array) => array.len(),
+            Array::BinaryView(array) => array.len(),
+            Array::Utf8View(array) => array.len(),
+            Array::FixedSizeBinary(array) => array.len(),
+        }
+    }
+
+    /// The type of the rows.
+    pub fn dtype(&self) -> &ArrowDataType
+        ensures { kind_of result.now ≡ kind_in (parts_of self.now) }
+    {
+        match self {
+            Array::Null(array) => array.dtype(),
+            Array::Boolean(array) => array.dtype(),
+            Array::Int8(array) => array.dtype(),
+            Array::Int16(array) => array.dtype(),
+            Array::Int32(array) => array.dtype(),
+            Array::Int64(array) => array.dtype(),
+            Array::Int128(array) => array.dtype(),
+            Array::UInt8(array) => array.dtype(),
+            Array::UInt16(array) => array.dtype(),
+            Array::UInt32(array) => array.dtype(),
+            Array::UInt64(array) => array.dtype(),
+            Array::DaysMs(array) => array.dtype(),
+            Array::MonthsDaysNs(array) => array.dtype(),
+            Array::Binary(array) => array.dtype(),
+            Array::LargeBinary(array) => array.dtype(),
+            Array::Utf8(array) => array.dtype(),
+            Array::LargeUtf8(array) => array.dtype(),
+            Array::BinaryView(array) => array.dtype(),
+            Array::Utf8View(array) => array.dtype(),
+            Array::FixedSizeBinary(array) => array.dtype(),
+        }
+    }
+
+    /// Which rows are valid. Where it is not given every row is, but for an array of nulls alone.
+    pub fn validity(&self) -> Option<&Bitmap>
+        ensures { option_map (λ b. b.now) result ≡ validity_in (parts_of self.now) }
+    {
+        match self {
+            Array::Null(array) => array.validity(),
+            Array::Boolean(array) => array.validity(),
+            Array::Int8(array) => array.validity(),
+            Array::Int16(array) => array.validity(),
+            Array::Int32(array) => array.validity(),
+            Array::Int64(array) => array.validity(),
+            Array::Int128(array) => array.validity(),
+            Array::UInt8(array) => array.validity(),
+            Array::UInt16(array) => array.validity(),
+            Array::UInt32(array) => array.validity(),
+            Array::UInt64(array) => array.validity(),
+            Array::DaysMs(array) => array.validity(),
+            Array::MonthsDaysNs(array) => array.validity(),
+            Array::Binary(array) => array.validity(),
+            Array::LargeBinary(array) => array.validity(),
+            Array::Utf8(array) => array.validity(),
+            Array::LargeUtf8(array) => array.validity(),
+            Array::BinaryView(array) => array.validity(),
+            Array::Utf8View(array) => array.validity(),
+            Array::FixedSizeBinary(array) => array.validity(),
+        }
+    }
+
+    /// How many rows are null.
+    pub fn null_count(&self) -> usize
+        ensures { result ≡ null_rows_in (parts_of self.now) }
+    {
+        match self {
+            Array::Null(array) => array.null_count(),
+            Array::Boolean(array) => array.null_count(),
+            Array::Int8(array) => array.null_count(),
+            Array::Int16(array) => array.null_count(),
+            Array::Int32(array) => array.null_count(),
+            Array::Int64(array) => array.null_count(),
+            Array::Int128(array) => array.null_count(),
+            Array::UInt8(array) => array.null_count(),
+            Array::UInt16(array) => array.null_count(),
+            Array::UInt32(array) => array.null_count(),
+            Array::UInt64(array) => array.null_count(),
+            Array::DaysMs(array) => array.null_count(),
+            Array::MonthsDaysNs(array) => array.null_count(),
+            Array::Binary(array) => array.null_count(),
+            Array::LargeBinary(array) => array.null_count(),
+            Array::Utf8(array) => array.null_count(),
+            Array::LargeUtf8(array) => array.null_count(),
+            Array::BinaryView(array) => array.null_count(),
+            Array::Utf8View(array) => array.null_count(),
+            Array::FixedSizeBinary(array) => array.null_count(),
+        }
+    }
+
+    /// Leaves only the part, and copies nothing.
+    pub fn narrow(&mut self, offset: usize, rows: usize)
+        requires { offset + rows ≤ rows_in (parts_of self.old) }
+        ensures parts { parts_of self.new ≡ part_of offset rows (parts_of self.old) }
+        ensures cells { cells_in (parts_of self.new) ≡ part offset rows (cells_in (parts_of self.old)) }
+    {
+        match self {
+            Array::Null(array) => array.narrow(offset, rows),
+            Array::Boolean(array) => array.narrow(offset, rows),
+            Array::Int8(array) => narrow_numbers(array, offset, rows),
+            Array::Int16(array) => narrow_numbers(array, offset, rows),
+            Array::Int32(array) => narrow_numbers(array, offset, rows),
+            Array::Int64(array) => narrow_numbers(array, offset, rows),
+            Array::Int128(array) => narrow_numbers(array, offset, rows),
+            Array::UInt8(array) => narrow_numbers(array, offset, rows),
+            Array::UInt16(array) => narrow_numbers(array, offset, rows),
+            Array::UInt32(array) => narrow_numbers(array, offset, rows),
+            Array::UInt64(array) => narrow_numbers(array, offset, rows),
+            Array::DaysMs(array) => narrow_numbers(array, offset, rows),
+            Array::MonthsDaysNs(array) => narrow_numbers(array, offset, rows),
+            Array::Binary(array) => array.narrow(offset, rows),
+            Array::LargeBinary(array) => array.narrow(offset, rows),
+            Array::Utf8(array) => array.narrow(offset, rows),
+            Array::LargeUtf8(array) => array.narrow(offset, rows),
+            Array::BinaryView(array) => array.narrow(offset, rows),
+            Array::Utf8View(array) => array.narrow(offset, rows),
+            Array::FixedSizeBinary(array) => array.narrow(offset, rows),
+        }
+    }
+
+    /// The part, which shares the memory.
+    pub fn sliced(self, offset: usize, rows: usize) -> Array
+        requires { offset + rows ≤ rows_in (parts_of self) }
+        ensures parts { parts_of result ≡ part_of offset rows (parts_of self) }
+        ensures cells { cells_in (parts_of result) ≡ part offset rows (cells_in (parts_of self)) }
+    {
+        let mut part = self;
+        part.narrow(offset, rows);
+        part
+    }
+
+    /// A second owner of the same parts.
+    pub fn try_clone(&self, alloc: Global) -> Result<Array, AllocError>
+        ensures { IfOk result (λ a. parts_of a ≡ parts_of self.now) }
+    {
+        match self {
+            Array::Null(array) => Ok(Array::Null(array.try_clone(alloc)?)),
+            Array::Boolean(array) => Ok(Array::Boolean(array.try_clone(alloc)?)),
+            Array::Int8(array) => Ok(Array::Int8(array.try_clone(alloc)?)),
+            Array::Int16(array) => Ok(Array::Int16(array.try_clone(alloc)?)),
+            Array::Int32(array) => Ok(Array::Int32(array.try_clone(alloc)?)),
+            Array::Int64(array) => Ok(Array::Int64(array.try_clone(alloc)?)),
+            Array::Int128(array) => Ok(Array::Int128(array.try_clone(alloc)?)),
+            Array::UInt8(array) => Ok(Array::UInt8(array.try_clone(alloc)?)),
+            Array::UInt16(array) => Ok(Array::UInt16(array.try_clone(alloc)?)),
+            Array::UInt32(array) => Ok(Array::UInt32(array.try_clone(alloc)?)),
+            Array::UInt64(array) => Ok(Array::UInt64(array.try_clone(alloc)?)),
+            Array::DaysMs(array) => Ok(Array::DaysMs(array.try_clone(alloc)?)),
+            Array::MonthsDaysNs(array) => Ok(Array::MonthsDaysNs(array.try_clone(alloc)?)),
+            Array::Binary(array) => Ok(Array::Binary(array.try_clone(alloc)?)),
+            Array::LargeBinary(array) => Ok(Array::LargeBinary(array.try_clone(alloc)?)),
+            Array::Utf8(array) => Ok(Array::Utf8(array.try_clone(alloc)?)),
+            Array::LargeUtf8(array) => Ok(Array::LargeUtf8(array.try_clone(alloc)?)),
+            Array::BinaryView(array) => Ok(Array::BinaryView(array.try_clone(alloc)?)),
+            Array::Utf8View(array) => Ok(Array::Utf8View(array.try_clone(alloc)?)),
+            Array::FixedSizeBinary(array) => Ok(Array::FixedSizeBinary(array.try_clone(alloc)?)),
+        }
+    }
+}

@@ -1,0 +1,187 @@
+//! Arrays without rows.
+ghost use Rattle.std.specs.Prelude.{◌≡◌, ◌∷◌, ◌<◌, [], map, pos, None, IfOk, true};
+ghost use Rattle.arrow_types.specs.KindOf.{kind_of};
+ghost use Rattle.arrow_types.specs.Physical.{physical_of};
+ghost use Rattle.arrow_buffers.specs.Layouts.{is_null, is_boolean, is_primitive, is_binary, is_text, is_view, binary_size};
+ghost use Rattle.arrow_arrays.specs.Parts.{kind_in, rows_in, primitive_size};
+ghost use Rattle.arrow_arrays.specs.PartsOf.{parts_of};
+ghost use Rattle.arrow_arrays.specs.FlatKinds.{is_flat_kind};
+
+use crate::array::Array;
+use arrow_buffers::{
+    BinaryArray, BinaryViewArrayGeneric, Bitmap, BooleanArray, Buffer, FixedSizeBinaryArray,
+    NullArray, PrimitiveArray, Utf8Array, ViewType,
+};
+use arrow_types::{ArrowDataType, NativeType, Offset, PhysicalType, PrimitiveType};
+use std::alloc::{AllocError, Global};
+
+fn no_nulls(dtype: ArrowDataType) -> NullArray
+    requires { is_null (physical_of (kind_of dtype)) ≡ true }
+    ensures { result ≡ record { kind = kind_of dtype; rows = 0 } }
+{
+    match NullArray::try_new(dtype, 0) {
+        Ok(array) => array,
+        Err(_) => unreachable!(),
+    }
+}
+
+fn no_bits(alloc: Global, dtype: ArrowDataType) -> Result<BooleanArray, AllocError>
+    requires { is_boolean (physical_of (kind_of dtype)) ≡ true }
+    ensures { IfOk result (λ a. a ≡ record { kind = kind_of dtype; values = []; validity = None }) }
+{
+    let values = Bitmap::from_vec(Vec::new(alloc), 0)?;
+    match BooleanArray::try_new(dtype, values, None) {
+        Ok(array) => Ok(array),
+        Err(_) => unreachable!(),
+    }
+}
+
+fn no_numbers<T: NativeType>(
+    alloc: Global,
+    dtype: ArrowDataType,
+) -> Result<PrimitiveArray<T>, AllocError>
+    requires { is_primitive T.PRIMITIVE (physical_of (kind_of dtype)) ≡ true }
+    ensures { IfOk result (λ a. a ≡ record { kind = kind_of dtype; values = []; validity = None }) }
+{
+    let values = Buffer::from_vec(Vec::new(alloc))?;
+    match PrimitiveArray::try_new(dtype, values, None) {
+        Ok(array) => Ok(array),
+        Err(_) => unreachable!(),
+    }
+}
+
+fn no_fixed(alloc: Global, dtype: ArrowDataType) -> Result<FixedSizeBinaryArray, AllocError>
+    requires { 0 < binary_size (kind_of dtype) }
+    ensures { IfOk result (λ a. a ≡ record { kind = kind_of dtype; values = []; validity = None }) }
+{
+    let values = Buffer::from_vec(Vec::new(alloc))?;
+    match FixedSizeBinaryArray::try_new(dtype, values, None) {
+        Ok(array) => Ok(array),
+        Err(_) => unreachable!(),
+    }
+}
+
+/// The offset from which a first row would begin.
+fn first_offset(alloc: Global) -> Result<Buffer<i32>, AllocError>
+    ensures { IfOk result (λ b. b ≡ pos 0 ∷ []) }
+{
+    Buffer::from_vec(vec![in alloc; 0]?)
+}
+
+/// The same in 64 bits.
+fn first_large_offset(alloc: Global) -> Result<Buffer<i64>, AllocError>
+    ensures { IfOk result (λ b. b ≡ pos 0 ∷ []) }
+{
+    Buffer::from_vec(vec![in alloc; 0]?)
+}
+
+fn no_binary<O: Offset>(
+    alloc: Global,
+    dtype: ArrowDataType,
+    offsets: Buffer<O>,
+) -> Result<BinaryArray<O>, AllocError>
+    requires layout { is_binary O.IS_LARGE (physical_of (kind_of dtype)) ≡ true }
+    requires start { map O.number offsets ≡ pos 0 ∷ [] }
+    ensures { IfOk result (λ a. a ≡ record { kind = kind_of dtype; offsets = pos 0 ∷ []; values = []; validity = None }) }
+{
+    let values = Buffer::from_vec(Vec::new(alloc))?;
+    match BinaryArray::try_new(dtype, offsets, values, None) {
+        Ok(array) => Ok(array),
+        Err(_) => unreachable!(),
+    }
+}
+
+fn no_text<O: Offset>(
+    alloc: Global,
+    dtype: ArrowDataType,
+    offsets: Buffer<O>,
+) -> Result<Utf8Array<O>, AllocError>
+    requires layout { is_text O.IS_LARGE (physical_of (kind_of dtype)) ≡ true }
+    requires start { map O.number offsets ≡ pos 0 ∷ [] }
+    ensures { IfOk result (λ a. a ≡ record { kind = kind_of dtype; offsets = pos 0 ∷ []; values = []; validity = None }) }
+{
+    let values = Buffer::from_vec(Vec::new(alloc))?;
+    match Utf8Array::try_new(dtype, offsets, values, None) {
+        Ok(array) => Ok(array),
+        Err(_) => unreachable!(),
+    }
+}
+
+fn no_views<V: ViewType>(
+    alloc: Global,
+    dtype: ArrowDataType,
+) -> Result<BinaryViewArrayGeneric<V>, AllocError>
+    requires { is_view V.IS_TEXT (physical_of (kind_of dtype)) ≡ true }
+    ensures { IfOk result (λ a. a ≡ record { kind = kind_of dtype; views = []; buffers = []; validity = None }) }
+{
+    let views = Buffer::from_vec(Vec::new(alloc))?;
+    match BinaryViewArrayGeneric::try_new(dtype, views, Vec::new(alloc), None) {
+        Ok(array) => Ok(array),
+        Err(_) => unreachable!(),
+    }
+}
+
+/// An array of a type of numbers that has no rows.
+fn empty_numbers(
+    alloc: Global,
+    dtype: ArrowDataType,
+    number: PrimitiveType,
+) -> Result<Array, AllocError>
+    requires layout { is_primitive number (physical_of (kind_of dtype)) ≡ true }
+    requires size { 0 < primitive_size number }
+    ensures kind { IfOk result (λ a. kind_in (parts_of a) ≡ kind_of dtype) }
+    ensures rows { IfOk result (λ a. rows_in (parts_of a) ≡ 0) }
+{
+    match number {
+        PrimitiveType::Int8 => Ok(Array::Int8(no_numbers(alloc, dtype)?)),
+        PrimitiveType::Int16 => Ok(Array::Int16(no_numbers(alloc, dtype)?)),
+        PrimitiveType::Int32 => Ok(Array::Int32(no_numbers(alloc, dtype)?)),
+        PrimitiveType::Int64 => Ok(Array::Int64(no_numbers(alloc, dtype)?)),
+        PrimitiveType::Int128 => Ok(Array::Int128(no_numbers(alloc, dtype)?)),
+        PrimitiveType::UInt8 => Ok(Array::UInt8(no_numbers(alloc, dtype)?)),
+        PrimitiveType::UInt16 => Ok(Array::UInt16(no_numbers(alloc, dtype)?)),
+        PrimitiveType::UInt32 => Ok(Array::UInt32(no_numbers(alloc, dtype)?)),
+        PrimitiveType::UInt64 => Ok(Array::UInt64(no_numbers(alloc, dtype)?)),
+        PrimitiveType::DaysMs => Ok(Array::DaysMs(no_numbers(alloc, dtype)?)),
+        PrimitiveType::MonthDayNano => Ok(Array::MonthsDaysNs(no_numbers(alloc, dtype)?)),
+        PrimitiveType::Int256
+        | PrimitiveType::Float16
+        | PrimitiveType::Float32
+        | PrimitiveType::Float64 => unreachable!(),
+    }
+}
+
+/// An array of the type that has no rows.
+pub fn new_empty_array(alloc: Global, dtype: ArrowDataType) -> Result<Array, AllocError>
+    requires { is_flat_kind (kind_of dtype) ≡ true }
+    ensures kind { IfOk result (λ a. kind_in (parts_of a) ≡ kind_of dtype) }
+    ensures rows { IfOk result (λ a. rows_in (parts_of a) ≡ 0) }
+{
+    match dtype.to_physical_type() {
+        PhysicalType::Null => Ok(Array::Null(no_nulls(dtype))),
+        PhysicalType::Boolean => Ok(Array::Boolean(no_bits(alloc, dtype)?)),
+        PhysicalType::Primitive(number) => empty_numbers(alloc, dtype, number),
+        PhysicalType::Binary => Ok(Array::Binary(no_binary(alloc, dtype, first_offset(alloc)?)?)),
+        PhysicalType::LargeBinary => Ok(Array::LargeBinary(no_binary(
+            alloc,
+            dtype,
+            first_large_offset(alloc)?,
+        )?)),
+        PhysicalType::FixedSizeBinary => Ok(Array::FixedSizeBinary(no_fixed(alloc, dtype)?)),
+        PhysicalType::Utf8 => Ok(Array::Utf8(no_text(alloc, dtype, first_offset(alloc)?)?)),
+        PhysicalType::LargeUtf8 => Ok(Array::LargeUtf8(no_text(
+            alloc,
+            dtype,
+            first_large_offset(alloc)?,
+        )?)),
+        PhysicalType::BinaryView => Ok(Array::BinaryView(no_views(alloc, dtype)?)),
+        PhysicalType::Utf8View => Ok(Array::Utf8View(no_views(alloc, dtype)?)),
+        PhysicalType::List
+        | PhysicalType::LargeList
+        | PhysicalType::FixedSizeList
+        | PhysicalType::Struct
+        | PhysicalType::Union
+        | PhysicalType::Map
+        | PhysicalType::Dictionary(_) => unreachable!(),
+    }
+}

@@ -1,0 +1,32 @@
+//! What arrays of numbers answer, whatever their numbers are.
+ghost use Rattle.std.specs.Prelude.{◌≡◌, ◌+◌, ◌≤◌, ◌<◌, length, None};
+ghost use Rattle.arrow_spec.specs.Flat.{little};
+ghost use Rattle.arrow_buffers.specs.Rows.{part};
+ghost use Rattle.arrow_arrays.specs.Parts.{numbers, as_bytes, rows_in, cells_in, part_of, fault_in, primitive_size};
+
+use arrow_buffers::PrimitiveArray;
+use arrow_types::NativeType;
+
+/// How many rows there are.
+pub(crate) fn number_rows<T: NativeType>(array: &PrimitiveArray<T>) -> usize
+    requires size { primitive_size T.PRIMITIVE ≡ T.WIDTH }
+    requires above { 0 < T.WIDTH }
+    ensures rows { result ≡ rows_in (numbers (as_bytes (T.written little) array.now)) }
+    ensures cells { result ≡ length (cells_in (numbers (as_bytes (T.written little) array.now))) }
+    ensures sound { fault_in (numbers (as_bytes (T.written little) array.now)) ≡ None }
+{
+    array.len()
+}
+
+/// Leaves only the part, and copies nothing.
+pub(crate) fn narrow_numbers<T: NativeType>(
+    array: &mut PrimitiveArray<T>,
+    offset: usize,
+    rows: usize,
+)
+    requires { offset + rows ≤ rows_in (numbers (as_bytes (T.written little) array.old)) }
+    ensures parts { numbers (as_bytes (T.written little) array.new) ≡ part_of offset rows (numbers (as_bytes (T.written little) array.old)) }
+    ensures cells { cells_in (numbers (as_bytes (T.written little) array.new)) ≡ part offset rows (cells_in (numbers (as_bytes (T.written little) array.old))) }
+{
+    array.narrow(offset, rows)
+}

@@ -1,0 +1,205 @@
+//! Record batches: columns of one height, each under a field of a schema.
+ghost use Rattle.std.specs.Prelude.{◌≡◌, ◌==◌, length, Some, None, IfOk, IfErr, true};
+ghost use Rattle.std.specs.Rc.{rc_value};
+ghost use Rattle.arrow_arrays.specs.PartsOf.{all_parts_of};
+ghost use Rattle.arrow_arrays.specs.Batches.{batch_fault, have_rows};
+
+use crate::array::Array;
+use arrow_types::ArrowSchemaRef;
+use std::alloc::{AllocError, Global};
+use std::marker::Model;
+use thiserror::Error;
+
+/// Why columns make no record batch: the first of these that holds, in this order.
+#[derive(Clone, Copy, Debug, PartialEq, Eq, Hash, Error)]
+pub enum BatchError {
+    /// There are not as many columns as the schema has fields.
+    #[error("the number of columns is not that of the schema's fields")]
+    Width,
+    /// A column does not have as many rows as the batch.
+    #[error("a column does not have the batch's number of rows")]
+    Height,
+}
+
+/// Columns of one height under a schema, seen as the height, the schema and the parts of each column.
+#[derive(Drop)]
+pub struct RecordBatchT {
+    height: usize,
+    schema: ArrowSchemaRef,
+    arrays: Vec<Array>,
+}
+
+/// A record batch of arrays of any kind.
+pub type RecordBatch = RecordBatchT;
+
+impl Model for RecordBatchT {
+    ghost use Rattle.std.specs.Prelude.{◌≡◌, None};
+    ghost use Rattle.std.specs.Rc.{rc_value};
+    ghost use Rattle.arrow_arrays.specs.Batches.{Batch, batch_code, batch_fault};
+
+    ghost Value = { Batch };
+
+    ghost coded = { batch_code };
+
+    ghost use Rattle.arrow_arrays.specs.PartsOf.{all_parts_of};
+
+    ghost view = { λ a. record { height = a.height; schema = rc_value a.schema; arrays = all_parts_of a.arrays.items } };
+
+    ghost invariant = { λ a. batch_fault (record { height = a.height; schema = rc_value a.schema; arrays = all_parts_of a.arrays.items }) ≡ None };
+}
+
+/// Whether each array has so many rows.
+fn are_of_height(arrays: &[Array], height: usize) -> bool
+    ensures { result ≡ have_rows height (all_parts_of arrays.now) }
+{
+    for array in arrays {
+        if array.len() != height {
+            return false;
+        }
+    }
+    true
+}
+
+/// Second owners of the same arrays.
+fn clone_arrays(alloc: Global, arrays: &[Array]) -> Result<Vec<Array>, AllocError>
+    ensures { IfOk result (λ v. all_parts_of v.items ≡ all_parts_of arrays.now) }
+{
+    let mut clones = Vec::new(alloc);
+    for array in arrays {
+        clones.push(array.try_clone(alloc)?)?;
+    }
+    Ok(clones)
+}
+
+impl RecordBatchT {
+    /// The batch of these columns.
+    pub fn try_new(
+        height: usize,
+        schema: ArrowSchemaRef,
+        arrays: Vec<Array>,
+    ) -> Result<RecordBatch, BatchError>
+        ensures ok { IfOk result (λ b. b ≡ record { height = height; schema = rc_value schema; arrays = all_parts_of arrays.items }) }
+        ensures sound { IfOk result (λ b. batch_fault b ≡ None) }
+        ensures err { IfErr result (λ e. batch_fault (record { height = height; schema = rc_value schema; arrays = all_parts_of arrays.items }) ≡ Some e) }
+    {
+        if schema.len() != arrays.len() {
+            return Err(BatchError::Width);
+        }
+        if !are_of_height(arrays.as_slice(), height) {
+            return Err(BatchError::Height);
+        }
+        Ok(RecordBatchT {
+            height,
+            schema,
+            arrays,
+        })
+    }
+
+    /// The batch of columns that are known to suit the schema and the height.
+    pub fn new(height: usize, schema: ArrowSchemaRef, arrays: Vec<Array>) -> RecordBatch
+        requires { batch_fault (record { height = height; schema = rc_value schema; arrays = all_parts_of arrays.items }) ≡ None }
+        ensures { result ≡ record { height = height; schema = rc_value schema; arrays = all_parts_of arrays.items } }
+    {
+        RecordBatchT {
+            height,
+            schema,
+            arrays,
+        }
+    }
+
+    /// The columns, in order.
+    pub fn arrays(&self) -> &[Array]
+        ensures { all_parts_of result.now ≡ self.now.arrays }
+    {
+        self.arrays.as_slice()
+    }
+
+    /// The columns, in order.
+    pub fn columns(&self) -> &[Array]
+        ensures { all_parts_of result.now ≡ self.now.arrays }
+    {
+        self.arrays.as_slice()
+    }
+
+    /// The columns, in order.
+    pub fn as_slice(&self) -> &[Array]
+        ensures { all_parts_of result.now ≡ self.now.arrays }
+    {
+        self.arrays.as_slice()
+    }
+
+    /// The schema, which may be shared.
+    pub fn schema(&self) -> &ArrowSchemaRef
+        ensures { rc_value result.now ≡ self.now.schema }
+    {
+        &self.schema
+    }
+
+    /// How many rows there are.
+    pub fn len(&self) -> usize
+        ensures rows { result ≡ self.now.height }
+        ensures sound { batch_fault self.now ≡ None }
+    {
+        self.height
+    }
+
+    /// How many rows there are.
+    pub fn height(&self) -> usize
+        ensures rows { result ≡ self.now.height }
+        ensures each { have_rows self.now.height self.now.arrays ≡ true }
+    {
+        self.height
+    }
+
+    /// How many columns there are.
+    pub fn width(&self) -> usize
+        ensures columns { result ≡ length self.now.arrays }
+        ensures fields { result ≡ length self.now.schema }
+    {
+        self.arrays.len()
+    }
+
+    /// Whether there are no rows.
+    pub fn is_empty(&self) -> bool
+        ensures { result ≡ (self.now.height == 0) }
+    {
+        self.height == 0
+    }
+
+    /// The columns, in order, without their schema.
+    pub fn into_arrays(self) -> Vec<Array>
+        ensures { all_parts_of result.items ≡ self.arrays }
+    {
+        self.arrays
+    }
+
+    /// The schema and the columns, in order.
+    pub fn into_schema_and_arrays(self) -> (ArrowSchemaRef, Vec<Array>)
+        ensures schema { rc_value result.0 ≡ self.schema }
+        ensures arrays { all_parts_of result.1.items ≡ self.arrays }
+    {
+        (self.schema, self.arrays)
+    }
+
+    /// A second owner of the same columns.
+    pub fn try_clone(&self, alloc: Global) -> Result<RecordBatch, AllocError>
+        ensures { IfOk result (λ b. b ≡ self.now) }
+    {
+        Ok(RecordBatchT {
+            height: self.height,
+            schema: self.schema.clone()?,
+            arrays: clone_arrays(alloc, self.arrays.as_slice())?,
+        })
+    }
+}
+
+impl From<RecordBatch> for Vec<Array> {
+    ghost use Rattle.std.specs.Prelude.{◌≡◌};
+    ghost use Rattle.arrow_arrays.specs.PartsOf.{all_parts_of};
+
+    ghost from_gives = { λ batch arrays. all_parts_of arrays.items ≡ batch.arrays };
+
+    fn from(batch: RecordBatch) -> Vec<Array> {
+        batch.arrays
+    }
+}

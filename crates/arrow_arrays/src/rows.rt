@@ -1,0 +1,135 @@
+//! The rows of an array, one by one.
+ghost use Rattle.std.specs.Prelude.{◌≡◌, ◌<◌, length, Some, slice_get};
+ghost use Rattle.std.specs.Option.{ForSome, option_map};
+ghost use Rattle.arrow_spec.specs.Cells as cells;
+ghost use Rattle.arrow_spec.specs.Flat.{little};
+ghost use Rattle.arrow_buffers.specs.Rows.{is_valid};
+ghost use Rattle.arrow_buffers.specs.Flat.{flat_cells, fixed_cells, fixed_rows};
+ghost use Rattle.arrow_buffers.specs.Variable.{binary_cells, text_cells, variable_rows};
+ghost use Rattle.arrow_buffers.specs.Views.{view_cells, view_rows};
+ghost use Rattle.arrow_arrays.specs.Parts.{numbers, as_bytes, rows_in, cells_in};
+ghost use Rattle.arrow_arrays.specs.PartsOf.{parts_of};
+ghost use Rattle.arrow_arrays.specs.RowCells.{cell_of};
+
+use crate::array::Array;
+use crate::row_value::{RowNumber, RowValue};
+use arrow_buffers::{
+    BinaryArray, BinaryViewArrayGeneric, Bitmap, BooleanArray, FixedSizeBinaryArray,
+    PrimitiveArray, Utf8Array, ViewType,
+};
+use arrow_types::Offset;
+
+/// Whether a row is valid: every row, where no validity is given.
+fn is_valid_in(validity: Option<&Bitmap>, row: usize) -> bool
+    requires { ForSome validity (λ bits. row < length bits.now) }
+    ensures { result ≡ is_valid (option_map (λ bits. bits.now) validity.entry) row }
+{
+    match validity {
+        None => true,
+        Some(bits) => bits.get(row),
+    }
+}
+
+fn bit_in(array: &BooleanArray, row: usize) -> RowValue<'_>
+    requires { row < length array.now.values }
+    ensures { slice_get (flat_cells cells.bool array.now) row ≡ Some (cell_of result) }
+{
+    if is_valid_in(array.validity(), row) {
+        RowValue::Bit(array.value(row))
+    } else {
+        RowValue::Null
+    }
+}
+
+fn number_in<T: RowNumber>(array: &PrimitiveArray<T>, row: usize) -> RowValue<'_>
+    requires { row < length array.now.values }
+    ensures { slice_get (cells_in (numbers (as_bytes (T.written little) array.now))) row ≡ Some (cell_of result) }
+{
+    prove!(array.len() > row);
+    if is_valid_in(array.validity(), row) {
+        array.value(row).row_value()
+    } else {
+        RowValue::Null
+    }
+}
+
+fn fixed_in(array: &FixedSizeBinaryArray, row: usize) -> RowValue<'_>
+    requires { row < fixed_rows array.now }
+    ensures { slice_get (fixed_cells array.now) row ≡ Some (cell_of result) }
+{
+    if is_valid_in(array.validity(), row) {
+        RowValue::Bytes(array.value(row))
+    } else {
+        RowValue::Null
+    }
+}
+
+fn binary_in<O: Offset>(array: &BinaryArray<O>, row: usize) -> RowValue<'_>
+    requires { row < variable_rows array.now.offsets }
+    ensures { slice_get (binary_cells array.now) row ≡ Some (cell_of result) }
+{
+    if is_valid_in(array.validity(), row) {
+        RowValue::Bytes(array.value(row))
+    } else {
+        RowValue::Null
+    }
+}
+
+fn text_in<O: Offset>(array: &Utf8Array<O>, row: usize) -> RowValue<'_>
+    requires { row < variable_rows array.now.offsets }
+    ensures { slice_get (text_cells array.now) row ≡ Some (cell_of result) }
+{
+    if is_valid_in(array.validity(), row) {
+        RowValue::Text(array.value(row))
+    } else {
+        RowValue::Null
+    }
+}
+
+fn view_in<V: ViewType>(array: &BinaryViewArrayGeneric<V>, row: usize) -> RowValue<'_>
+    requires { row < view_rows array.now.views }
+    ensures { slice_get (view_cells V.IS_TEXT array.now) row ≡ Some (cell_of result) }
+{
+    prove!(array.len() > row);
+    match array.value(row) {
+        None => RowValue::Null,
+        Some(bytes) => {
+            if V::IS_TEXT {
+                RowValue::Text(bytes)
+            } else {
+                RowValue::Bytes(bytes)
+            }
+        }
+    }
+}
+
+impl Array {
+    /// What stands in a row.
+    pub(crate) fn row(&self, row: usize) -> RowValue<'_>
+        requires { row < rows_in (parts_of self.now) }
+        ensures { slice_get (cells_in (parts_of self.now)) row ≡ Some (cell_of result) }
+    {
+        match self {
+            Array::Null(_) => RowValue::Null,
+            Array::Boolean(array) => bit_in(array, row),
+            Array::Int8(array) => number_in(array, row),
+            Array::Int16(array) => number_in(array, row),
+            Array::Int32(array) => number_in(array, row),
+            Array::Int64(array) => number_in(array, row),
+            Array::Int128(array) => number_in(array, row),
+            Array::UInt8(array) => number_in(array, row),
+            Array::UInt16(array) => number_in(array, row),
+            Array::UInt32(array) => number_in(array, row),
+            Array::UInt64(array) => number_in(array, row),
+            Array::DaysMs(array) => number_in(array, row),
+            Array::MonthsDaysNs(array) => number_in(array, row),
+            Array::Binary(array) => binary_in(array, row),
+            Array::LargeBinary(array) => binary_in(array, row),
+            Array::Utf8(array) => text_in(array, row),
+            Array::LargeUtf8(array) => text_in(array, row),
+            Array::BinaryView(array) => view_in(array, row),
+            Array::Utf8View(array) => view_in(array, row),
+            Array::FixedSizeBinary(array) => fixed_in(array, row),
+        }
+    }
+}
