@@ -1,0 +1,106 @@
+-- The metadata of a message: how large it is, and how many slots its tables have.
+use Rattle.std.proofs.Common.{◌≡◌, ℕ, zero, suc, ◌+◌, ◌*◌, ◌^◌, ◌≤◌, List, [], ◌∷◌, ◌++◌, length, Result, Ok, Err, OnOk, refl, sym, ap, ◌∙◌, arith, length-append, append_assoc, ℤ, pos, negsuc, subst}
+use Rattle.std.specs.List.{flat_map}
+use Rattle.std.specs.Int.{Width, w64}
+use Rattle.arrow_spec.specs.declared.message.FieldNode.{FieldNode}
+use Rattle.arrow_spec.specs.declared.message.IpcBuffer.{IpcBuffer}
+use Rattle.arrow_spec.specs.Layout.{Node, Slots, table, numbers64, no_more, absent, child, end_of, end_of_children, inline_end, table_place, size, slot_count, one_more}
+use Rattle.arrow_spec.specs.Sent.{unless_zero, node_bytes, buffer_bytes, nodes_node, buffers_node, message_slots}
+use Rattle.arrow_spec.proofs.Ends.{end_above}
+use Rattle.arrow_flat.specs.Nodes.{KeepsSlotLimit, ChildrenKeepSlotLimit}
+use Rattle.ipc_write.specs.Metadata.{counts_slot, header_node, metadata_node}
+
+pub two_put : {T E : Type 0} → (r : Result T E) (a x y d e : List ℕ) → d ≡ a ++ x → OnOk r (e ≡ d ++ y) → OnOk r (e ≡ a ++ (x ++ y))
+two_put (Ok t) a x y d e hd he = he ∙ ap (λ t. t ++ y) hd ∙ append_assoc a x y
+two_put (Err t) a x y d e hd he = tt
+
+-- ── few slots ──
+
+count_zero : (w : Width) (z : ℤ) (s : Slots) → slot_count (unless_zero w z s) ≤ suc (suc (slot_count s))
+count_zero w (pos zero) s = more (slot_count s)
+  where
+    more : (n : ℕ) → one_more n ≤ suc (suc n)
+    more zero = omega arith
+    more (suc n) = omega arith
+count_zero w (pos (suc n)) s = omega arith
+count_zero w (negsuc n) s = omega arith
+
+keeps_zero : (w : Width) (z : ℤ) (s : Slots) → ChildrenKeepSlotLimit s → ChildrenKeepSlotLimit (unless_zero w z s)
+keeps_zero w (pos zero) s h = h
+keeps_zero w (pos (suc n)) s h = h
+keeps_zero w (negsuc n) s h = h
+
+count_counts : (zs : List ℤ) → slot_count (absent (counts_slot zs)) ≤ 2
+count_counts [] = omega arith
+count_counts (z ∷ zs) = omega arith
+
+keeps_counts : (zs : List ℤ) → ChildrenKeepSlotLimit (counts_slot zs)
+keeps_counts [] = tt
+keeps_counts (z ∷ zs) = (tt, tt)
+
+keeps_header : (rows : ℕ) (nodes : List FieldNode) (buffers : List IpcBuffer) (counts : List ℤ) → KeepsSlotLimit (header_node rows nodes buffers counts)
+keeps_header rows nodes buffers counts =
+    let rest = child (nodes_node nodes) (child (buffers_node buffers) (absent (counts_slot counts))) in
+    let few : slot_count rest ≤ 4 = omega (arith, count_counts counts) in
+    (omega (arith, count_zero w64 (pos rows) rest, few), keeps_zero w64 (pos rows) rest (tt, (tt, keeps_counts counts)))
+
+pub keeps_metadata : (n h : Node) (rows body : ℕ) (nodes : List FieldNode) (buffers : List IpcBuffer) (counts : List ℤ) → h ≡ header_node rows nodes buffers counts → n ≡ table (message_slots 3 h body) → KeepsSlotLimit n
+keeps_metadata n h rows body nodes buffers counts hh hn =
+    let header : KeepsSlotLimit h = subst KeepsSlotLimit (sym hh) (keeps_header rows nodes buffers counts) in
+    let last = unless_zero w64 (pos body) no_more in
+    let few : slot_count last ≤ 2 = count_zero w64 (pos body) no_more in
+    subst KeepsSlotLimit (sym hn) (omega (arith, few), (header, keeps_zero w64 (pos body) no_more tt))
+
+pub same_metadata : (n h : Node) (rows body : ℕ) (nodes : List FieldNode) (buffers : List IpcBuffer) (counts : List ℤ) → h ≡ header_node rows nodes buffers counts → n ≡ table (message_slots 3 h body) → n ≡ metadata_node rows nodes buffers counts body
+same_metadata n h rows body nodes buffers counts hh hn = hn ∙ ap (λ k. table (message_slots 3 k body)) hh
+
+-- ── many nodes or buffers ──
+
+length-nodes : (xs : List FieldNode) → length (flat_map node_bytes xs) ≡ 16 * length xs
+length-nodes [] = refl
+length-nodes (x ∷ xs) = omega (arith, length-append (node_bytes x) (flat_map node_bytes xs), length-nodes xs)
+
+length-buffers : (xs : List IpcBuffer) → length (flat_map buffer_bytes xs) ≡ 16 * length xs
+length-buffers [] = refl
+length-buffers (x ∷ xs) = omega (arith, length-append (buffer_bytes x) (flat_map buffer_bytes xs), length-buffers xs)
+
+children_zero : (w : Width) (z : ℤ) (s : Slots) (c : ℕ) → end_of_children (unless_zero w z s) c ≡ end_of_children s c
+children_zero w (pos zero) s c = refl
+children_zero w (pos (suc n)) s c = refl
+children_zero w (negsuc n) s c = refl
+
+counts_above : (zs : List ℤ) (c : ℕ) → c ≤ end_of_children (counts_slot zs) c
+counts_above [] c = omega arith
+counts_above (z ∷ zs) c = end_above (numbers64 (z ∷ zs)) c
+
+header_end : (rows : ℕ) (nodes : List FieldNode) (buffers : List IpcBuffer) (counts : List ℤ) (c : ℕ) → (16 * length nodes ≤ end_of (header_node rows nodes buffers counts) c) × (16 * length buffers ≤ end_of (header_node rows nodes buffers counts) c)
+header_end rows nodes buffers counts c =
+    let rest = child (nodes_node nodes) (child (buffers_node buffers) (absent (counts_slot counts))) in
+    let slots = unless_zero w64 (pos rows) rest in
+    let e = inline_end slots (table_place slots c + 4) in
+    let one = end_of (nodes_node nodes) e in
+    let two = end_of (buffers_node buffers) one in
+    let whole : end_of (header_node rows nodes buffers counts) c ≡ end_of_children (counts_slot counts) two = children_zero w64 (pos rows) rest e in
+    let last : two ≤ end_of_children (counts_slot counts) two = counts_above counts two in
+    let later : one ≤ two = end_above (buffers_node buffers) one in
+    let first : length (flat_map node_bytes nodes) ≤ one = omega arith in
+    let second : length (flat_map buffer_bytes buffers) ≤ two = omega arith in
+    (omega (arith, whole, last, later, first, length-nodes nodes), omega (arith, whole, last, second, length-buffers buffers))
+
+message_end : (body : ℕ) (h : Node) → (c : ℕ) × (end_of h c ≤ size (table (message_slots 3 h body)))
+unfolding size
+message_end body h =
+    let s = message_slots 3 h body in
+    let e = inline_end s (table_place s 4 + 4) in
+    let whole : end_of (table s) 4 ≡ end_of h e = children_zero w64 (pos body) no_more (end_of h e) in
+    (e, omega (arith, whole))
+
+pub many_nodes : (rows body : ℕ) (nodes : List FieldNode) (buffers : List IpcBuffer) (counts : List ℤ) → 2 ^ 27 ≤ length nodes → 2 ^ 31 ≤ size (metadata_node rows nodes buffers counts body)
+many_nodes rows body nodes buffers counts h =
+    let end = message_end body (header_node rows nodes buffers counts) in
+    omega (arith, (header_end rows nodes buffers counts end.0).0, end.1, h)
+
+pub many_buffers : (rows body : ℕ) (nodes : List FieldNode) (buffers : List IpcBuffer) (counts : List ℤ) → 2 ^ 27 ≤ length buffers → 2 ^ 31 ≤ size (metadata_node rows nodes buffers counts body)
+many_buffers rows body nodes buffers counts h =
+    let end = message_end body (header_node rows nodes buffers counts) in
+    omega (arith, (header_end rows nodes buffers counts end.0).1, end.1, h)

@@ -1,0 +1,6 @@
+mod Laying
+mod Lengths
+mod Putting
+mod Headers
+mod ColumnSteps
+mod Messages

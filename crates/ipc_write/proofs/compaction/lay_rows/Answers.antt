@@ -1,0 +1,17 @@
+use Rattle.std.proofs.Common.{◌≡◌, ◌-◌, ◌+◌, suc, ap, sym, ◌∙◌, arith}
+use Rattle.arrow_buffers.specs.Views.{view_rows}
+use Rattle.ipc_write.specs.Laying.{all_laid}
+use Rattle.ipc_write.proofs.Laying.{none_laid, ends_laid}
+use Rattle.ipc_write.proofs.compaction.lay_rows.Goals as goal
+
+pub loop-row-init : goal.loop-row-init
+loop-row-init g c = none_laid c.args.array.now _ _ _ c.new.ensures.items c.new-2.ensures.items c.new-3.ensures.items
+
+pub loop-row-preserved : goal.loop-row-preserved
+loop-row-preserved g c =
+    let p = c.args.array.now in
+    let left : view_rows p.views - c.loop-row.row ≡ suc (view_rows p.views - (c.loop-row.row + 1)) = omega arith in
+    c.in_ok-lay_row.ensures (view_rows p.views - (c.loop-row.row + 1)) ∙ ap (λ n. all_laid p c.loop-row.row n c.loop-row.laying.views.items c.loop-row.laying.buffers.items c.loop-row.laying.begun.items) (sym left) ∙ c.loop-row.invariant
+
+pub returns : goal.returns
+returns g c = ends_laid c.end_laying.result c.args.array.now c.loop-row.row _ _ _ (omega arith) c.loop-row.invariant c.end_laying.ensures.views c.end_laying.ensures.buffers

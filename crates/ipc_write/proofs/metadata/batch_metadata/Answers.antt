@@ -1,0 +1,9 @@
+use Rattle.std.proofs.Common.{arith}
+use Rattle.ipc_write.proofs.Headers.{many_nodes, many_buffers}
+use Rattle.ipc_write.proofs.metadata.batch_metadata.Goals as goal
+
+pub returns-then-nodes-ge-TOO_MANY : goal.returns-then-nodes-ge-TOO_MANY
+returns-then-nodes-ge-TOO_MANY c = many_nodes c.args.rows c.args.body c.args.nodes.now c.args.buffers.now c.args.counts.items (omega arith)
+
+pub returns-then-buffers-ge-TOO_MANY : goal.returns-then-buffers-ge-TOO_MANY
+returns-then-buffers-ge-TOO_MANY c = many_buffers c.args.rows c.args.body c.args.nodes.now c.args.buffers.now c.args.counts.items (omega arith)

@@ -1,0 +1,20 @@
+//! Record batches as they are written: batches to messages, messages to a sink (Arrow Columnar Format, "Serialization and Interprocess Communication (IPC)").
+#![tactic(auto)]
+
+mod columns;
+mod compaction;
+mod encode;
+mod encoded;
+mod ends;
+mod frame;
+mod metadata;
+mod options;
+
+pub use array_writer::write;
+pub use encode::encode_record_batch;
+pub use encoded::EncodedData;
+pub use frame::{pad_to_64, write_continuation, write_message};
+pub use options::{Compression, WriteOptions};
+
+#[cfg(test)]
+mod tests;

@@ -1,0 +1,146 @@
+//! The metadata of a record batch's message (Arrow Columnar Format, "RecordBatch message").
+ghost use Rattle.std.specs.Prelude.{◌≡◌, ◌^◌, ◌<◌, ◌++◌, length, OnOk, IfOk};
+ghost use Rattle.std.specs.List.{flat_map};
+ghost use Rattle.arrow_spec.specs.Layout.{table, no_more};
+ghost use Rattle.arrow_spec.specs.Sent.{i64_bytes, node_bytes, buffer_bytes, message_slots};
+ghost use Rattle.arrow_flat.specs.Nodes.{node_of, slot_of, in_front};
+ghost use Rattle.ipc_write.specs.Metadata.{counts_slot, header_node, metadata_node, Builds, BuildsMetadata};
+
+use arrow_flat::{BuildError, Node, Slot, finish};
+use arrow_spec::{FieldNode, IpcBuffer, IpcError};
+use std::alloc::{AllocError, Global};
+
+/// With so many nodes or buffers, of 16 bytes each, the metadata is too large.
+const TOO_MANY: usize = 1 << 27;
+
+/// The tag of a record batch (Message.fbs, MessageHeader).
+const RECORD_BATCH: u8 = 3;
+
+fn put_i64(out: &mut Vec<u8>, number: i64) -> Result<(), AllocError>
+    ensures { OnOk result (out.new.items ≡ out.old.items ++ i64_bytes number) }
+{
+    out.extend_from_slice(&number.to_le_bytes())
+}
+
+fn put_node(out: &mut Vec<u8>, node: &FieldNode) -> Result<(), AllocError>
+    ensures { OnOk result (out.new.items ≡ out.old.items ++ node_bytes node.now) }
+{
+    put_i64(out, node.length)?;
+    put_i64(out, node.null_count)
+}
+
+fn put_buffer(out: &mut Vec<u8>, buffer: &IpcBuffer) -> Result<(), AllocError>
+    ensures { OnOk result (out.new.items ≡ out.old.items ++ buffer_bytes buffer.now) }
+{
+    put_i64(out, buffer.offset)?;
+    put_i64(out, buffer.length)
+}
+
+/// The bytes of nodes (Message.fbs, FieldNode).
+fn nodes_bytes(alloc: Global, nodes: &[FieldNode]) -> Result<Vec<u8>, AllocError>
+    ensures { IfOk result (λ v. v.items ≡ flat_map node_bytes nodes.now) }
+{
+    let mut out = Vec::new(alloc);
+    for node in nodes {
+        put_node(&mut out, node)?;
+    }
+    Ok(out)
+}
+
+/// The bytes of buffers (Message.fbs, Buffer).
+fn buffers_bytes(alloc: Global, buffers: &[IpcBuffer]) -> Result<Vec<u8>, AllocError>
+    ensures { IfOk result (λ v. v.items ≡ flat_map buffer_bytes buffers.now) }
+{
+    let mut out = Vec::new(alloc);
+    for buffer in buffers {
+        put_buffer(&mut out, buffer)?;
+    }
+    Ok(out)
+}
+
+/// View counts are left out where there are none.
+fn counts_slot(counts: Vec<i64>) -> Slot
+    ensures { in_front (slot_of result) no_more ≡ counts_slot counts.items }
+{
+    if counts.is_empty() {
+        Slot::Absent
+    } else {
+        Slot::Child(Node::I64s(counts))
+    }
+}
+
+/// The table of a record batch (Message.fbs, RecordBatch).
+fn header_node(
+    alloc: Global,
+    rows: usize,
+    nodes: &[FieldNode],
+    buffers: &[IpcBuffer],
+    counts: Vec<i64>,
+) -> Result<Node, AllocError>
+    requires few { rows < 2 ^ 63 }
+    requires nodes { length nodes.now < 2 ^ 27 }
+    requires buffers { length buffers.now < 2 ^ 27 }
+    ensures { IfOk result (λ n. node_of n ≡ header_node rows nodes.now buffers.now counts.items) }
+{
+    let length = Slot::i64(rows as i64, 0);
+    let node_slot = Slot::Child(Node::Structs(nodes.len() as u32, nodes_bytes(alloc, nodes)?));
+    let bytes = buffers_bytes(alloc, buffers)?;
+    let buffer_slot = Slot::Child(Node::Structs(buffers.len() as u32, bytes));
+    let count_slot = counts_slot(counts);
+    Ok(Node::Table(vec![in alloc; length, node_slot, buffer_slot, Slot::Absent, count_slot]?))
+}
+
+/// A message of version V5, with its tag and header, and how long its body is.
+fn message_node(alloc: Global, header: Node, body: usize) -> Result<Node, AllocError>
+    requires { body < 2 ^ 63 }
+    ensures { IfOk result (λ n. node_of n ≡ table (message_slots 3 (node_of header) body)) }
+{
+    let length = Slot::i64(body as i64, 0);
+    let tag = Slot::U8(RECORD_BATCH);
+    Ok(Node::Table(vec![in alloc; Slot::I16(4), tag, Slot::Child(header), length]?))
+}
+
+fn built(
+    alloc: Global,
+    rows: usize,
+    nodes: &[FieldNode],
+    buffers: &[IpcBuffer],
+    counts: Vec<i64>,
+    body: usize,
+) -> Result<Vec<u8>, BuildError>
+    requires few { rows < 2 ^ 63 }
+    requires nodes { length nodes.now < 2 ^ 27 }
+    requires buffers { length buffers.now < 2 ^ 27 }
+    requires body { body < 2 ^ 63 }
+    ensures { Builds result (metadata_node rows nodes.now buffers.now counts.items body) }
+{
+    let header = header_node(alloc, rows, nodes, buffers, counts)?;
+    let node = message_node(alloc, header, body)?;
+    finish(alloc, &node)
+}
+
+/// The metadata of a batch of so many rows with nodes, buffers and view counts, and a body of so many bytes.
+pub(crate) fn batch_metadata(
+    alloc: Global,
+    rows: usize,
+    nodes: &[FieldNode],
+    buffers: &[IpcBuffer],
+    counts: Vec<i64>,
+    body: usize,
+) -> Result<Vec<u8>, IpcError>
+    requires few { rows < 2 ^ 63 }
+    requires body { body < 2 ^ 63 }
+    ensures { BuildsMetadata result (metadata_node rows nodes.now buffers.now counts.items body) }
+{
+    if nodes.len() >= TOO_MANY {
+        return Err(IpcError::TooLarge);
+    }
+    if buffers.len() >= TOO_MANY {
+        return Err(IpcError::TooLarge);
+    }
+    match built(alloc, rows, nodes, buffers, counts, body) {
+        Ok(bytes) => Ok(bytes),
+        Err(BuildError::TooLarge) => Err(IpcError::TooLarge),
+        Err(BuildError::Memory) => Err(IpcError::Memory),
+    }
+}

@@ -1,0 +1,31 @@
+//! How record batches are written.
+
+/// How the buffers of a body are compressed (Message.fbs, CompressionType). No body is written so.
+#[derive(Clone, Copy, Debug, PartialEq, Eq, Hash)]
+pub enum Compression {
+    LZ4,
+    ZSTD,
+}
+
+/// How record batches are written.
+#[derive(Clone, Copy, Debug, PartialEq, Eq, Hash)]
+pub struct WriteOptions {
+    /// How buffers are compressed.
+    pub compression: Option<Compression>,
+    /// The most bytes of a message's padded metadata; what is above 2^31 - 1 counts as that.
+    pub metadata_limit: usize,
+}
+
+impl Default for WriteOptions {
+    ghost use Rattle.std.specs.Prelude.{◌≡◌, None};
+
+    ghost is_default = { λ o. (o.compression ≡ None) × (o.metadata_limit ≡ 2147483647) };
+
+    /// No compression, and as much metadata as a message may have.
+    fn default() -> WriteOptions {
+        WriteOptions {
+            compression: None,
+            metadata_limit: 0x7fff_ffff,
+        }
+    }
+}

@@ -1,0 +1,12 @@
+pub mod Buffers
+pub mod Validities
+pub mod KindCases
+pub mod NumbersBack
+pub mod OffsetsRead
+pub mod ViewsRead
+pub mod Sound
+pub mod FaultLaws
+pub mod SoundLaws
+pub mod CellLaws
+pub mod WrittenLaws
+pub mod LayoutLaws

@@ -1,0 +1,36 @@
+-- What refuses a part of a file refuses the file where it is to be sent.
+use Rattle.std.proofs.Common.{◌≡◌, ℕ, List, [], ◌∷◌, ◌++◌, length, None, Ok, Err, refl, ◌∙◌, subst, append-nil}
+use Rattle.arrow_spec.specs.declared.error.IpcError.{IpcError}
+use Rattle.arrow_spec.specs.Built.{Built}
+use Rattle.arrow_spec.specs.Readings.{Reading, Refuses, place, refusals}
+use Rattle.arrow_spec.specs.Files.{FileBlock, Meta, TableBatch, «all», batch_of, file_reading, meta_of, to_send}
+use Rattle.arrow_spec.proofs.Causes.{refuses_second}
+use Rattle.written_columns.specs.Streams.{WrittenBatch}
+use Rattle.sent_files.specs.Files.{IsSentFile, SentSoFar, asked_of}
+use Rattle.sent_files.proofs.Files.{file_refused}
+use Rattle.sent_files.proofs.Readings.{meta_refused}
+
+place_refusals : (es : List IpcError) → refusals (place es) ≡ es
+place_refusals [] = refl
+place_refusals (e ∷ es) = refl
+
+-- a device's fault or want of memory is answered whatever is read
+pub none_refuses : (e : IpcError) (es : List IpcError) → Refuses e [] → Refuses e es
+none_refuses e es h = subst (λ l. Refuses e l) (place_refusals (es ++ []) ∙ append-nil es) (refuses_second es [] e h)
+
+-- what refuses the footer
+pub meta_refuses : (built : Built) (e : IpcError) (b : List ℕ) → Refuses e (refusals (meta_of b)) → Refuses e (refusals (file_reading built to_send b «all» None))
+meta_refuses built e b h = by_reading (meta_of b) refl h
+  where
+    by_reading : (r : Reading Meta) → meta_of b ≡ r → Refuses e (refusals r) → Refuses e (refusals (file_reading built to_send b «all» None))
+    by_reading (Err es) is k = rw (meta_refused built to_send b None es is) k
+    by_reading (Ok meta) is k = none_refuses e (refusals (file_reading built to_send b «all» None)) k
+
+-- what refuses a block behind those that were sent
+pub block_refuses : (built : Built) (e : IpcError) (b : List ℕ) (meta : Meta) (blocks : List FileBlock) (block : FileBlock) (rest : List FileBlock) (xs : List WrittenBatch) → IsSentFile built b meta → meta.blocks ≡ blocks ++ block ∷ rest → SentSoFar b meta.schema.fields blocks xs
+    → Refuses e (refusals (batch_of to_send b (asked_of meta.schema.fields (length b)) block None)) → Refuses e (refusals (file_reading built to_send b «all» None))
+block_refuses built e b meta blocks block rest xs file parts s h = by_reading (batch_of to_send b (asked_of meta.schema.fields (length b)) block None) refl h
+  where
+    by_reading : (r : Reading TableBatch) → batch_of to_send b (asked_of meta.schema.fields (length b)) block None ≡ r → Refuses e (refusals r) → Refuses e (refusals (file_reading built to_send b «all» None))
+    by_reading (Err es) is k = rw (file_refused built b meta blocks block rest xs es file parts s is) k
+    by_reading (Ok x) is k = none_refuses e (refusals (file_reading built to_send b «all» None)) k

@@ -1,0 +1,39 @@
+//! Files that are sent as streams: what is read of them and what is written, block by block. Each function's contract is a law, proved in `proofs/`.
+#![tactic(auto)]
+
+ghost use Rattle.sent_files.specs.Laws.{BatchIsSendable, BlockRefusesItsFile, PartOfFileMeansItsTable, ReadSchemaIsSendable, SentBlocksAreAFront, SentFileIsItsStream, WholeFileMeansItsTable};
+
+/// A schema that was read, little-endian and without dictionaries, is one that a stream takes as it is (Arrow Columnar Format, "Schema message").
+pub fn read_schema_is_sendable()
+    ensures { ReadSchemaIsSendable }
+{}
+
+/// A batch that was read is sent where its message may be, and may be written there (Arrow Columnar Format, "RecordBatch message").
+pub fn batch_is_sendable()
+    ensures { BatchIsSendable }
+{}
+
+/// A file of which all blocks were sent means the written table (Arrow Columnar Format, "IPC File Format").
+pub fn whole_file_means_its_table()
+    ensures { WholeFileMeansItsTable }
+{}
+
+/// The first blocks of a file mean the table that is written of them.
+pub fn part_of_file_means_its_table()
+    ensures { PartOfFileMeansItsTable }
+{}
+
+/// A file is refused where a block behind those that were sent is.
+pub fn block_refuses_its_file()
+    ensures { BlockRefusesItsFile }
+{}
+
+/// What is written of all blocks, and ended, is one stream that means what the file means (Arrow Columnar Format, "IPC Streaming Format").
+pub fn sent_file_is_its_stream()
+    ensures { SentFileIsItsStream }
+{}
+
+/// What is written of the first blocks is a front of a stream that means what they mean.
+pub fn sent_blocks_are_a_front()
+    ensures { SentBlocksAreAFront }
+{}

@@ -1,0 +1,42 @@
+-- A message that is not too large has not too many nodes and buffers.
+use Rattle.std.proofs.Common.{◌≡◌, ℕ, suc, zero, ◌+◌, ◌*◌, ◌^◌, ◌<◌, ◌≤◌, List, length, refl, arith, pos}
+use Rattle.std.specs.Int.{w64}
+use Rattle.std.specs.List.{flat_map}
+use Rattle.arrow_spec.specs.Layout as layout
+use Rattle.arrow_spec.specs.Layout.{Slots, size, table_place, inline_end, end_of, end_of_children}
+use Rattle.arrow_spec.specs.Counts.{Written}
+use Rattle.arrow_spec.specs.Framing.{padded_size}
+use Rattle.arrow_spec.specs.Sent.{unless_zero, node_bytes, buffer_bytes, nodes_node, buffers_node, placed, views_slot, batch_node, batch_slots, message, message_slots}
+use Rattle.arrow_spec.proofs.Ends.{children_above}
+use Rattle.arrow_spec.proofs.MessageTables.{length-nodes, length-buffers}
+use Rattle.arrow_spec.proofs.MessagesFit.{length-placed}
+
+structs_end : (n : ℕ) (xs : List ℕ) (c : ℕ) → c + length xs ≤ end_of (layout.structs n xs) c
+structs_end n xs c = omega arith
+
+-- a number has no children
+number_end : (n : ℕ) (s : Slots) (c : ℕ) → end_of_children (unless_zero w64 (pos n) s) c ≡ end_of_children s c
+number_end zero s c = refl
+number_end (suc n) s c = refl
+
+-- a batch is longer than its nodes and buffers
+batch_end : (rows : ℕ) (w : Written) (c : ℕ) → 16 * length w.nodes + 16 * length w.lengths ≤ end_of (batch_node rows w) c
+batch_end rows w c =
+    let ns = nodes_node w.nodes in
+    let bs = buffers_node (placed 0 w.lengths) in
+    let last = layout.absent (views_slot w.views layout.no_more) in
+    let q = inline_end (batch_slots rows w) (table_place (batch_slots rows w) c + 4) in
+    let e : end_of (batch_node rows w) c ≡ end_of_children last (end_of bs (end_of ns q)) = number_end rows (layout.child ns (layout.child bs last)) q in
+    omega (arith, e, children_above last (end_of bs (end_of ns q)), structs_end (length w.nodes) (flat_map node_bytes w.nodes) q, structs_end (length (placed 0 w.lengths)) (flat_map buffer_bytes (placed 0 w.lengths)) (end_of ns q), length-nodes w.nodes, length-buffers (placed 0 w.lengths), length-placed w.lengths 0)
+
+-- and so is a message of one
+pub batch_counts : (tag rows body : ℕ) (w : Written) → padded_size (message tag (batch_node rows w) body).node < 2 ^ 31 → (length w.nodes < 2 ^ 32) × (length w.lengths < 2 ^ 32)
+unfolding size
+batch_counts tag rows body w h =
+    let n = batch_node rows w in
+    let s = message_slots tag n body in
+    let q = inline_end s (table_place s 4 + 4) in
+    let last = unless_zero w64 (pos body) layout.no_more in
+    let e : size (message tag n body).node ≡ end_of_children last (end_of n q) = refl in
+    let most : 16 * length w.nodes + 16 * length w.lengths ≤ size (message tag n body).node = omega (arith, e, children_above last (end_of n q), batch_end rows w q) in
+    (omega (arith, h, most), omega (arith, h, most))

@@ -1,0 +1,4 @@
+pub mod Columns
+pub mod Streams
+pub mod Plain
+pub mod Laws
