@@ -1,5 +1,5 @@
 -- One row more is laid.
-use Rattle.std.proofs.Common.{◌≡◌, ℕ, inl, inr, Result, Ok, Err, OnOk, IfOk, is_ok, Vec, Global, suc, ◌+◌, ◌-◌, ◌≤◌, ◌<◌, ◌++◌, List, [], ◌∷◌, Bool, true, false, Some, None, length, drop, nat_le, refl, sym, ap, ◌∙◌, arith, append_assoc, append-nil, add-one, length-append, length-take, length-drop}
+use Rattle.std.proofs.Common.{◌≡◌, ℕ, inl, inr, Result, Ok, Err, OnOk, IfOk, is_ok, Vec, Global, suc, ◌+◌, ◌-◌, ◌≤◌, ◌<◌, ◌^◌, ◌++◌, List, [], ◌∷◌, Bool, true, false, Some, None, length, drop, nat_le, refl, sym, ap, ◌∙◌, arith, append_assoc, append-nil, add-one, length-append, length-take, length-drop}
 use Rattle.std.specs.Prelude.{if◌then◌else◌}
 use Rattle.std.proofs.lemmas.Bool.{le-leb, lt-leb, cases_lt}
 use Rattle.arrow_spec.specs.Layout.{zeros}
@@ -118,3 +118,19 @@ ends_laid (Ok x) p row views begun buffers hr h hv hb =
     let whole : all_laid p row 0 views buffers begun ≡ laid_anew p = rw left at h in
     sym whole ∙ ap (λ v. record { views = v; buffers = buffers ++ begun_buffer begun }) (append-nil views) ∙ rw (hv, hb) refl
 ends_laid (Err e) p row views begun buffers hr h hv hb = tt
+
+-- ── how many buffers ──
+
+pub same_few : {T E : Type 0} → (r : Result T E) (a : ℕ) → OnOk r (a < 2 ^ 32 → a < 2 ^ 32)
+same_few (Ok t) a = λ h. h
+same_few (Err e) a = tt
+
+pub few_on : {T E : Type 0} → (r : Result T E) (a b : ℕ) → OnOk r (b < 2 ^ 32) → OnOk r (a < 2 ^ 32 → b < 2 ^ 32)
+few_on (Ok t) a b h = λ k. h
+few_on (Err e) a b h = tt
+
+-- the one that is begun is one more
+pub few_ended : {E : Type 0} → (r : Result (List ℕ × Vec (List ℕ) Global) E) (begun : List ℕ) (buffers : List (List ℕ)) → length buffers < 2 ^ 32 → IfOk r (λ x. x.1.items ≡ buffers ++ begun_buffer begun) → IfOk r (λ x. length x.1.items ≤ 2 ^ 32)
+few_ended (Ok x) [] buffers h e = omega (arith, ap length e, length-append buffers [])
+few_ended (Ok x) (b ∷ bs) buffers h e = omega (arith, ap length e, length-append buffers ((b ∷ bs) ∷ []))
+few_ended (Err e) begun buffers h f = tt

@@ -4,3 +4,6 @@ mod Putting
 mod Headers
 mod ColumnSteps
 mod Messages
+pub mod CompactedViews
+pub mod CompactedRows
+pub mod Compacted

@@ -1,12 +1,12 @@
 //! View arrays of which much of the buffers is unused (Arrow Columnar Format, "Variable-size Binary View Layout").
-ghost use Rattle.std.specs.Prelude.{◌≡◌, ◌+◌, ◌^◌, ◌<◌, ◌≤◌, ◌++◌, ◌∷◌, [], ℕ, suc, length, None, OnOk, IfOk, sum_by, nat_le, if◌then◌else◌};
+ghost use Rattle.std.specs.Prelude.{◌≡◌, ◌+◌, ◌^◌, ◌<◌, ◌≤◌, ◌++◌, ◌∷◌, [], ℕ, suc, length, true, None, OnOk, IfOk, sum_by, nat_le, if◌then◌else◌};
 ghost use Rattle.std.specs.Option.{option_map};
 ghost use Rattle.arrow_spec.specs.Columns.{u32_of};
 ghost use Rattle.arrow_types.specs.Physical.{physical_of};
 ghost use Rattle.arrow_buffers.specs.Layouts.{is_view};
 ghost use Rattle.arrow_buffers.specs.Views.{view_rows, view_at, view_fault};
 ghost use Rattle.ipc_write.specs.Compaction.{value_length, value_lengths, is_compacted, buffer_limit, long_view, begun_buffer, laid_anew, compacted};
-ghost use Rattle.ipc_write.specs.Laying.{all_laid, IsCompact};
+ghost use Rattle.ipc_write.specs.Laying.{all_laid, IsCompact, LaidFits};
 
 use arrow_buffers::{BinaryViewArrayGeneric, Bitmap, Buffer, ViewType};
 use arrow_types::NativeType;
@@ -57,7 +57,8 @@ fn value_length<V: ViewType>(array: &BinaryViewArrayGeneric<V>, row: usize) -> u
 
 /// How long the values are together.
 fn value_lengths<V: ViewType>(array: &BinaryViewArrayGeneric<V>) -> u128
-    ensures { result ≡ value_lengths array.now (view_rows array.now.views) }
+    ensures sum { result ≡ value_lengths array.now (view_rows array.now.views) }
+    ensures small { (row : ℕ) → row < view_rows array.now.views → value_length array.now row < 2 ^ 32 }
 {
     let mut lengths = 0;
     for row in 0..array.len() {
@@ -80,7 +81,8 @@ fn buffer_lengths(buffers: &[Buffer<u8>]) -> u128
 /// Whether at least min(v, 1024) bytes of the buffers are unused, where v is the sum of the lengths.
 #[tactic(auto, unfolding(crate::specs::Compaction::is_compacted))]
 fn is_compacted<V: ViewType>(array: &BinaryViewArrayGeneric<V>) -> bool
-    ensures { result ≡ is_compacted array.now }
+    ensures compacted { result ≡ is_compacted array.now }
+    ensures small { (row : ℕ) → row < view_rows array.now.views → value_length array.now row < 2 ^ 32 }
 {
     let used = value_lengths(array);
     let held = buffer_lengths(array.data_buffers());
@@ -119,6 +121,7 @@ fn lay_long(laying: &mut Laying, bytes: &[u8]) -> Result<(), AllocError>
     ensures views { OnOk result (laying.new.views.items ≡ laying.old.views.items ++ long_view bytes.now (length laying.old.buffers.items) (length laying.old.begun.items)) }
     ensures buffers { laying.new.buffers ≡ laying.old.buffers }
     ensures begun { OnOk result (laying.new.begun.items ≡ laying.old.begun.items ++ bytes.now) }
+    ensures few { OnOk result (length laying.new.buffers.items < 2 ^ 32) }
 {
     // So many buffers are in no memory.
     let Ok(number) = u32::try_from(laying.buffers.len()) else {
@@ -145,7 +148,8 @@ fn lay_row<V: ViewType>(
 ) -> Result<(), AllocError>
     requires row { row < view_rows array.now.views }
     requires sound { view_fault V.IS_TEXT (is_view V.IS_TEXT (physical_of array.now.kind)) array.now ≡ None }
-    ensures { OnOk result ((n : ℕ) → all_laid array.now (row + 1) n laying.new.views.items laying.new.buffers.items laying.new.begun.items ≡ all_laid array.now row (suc n) laying.old.views.items laying.old.buffers.items laying.old.begun.items) }
+    ensures rest { OnOk result ((n : ℕ) → all_laid array.now (row + 1) n laying.new.views.items laying.new.buffers.items laying.new.begun.items ≡ all_laid array.now row (suc n) laying.old.views.items laying.old.buffers.items laying.old.begun.items) }
+    ensures few { OnOk result (length laying.old.buffers.items < 2 ^ 32 → length laying.new.buffers.items < 2 ^ 32) }
 {
     let Some(bytes) = array.value(row) else {
         return laying.views.extend_from_slice(&[0; VIEW_SIZE]);
@@ -180,7 +184,9 @@ fn lay_rows<V: ViewType>(
     alloc: Global,
     array: &BinaryViewArrayGeneric<V>,
 ) -> Result<(Buffer<u8>, Vec<Buffer<u8>>), AllocError>
-    ensures { IfOk result (λ r. laid_anew array.now ≡ record { views = r.0; buffers = r.1.items }) }
+    ensures laid { IfOk result (λ r. laid_anew array.now ≡ record { views = r.0; buffers = r.1.items }) }
+    ensures few { IfOk result (λ r. length r.1.items ≤ 2 ^ 32) }
+    ensures sound { view_fault V.IS_TEXT (is_view V.IS_TEXT (physical_of array.now.kind)) array.now ≡ None }
 {
     let mut laying = Laying {
         views: Vec::new(alloc),
@@ -213,7 +219,8 @@ pub(crate) fn compact<V: ViewType>(
     alloc: Global,
     array: &BinaryViewArrayGeneric<V>,
 ) -> Result<Option<BinaryViewArrayGeneric<V>>, AllocError>
-    ensures { IfOk result (λ o. IsCompact array.now o) }
+    ensures compact { IfOk result (λ o. IsCompact array.now o) }
+    ensures fits { IfOk result (λ _. is_compacted array.now ≡ true → LaidFits array.now) }
 {
     if !is_compacted(array) {
         return Ok(None);
@@ -223,6 +230,6 @@ pub(crate) fn compact<V: ViewType>(
     let (views, buffers) = lay_rows(alloc, array)?;
     match BinaryViewArrayGeneric::try_new(dtype, views, buffers, validity) {
         Ok(compacted) => Ok(Some(compacted)),
-        Err(_) => Err(AllocError),
+        Err(_) => unreachable!(),
     }
 }

@@ -1,0 +1,10 @@
+pub mod Refusals
+pub mod Parts
+pub mod Counted
+pub mod FlatArrays
+pub mod OffsetReads
+pub mod VariableArrays
+pub mod Passing
+pub mod Arrays
+pub mod DataReads
+pub mod ViewArrays

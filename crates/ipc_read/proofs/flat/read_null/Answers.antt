@@ -1,0 +1,23 @@
+use Rattle.arrow_types.specs.KindOf.{kind_of}
+use Rattle.ipc_read.proofs.Refusals.{err_from, err_if, refusal_cause}
+use Rattle.ipc_read.specs.Sources.{ReadCause}
+use Rattle.ipc_read.proofs.FlatArrays.{null_refused, null_fine, null_next}
+use Rattle.ipc_read.proofs.flat.read_null.Goals as goal
+
+pub returns-in_err-take_node-clause-gives : goal.returns-in_err-take_node-clause-gives
+returns-in_err-take_node-clause-gives c = λ m p a.
+    err_from _ _ c.in_err-take_node.field-0.0 _ _ _ c.from_residual.ensures.0 c.from_residual.ensures.1 (λ x e. e)
+    (null_refused m (kind_of c.args.dtype.now) p c.args.rows c.in_err-take_node.field-0.0 c.requires.kind (c.in_err-take_node.ensures.err m p a.nodes))
+
+pub returns-clause-queue : goal.returns-clause-queue
+returns-clause-queue c = λ m p a. null_next m (kind_of c.args.dtype.now) p _ c.requires.kind a.within (c.in_ok-take_node.ensures.queue m p a.nodes).1
+
+pub returns-clause-gives : goal.returns-clause-gives
+returns-clause-gives c = λ m p a.
+    let q = c.in_ok-take_node.ensures.queue m p a.nodes in
+    record { ok = (null_fine m (kind_of c.args.dtype.now) p c.args.rows _ c.requires.kind a.within q.1 (c.in_ok-take_node.ensures.fine m p a.nodes), c.in_ok-array.ensures.parts); err = tt }
+
+pub returns-in_err-take_node-clause-cause : goal.returns-in_err-take_node-clause-cause
+returns-in_err-take_node-clause-cause c = λ n.
+    err_if _ c.in_err-take_node.field-0.0 _ (λ e. ReadCause e n n) c.from_residual.ensures.0 c.from_residual.ensures.1 (λ x e. e)
+    (refusal_cause c.in_err-take_node.field-0.0 n c.in_err-take_node.ensures.refusal)

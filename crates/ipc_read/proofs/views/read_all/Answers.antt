@@ -1,0 +1,55 @@
+use Rattle.std.proofs.Common.{◌≡◌, ◌+◌, suc, ◌++◌, ◌∷◌, [], rules, arith, sym, ap, subst, ◌∙◌}
+use Rattle.arrow_spec.specs.Columns.{buf, from_on, ranges_faults}
+use Rattle.ipc_read.proofs.Refusals.{err_from}
+use Rattle.ipc_read.proofs.Counted.{left_next}
+use Rattle.ipc_read.proofs.FlatArrays.{known_on}
+use Rattle.ipc_read.proofs.DataReads.{ranges_refused, stated_more, stated_next, ranges_next, from_on_more}
+use Rattle.ipc_read.proofs.views.read_all.Goals as goal
+
+pub returns-in_err-bytes-clause-gives : goal.returns-in_err-bytes-clause-gives
+returns-in_err-bytes-clause-gives g c = λ m i b l t.
+    let v = c.loop-number.invariant in
+    err_from _ _ c.in_err-bytes.field-0.0 _ _ _ c.from_residual.ensures.0 c.from_residual.ensures.1 (λ x e. e)
+    (ranges_refused m i c.loop-number._number c.args.count c.in_err-bytes.field-0.0 (omega arith) (c.in_err-bytes.ensures.gives m (i + c.loop-number._number) b (v.queue m i l) (known_on _ _ c.args.body b m v.content t)).err)
+
+pub returns-in_err-bytes-clause-fetched : goal.returns-in_err-bytes-clause-fetched
+returns-in_err-bytes-clause-fetched g c = λ m i l.
+    let v = c.loop-number.invariant in
+    let before = v.fetched m i l in
+    let here = c.in_err-bytes.ensures.fetched m (i + c.loop-number._number) (v.queue m i l) in
+    let rest = stated_more m i c.loop-number._number c.args.count (omega arith) in
+    omega (arith, before, here, rest)
+
+pub returns-then-is_err-clause-fetched : goal.returns-then-is_err-clause-fetched
+returns-then-is_err-clause-fetched g c = λ m i l.
+    let v = c.loop-number.invariant in
+    let before = v.fetched m i l in
+    let here = c.in_ok-bytes.ensures.fetched m (i + c.loop-number._number) (v.queue m i l) in
+    let rest = stated_more m i c.loop-number._number c.args.count (omega arith) in
+    omega (arith, before, here, rest)
+
+pub loop-number-preserved : goal.loop-number-preserved
+loop-number-preserved g c =
+    let v = c.loop-number.invariant in
+    let p : c.push.new.self.items ≡ c.loop-number.data.items ++ c.in_ok-bytes.bytes ∷ [] = search rules in
+    record {
+      queue = λ m i l. left_next m.buffers (suc (i + c.loop-number._number)) (i + (c.loop-number._number + 1)) _ (omega arith) (c.in_ok-bytes.ensures.queue m (i + c.loop-number._number) (v.queue m i l));
+      gives = λ m i b l t.
+          let was = v.gives m i b l t in
+          let k = (c.in_ok-bytes.ensures.gives m (i + c.loop-number._number) b (v.queue m i l) (known_on _ _ c.args.body b m v.content t)).ok in
+          (ranges_next m i c.loop-number._number was.0 k.0, p ∙ ap (λ xs. xs ++ c.in_ok-bytes.bytes ∷ []) was.1 ∙ ap (λ x. from_on (buf m) i c.loop-number._number ++ x ∷ []) k.1 ∙ sym (from_on_more (buf m) i c.loop-number._number));
+      content = c.in_ok-bytes.ensures.content ∙ v.content;
+      faults = omega (arith, c.in_ok-bytes.ensures.faults, v.faults);
+      fetched = λ m i l.
+          let before = v.fetched m i l in
+          let here = c.in_ok-bytes.ensures.fetched m (i + c.loop-number._number) (v.queue m i l) in
+          let all = stated_next m i c.loop-number._number in
+          omega (arith, before, here, all);
+      same_source = c.in_ok-bytes.ensures.same_source ∙ v.same_source;
+    }
+
+pub returns-clause-gives : goal.returns-clause-gives
+returns-clause-gives g c = λ m i b l t.
+    let k = c.loop-number.invariant.gives m i b l t in
+    let all : c.loop-number._number ≡ c.args.count = omega arith in
+    record { ok = (subst (λ n. ranges_faults m i n ≡ []) all k.0, k.1 ∙ ap (from_on (buf m) i) all); err = tt }

@@ -1,0 +1,5 @@
+pub mod DataBuffers
+pub mod Queues
+pub mod Sources
+pub mod Skips
+pub mod Readings

@@ -1,0 +1,46 @@
+-- Columns that are passed over.
+use Rattle.std.specs.Prelude.{◌≡◌, ℕ, ◌+◌, List, ◌++◌, length, take, drop, Bool, true, false, ⊤, nat_lt, ℤ}
+use Rattle.arrow_spec.specs.declared.error.IpcError.{IpcError}
+use Rattle.arrow_spec.specs.declared.error.IpcError.TheVariants.{OutOfSpec}
+use Rattle.arrow_spec.specs.declared.error.OutOfSpecKind.TheVariants.{MissingVariadicCount, UnexpectedNegativeInteger}
+use Rattle.arrow_spec.specs.Columns.{cause, some_negative}
+use Rattle.ipc_read.specs.Queues.{Left}
+use Rattle.arrow_spec.specs.Kinds.{Kind}
+use Rattle.arrow_spec.specs.Counts.{RecordBatch, Place, count_at}
+use Rattle.arrow_types.specs.Physical.{physical_of}
+use Rattle.arrow_types.specs.declared.physical.PhysicalType.{PhysicalType}
+use Rattle.arrow_types.specs.declared.physical.PhysicalType.TheVariants as physical
+
+-- the place behind so many nodes, buffers and view counts
+abbrev pub moved : ℕ → ℕ → ℕ → Place → Place
+moved nodes buffers views p = record { node = p.node + nodes; buffer = p.buffer + buffers; view = p.view + views }
+
+-- arrays of the layout have no children, and are not keys of a dictionary
+abbrev pub is_plain_layout : PhysicalType → Bool
+is_plain_layout physical.List = false
+is_plain_layout physical.LargeList = false
+is_plain_layout physical.FixedSizeList = false
+is_plain_layout physical.Struct = false
+is_plain_layout physical.Union = false
+is_plain_layout physical.Map = false
+is_plain_layout (physical.Dictionary i) = false
+is_plain_layout layout = true
+
+-- a kind without children that is no dictionary
+abbrev pub is_plain_kind : Kind → Bool
+is_plain_kind k = is_plain_layout (physical_of k)
+
+-- the bytes are damaged
+abbrev pub IsDamage : IpcError → Type 0
+IsDamage (OutOfSpec kind) = ⊤
+IsDamage e = ⊥
+
+-- the i-th view count is this number, and what is left begins behind it
+pub record IsNextCount (m : RecordBatch) (i n : ℕ) (rest : List ℤ) : Type 0 where
+  pub is : n ≡ count_at m i
+  pub natural : some_negative (take 1 (drop i m.variadic)) ≡ false
+  pub left : Left m.variadic (i + 1) rest
+
+-- the i-th view count is missing or negative
+abbrev pub next_count_faults : RecordBatch → ℕ → List IpcError
+next_count_faults m i = cause (nat_lt (length m.variadic) (i + 1)) (OutOfSpec MissingVariadicCount) ++ cause (some_negative (take 1 (drop i m.variadic))) (OutOfSpec UnexpectedNegativeInteger)

@@ -1,0 +1,98 @@
+-- The body of a record batch in its source, and what a reader answers.
+use Rattle.std.specs.Int.{byte_len}
+use Rattle.arrow_spec.specs.Columns.{buf, from_on, signed_in, offset_width}
+use Rattle.arrow_types.specs.Numbers.{signed_from_bytes}
+use Rattle.std.specs.Prelude.{◌≡◌, ℕ, zero, suc, ◌+◌, ◌≤◌, ◌<◌, ℤ, pos, ◌∷◌, List, [], length, take, drop, ⊤, Bool, true, false, Option, Some, None, Result, IfOk, IfErr}
+use Rattle.arrow_spec.specs.declared.error.IpcError.{IpcError}
+use Rattle.arrow_spec.specs.declared.error.IpcError.TheVariants.{OutOfSpec, Unsupported, Memory, ReadFault}
+use Rattle.arrow_spec.specs.Readings.{Refuses}
+use Rattle.arrow_spec.specs.Flat.{Order, little, big}
+use Rattle.arrow_spec.specs.Kinds.{Offsets, small, large}
+use Rattle.arrow_spec.specs.Counts.{RecordBatch, Place, magnitude}
+use Rattle.arrow_spec.specs.declared.message.IpcBuffer.{IpcBuffer}
+use Rattle.arrow_spec.specs.Needed.{validity_looked_at}
+use Rattle.ipc_schema.specs.Outside.{Rose}
+use Rattle.read_columns.specs.Faults.{stated_of}
+use Rattle.ipc_read.specs.declared.body.Body.{Body}
+
+-- a body lies inside the bytes of a source, where they are told
+abbrev pub Inside : Option (List ℕ) → Body → Type 0
+Inside None body = ⊤
+Inside (Some b) body = body.offset + body.length ≤ length b
+
+-- the bytes of a body
+abbrev pub bytes_in : Body → List ℕ → List ℕ
+bytes_in body b = take body.length (drop body.offset b)
+
+-- a source tells its bytes, and these are those of a body
+abbrev pub Told : Option (List ℕ) → Body → List ℕ → Type 0
+Told None body bytes = ⊥
+Told (Some b) body bytes = bytes ≡ bytes_in body b
+
+-- the byte order that is asked for
+abbrev pub order_of : Bool → Order
+order_of true = little
+order_of false = big
+
+-- a source tells its bytes, and a record batch has its body there, in an order
+pub record Known (content : Option (List ℕ)) (body : Body) (is_little_endian : Bool) (m : RecordBatch) : Type 0 where
+  pub told : Told content body m.body
+  pub order : m.order ≡ order_of is_little_endian
+
+-- a call answers a value where nothing is wrong, and else a refusal of what is wrong, want of memory or a fault of the source
+pub record Answers {X Y : Type 0} (view : X → Y) (result : Result X IpcError) (faults : List IpcError) (value : Y) : Type 0 where
+  pub ok : IfOk result (λ x. (faults ≡ []) × (view x ≡ value))
+  pub err : IfErr result (λ e. Refuses e faults)
+
+-- why a read is refused: what the bytes say, want of memory, or a fault of the source, whose count rose
+abbrev pub ReadCause : IpcError → ℕ → ℕ → Type 0
+ReadCause (OutOfSpec kind) faults faults' = ⊤
+ReadCause (Unsupported feature) faults faults' = ⊤
+ReadCause ReadFault faults faults' = Rose faults faults'
+ReadCause Memory faults faults' = ⊤
+ReadCause e faults faults' = ⊥
+
+-- the bytes are damaged or not supported
+abbrev pub IsRefusal : IpcError → Type 0
+IsRefusal (OutOfSpec kind) = ⊤
+IsRefusal (Unsupported feature) = ⊤
+IsRefusal e = ⊥
+
+-- where a buffer stands in the source
+abbrev pub part_of : Body → IpcBuffer → Body
+part_of body buffer = record { offset = body.offset + magnitude buffer.offset; length = magnitude buffer.length }
+
+-- the width of offsets, by whether they are of 64 bits
+abbrev pub offsets_by : Bool → Offsets
+offsets_by false = small
+offsets_by true = large
+
+-- the stated length of the validity that is looked at; 0 where there are no rows
+abbrev pub validity_fetched : RecordBatch → Place → ℕ → ℕ
+validity_fetched m p zero = 0
+validity_fetched m p (suc n) = stated_of m (validity_looked_at m p)
+
+-- what is wrong, and what is fetched, where there are rows
+abbrev pub faults_where : ℕ → List IpcError → List IpcError
+faults_where zero faults = []
+faults_where (suc n) faults = faults
+
+abbrev pub bytes_where : ℕ → ℕ → ℕ
+bytes_where zero bytes = 0
+bytes_where (suc n) bytes = bytes
+
+-- an offset type has its width, and an offset is the number of its bytes
+pub record ReadsOffsets {A : Type 0} (is_large : Bool) (width limit : ℕ) (number : A → ℤ) (read : Order → List ℕ → A) : Type 0 where
+  pub sized : width ≡ byte_len (offset_width (offsets_by is_large))
+  pub reads : (order : Order) (bytes : List ℕ) → number (read order bytes) ≡ signed_from_bytes (offset_width (offsets_by is_large)) order bytes
+  pub above : 0 < limit
+
+-- the offsets of so many rows, 0 alone where there are none
+abbrev pub offsets_of : RecordBatch → Offsets → ℕ → ℕ → List ℤ
+offsets_of m o i zero = pos 0 ∷ []
+offsets_of m o i (suc n) = from_on (λ j. signed_in m (offset_width o) i j) 0 (suc (suc n))
+
+-- the bytes that they lead to, none where there are no rows
+abbrev pub values_of : RecordBatch → ℕ → ℕ → List ℕ
+values_of m i zero = []
+values_of m i (suc n) = buf m i

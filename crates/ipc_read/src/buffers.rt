@@ -1,0 +1,361 @@
+//! One buffer of a body (Arrow Columnar Format, Message.fbs, Buffer).
+ghost use Rattle.std.specs.Prelude.{◌≡◌, ◌⊎◌, ℕ, suc, ◌+◌, ◌*◌, ◌/◌, ◌^◌, ◌<◌, ◌≤◌, ◌++◌, ◌&&◌, Bool, Some, None, [], length, take, nat_lt, true, slice_get, drop, List, IfOk, IfErr};
+ghost use Rattle.arrow_spec.specs.Counts.{RecordBatch as Batch, Place, magnitude};
+ghost use Rattle.arrow_spec.specs.Columns.{buf, from_on, range_of, range_causes, range_faults, bitmap_faults, numbers_faults, validity_faults};
+ghost use Rattle.arrow_spec.specs.Laws.{AreBytes};
+ghost use Rattle.arrow_spec.specs.declared.error.IpcError.TheVariants.{Memory, ReadFault};
+ghost use Rattle.arrow_buffers.specs.Rows.{has_rows};
+ghost use Rattle.ipc_schema.specs.Outside.{StandsAt};
+ghost use Rattle.ipc_read.specs.Queues.{Left, Takes, short_of};
+ghost use Rattle.ipc_read.specs.Sources.{Answers, Inside, Known, ReadCause, IsRefusal, order_of, part_of, validity_fetched};
+ghost use Rattle.read_columns.specs.PartsRead.{bits_read, items_read, validity_read};
+ghost use Rattle.read_columns.specs.Faults.{stated};
+
+use crate::Body;
+use crate::integers::magnitude;
+use arrow_buffers::{Bitmap, Buffer};
+use arrow_spec::{FieldNode, IpcBuffer, IpcError, OutOfSpecKind};
+use arrow_types::NativeType;
+use ipc_schema::{Got, Source};
+use std::alloc::Global;
+use std::collections::VecDeque;
+
+/// Takes the first of a queue.
+pub(crate) fn take_one<T: Drop>(queue: &mut VecDeque<T>) -> Result<T, IpcError>
+    ensures takes { (all : List T) (i : ℕ) → Left all i queue.old.items → Takes all i result queue.new.items }
+    ensures refusal { IfErr result IsRefusal }
+{
+    match queue.pop_front() {
+        Some(first) => Ok(first),
+        None => Err(IpcError::OutOfSpec(OutOfSpecKind::ExpectedBuffer)),
+    }
+}
+
+/// Passes over the next buffer.
+pub(crate) fn pass_buffer(buffers: &mut VecDeque<IpcBuffer>) -> Result<(), IpcError>
+    ensures queue { IfOk result (λ _. (m : Batch) (i : ℕ) → Left m.buffers i buffers.old.items → Left m.buffers (suc i) buffers.new.items) }
+    ensures gives { (m : Batch) (i : ℕ) → Left m.buffers i buffers.old.items → Answers (λ u. u) result (short_of m.buffers i) tt }
+    ensures refusal { IfErr result IsRefusal }
+{
+    take_one(buffers)?;
+    Ok(())
+}
+
+/// Where a buffer stands in the source.
+fn buffer_place(body: Body, buffer: IpcBuffer) -> Result<Body, IpcError>
+    requires room { body.offset + body.length < 2 ^ 63 }
+    ensures gives { Answers (λ part. part) result (range_causes (Some buffer) body.length) (part_of body buffer) }
+    ensures within { IfOk result (λ part. part.offset + part.length ≤ body.offset + body.length) }
+    ensures refusal { IfErr result IsRefusal }
+{
+    if buffer.offset < 0 || buffer.length < 0 {
+        return Err(IpcError::OutOfSpec(OutOfSpecKind::UnexpectedNegativeInteger));
+    }
+    let (offset, length) = (magnitude(buffer.offset), magnitude(buffer.length));
+    if offset + length > body.length {
+        return Err(IpcError::OutOfSpec(OutOfSpecKind::BufferRange));
+    }
+    Ok(Body {
+        offset: body.offset + offset,
+        length,
+    })
+}
+
+/// Takes the next buffer: where it stands in the source.
+pub(crate) fn next_part(buffers: &mut VecDeque<IpcBuffer>, body: Body) -> Result<Body, IpcError>
+    requires room { body.offset + body.length < 2 ^ 63 }
+    ensures queue { IfOk result (λ _. (m : Batch) (i : ℕ) → Left m.buffers i buffers.old.items → Left m.buffers (suc i) buffers.new.items) }
+    ensures gives { (m : Batch) (i : ℕ) → Left m.buffers i buffers.old.items → length m.body ≡ body.length → Answers (λ part. part) result (range_faults m i) (part_of body (range_of m i)) }
+    ensures place { IfOk result (λ part. (m : Batch) (i : ℕ) → Left m.buffers i buffers.old.items → part ≡ part_of body (range_of m i)) }
+    ensures within { IfOk result (λ part. part.offset + part.length ≤ body.offset + body.length) }
+    ensures refusal { IfErr result IsRefusal }
+{
+    let buffer = take_one(buffers)?;
+    let part = buffer_place(body, buffer)?;
+    Ok(part)
+}
+
+/// Fills the bytes with those that stand in a place of the source.
+fn fetch_into<S: Source>(source: &mut S, part: Body, bytes: &mut Vec<u8>) -> Result<(), IpcError>
+    requires room { part.offset + part.length < 2 ^ 63 }
+    requires inside { Inside (S.content source.old) part }
+    ensures bytes { IfOk result (λ _. StandsAt (S.content source.old) part.offset bytes.new.items) }
+    ensures count { IfOk result (λ _. length bytes.new.items ≡ part.length) }
+    ensures err { IfErr result (λ e. ((e ≡ Memory) ⊎ (e ≡ ReadFault)) ⊎ (S.content source.old ≡ None)) }
+    ensures cause { IfErr result (λ e. ReadCause e (S.faults source.old) (S.faults source.new)) }
+    ensures content { S.content source.new ≡ S.content source.old }
+    ensures faults { S.faults source.old ≤ S.faults source.new }
+    ensures fetched { S.fetched source.new ≤ S.fetched source.old + part.length }
+    ensures same_source { S.references source.new ≡ S.references source.old }
+{
+    if bytes.resize(part.length as usize, 0).is_err() {
+        return Err(IpcError::Memory);
+    }
+    match source.read_at(part.offset, bytes) {
+        Ok(Got::Full) => Ok(()),
+        Ok(Got::Short) => Err(IpcError::OutOfSpec(OutOfSpecKind::Truncated)),
+        Err(_) => Err(IpcError::ReadFault),
+    }
+}
+
+/// The bytes that stand in a place of the source.
+fn fetch<S: Source>(alloc: Global, source: &mut S, part: Body) -> Result<Vec<u8>, IpcError>
+    requires room { part.offset + part.length < 2 ^ 63 }
+    requires inside { Inside (S.content source.old) part }
+    ensures bytes { IfOk result (λ v. StandsAt (S.content source.old) part.offset v.items) }
+    ensures count { IfOk result (λ v. length v.items ≡ part.length) }
+    ensures err { IfErr result (λ e. ((e ≡ Memory) ⊎ (e ≡ ReadFault)) ⊎ (S.content source.old ≡ None)) }
+    ensures cause { IfErr result (λ e. ReadCause e (S.faults source.old) (S.faults source.new)) }
+    ensures content { S.content source.new ≡ S.content source.old }
+    ensures faults { S.faults source.old ≤ S.faults source.new }
+    ensures fetched { S.fetched source.new ≤ S.fetched source.old + part.length }
+    ensures same_source { S.references source.new ≡ S.references source.old }
+{
+    let mut bytes = Vec::new(alloc);
+    fetch_into(source, part, &mut bytes)?;
+    Ok(bytes)
+}
+
+/// Takes the next buffer and reads its bytes.
+///
+/// # Errors
+///
+/// `OutOfSpec` where there is no buffer, or its range is negative or leaves the body; `ReadFault`, `Memory`.
+pub fn read_bytes<S: Source>(
+    alloc: Global,
+    buffers: &mut VecDeque<IpcBuffer>,
+    source: &mut S,
+    body: Body,
+    scratch: &mut Vec<u8>,
+) -> Result<Buffer<u8>, IpcError>
+    requires room { body.offset + body.length < 2 ^ 63 }
+    requires inside { Inside (S.content source.old) body }
+    ensures queue { IfOk result (λ _. (m : Batch) (i : ℕ) → Left m.buffers i buffers.old.items → Left m.buffers (suc i) buffers.new.items) }
+    ensures gives { (m : Batch) (i : ℕ) (is_little_endian : Bool) → Left m.buffers i buffers.old.items → Known (S.content source.old) body is_little_endian m → Answers (λ b. b) result (range_faults m i) (buf m i) }
+    ensures cause { IfErr result (λ e. ReadCause e (S.faults source.old) (S.faults source.new)) }
+    ensures content { S.content source.new ≡ S.content source.old }
+    ensures faults { S.faults source.old ≤ S.faults source.new }
+    ensures fetched { (m : Batch) (i : ℕ) → Left m.buffers i buffers.old.items → S.fetched source.new ≤ S.fetched source.old + stated m i }
+    ensures same_source { S.references source.new ≡ S.references source.old }
+{
+    let part = next_part(buffers, body)?;
+    let bytes = fetch(alloc, source, part)?;
+    match Buffer::from_vec(bytes) {
+        Ok(buffer) => Ok(buffer),
+        Err(_) => Err(IpcError::Memory),
+    }
+}
+
+/// How many bytes hold the bits of so many rows.
+fn bytes_for(rows: usize) -> u64
+    ensures { result ≡ (rows + 7) / 8 }
+{
+    ((rows as u128 + 7) / 8) as u64
+}
+
+/// Takes the next buffer and reads its first bits.
+///
+/// # Errors
+///
+/// As `read_bytes`, and `InvalidBitmap` where it has fewer bits.
+pub fn read_bitmap<S: Source>(
+    alloc: Global,
+    buffers: &mut VecDeque<IpcBuffer>,
+    source: &mut S,
+    body: Body,
+    scratch: &mut Vec<u8>,
+    rows: usize,
+) -> Result<Bitmap, IpcError>
+    requires room { body.offset + body.length < 2 ^ 63 }
+    requires inside { Inside (S.content source.old) body }
+    ensures queue { IfOk result (λ _. (m : Batch) (i : ℕ) → Left m.buffers i buffers.old.items → Left m.buffers (suc i) buffers.new.items) }
+    ensures gives { (m : Batch) (i : ℕ) (is_little_endian : Bool) → Left m.buffers i buffers.old.items → Known (S.content source.old) body is_little_endian m → Answers (λ b. b) result (bitmap_faults m i rows) (bits_read m i rows) }
+    ensures cause { IfErr result (λ e. ReadCause e (S.faults source.old) (S.faults source.new)) }
+    ensures content { S.content source.new ≡ S.content source.old }
+    ensures faults { S.faults source.old ≤ S.faults source.new }
+    ensures fetched { (m : Batch) (i : ℕ) → Left m.buffers i buffers.old.items → S.fetched source.new ≤ S.fetched source.old + stated m i }
+    ensures few { S.fetched source.new ≤ S.fetched source.old + (rows + 7) / 8 }
+    ensures rows { IfOk result (λ b. length b ≡ rows) }
+    ensures same_source { S.references source.new ≡ S.references source.old }
+{
+    let part = next_part(buffers, body)?;
+    if (part.length as u128) * 8 < rows as u128 {
+        return Err(IpcError::OutOfSpec(OutOfSpecKind::InvalidBitmap {
+            length: rows as u64,
+            number_of_bits: part.length * 8,
+        }));
+    }
+    let needed = Body {
+        offset: part.offset,
+        length: bytes_for(rows),
+    };
+    let bytes = fetch(alloc, source, needed)?;
+    match Bitmap::from_vec(bytes, rows) {
+        Ok(bits) => Ok(bits),
+        Err(_) => Err(IpcError::Memory),
+    }
+}
+
+/// The number in the bytes of an item.
+fn number_at<T: NativeType>(bytes: &[u8], at: usize, is_little_endian: bool) -> T
+    requires { at + T.WIDTH ≤ length bytes.now }
+    ensures { result ≡ T.read (order_of is_little_endian) (take T.WIDTH (drop at bytes.now)) }
+{
+    let item = &bytes[at..at + T::WIDTH];
+    if is_little_endian {
+        T::from_le_bytes(item)
+    } else {
+        T::from_be_bytes(item)
+    }
+}
+
+/// The first numbers that stand in some bytes.
+fn numbers_of<T: NativeType>(
+    alloc: Global,
+    bytes: &[u8],
+    rows: usize,
+    is_little_endian: bool,
+) -> Result<Vec<T>, IpcError>
+    requires { T.WIDTH * rows ≤ length bytes.now }
+    ensures numbers { IfOk result (λ v. v.items ≡ from_on (λ j. T.read (order_of is_little_endian) (take T.WIDTH (drop (T.WIDTH * j) bytes.now))) 0 rows) }
+    ensures bytes { IfOk result (λ _. AreBytes bytes.now) }
+    ensures memory { IfErr result (λ e. e ≡ Memory) }
+{
+    let mut numbers = Vec::new(alloc);
+    for row in 0..rows {
+        let number = number_at(bytes, T::WIDTH * row, is_little_endian);
+        if numbers.push(number).is_err() {
+            return Err(IpcError::Memory);
+        }
+    }
+    Ok(numbers)
+}
+
+/// Takes the next buffer and reads its first numbers in an order.
+///
+/// # Errors
+///
+/// As `read_bytes`, and `InvalidBuffer` where it has fewer bytes than they need.
+pub fn read_buffer<T: NativeType, S: Source>(
+    alloc: Global,
+    buffers: &mut VecDeque<IpcBuffer>,
+    source: &mut S,
+    body: Body,
+    scratch: &mut Vec<u8>,
+    rows: usize,
+    is_little_endian: bool,
+) -> Result<Buffer<T>, IpcError>
+    requires room { body.offset + body.length < 2 ^ 63 }
+    requires inside { Inside (S.content source.old) body }
+    ensures queue { IfOk result (λ _. (m : Batch) (i : ℕ) → Left m.buffers i buffers.old.items → Left m.buffers (suc i) buffers.new.items) }
+    ensures gives { (m : Batch) (i : ℕ) → Left m.buffers i buffers.old.items → Known (S.content source.old) body is_little_endian m → Answers (λ b. b) result (numbers_faults m i T.WIDTH rows) (items_read T.read T.WIDTH m i rows) }
+    ensures bytes { IfOk result (λ _. (m : Batch) (i : ℕ) → Left m.buffers i buffers.old.items → Known (S.content source.old) body is_little_endian m → AreBytes (take (T.WIDTH * rows) (buf m i))) }
+    ensures cause { IfErr result (λ e. ReadCause e (S.faults source.old) (S.faults source.new)) }
+    ensures content { S.content source.new ≡ S.content source.old }
+    ensures faults { S.faults source.old ≤ S.faults source.new }
+    ensures fetched { (m : Batch) (i : ℕ) → Left m.buffers i buffers.old.items → S.fetched source.new ≤ S.fetched source.old + stated m i }
+    ensures few { S.fetched source.new ≤ S.fetched source.old + T.WIDTH * rows }
+    ensures rows { IfOk result (λ b. length b ≡ rows) }
+    ensures same_source { S.references source.new ≡ S.references source.old }
+{
+    let part = next_part(buffers, body)?;
+    let size = T::WIDTH as u128 * rows as u128;
+    if (part.length as u128) < size {
+        return Err(IpcError::OutOfSpec(OutOfSpecKind::InvalidBuffer {
+            length: rows as u64,
+            required_number_of_bytes: size,
+            buffer_length: part.length,
+        }));
+    }
+    let needed = Body {
+        offset: part.offset,
+        length: size as u64,
+    };
+    fetch_into(source, needed, scratch)?;
+    let numbers = numbers_of(alloc, scratch, rows, is_little_endian)?;
+    match Buffer::from_vec(numbers) {
+        Ok(values) => Ok(values),
+        Err(_) => Err(IpcError::Memory),
+    }
+}
+
+/// Takes the next buffer and reads its first rows of a size.
+pub(crate) fn read_first<S: Source>(
+    alloc: Global,
+    buffers: &mut VecDeque<IpcBuffer>,
+    source: &mut S,
+    body: Body,
+    size: usize,
+    rows: usize,
+) -> Result<Buffer<u8>, IpcError>
+    requires room { body.offset + body.length < 2 ^ 63 }
+    requires inside { Inside (S.content source.old) body }
+    ensures queue { IfOk result (λ _. (m : Batch) (i : ℕ) → Left m.buffers i buffers.old.items → Left m.buffers (suc i) buffers.new.items) }
+    ensures gives { (m : Batch) (i : ℕ) (is_little_endian : Bool) → Left m.buffers i buffers.old.items → Known (S.content source.old) body is_little_endian m → Answers (λ b. b) result (numbers_faults m i size rows) (take (size * rows) (buf m i)) }
+    ensures rows { IfOk result (λ b. length b ≡ size * rows) }
+    ensures cause { IfErr result (λ e. ReadCause e (S.faults source.old) (S.faults source.new)) }
+    ensures content { S.content source.new ≡ S.content source.old }
+    ensures faults { S.faults source.old ≤ S.faults source.new }
+    ensures fetched { (m : Batch) (i : ℕ) → Left m.buffers i buffers.old.items → S.fetched source.new ≤ S.fetched source.old + stated m i }
+    ensures few { S.fetched source.new ≤ S.fetched source.old + size * rows }
+    ensures same_source { S.references source.new ≡ S.references source.old }
+{
+    let part = next_part(buffers, body)?;
+    let count = size as u128 * rows as u128;
+    if (part.length as u128) < count {
+        return Err(IpcError::OutOfSpec(OutOfSpecKind::InvalidBuffer {
+            length: rows as u64,
+            required_number_of_bytes: count,
+            buffer_length: part.length,
+        }));
+    }
+    let needed = Body {
+        offset: part.offset,
+        length: count as u64,
+    };
+    let bytes = fetch(alloc, source, needed)?;
+    match Buffer::from_vec(bytes) {
+        Ok(buffer) => Ok(buffer),
+        Err(_) => Err(IpcError::Memory),
+    }
+}
+
+/// Whether a validity is read.
+fn reads_validity(rows: usize, node: FieldNode) -> bool
+    ensures { result ≡ (nat_lt 0 rows && nat_lt 0 (magnitude node.null_count)) }
+{
+    rows > 0 && magnitude(node.null_count) > 0
+}
+
+/// Takes the next buffer, and reads its first bits where there are rows and the node counts nulls.
+///
+/// # Errors
+///
+/// `ExpectedBuffer` where there is no buffer; where it is read, as `read_bitmap`.
+pub fn read_validity<S: Source>(
+    alloc: Global,
+    buffers: &mut VecDeque<IpcBuffer>,
+    source: &mut S,
+    body: Body,
+    scratch: &mut Vec<u8>,
+    rows: usize,
+    node: FieldNode,
+) -> Result<Option<Bitmap>, IpcError>
+    requires room { body.offset + body.length < 2 ^ 63 }
+    requires inside { Inside (S.content source.old) body }
+    ensures queue { IfOk result (λ _. (m : Batch) (i : ℕ) → Left m.buffers i buffers.old.items → Left m.buffers (suc i) buffers.new.items) }
+    ensures gives { (m : Batch) (p : Place) (is_little_endian : Bool) → Left m.buffers p.buffer buffers.old.items → slice_get m.nodes p.node ≡ Some node → Known (S.content source.old) body is_little_endian m → Answers (λ v. v) result (short_of m.buffers p.buffer ++ validity_faults m p rows) (validity_read m p rows) }
+    ensures cause { IfErr result (λ e. ReadCause e (S.faults source.old) (S.faults source.new)) }
+    ensures content { S.content source.new ≡ S.content source.old }
+    ensures faults { S.faults source.old ≤ S.faults source.new }
+    ensures fetched { (m : Batch) (p : Place) → Left m.buffers p.buffer buffers.old.items → slice_get m.nodes p.node ≡ Some node → S.fetched source.new ≤ S.fetched source.old + validity_fetched m p rows }
+    ensures rows { IfOk result (λ v. has_rows v rows ≡ true) }
+    ensures same_source { S.references source.new ≡ S.references source.old }
+{
+    if !reads_validity(rows, node) {
+        pass_buffer(buffers)?;
+        return Ok(None);
+    }
+    let bits = read_bitmap(alloc, buffers, source, body, scratch, rows)?;
+    Ok(Some(bits))
+}

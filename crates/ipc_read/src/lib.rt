@@ -1,0 +1,27 @@
+//! Columns of record batches, read from a source by their nodes and buffers, or passed over (Arrow Columnar Format, "RecordBatch message").
+#![tactic(auto)]
+
+mod body;
+mod buffers;
+mod flat;
+mod integers;
+mod makes;
+mod reading;
+mod rows;
+mod skips;
+mod variable;
+mod views;
+
+pub use body::Body;
+pub use buffers::{read_bitmap, read_buffer, read_bytes, read_validity};
+pub use flat::{read_boolean, read_fixed_size_binary, read_null, read_primitive};
+pub use reading::{Dictionaries, read};
+pub use skips::{
+    skip, skip_binary, skip_binview, skip_boolean, skip_fixed_size_binary, skip_null,
+    skip_primitive, skip_utf8,
+};
+pub use variable::{read_binary, read_utf8};
+pub use views::read_binview;
+
+#[cfg(test)]
+mod tests;

@@ -1,0 +1,207 @@
+//! Arrays that are passed over: what they take of the queues is taken, and nothing is read (Arrow Columnar Format, "RecordBatch message", "Variadic buffers").
+ghost use Rattle.std.specs.Prelude.{◌≡◌, ℕ, ◌+◌, ◌^◌, ◌<◌, ◌≤◌, List, length, drop, true, IfOk, IfErr};
+ghost use Rattle.arrow_spec.specs.Counts.{RecordBatch as Batch, Place, after, count_at};
+ghost use Rattle.arrow_spec.specs.Columns.{count_faults, counts_faults};
+ghost use Rattle.arrow_spec.specs.Readings.{IsAmong};
+ghost use Rattle.arrow_spec.specs.Kinds.{binary_view};
+ghost use Rattle.arrow_spec.specs.declared.error.IpcError.TheVariants.{OutOfSpec};
+ghost use Rattle.arrow_spec.specs.declared.error.OutOfSpecKind.TheVariants.{ExpectedBuffer};
+ghost use Rattle.arrow_types.specs.KindOf.{kind_of};
+ghost use Rattle.ipc_read.specs.Queues.{Left, NodesAt, At, AllAt};
+ghost use Rattle.ipc_read.specs.Skips.{moved, is_plain_kind, IsDamage, IsNextCount, next_count_faults};
+ghost use Rattle.ipc_read.specs.Sources.{Answers};
+
+use crate::integers::{is_negative, magnitude};
+use arrow_spec::{FieldNode, IpcBuffer, IpcError, MetadataVersion, OutOfSpecKind};
+use arrow_types::{ArrowDataType, PhysicalType};
+use std::collections::VecDeque;
+
+/// Passes over the first ones of a queue.
+fn pass<T: Drop>(queue: &mut VecDeque<T>, count: usize) -> Result<(), IpcError>
+    ensures enough { IfOk result (λ _. count ≤ length queue.old.items) }
+    ensures rest { IfOk result (λ _. queue.new.items ≡ drop count queue.old.items) }
+    ensures err { IfErr result (λ e. e ≡ OutOfSpec ExpectedBuffer) }
+    ensures short { IfErr result (λ e. length queue.old.items < count) }
+{
+    if queue.len() < count {
+        return Err(IpcError::OutOfSpec(OutOfSpecKind::ExpectedBuffer));
+    }
+    for _ in 0..count {
+        queue.pop_front();
+    }
+    Ok(())
+}
+
+/// Passes over a node and so many buffers.
+fn skip_parts(
+    nodes: &mut VecDeque<FieldNode>,
+    buffers: &mut VecDeque<IpcBuffer>,
+    count: usize,
+) -> Result<(), IpcError>
+    ensures queues { IfOk result (λ _. (m : Batch) (p : Place) → At m p nodes.old.items buffers.old.items → At m (moved 1 count 0 p) nodes.new.items buffers.new.items) }
+    ensures exact { (m : Batch) (p : Place) → At m p nodes.old.items buffers.old.items → Answers (λ u. u) result (counts_faults m (moved 1 count 0 p)) tt }
+    ensures damage { IfErr result IsDamage }
+{
+    pass(nodes, 1)?;
+    pass(buffers, count)
+}
+
+/// Passes over an array of nulls, which has a node and no buffer.
+///
+/// # Errors
+///
+/// `ExpectedBuffer` where the node is missing.
+pub fn skip_null(nodes: &mut VecDeque<FieldNode>) -> Result<(), IpcError>
+    ensures queues { IfOk result (λ _. (m : Batch) (p : Place) → NodesAt m p nodes.old.items → NodesAt m (moved 1 0 0 p) nodes.new.items) }
+    ensures exact { (m : Batch) (p : Place) → NodesAt m p nodes.old.items → Answers (λ u. u) result (counts_faults m (moved 1 0 0 p)) tt }
+    ensures damage { IfErr result IsDamage }
+{
+    pass(nodes, 1)
+}
+
+/// Passes over an array of truth values: a node, a validity and values.
+///
+/// # Errors
+///
+/// `ExpectedBuffer` where the node or a buffer is missing.
+pub fn skip_boolean(
+    nodes: &mut VecDeque<FieldNode>,
+    buffers: &mut VecDeque<IpcBuffer>,
+) -> Result<(), IpcError>
+    ensures queues { IfOk result (λ _. (m : Batch) (p : Place) → At m p nodes.old.items buffers.old.items → At m (moved 1 2 0 p) nodes.new.items buffers.new.items) }
+    ensures exact { (m : Batch) (p : Place) → At m p nodes.old.items buffers.old.items → Answers (λ u. u) result (counts_faults m (moved 1 2 0 p)) tt }
+    ensures damage { IfErr result IsDamage }
+{
+    skip_parts(nodes, buffers, 2)
+}
+
+/// Passes over an array of numbers: a node, a validity and values.
+///
+/// # Errors
+///
+/// `ExpectedBuffer` where the node or a buffer is missing.
+pub fn skip_primitive(
+    nodes: &mut VecDeque<FieldNode>,
+    buffers: &mut VecDeque<IpcBuffer>,
+) -> Result<(), IpcError>
+    ensures queues { IfOk result (λ _. (m : Batch) (p : Place) → At m p nodes.old.items buffers.old.items → At m (moved 1 2 0 p) nodes.new.items buffers.new.items) }
+    ensures exact { (m : Batch) (p : Place) → At m p nodes.old.items buffers.old.items → Answers (λ u. u) result (counts_faults m (moved 1 2 0 p)) tt }
+    ensures damage { IfErr result IsDamage }
+{
+    skip_parts(nodes, buffers, 2)
+}
+
+/// Passes over an array of byte strings between offsets: a node, a validity, offsets and bytes.
+///
+/// # Errors
+///
+/// `ExpectedBuffer` where the node or a buffer is missing.
+pub fn skip_binary(
+    nodes: &mut VecDeque<FieldNode>,
+    buffers: &mut VecDeque<IpcBuffer>,
+) -> Result<(), IpcError>
+    ensures queues { IfOk result (λ _. (m : Batch) (p : Place) → At m p nodes.old.items buffers.old.items → At m (moved 1 3 0 p) nodes.new.items buffers.new.items) }
+    ensures exact { (m : Batch) (p : Place) → At m p nodes.old.items buffers.old.items → Answers (λ u. u) result (counts_faults m (moved 1 3 0 p)) tt }
+    ensures damage { IfErr result IsDamage }
+{
+    skip_parts(nodes, buffers, 3)
+}
+
+/// Passes over an array of texts between offsets: a node, a validity, offsets and bytes.
+///
+/// # Errors
+///
+/// `ExpectedBuffer` where the node or a buffer is missing.
+pub fn skip_utf8(
+    nodes: &mut VecDeque<FieldNode>,
+    buffers: &mut VecDeque<IpcBuffer>,
+) -> Result<(), IpcError>
+    ensures queues { IfOk result (λ _. (m : Batch) (p : Place) → At m p nodes.old.items buffers.old.items → At m (moved 1 3 0 p) nodes.new.items buffers.new.items) }
+    ensures exact { (m : Batch) (p : Place) → At m p nodes.old.items buffers.old.items → Answers (λ u. u) result (counts_faults m (moved 1 3 0 p)) tt }
+    ensures damage { IfErr result IsDamage }
+{
+    skip_parts(nodes, buffers, 3)
+}
+
+/// Passes over an array of byte strings of one size: a node, a validity and values.
+///
+/// # Errors
+///
+/// `ExpectedBuffer` where the node or a buffer is missing.
+pub fn skip_fixed_size_binary(
+    nodes: &mut VecDeque<FieldNode>,
+    buffers: &mut VecDeque<IpcBuffer>,
+) -> Result<(), IpcError>
+    ensures queues { IfOk result (λ _. (m : Batch) (p : Place) → At m p nodes.old.items buffers.old.items → At m (moved 1 2 0 p) nodes.new.items buffers.new.items) }
+    ensures exact { (m : Batch) (p : Place) → At m p nodes.old.items buffers.old.items → Answers (λ u. u) result (counts_faults m (moved 1 2 0 p)) tt }
+    ensures damage { IfErr result IsDamage }
+{
+    skip_parts(nodes, buffers, 2)
+}
+
+/// Takes the next view count.
+fn take_count(variadic: &mut VecDeque<i64>) -> Result<usize, IpcError>
+    ensures count { IfOk result (λ n. (m : Batch) (i : ℕ) → Left m.variadic i variadic.old.items → IsNextCount m i n variadic.new.items) }
+    ensures err { IfErr result (λ e. (m : Batch) (i : ℕ) → Left m.variadic i variadic.old.items → IsAmong (next_count_faults m i) e) }
+    ensures small { IfOk result (λ n. n < 2 ^ 63) }
+    ensures damage { IfErr result IsDamage }
+{
+    let Some(count) = variadic.pop_front() else {
+        return Err(IpcError::OutOfSpec(OutOfSpecKind::MissingVariadicCount));
+    };
+    if is_negative(count) {
+        return Err(IpcError::OutOfSpec(OutOfSpecKind::UnexpectedNegativeInteger));
+    }
+    Ok(magnitude(count) as usize)
+}
+
+/// Passes over an array of views: a node, a validity, the views, a view count and as many data buffers as it says.
+///
+/// # Errors
+///
+/// `ExpectedBuffer` where the node or a buffer is missing, `MissingVariadicCount` where the count is,
+/// `UnexpectedNegativeInteger` where it is negative.
+pub fn skip_binview(
+    nodes: &mut VecDeque<FieldNode>,
+    buffers: &mut VecDeque<IpcBuffer>,
+    variadic: &mut VecDeque<i64>,
+) -> Result<(), IpcError>
+    ensures queues { IfOk result (λ _. (m : Batch) (p : Place) → AllAt m p nodes.old.items buffers.old.items variadic.old.items → AllAt m (moved 1 (2 + count_at m p.view) 1 p) nodes.new.items buffers.new.items variadic.new.items) }
+    ensures exact { (m : Batch) (p : Place) → AllAt m p nodes.old.items buffers.old.items variadic.old.items → Answers (λ u. u) result (count_faults m binary_view p) tt }
+    ensures damage { IfErr result IsDamage }
+{
+    let count = take_count(variadic)?;
+    skip_parts(nodes, buffers, 2 + count)
+}
+
+/// Passes over an array of a type without children that is no dictionary. Its message's version makes no difference.
+///
+/// # Errors
+///
+/// `ExpectedBuffer` where the node or a buffer is missing; of views also `MissingVariadicCount` and
+/// `UnexpectedNegativeInteger`.
+pub fn skip(
+    nodes: &mut VecDeque<FieldNode>,
+    dtype: &ArrowDataType,
+    buffers: &mut VecDeque<IpcBuffer>,
+    variadic: &mut VecDeque<i64>,
+    _version: MetadataVersion,
+) -> Result<(), IpcError>
+    requires plain { is_plain_kind (kind_of dtype.now) ≡ true }
+    ensures queues { IfOk result (λ _. (m : Batch) (p : Place) → AllAt m p nodes.old.items buffers.old.items variadic.old.items → AllAt m (after m (kind_of dtype.now) p) nodes.new.items buffers.new.items variadic.new.items) }
+    ensures exact { (m : Batch) (p : Place) → AllAt m p nodes.old.items buffers.old.items variadic.old.items → Answers (λ u. u) result (count_faults m (kind_of dtype.now) p) tt }
+    ensures damage { IfErr result IsDamage }
+{
+    match dtype.to_physical_type() {
+        PhysicalType::Null => skip_null(nodes),
+        PhysicalType::Boolean => skip_boolean(nodes, buffers),
+        PhysicalType::Primitive(_) => skip_primitive(nodes, buffers),
+        PhysicalType::Binary | PhysicalType::LargeBinary => skip_binary(nodes, buffers),
+        PhysicalType::Utf8 | PhysicalType::LargeUtf8 => skip_utf8(nodes, buffers),
+        PhysicalType::FixedSizeBinary => skip_fixed_size_binary(nodes, buffers),
+        PhysicalType::BinaryView | PhysicalType::Utf8View => {
+            skip_binview(nodes, buffers, variadic)
+        }
+        _ => unreachable!(),
+    }
+}
