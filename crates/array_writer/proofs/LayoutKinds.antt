@@ -6,7 +6,7 @@ use Rattle.std.proofs.lemmas.Bool.{eqb-true}
 use Rattle.arrow_spec.specs.Counts.{magnitude}
 use Rattle.arrow_spec.specs.Flat.{Order, little}
 use Rattle.arrow_spec.specs.Kinds.{Kind, Offsets}
-use Rattle.arrow_spec.specs.WrittenTables.{validity_bytes}
+use Rattle.arrow_spec.specs.Framing.{validity_bytes}
 use Rattle.arrow_types.specs.Physical.{physical_of}
 use Rattle.arrow_types.specs.declared.physical.PhysicalType.{PhysicalType}
 use Rattle.arrow_types.specs.declared.physical.PhysicalType.TheVariants as physical

@@ -16,11 +16,11 @@ use Rattle.arrow_spec.specs.Cells as cells
 use Rattle.arrow_spec.specs.Cells.{Cell}
 use Rattle.arrow_spec.specs.Counts.{RecordBatch, Place}
 use Rattle.arrow_spec.specs.Columns.{Dictionaries, buf, signed_in, unsigned_in, part_of_row, or_0, if_valid, fixed_faults}
-use Rattle.arrow_spec.specs.WrittenTables.{validity_bytes}
+use Rattle.arrow_spec.specs.Framing.{validity_bytes}
 use Rattle.arrow_spec.proofs.Standing.{stands_left}
 use Rattle.arrow_spec.proofs.Found.{right_at}
 use Rattle.arrow_spec.proofs.Bodies.{held_bytes}
-use Rattle.arrow_types.specs.Physical.{physical_of}
+use Rattle.arrow_types.specs.Physical.{primitive_size, physical_of}
 use Rattle.arrow_types.specs.declared.physical.PhysicalType.{PhysicalType}
 use Rattle.arrow_types.specs.declared.physical.PhysicalType.TheVariants as physical
 use Rattle.arrow_types.specs.declared.physical.PrimitiveType.{PrimitiveType}
@@ -29,7 +29,7 @@ use Rattle.arrow_buffers.specs.Rows.{has_rows, null_rows, masked}
 use Rattle.arrow_buffers.specs.Flat.{Flat, flat_cells}
 use Rattle.arrow_buffers.proofs.Sound.{flat_sound}
 use Rattle.arrow_arrays.proofs.NumberParts.{flat_suits}
-use Rattle.arrow_arrays.specs.Parts.{numbers, unsigned_at, primitive_cell, layout_cell, number_cell, primitive_size, number_size, are_numbers, fault_in}
+use Rattle.arrow_arrays.specs.Parts.{numbers, unsigned_at, primitive_cell, layout_cell, number_cell, number_size, are_numbers, fault_in}
 use Rattle.written_columns.specs.Columns.{StandsAt, Means}
 use Rattle.array_writer.specs.Pieces.{in_order, layout_in_order, column_in}
 use Rattle.array_writer.proofs.RoundTripHeads.{Shape, extended, means_by, headed, second, cells_told, map_told}

@@ -16,7 +16,7 @@ use Rattle.arrow_spec.specs.Cells as cells
 use Rattle.arrow_spec.specs.Cells.{Cell}
 use Rattle.arrow_spec.specs.Counts.{RecordBatch, Place, magnitude, is_negative}
 use Rattle.arrow_spec.specs.Columns.{Dictionaries, buf, valid, if_valid, signed_in, unsigned_in, offset, offset_width, slice, row_bytes, from_on, some_row, offsets_faults, bytes_faults, utf8_faults, if_sound, or_0}
-use Rattle.arrow_spec.specs.WrittenTables.{validity_bytes}
+use Rattle.arrow_spec.specs.Framing.{validity_bytes}
 use Rattle.arrow_spec.proofs.Bodies.{BufferHeld, held_bytes, held_faults}
 use Rattle.arrow_types.specs.Numbers.{to_bytes}
 use Rattle.arrow_types.specs.NumberLaws.{unsigned_back, unsigned_width}

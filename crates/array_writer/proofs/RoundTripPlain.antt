@@ -10,7 +10,7 @@ use Rattle.arrow_spec.specs.Cells.{Cell}
 use Rattle.arrow_spec.specs.Counts.{RecordBatch, Place}
 use Rattle.arrow_spec.specs.Columns.{Dictionaries, bit, buf, if_valid, from_on, bitmap_faults, validity_faults, numbers_faults, fixed_faults}
 use Rattle.arrow_spec.specs.Framing.{packed}
-use Rattle.arrow_spec.specs.WrittenTables.{validity_bytes}
+use Rattle.arrow_spec.specs.Framing.{validity_bytes}
 use Rattle.arrow_spec.proofs.PackedBits.{packed_bit, length-packed}
 use Rattle.arrow_spec.proofs.Bodies.{BufferHeld, held_bytes, held_faults}
 use Rattle.arrow_types.specs.Physical.{physical_of}

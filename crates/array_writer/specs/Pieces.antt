@@ -7,7 +7,7 @@ use Rattle.arrow_spec.specs.Kinds.{Kind, Offsets, small, large, binary, utf8, ex
 use Rattle.arrow_spec.specs.Counts.{Written, magnitude}
 use Rattle.arrow_spec.specs.Columns.{offset_width, slice}
 use Rattle.arrow_spec.specs.Framing.{packed}
-use Rattle.arrow_spec.specs.WrittenTables.{validity_bytes}
+use Rattle.arrow_spec.specs.Framing.{validity_bytes}
 use Rattle.arrow_types.specs.Numbers.{to_bytes}
 use Rattle.arrow_types.specs.Physical.{physical_of}
 use Rattle.arrow_types.specs.declared.physical.PhysicalType.{PhysicalType}

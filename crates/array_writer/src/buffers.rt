@@ -5,7 +5,7 @@ ghost use Rattle.std.specs.List.{flat_map};
 ghost use Rattle.arrow_spec.specs.Framing.{packed};
 ghost use Rattle.arrow_spec.specs.Layout.{up_to, zeros};
 ghost use Rattle.arrow_spec.specs.Sent.{body_of};
-ghost use Rattle.arrow_spec.specs.WrittenTables.{validity_bytes};
+ghost use Rattle.arrow_spec.specs.Framing.{validity_bytes};
 ghost use Rattle.arrow_buffers.specs.Variable.{are_offsets};
 ghost use Rattle.array_writer.specs.Pieces.{offset_bytes};
 ghost use Rattle.array_writer.specs.Outputs.{order_of};

@@ -5,7 +5,7 @@ ghost use Rattle.std.specs.List.{flat_map};
 ghost use Rattle.arrow_spec.specs.Counts.{magnitude};
 ghost use Rattle.arrow_spec.specs.Columns.{offset_width};
 ghost use Rattle.arrow_spec.specs.Framing.{packed};
-ghost use Rattle.arrow_spec.specs.WrittenTables.{validity_bytes};
+ghost use Rattle.arrow_spec.specs.Framing.{validity_bytes};
 ghost use Rattle.arrow_types.specs.Numbers.{to_bytes, usize_of};
 ghost use Rattle.arrow_buffers.specs.Variable.{place_at, variable_rows, are_offsets};
 ghost use Rattle.array_writer.specs.Pieces.{offset_bytes};

@@ -3,7 +3,7 @@ ghost use Rattle.std.specs.Prelude.{◌≡◌, ◌+◌, ◌-◌, ◌^◌, ◌<�
 ghost use Rattle.std.specs.Option.{option_map};
 ghost use Rattle.arrow_spec.specs.Flat.{Order, little};
 ghost use Rattle.arrow_spec.specs.Sent.{body_of};
-ghost use Rattle.arrow_spec.specs.WrittenTables.{validity_bytes};
+ghost use Rattle.arrow_spec.specs.Framing.{validity_bytes};
 ghost use Rattle.arrow_buffers.specs.Variable.{are_offsets};
 ghost use Rattle.arrow_arrays.specs.Parts.{bits, numbers, fixed, binary, text, as_bytes};
 ghost use Rattle.array_writer.specs.Pieces.{Fit, in_order, pieces_in, view_pieces, bytes_between, offset_bytes, offset_limit};

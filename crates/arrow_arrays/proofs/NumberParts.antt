@@ -3,7 +3,7 @@ use Rattle.std.proofs.Common.{◌≡◌, ℕ, ◌<◌, List, [], ◌∷◌, Bool
 use Rattle.std.specs.List.{list_all}
 use Rattle.std.proofs.lemmas.List.{length-map}
 use Rattle.std.proofs.lemmas.Bool.{eqb-true, eq-eqb, lt-ltb}
-use Rattle.arrow_types.specs.Physical.{physical_of}
+use Rattle.arrow_types.specs.Physical.{primitive_size, physical_of}
 use Rattle.arrow_types.specs.declared.physical.PhysicalType.{PhysicalType}
 use Rattle.arrow_types.specs.declared.physical.PhysicalType.TheVariants as physical
 use Rattle.arrow_types.specs.declared.physical.PrimitiveType.{PrimitiveType}
@@ -14,7 +14,7 @@ use Rattle.arrow_buffers.specs.Flat.{Flat, flat_cells, flat_part, flat_fault}
 use Rattle.arrow_buffers.proofs.Sound.{flat_sound}
 use Rattle.arrow_buffers.proofs.Masks.{length-flat, flat_cells-part}
 use Rattle.arrow_buffers.proofs.Parts.{map-part}
-use Rattle.arrow_arrays.specs.Parts.{numbers, as_bytes, number_cell, primitive_size, number_size, fault_in}
+use Rattle.arrow_arrays.specs.Parts.{numbers, as_bytes, number_cell, number_size, fault_in}
 
 -- the size of a primitive type by its number
 abbrev size_by : ℕ → ℕ

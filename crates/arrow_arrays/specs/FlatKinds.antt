@@ -1,11 +1,10 @@
 -- Which kinds arrays without children are of.
 use Rattle.std.specs.Prelude.{ℕ, Bool, true, false, nat_lt}
 use Rattle.arrow_spec.specs.Kinds.{Kind}
-use Rattle.arrow_types.specs.Physical.{physical_of}
+use Rattle.arrow_types.specs.Physical.{primitive_size, physical_of}
 use Rattle.arrow_types.specs.declared.physical.PhysicalType.{PhysicalType}
 use Rattle.arrow_types.specs.declared.physical.PhysicalType.TheVariants.{Null, Boolean, Primitive, Binary, LargeBinary, FixedSizeBinary, Utf8, LargeUtf8, BinaryView, Utf8View}
 use Rattle.arrow_buffers.specs.Layouts.{binary_size}
-use Rattle.arrow_arrays.specs.Parts.{primitive_size}
 
 -- arrays without children have the layout; its byte strings of one size are of this size
 abbrev pub is_flat_layout : PhysicalType → ℕ → Bool

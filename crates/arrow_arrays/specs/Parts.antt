@@ -7,7 +7,7 @@ use Rattle.arrow_spec.specs.Kinds.{Kind}
 use Rattle.arrow_spec.specs.Cells as cells
 use Rattle.arrow_spec.specs.Cells.{Cell}
 use Rattle.arrow_spec.specs.Columns.{or_0}
-use Rattle.arrow_types.specs.Physical.{physical_of}
+use Rattle.arrow_types.specs.Physical.{physical_of, primitive_size}
 use Rattle.arrow_types.specs.declared.physical.PhysicalType.{PhysicalType}
 use Rattle.arrow_types.specs.declared.physical.PhysicalType.TheVariants as physical
 use Rattle.arrow_types.specs.declared.physical.PrimitiveType.{PrimitiveType}
@@ -145,24 +145,6 @@ part_of offset rows (binary_views p) = binary_views (view_part offset rows p)
 part_of offset rows (text_views p) = text_views (view_part offset rows p)
 
 -- ── which trees arrays have ──
-
--- the bytes of a number of a primitive type; 0 for those whose numbers no array holds, floats and integers of 256 bits
-abbrev pub primitive_size : PrimitiveType → ℕ
-primitive_size primitive.Int8 = 1
-primitive_size primitive.Int16 = 2
-primitive_size primitive.Int32 = 4
-primitive_size primitive.Int64 = 8
-primitive_size primitive.Int128 = 16
-primitive_size primitive.Int256 = 0
-primitive_size primitive.UInt8 = 1
-primitive_size primitive.UInt16 = 2
-primitive_size primitive.UInt32 = 4
-primitive_size primitive.UInt64 = 8
-primitive_size primitive.Float16 = 0
-primitive_size primitive.Float32 = 0
-primitive_size primitive.Float64 = 0
-primitive_size primitive.DaysMs = 8
-primitive_size primitive.MonthDayNano = 16
 
 -- the bytes of a number in a layout; 0 where no array holds numbers
 abbrev pub number_size : PhysicalType → ℕ

@@ -1,9 +1,9 @@
 //! Arrays without rows.
 ghost use Rattle.std.specs.Prelude.{◌≡◌, ◌∷◌, ◌<◌, [], map, pos, None, IfOk, true};
 ghost use Rattle.arrow_types.specs.KindOf.{kind_of};
-ghost use Rattle.arrow_types.specs.Physical.{physical_of};
+ghost use Rattle.arrow_types.specs.Physical.{primitive_size, physical_of};
 ghost use Rattle.arrow_buffers.specs.Layouts.{is_null, is_boolean, is_primitive, is_binary, is_text, is_view, binary_size};
-ghost use Rattle.arrow_arrays.specs.Parts.{kind_in, rows_in, primitive_size};
+ghost use Rattle.arrow_arrays.specs.Parts.{kind_in, rows_in};
 ghost use Rattle.arrow_arrays.specs.PartsOf.{parts_of};
 ghost use Rattle.arrow_arrays.specs.FlatKinds.{is_flat_kind};
 

@@ -2,7 +2,8 @@
 ghost use Rattle.std.specs.Prelude.{◌≡◌, ◌+◌, ◌≤◌, ◌<◌, length, None};
 ghost use Rattle.arrow_spec.specs.Flat.{little};
 ghost use Rattle.arrow_buffers.specs.Rows.{part};
-ghost use Rattle.arrow_arrays.specs.Parts.{numbers, as_bytes, rows_in, cells_in, part_of, fault_in, primitive_size};
+ghost use Rattle.arrow_arrays.specs.Parts.{numbers, as_bytes, rows_in, cells_in, part_of, fault_in};
+ghost use Rattle.arrow_types.specs.Physical.{primitive_size};
 
 use arrow_buffers::PrimitiveArray;
 use arrow_types::NativeType;

@@ -1,7 +1,7 @@
 use Rattle.std.proofs.Common.{◌≡◌, ◌^◌, ◌+◌, ◌-◌, ℕ, List, [], ◌∷◌, ◌++◌, length, take, drop, Some, None, refl}
 use Rattle.std.specs.Int.{to_le_bytes, w32, w64}
 use Rattle.arrow_spec.proofs.Vectors.{int32_file}
-use Rattle.arrow_spec.proofs.Int32Table.{computed, int32_table}
+use Rattle.arrow_spec.proofs.Int32Table.{computed, int32_table, whole_table}
 use Rattle.arrow_spec.specs.declared.error.IpcError.{IpcError}
 use Rattle.arrow_spec.specs.declared.error.IpcError.TheVariants.{OutOfSpec, Unsupported}
 use Rattle.arrow_spec.specs.declared.error.FlatError.TheVariants.{Number}
@@ -9,7 +9,7 @@ use Rattle.arrow_spec.specs.declared.error.Feature.TheVariants as features
 use Rattle.arrow_spec.specs.declared.error.OutOfSpecKind.TheVariants as kinds
 use Rattle.arrow_spec.specs.Readings.{refusals}
 use Rattle.arrow_spec.specs.Built.{everything}
-use Rattle.arrow_spec.specs.Files.{file_reading, «all», file_table, to_send}
+use Rattle.arrow_spec.specs.Files.{file_reading, «all», to_send}
 
 -- int32_file with these bytes from a place on
 abbrev pub int32_file_with : ℕ → List ℕ → List ℕ
@@ -26,7 +26,7 @@ pub version_6 : why (int32_file_with 172 (5 ∷ 0 ∷ [])) ≡ OutOfSpec (kinds.
 unfolding computed
 version_6 = refl
 
-pub version_4 : file_table (int32_file_with 172 (3 ∷ 0 ∷ [])) «all» ≡ Some int32_table
+pub version_4 : whole_table (int32_file_with 172 (3 ∷ 0 ∷ [])) «all» ≡ Some int32_table
 unfolding computed
 version_4 = refl
 

@@ -14,13 +14,13 @@ use Rattle.arrow_spec.specs.Columns.{buf, valid, unsigned_in, count_faults, node
 use Rattle.arrow_spec.specs.Built.{everything}
 use Rattle.arrow_spec.specs.Readings.{meaning}
 use Rattle.std.proofs.Common.{List, Option}
-use Rattle.arrow_spec.specs.Files.{to_read, Request, footer_of, meta_in, meta_of, batch_of_tables, block_message, batch_of, batches_of, dictionary_of, dictionaries_of, file_reading, file_part, file_table, ArrowTable}
+use Rattle.arrow_spec.specs.Files.{to_read, Request, footer_of, meta_in, meta_of, batch_of_tables, block_message, batch_of, batches_of, dictionary_of, dictionaries_of, file_reading, ArrowTable}
 use Rattle.arrow_spec.specs.Streams.{stream_prefix, framed, next_message, body_in, stream_batch, stream_dictionary, stream_step, stream_batches, first_message, schema_message_of, stream_reading, stream_table, closed}
 use Rattle.std.specs.Str.{is_utf8, chars}
 use lib.Utf8.{encode}
 
 unfoldable pub computed : ℕ
-unfolding bind schema_message written batch_message dictionary_messages may_be_sent root table_at slot items text pairs_from pairs_of choice integer_at decimal_at time_at timestamp_at ids_at union_at type_at encoding_at head_at fields_by field_at schema_of batch_at prefix_of message_of version_of buf valid unsigned_in count_faults node_faults range_faults bitmap_faults validity_faults numbers_faults offsets_faults bytes_faults utf8_faults is_good_view view_parts_faults views_faults view_text_faults key_faults union_faults column_faults columns_at footer_of meta_in meta_of batch_of_tables block_message batch_of batches_of dictionary_of dictionaries_of dictionary_at size file_reading file_part file_table is_utf8 chars encode stream_prefix framed next_message body_in stream_batch stream_dictionary stream_step stream_batches first_message schema_message_of stream_reading stream_table
+unfolding bind schema_message written batch_message dictionary_messages may_be_sent root table_at slot items text pairs_from pairs_of choice integer_at decimal_at time_at timestamp_at ids_at union_at type_at encoding_at head_at fields_by field_at schema_of batch_at prefix_of message_of version_of buf valid unsigned_in count_faults node_faults range_faults bitmap_faults validity_faults numbers_faults offsets_faults bytes_faults utf8_faults is_good_view view_parts_faults views_faults view_text_faults key_faults union_faults column_faults columns_at footer_of meta_in meta_of batch_of_tables block_message batch_of batches_of dictionary_of dictionaries_of dictionary_at size file_reading is_utf8 chars encode stream_prefix framed next_message body_in stream_batch stream_dictionary stream_step stream_batches first_message schema_message_of stream_reading stream_table
 computed = 0
 
 -- what a file means once everything is built
@@ -41,8 +41,3 @@ int32_stream-table = refl
 pub int32_stream-closed : closed int32_stream
 unfolding computed
 int32_stream-closed = refl
-
--- the first path takes such a file whole
-pub int32_file-so_far : file_table int32_file (record { columns = None; limit = None }) ≡ Some int32_table
-unfolding computed
-int32_file-so_far = refl

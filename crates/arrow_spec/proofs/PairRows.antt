@@ -1,35 +1,45 @@
 -- A file of an Int32 column with pairs of the column and of the schema: what it means, and the text of its schema.
-use Rattle.std.proofs.Common.{◌≡◌, ℕ, ◌+◌, List, [], ◌∷◌, ◌++◌, length, Some, None, Ok, refl, false, pos}
+use Rattle.std.proofs.Common.{◌≡◌, ℕ, ◌+◌, List, [], ◌∷◌, ◌++◌, length, Some, Ok, refl, false, pos}
 use Rattle.std.specs.Prelude.{codes}
-use Rattle.arrow_spec.proofs.Int32Table.{computed}
-use Rattle.arrow_spec.specs.Kinds.{Metadata}
+use Rattle.arrow_spec.proofs.Int32Table.{computed, whole_table}
+use Rattle.arrow_spec.specs.declared.types.IntegerType.TheVariants.{Int32}
+use Rattle.arrow_spec.specs.Kinds.{Fields, none, field, integer, Metadata}
+use Rattle.arrow_spec.specs.Cells as cells
 use Rattle.arrow_spec.specs.Layout.{layout, table_head, u32, zeros}
-use Rattle.arrow_spec.specs.Framing.{message_bytes, padded_size}
+use Rattle.arrow_spec.specs.Sent.{SentMessage, batch_node, message, stream_schema}
+use Rattle.arrow_spec.specs.Framing.{body_bytes, message_bytes, padded_size}
 use Rattle.arrow_spec.specs.Footers.{footer_node}
-use Rattle.arrow_spec.specs.Files.{FileBlock, «all», file_table}
+use Rattle.arrow_spec.specs.Files.{ArrowTable, FileBlock, «all»}
+use Rattle.arrow_spec.specs.Streams.{end_mark}
 use Rattle.arrow_spec.specs.SchemaText.{schema_text, schema_text_of}
-use Rattle.arrow_spec.specs.WrittenTables.{Int32Field, WrittenBatch, fields_of, written_batch, written_schema, written_stream, written_table}
 
-abbrev column : Int32Field
-column = record { name = codes "a"; nullable = false; metadata = (codes "k", codes "v") ∷ [] }
+abbrev column : Fields
+column = field (codes "a") false ((codes "k", codes "v") ∷ []) (integer Int32) none
 
 abbrev pairs : Metadata
 pairs = (codes "A", []) ∷ (codes "B", codes "1") ∷ []
 
-abbrev rows : WrittenBatch
-rows = record { rows = 2; columns = record { validity = None; values = pos 5 ∷ pos 6 ∷ [] } ∷ [] }
+-- no validity, and the values 5 and 6
+abbrev body : List ℕ
+body = body_bytes 0 ([] ∷ (5 ∷ 0 ∷ 0 ∷ 0 ∷ 6 ∷ 0 ∷ 0 ∷ 0 ∷ []) ∷ [])
+
+abbrev rows : SentMessage
+rows = message 3 (batch_node 2 (record { nodes = record { length = pos 2; null_count = pos 0 } ∷ []; lengths = 0 ∷ 8 ∷ []; views = [] })) (length body)
 
 -- where the batch stands
 abbrev block : FileBlock
-block = record { offset = 16 + padded_size (written_schema (column ∷ []) pairs).node; metadata = 8 + padded_size (written_batch rows).node; body = (written_batch rows).body }
+block = record { offset = 16 + padded_size (stream_schema column pairs).node; metadata = 8 + padded_size rows.node; body = rows.body }
 
 abbrev footer : List ℕ
-footer = layout (footer_node (fields_of (column ∷ [])) pairs [] (block ∷ []))
+footer = layout (footer_node column pairs [] (block ∷ []))
 
-abbrev pairs_file : List ℕ
-pairs_file = codes "ARROW1" ++ zeros 2 ++ written_stream (column ∷ []) pairs (rows ∷ []) ++ footer ++ u32 (length footer) ++ codes "ARROW1"
+abbrev pub pairs_file : List ℕ
+pairs_file = codes "ARROW1" ++ zeros 2 ++ message_bytes (stream_schema column pairs).node [] ++ message_bytes rows.node body ++ end_mark ++ footer ++ u32 (length footer) ++ codes "ARROW1"
 
-pub pairs_file-table : file_table pairs_file «all» ≡ Some (written_table (column ∷ []) pairs (rows ∷ []))
+abbrev pub pairs_table : ArrowTable
+pairs_table = record { metadata = pairs; fields = column; batches = record { rows = 2; columns = (cells.number (pos 5) ∷ cells.number (pos 6) ∷ []) ∷ [] } ∷ [] }
+
+pub pairs_file-table : whole_table pairs_file «all» ≡ Some pairs_table
 unfolding computed message_bytes layout table_head
 pairs_file-table = refl
 

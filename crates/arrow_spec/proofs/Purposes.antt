@@ -1,14 +1,14 @@
 -- A file that is read to be sent means what it means, but that a message may be too large.
-use Rattle.std.proofs.Common.{◌≡◌, ℕ, List, [], ◌∷◌, Option, Some, None, Ok, Err, refl, true, false, Bool, ◌⊎◌, inl, inr, ap}
+use Rattle.std.proofs.Common.{◌≡◌, ℕ, List, [], ◌∷◌, Option, Some, Ok, Err, refl, true, false, Bool, ◌⊎◌, inl, inr, ap}
 use Rattle.arrow_spec.specs.declared.error.IpcError.TheVariants.{TooLarge}
 use Rattle.arrow_spec.specs.declared.message.MetadataVersion.{MetadataVersion}
 use Rattle.arrow_spec.specs.Readings.{Reading, bind, ◌>>=◌, meaning}
 use Rattle.arrow_spec.specs.Messages.{BatchHeader}
-use Rattle.arrow_spec.specs.Built.{Built, so_far}
-use Rattle.arrow_spec.specs.Files.{to_send, to_read, file_reading, batches_of, batch_of, batch_of_tables, if_sent, dictionaries_sent, Request, ArrowTable, Asked, FileBlock, file_table}
+use Rattle.arrow_spec.specs.Built.{Built}
+use Rattle.arrow_spec.specs.Files.{to_send, to_read, file_reading, batches_of, batch_of, batch_of_tables, if_sent, dictionaries_sent, Request, ArrowTable, Asked, FileBlock}
 
 -- the same, or the first is too large
-data Agrees {A : Type 0} : Reading A → Reading A → Type 0 where
+pub data Agrees {A : Type 0} : Reading A → Reading A → Type 0 where
   same : {r : Reading A} → Agrees r r
   too_large : {s : Reading A} → Agrees (Err (TooLarge ∷ [])) s
 
@@ -43,25 +43,23 @@ unfolding batches_of
 batches_agree b a is_first [] left = same
 batches_agree b a is_first (block ∷ blocks) left = agrees_bind (batch_agrees b a block left) λ first. agrees_bind (dictionaries_agree is_first a) λ u. agrees_bind (batches_agree b a false blocks _) λ others. same
 
-file_agrees : (built : Built) (b : List ℕ) (r : Request) (j : Option ℕ) → Agrees (file_reading built to_send b r j) (file_reading built to_read b r j)
+pub file_agrees : (built : Built) (b : List ℕ) (r : Request) (j : Option ℕ) → Agrees (file_reading built to_send b r j) (file_reading built to_read b r j)
 unfolding file_reading
 file_agrees built b r j = agrees_then _ λ known. agrees_then _ λ meta. agrees_then _ λ u. agrees_then _ λ u'. agrees_bind (agrees_size _) λ u''. agrees_then _ λ read. agrees_then _ λ d. agrees_bind (batches_agree b _ true _ _) λ batches. same
 
-agrees_complete : {A : Type 0} {r s : Reading A} {t : A} → Agrees r s → meaning s ≡ Some t → (r ≡ Ok t) ⊎ (r ≡ Err (TooLarge ∷ []))
+pub agrees_complete : {A : Type 0} {r s : Reading A} {t : A} → Agrees r s → meaning s ≡ Some t → (r ≡ Ok t) ⊎ (r ≡ Err (TooLarge ∷ []))
 agrees_complete (same {r = Ok x}) h = inl cc
 agrees_complete (same {r = Err es}) h = cc
 agrees_complete too_large h = inr refl
 
-agrees_sound : {A : Type 0} {r s : Reading A} {t : A} → Agrees r s → r ≡ Ok t → meaning s ≡ Some t
+pub agrees_sound : {A : Type 0} {r s : Reading A} {t : A} → Agrees r s → r ≡ Ok t → meaning s ≡ Some t
 agrees_sound (same {r = r}) h = ap meaning h
 agrees_sound too_large h = cc
 
 -- A file that means a table is sent, or a message of it is too large.
-pub sent_or_too_large : (b : List ℕ) (r : Request) (t : ArrowTable) → file_table b r ≡ Some t → (file_reading so_far to_send b r None ≡ Ok t) ⊎ (file_reading so_far to_send b r None ≡ Err (TooLarge ∷ []))
-unfolding file_table
-sent_or_too_large b r t h = agrees_complete (file_agrees so_far b r None) h
+pub sent_or_too_large : (built : Built) (b : List ℕ) (r : Request) (j : Option ℕ) (t : ArrowTable) → meaning (file_reading built to_read b r j) ≡ Some t → (file_reading built to_send b r j ≡ Ok t) ⊎ (file_reading built to_send b r j ≡ Err (TooLarge ∷ []))
+sent_or_too_large built b r j t h = agrees_complete (file_agrees built b r j) h
 
 -- What is sent is what the file means.
-pub sent_means : (b : List ℕ) (r : Request) (t : ArrowTable) → file_reading so_far to_send b r None ≡ Ok t → file_table b r ≡ Some t
-unfolding file_table
-sent_means b r t h = agrees_sound (file_agrees so_far b r None) h
+pub sent_means : (built : Built) (b : List ℕ) (r : Request) (j : Option ℕ) (t : ArrowTable) → file_reading built to_send b r j ≡ Ok t → meaning (file_reading built to_read b r j) ≡ Some t
+sent_means built b r j t h = agrees_sound (file_agrees built b r j) h

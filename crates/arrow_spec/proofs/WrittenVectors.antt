@@ -1,51 +1,52 @@
--- Schemas and streams that may be written, among them the worked stream of one Int32 column.
-use Rattle.std.proofs.Common.{◌≡◌, [], ◌∷◌, Some, refl, true, false, arith, pos}
+-- Schemas that may be written, among them that of the worked stream of one Int32 column, and the bytes of that stream.
+use Rattle.std.proofs.Common.{◌≡◌, [], ◌∷◌, ◌++◌, length, Some, refl, true, false, arith, pos, ℕ, List}
 use Rattle.std.specs.Str.{is_utf8, chars}
 use lib.Utf8.{encode}
 use Rattle.arrow_spec.specs.Readings.{bind}
 use Rattle.arrow_spec.specs.Layout.{layout, size, table_head}
-use Rattle.arrow_spec.specs.Sent.{schema_message, may_be_sent}
-use Rattle.arrow_spec.specs.Framing.{message_bytes}
-use Rattle.arrow_spec.specs.declared.types.IntegerType.TheVariants.{Int8}
+use Rattle.arrow_spec.specs.Sent.{batch_node, message, schema_message, may_be_sent, stream_schema}
+use Rattle.arrow_spec.specs.Framing.{body_bytes, message_bytes}
+use Rattle.arrow_spec.specs.Streams.{end_mark}
+use Rattle.arrow_spec.specs.declared.types.IntegerType.TheVariants.{Int8, Int32}
 use Rattle.arrow_spec.specs.declared.types.TimeUnit.TheVariants.{Second}
 use Rattle.arrow_spec.specs.declared.types.UnionMode.TheVariants.{Dense}
-use Rattle.arrow_spec.specs.Kinds.{Fields, none, field, binary, dictionary, extension, map, struct, time32, union, utf8, small, large}
+use Rattle.arrow_spec.specs.Kinds.{Fields, Metadata, none, field, binary, dictionary, extension, integer, map, struct, time32, union, utf8, small, large}
 use Rattle.arrow_spec.specs.WrittenSchemas.{AreFieldPairs, IdsMayBeWritten, SchemaMayBeWritten}
-use Rattle.arrow_spec.specs.WrittenTables.{Int32Field, WrittenBatch, TableMayBeWritten, written_stream}
 use Rattle.arrow_spec.proofs.Vectors.{int32_stream}
 
 abbrev own_pairs : AreFieldPairs []
 own_pairs = record { ascend = tt; no_name = refl; no_metadata = refl }
 
-abbrev one : Int32Field
-one = record { name = 97 ∷ []; nullable = true; metadata = [] }
+abbrev column : Metadata → Fields
+column metadata = field (97 ∷ []) true metadata (integer Int32) none
 
-abbrev rows : WrittenBatch
-rows = record { rows = 3; columns = record { validity = Some (true ∷ false ∷ true ∷ []); values = pos 1 ∷ pos 0 ∷ pos 3 ∷ [] } ∷ [] }
+-- 1, null and 3
+abbrev body : List ℕ
+body = body_bytes 0 ((5 ∷ []) ∷ (1 ∷ 0 ∷ 0 ∷ 0 ∷ 0 ∷ 0 ∷ 0 ∷ 0 ∷ 3 ∷ 0 ∷ 0 ∷ 0 ∷ []) ∷ [])
 
-pub int32_stream-written : written_stream (one ∷ []) [] (rows ∷ []) ≡ int32_stream
+pub int32_stream-written : message_bytes (stream_schema (column []) []).node [] ++ message_bytes (message 3 (batch_node 3 (record { nodes = record { length = pos 3; null_count = pos 1 } ∷ []; lengths = 1 ∷ 12 ∷ []; views = [] })) (length body)).node body ++ end_mark ≡ int32_stream
 unfolding schema_message message_bytes layout table_head size
 int32_stream-written = refl
 
-pub int32_stream-may : TableMayBeWritten (one ∷ []) [] (rows ∷ [])
-unfolding schema_message may_be_sent layout table_head size is_utf8 chars encode
-int32_stream-may = record {
-  schema = record { fit = (refl, own_pairs, tt, tt); ascend = tt; few_fields = omega arith; few_pairs = omega arith; distinct = refl };
-  size = refl;
-  batches = (record { columns = refl; good = (record { bits = refl; count = refl; fit = (record { sfits = omega arith }, (record { sfits = omega arith }, (record { sfits = omega arith }, tt))) }, tt); few = omega arith; size = refl }, tt);
-}
+pub int32-may : SchemaMayBeWritten (column []) []
+unfolding is_utf8 chars encode
+int32-may = record { fit = (refl, own_pairs, tt, tt); ascend = tt; few_fields = omega arith; few_pairs = omega arith; distinct = refl }
+
+pub int32-may-be-sent : may_be_sent (stream_schema (column []) []) ≡ true
+unfolding schema_message may_be_sent layout table_head size
+int32-may-be-sent = refl
 
 -- the same column and schema with pairs
-abbrev with_pairs : Int32Field
-with_pairs = record { name = 97 ∷ []; nullable = true; metadata = (107 ∷ [], 118 ∷ []) ∷ [] }
+abbrev pairs : Metadata
+pairs = (65 ∷ [], []) ∷ (66 ∷ [], 49 ∷ []) ∷ []
 
-pub pairs-may : TableMayBeWritten (with_pairs ∷ []) ((65 ∷ [], []) ∷ (66 ∷ [], 49 ∷ []) ∷ []) (rows ∷ [])
-unfolding schema_message may_be_sent layout table_head size is_utf8 chars encode
-pairs-may = record {
-  schema = record { fit = (refl, record { ascend = (refl, refl, tt, tt); no_name = refl; no_metadata = refl }, tt, tt); ascend = (refl, refl, tt, (refl, refl, (refl, refl, tt), tt)); few_fields = omega arith; few_pairs = omega arith; distinct = refl };
-  size = refl;
-  batches = (record { columns = refl; good = (record { bits = refl; count = refl; fit = (record { sfits = omega arith }, (record { sfits = omega arith }, (record { sfits = omega arith }, tt))) }, tt); few = omega arith; size = refl }, tt);
-}
+pub pairs-may : SchemaMayBeWritten (column ((107 ∷ [], 118 ∷ []) ∷ [])) pairs
+unfolding is_utf8 chars encode
+pairs-may = record { fit = (refl, record { ascend = (refl, refl, tt, tt); no_name = refl; no_metadata = refl }, tt, tt); ascend = (refl, refl, tt, (refl, refl, (refl, refl, tt), tt)); few_fields = omega arith; few_pairs = omega arith; distinct = refl }
+
+pub pairs-may-be-sent : may_be_sent (stream_schema (column ((107 ∷ [], 118 ∷ []) ∷ [])) pairs) ≡ true
+unfolding schema_message may_be_sent layout table_head size
+pairs-may-be-sent = refl
 
 -- a dictionary of an extension, and a map of a union, with metadata
 abbrev nested : Fields

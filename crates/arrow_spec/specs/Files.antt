@@ -9,10 +9,10 @@ use Rattle.arrow_spec.specs.declared.error.Feature.TheVariants as features
 use Rattle.arrow_spec.specs.declared.error.OutOfSpecKind.TheVariants as kinds
 use Rattle.arrow_spec.specs.declared.message.IpcBuffer.{IpcBuffer}
 use Rattle.arrow_spec.specs.declared.message.MetadataVersion.{MetadataVersion}
-use Rattle.arrow_spec.specs.Readings.{bind, ◌>>=◌, Reading, refuse, damaged, unless, only_if, each, meaning, place, refusals, IsAmong}
+use Rattle.arrow_spec.specs.Readings.{bind, ◌>>=◌, Reading, refuse, damaged, unless, only_if, each, place}
 use Rattle.arrow_spec.specs.Flat.{Vector, Order, root, or_default, signed_at, slot_table, slot_vector}
 use Rattle.arrow_spec.specs.Kinds.{Fields, none, field, Metadata, bare, width, uses_in, values_under}
-use Rattle.arrow_spec.specs.Built.{Built, so_far}
+use Rattle.arrow_spec.specs.Built.{Built}
 use Rattle.arrow_spec.specs.Cells.{Cell}
 use Rattle.arrow_spec.specs.Schema.{Schema, schema_of, required}
 use Rattle.arrow_spec.specs.Messages.{Message, natural, as_kind, prefix_of, message_of, version_of, batch_at, BatchHeader, DictionaryBatch, dictionary_at}
@@ -341,18 +341,6 @@ sent b r j = do
   let asked : Asked = record { order = meta.schema.order; fields = meta.schema.fields; columns = r.columns; dictionaries = dictionaries; most = length b }
   batches ← batches_sent b asked (taken j meta.blocks) r.limit
   Ok (stream_schema fields meta.schema.metadata ∷ dictionaries_before (dictionary_messages dictionaries fields) (taken j meta.blocks) ++ batches)
-
--- what the first j blocks of a file mean
-unfoldable pub file_part : List ℕ → Request → ℕ → Option ArrowTable
-file_part b r j = meaning (file_reading so_far to_read b r (Some j))
-
--- what a file means
-unfoldable pub file_table : List ℕ → Request → Option ArrowTable
-file_table b r = meaning (file_reading so_far to_read b r None)
-
--- a refusal that may be answered where a file is to be sent as a stream
-abbrev pub may : List ℕ → Request → IpcError → Type 0
-may b r e = IsAmong (refusals (file_reading so_far to_send b r None)) e
 
 -- ── tables of columns and of rows ──
 

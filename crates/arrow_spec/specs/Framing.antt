@@ -1,5 +1,5 @@
 -- The bytes of messages, bodies and bits as they are written.
-use Rattle.std.specs.Prelude.{ℕ, ◌+◌, ◌-◌, ◌*◌, List, [], ◌∷◌, ◌++◌, length, Bool, nat_eq, if◌then◌else◌}
+use Rattle.std.specs.Prelude.{ℕ, ◌+◌, ◌-◌, ◌*◌, List, [], ◌∷◌, ◌++◌, length, Option, Some, None, Bool, nat_eq, if◌then◌else◌}
 use Rattle.arrow_spec.specs.Layout.{Node, up_to, zeros, u32, layout, size}
 
 -- how long a message's metadata is with zeros up to a multiple of 8
@@ -31,3 +31,8 @@ packed_from weight byte (b ∷ bs) = if nat_eq weight 128 then ((if b then byte 
 -- eight bits a byte, the lowest first, and zero behind the last
 abbrev pub packed : List Bool → List ℕ
 packed bits = packed_from 1 0 bits
+
+-- the bytes of a validity: none where none is held
+abbrev pub validity_bytes : Option (List Bool) → List ℕ
+validity_bytes None = []
+validity_bytes (Some bits) = packed bits

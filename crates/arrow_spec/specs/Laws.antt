@@ -1,15 +1,14 @@
 -- What follows from the definitions. Each statement is the contract of a public function without a body (src/laws.rt).
-use Rattle.std.specs.Prelude.{◌≡◌, pos, false, FitsSigned, ℕ, ◌<◌, List, Option, Some, None, nat_eq, ◌^◌, ◌≤◌, [], ◌∷◌, ◌++◌, length, take, drop, get_or, Bool, true, Ok, Err, ◌⊎◌}
+use Rattle.std.specs.Prelude.{◌≡◌, pos, false, FitsSigned, ℕ, ◌<◌, List, Option, Some, None, nat_eq, ◌^◌, ◌≤◌, [], ◌++◌, length, take, drop, get_or, Bool, true, Ok}
 use Rattle.std.specs.Prelude.{map as each_of}
 use Rattle.std.specs.List.{AllByRecursion, IsDistinct}
 use Rattle.std.specs.Int.{w64}
-use Rattle.arrow_spec.specs.declared.error.IpcError.TheVariants.{TooLarge}
 use Rattle.arrow_spec.specs.declared.message.MetadataVersion.TheVariants.{V5}
 use Rattle.arrow_spec.specs.Readings.{meaning}
 use Rattle.arrow_spec.specs.Kinds.{width, Fields, Metadata, numbered, uses_in}
 use Rattle.arrow_spec.specs.Regular.{regular, representable}
-use Rattle.arrow_spec.specs.Built.{Built, everything, so_far}
-use Rattle.arrow_spec.specs.Files.{Request, «all», ArrowTable, file_reading, to_read, project, cut, file_table, to_send}
+use Rattle.arrow_spec.specs.Built.{Built, everything}
+use Rattle.arrow_spec.specs.Files.{Request, «all», ArrowTable, file_reading, to_read, project, cut}
 use Rattle.arrow_spec.specs.Needed.{Range, parts_needed, or_nothing}
 use Rattle.arrow_spec.specs.Layout as layout
 use Rattle.arrow_spec.specs.Layout.{Slots, size, table}
@@ -20,10 +19,9 @@ use Rattle.arrow_spec.specs.Counts.{Written}
 use Rattle.arrow_spec.specs.Columns.{Dictionaries}
 use Rattle.arrow_spec.specs.Messages.{BatchHeader, Message, batch_at, dictionary_at, message_of, version_of}
 use Rattle.arrow_spec.specs.Sent.{batch_node, batch_slots, body_of, dictionary_slots, message, message_slots, node_rows, placed, schema_message, schema_slots, stream_schema}
-use Rattle.arrow_spec.specs.Streams.{Framed, Reader, body_in, closed, next_message, schema_message_of, stream_batches, stream_table}
+use Rattle.arrow_spec.specs.Streams.{Framed, Reader, body_in, next_message, schema_message_of, stream_batches}
 use Rattle.arrow_spec.specs.Framing.{message_bytes, padded_size}
 use Rattle.arrow_spec.specs.WrittenSchemas.{AreIds, Ascend, HaveNoReserved, HaveTexts, IdsMayBeWritten, SchemaMayBeWritten, own_fields}
-use Rattle.arrow_spec.specs.WrittenTables.{Int32Field, WrittenBatch, TableMayBeWritten, written_stream, written_table}
 
 -- ── flatbuffers and messages ──
 
@@ -113,20 +111,6 @@ DictionaryMessageReadsBack = (taken : ℕ → Bool) (id : ℕ) (w : Written) (bo
 -- No stream has more messages than bytes: to allow for more changes nothing.
 abbrev pub StreamFuelIsEnough : Type 0
 StreamFuelIsEnough = (s : Reader) (d : Dictionaries) (b : List ℕ) (most : ℕ) → length b ≤ most → stream_batches most s d b ≡ stream_batches (length b) s d b
-
--- A stream that is framed batch by batch, and ended, is closed and means the table.
-abbrev pub WrittenStreamMeansItsTable : Type 0
-WrittenStreamMeansItsTable = (fs : List Int32Field) (pairs : Metadata) (xs : List WrittenBatch) → TableMayBeWritten fs pairs xs → closed (written_stream fs pairs xs) × (stream_table (written_stream fs pairs xs) None ≡ Some (written_table fs pairs xs))
-
--- ── files that are sent ──
-
--- A file that means a table can be sent, or a message of it is too large.
-abbrev pub SentOrTooLarge : Type 0
-SentOrTooLarge = (b : List ℕ) (r : Request) (t : ArrowTable) → file_table b r ≡ Some t → (file_reading so_far to_send b r None ≡ Ok t) ⊎ (file_reading so_far to_send b r None ≡ Err (TooLarge ∷ []))
-
--- What is sent is what the file means.
-abbrev pub SentMeans : Type 0
-SentMeans = (b : List ℕ) (r : Request) (t : ArrowTable) → file_reading so_far to_send b r None ≡ Ok t → file_table b r ≡ Some t
 
 -- ── projections and limits ──
 

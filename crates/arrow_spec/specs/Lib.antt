@@ -7,6 +7,7 @@ pub mod Cells
 pub mod Schema
 pub mod Regular
 pub mod Messages
+pub mod Headers
 pub mod Counts
 pub mod Columns
 pub mod Layout
@@ -16,7 +17,6 @@ pub mod Files
 pub mod Footers
 pub mod Streams
 pub mod Framing
-pub mod WrittenTables
 pub mod WrittenSchemas
 pub mod Laws
 pub mod Words

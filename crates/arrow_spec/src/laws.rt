@@ -1,5 +1,5 @@
 //! What follows from the definitions: each function's contract is a law, proved in `proofs/`.
-ghost use Rattle.arrow_spec.specs.Laws.{BatchMessageReadsBack, DependsOnNeeded, DictionaryMessageReadsBack, FramedMessageIsNext, LayoutReadsBack, NumberedMayBeWritten, ProjectsAndCuts, ReadSchemaMayBeWritten, RegularMayBeWritten, RegularReadsBack, SchemaBytesReadBack, SchemaMessageReadsBack, SentMeans, SentOrTooLarge, StreamFuelIsEnough, StreamSchemaReadsBack, WrittenStreamMeansItsTable};
+ghost use Rattle.arrow_spec.specs.Laws.{BatchMessageReadsBack, DependsOnNeeded, DictionaryMessageReadsBack, FramedMessageIsNext, LayoutReadsBack, NumberedMayBeWritten, ProjectsAndCuts, ReadSchemaMayBeWritten, RegularMayBeWritten, RegularReadsBack, SchemaBytesReadBack, SchemaMessageReadsBack, StreamFuelIsEnough, StreamSchemaReadsBack};
 
 /// What a whole file means gives what it means under distinct columns and a limit.
 pub fn projects_and_cuts()
@@ -69,19 +69,4 @@ pub fn dictionary_message_reads_back()
 /// A stream is read to its end: each message takes at least four bytes.
 pub fn stream_fuel_is_enough()
     ensures { StreamFuelIsEnough }
-{}
-
-/// A written stream of Int32 columns, nullable or not, with metadata or without, is closed and means the written table.
-pub fn written_stream_means_its_table()
-    ensures { WrittenStreamMeansItsTable }
-{}
-
-/// A file that means a table is read to be sent as that table, or a message of it is too large.
-pub fn sent_or_too_large()
-    ensures { SentOrTooLarge }
-{}
-
-/// A file that is read to be sent is read as what it means.
-pub fn sent_means()
-    ensures { SentMeans }
 {}

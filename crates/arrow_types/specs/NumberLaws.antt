@@ -1,5 +1,5 @@
 -- What is written as bytes reads back, and the number at a place is that of the bytes there.
-use Rattle.std.proofs.Common.{◌≡◌, ℕ, zero, suc, ◌+◌, ◌-◌, ◌*◌, ◌/◌, ◌%◌, ◌^◌, ◌<◌, ◌≤◌, List, length, take, drop, Some, None, ℤ, pos, negsuc, cond, refl, sym, ◌∙◌, ap, arith}
+use Rattle.std.proofs.Common.{◌≡◌, true, false, ℕ, zero, suc, ◌+◌, ◌-◌, ◌*◌, ◌/◌, ◌%◌, ◌^◌, ◌<◌, ◌≤◌, List, length, take, drop, Some, None, ℤ, pos, negsuc, cond, refl, sym, ◌∙◌, ap, arith}
 use Rattle.std.specs.Option.{option_map}
 use Rattle.std.specs.Int.{Width, w8, w16, w32, w64, w128, byte_len, byte_at, byte_worth, sum_through, cast_signed, cast_unsigned}
 use Rattle.std.specs.Int.RustNames.{FitsSigned}
@@ -8,7 +8,7 @@ use Rattle.std.proofs.Math.Nat.{mod-eq_of_lt, pow-suc}
 use Rattle.std.proofs.lemmas.Int.{to_z-of_z}
 use Rattle.std.proofs.lemmas.Bool.{le-leb}
 use Rattle.arrow_spec.specs.Flat.{Order, little, big, part, fold_number}
-use Rattle.arrow_types.specs.Numbers.{signed_to_bytes, signed_from_bytes, signed_num, unsigned_to_bytes, unsigned_from_bytes, unsigned_num}
+use Rattle.arrow_types.specs.Numbers.{signed_to_bytes, signed_from_bytes, signed_num, unsigned_to_bytes, unsigned_from_bytes, unsigned_num, ReadsOffsets}
 use mir.Val.{bits}
 
 pow-positive : (k : ℕ) → 0 < 256 ^ k
@@ -100,3 +100,12 @@ signed_agrees w bytes at order h = ap (option_map (cast_signed w)) (unsigned_agr
 
 pub pos_same : (x y : ℕ) → pos x ≡ pos y → x ≡ y
 pos_same x y e = cc
+
+pub above : (n : ℕ) → 0 < suc n
+above n = omega arith
+
+pub small_reads : ReadsOffsets false 4 (2 ^ 31) (λ z. z) (signed_from_bytes w32)
+small_reads = record { sized = refl; reads = λ order bytes. refl; above = omega arith }
+
+pub large_reads : ReadsOffsets true 8 (2 ^ 63) (λ z. z) (signed_from_bytes w64)
+large_reads = record { sized = refl; reads = λ order bytes. refl; above = omega arith }

@@ -1,7 +1,9 @@
 -- Numbers as bytes, in either order.
-use Rattle.std.specs.Prelude.{ℕ, ◌+◌, ◌^◌, List, ◌++◌, take, drop, Option, Some, None, ℤ, pos, negsuc, nat_lt, if◌then◌else◌}
+use Rattle.std.specs.Prelude.{◌≡◌, ◌<◌, Bool, true, false, ℕ, ◌+◌, ◌^◌, List, ◌++◌, take, drop, Option, Some, None, ℤ, pos, negsuc, nat_lt, if◌then◌else◌}
 use Rattle.std.specs.Option.{option_map}
-use Rattle.std.specs.Int.{Width, w32, w64, to_le_bytes, to_be_bytes, cast_signed, cast_unsigned}
+use Rattle.std.specs.Int.{Width, w32, w64, byte_len, to_le_bytes, to_be_bytes, cast_signed, cast_unsigned}
+use Rattle.arrow_spec.specs.Columns.{offset_width}
+use Rattle.arrow_spec.specs.Kinds.{Offsets, small, large}
 use Rattle.arrow_spec.specs.Flat.{Order, little, big, num, from_bytes}
 use Rattle.arrow_types.specs.declared.numbers.interval.days_ms.{days_ms}
 use Rattle.arrow_types.specs.declared.numbers.interval.months_days_ns.{months_days_ns}
@@ -67,3 +69,14 @@ usize_of (negsuc n) = None
 -- the number, where it is below the limit
 abbrev pub below_limit : ℕ → ℕ → Option ℤ
 below_limit limit n = if nat_lt n limit then Some (pos n) else None
+
+-- the offsets of a layout, large or not
+abbrev pub offsets_by : Bool → Offsets
+offsets_by false = small
+offsets_by true = large
+
+-- an offset type has its width, and an offset is the number of its bytes
+pub record ReadsOffsets {A : Type 0} (is_large : Bool) (width limit : ℕ) (number : A → ℤ) (read : Order → List ℕ → A) : Type 0 where
+  pub sized : width ≡ byte_len (offset_width (offsets_by is_large))
+  pub reads : (order : Order) (bytes : List ℕ) → number (read order bytes) ≡ signed_from_bytes (offset_width (offsets_by is_large)) order bytes
+  pub above : 0 < limit

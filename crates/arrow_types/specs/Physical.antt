@@ -1,4 +1,5 @@
 -- How a kind's columns are laid out.
+use Rattle.std.specs.Prelude.{ℕ}
 use Rattle.arrow_spec.specs.declared.types.IntegerType.{IntegerType}
 use Rattle.arrow_spec.specs.declared.types.IntegerType.TheVariants as integer
 use Rattle.arrow_spec.specs.declared.types.IntervalUnit.{IntervalUnit}
@@ -67,3 +68,21 @@ physical_of (kind.extension name metadata k) = physical_of k
 abbrev pub under_extensions : Kind → Kind
 under_extensions (kind.extension name metadata k) = under_extensions k
 under_extensions k = k
+
+-- the bytes of a number of a primitive type; 0 for those whose numbers no array holds, floats and integers of 256 bits
+abbrev pub primitive_size : PrimitiveType → ℕ
+primitive_size primitive.Int8 = 1
+primitive_size primitive.Int16 = 2
+primitive_size primitive.Int32 = 4
+primitive_size primitive.Int64 = 8
+primitive_size primitive.Int128 = 16
+primitive_size primitive.Int256 = 0
+primitive_size primitive.UInt8 = 1
+primitive_size primitive.UInt16 = 2
+primitive_size primitive.UInt32 = 4
+primitive_size primitive.UInt64 = 8
+primitive_size primitive.Float16 = 0
+primitive_size primitive.Float32 = 0
+primitive_size primitive.Float64 = 0
+primitive_size primitive.DaysMs = 8
+primitive_size primitive.MonthDayNano = 16

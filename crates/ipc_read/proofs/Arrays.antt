@@ -10,13 +10,13 @@ use Rattle.arrow_spec.specs.Columns.{from_on, cell, buf, count_faults, array_fau
 use Rattle.arrow_spec.specs.Laws.{AreBytes}
 use Rattle.read_columns.specs.Faults.{read_faults}
 use Rattle.read_columns.proofs.CellLaws.{cells_read_of}
-use Rattle.arrow_types.specs.Physical.{physical_of}
+use Rattle.arrow_types.specs.Physical.{primitive_size, physical_of}
 use Rattle.arrow_types.specs.declared.physical.PhysicalType.{PhysicalType}
 use Rattle.arrow_types.specs.declared.physical.PhysicalType.TheVariants.{FixedSizeBinary, Primitive}
 use Rattle.arrow_types.specs.declared.physical.PrimitiveType.{PrimitiveType}
 use Rattle.arrow_buffers.specs.Layouts.{binary_size}
 use Rattle.arrow_arrays.specs.FlatKinds.{is_flat_kind, is_flat_layout}
-use Rattle.arrow_arrays.specs.Parts.{numbers, as_bytes, primitive_size, number_size, cells_in}
+use Rattle.arrow_arrays.specs.Parts.{numbers, as_bytes, number_size, cells_in}
 use Rattle.arrow_arrays.specs.PartsOf.{parts_of}
 use Rattle.arrow_arrays.specs.declared.array.Array.{Array}
 use Rattle.read_columns.specs.PartsRead.{number_read, primitive_read, parts_in, parts_read, numbers_bytes}

@@ -12,12 +12,12 @@ use Rattle.arrow_spec.specs.Counts.{RecordBatch, Place, after}
 use Rattle.arrow_spec.specs.Laws.{AreBytes}
 use Rattle.arrow_spec.specs.Columns.{buf, node_faults, validity_faults, bitmap_faults, numbers_faults, array_faults}
 use Rattle.arrow_spec.specs.Needed.{validity_looked_at}
-use Rattle.arrow_types.specs.Physical.{physical_of}
+use Rattle.arrow_types.specs.Physical.{primitive_size, physical_of}
 use Rattle.arrow_types.specs.declared.physical.PhysicalType.{PhysicalType}
 use Rattle.arrow_types.specs.declared.physical.PhysicalType.TheVariants as physical
 use Rattle.arrow_types.specs.declared.physical.PrimitiveType.{PrimitiveType}
 use Rattle.arrow_buffers.specs.Layouts.{is_null, is_boolean, is_primitive, binary_size}
-use Rattle.arrow_arrays.specs.Parts.{primitive_size, number_size}
+use Rattle.arrow_arrays.specs.Parts.{number_size}
 use Rattle.arrow_arrays.specs.FlatKinds.{is_flat_layout}
 use Rattle.arrow_arrays.proofs.NumberParts.{layout_size}
 use Rattle.read_columns.specs.Faults.{read_faults, fetched_at_most, stated}

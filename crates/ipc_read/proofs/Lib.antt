@@ -8,3 +8,6 @@ pub mod Passing
 pub mod Arrays
 pub mod DataReads
 pub mod ViewArrays
+pub mod BatchTables
+pub mod ColumnKinds
+pub mod Columns

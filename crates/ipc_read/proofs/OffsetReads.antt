@@ -5,8 +5,8 @@ use Rattle.std.specs.Option.{option_map}
 use Rattle.arrow_spec.specs.Flat.{Order, num}
 use Rattle.arrow_spec.specs.Counts.{RecordBatch}
 use Rattle.arrow_spec.specs.Columns.{from_on, numbers_faults, offsets_buffer_faults, buf, or_0, signed_in, unsigned_in, offset_width}
-use Rattle.arrow_spec.proofs.SameBuffers.{from_on-same}
-use Rattle.arrow_types.specs.Numbers.{signed_from_bytes}
+use Rattle.arrow_spec.proofs.CellLists.{from_on-same}
+use Rattle.arrow_types.specs.Numbers.{signed_from_bytes, ReadsOffsets, offsets_by}
 use Rattle.arrow_types.specs.NumberLaws.{signed_agrees}
 use Rattle.read_columns.specs.PartsRead.{items_read, item_bytes}
 use Rattle.read_columns.proofs.Buffers.{map-from_on}
@@ -14,7 +14,7 @@ use Rattle.arrow_spec.specs.declared.error.IpcError.{IpcError}
 use Rattle.arrow_spec.specs.Readings.{Refuses}
 use Rattle.read_columns.proofs.Buffers.{numbers_held}
 use Rattle.ipc_read.specs.Queues.{short_of}
-use Rattle.ipc_read.specs.Sources.{ReadsOffsets, offsets_by, offsets_of, faults_where}
+use Rattle.ipc_read.specs.Sources.{offsets_of, faults_where}
 use Rattle.ipc_read.proofs.Refusals.{refuses_right, both_none, lacks_none}
 use Rattle.ipc_read.proofs.Parts.{item_fits}
 
@@ -34,7 +34,7 @@ offsets_read large width limit number read m i n h k =
     map-from_on number (λ j. read m.order (item_bytes m i width j)) 0 n
     ∙ ap (λ x. from_on (λ j. number (read m.order (item_bytes m i x j))) 0 n) h.sized
     ∙ from_on-same (λ j. number (read m.order (item_bytes m i (byte_len w) j))) (λ j. signed_in m w i j) 0 n
-    (λ j above below. h.reads m.order (item_bytes m i (byte_len w) j) ∙ signed_is m w i j (item_fits (byte_len w) j n (length (buf m i)) (omega (arith, below)) fits))
+    (λ j below. h.reads m.order (item_bytes m i (byte_len w) j) ∙ signed_is m w i j (item_fits (byte_len w) j n (length (buf m i)) (omega (arith, below)) fits))
 
 -- ── a buffer of offsets ──
 

@@ -13,7 +13,7 @@ use Rattle.arrow_spec.specs.declared.message.IpcBuffer.{IpcBuffer}
 use Rattle.arrow_spec.specs.Readings.{IsAmong, Refuses}
 use Rattle.arrow_spec.specs.Counts.{RecordBatch, Place, magnitude}
 use Rattle.arrow_spec.specs.Columns.{from_on, node_causes, node_faults, range_of, range_causes, range_faults, bitmap_faults, numbers_faults, validity_faults, has_nulls, buf, bit}
-use Rattle.arrow_spec.proofs.SameBuffers.{from_on-same}
+use Rattle.arrow_spec.proofs.CellLists.{from_on-same}
 use Rattle.arrow_buffers.specs.Bits.{bits_from}
 use Rattle.ipc_schema.specs.Outside.{StandsAt}
 use Rattle.read_columns.specs.PartsRead.{bits_read, validity_read}
@@ -117,7 +117,7 @@ bit_same n bytes row rows h k =
 -- the first bits stand in the first bytes
 pub bits_same : (n rows : ℕ) (bytes out : List ℕ) → n ≡ (rows + 7) / 8 → out ≡ take n bytes → bits_from out 0 rows ≡ bits_from bytes 0 rows
 bits_same n rows bytes out k h =
-    ap (λ b. bits_from b 0 rows) h ∙ from_on-same (bit (take n bytes)) (bit bytes) 0 rows (λ j above below. bit_same n bytes j rows (omega (arith, below)) k)
+    ap (λ b. bits_from b 0 rows) h ∙ from_on-same (bit (take n bytes)) (bit bytes) 0 rows (λ j below. bit_same n bytes j rows (omega (arith, below)) k)
 
 pub bitmap_refused : (m : RecordBatch) (i rows : ℕ) (e : IpcError) → Refuses e (range_faults m i) → Refuses e (bitmap_faults m i rows)
 unfolding bitmap_faults
@@ -150,7 +150,7 @@ pub items_same : {A : Type 0} → (read : List ℕ → A) (size rows : ℕ) (byt
 items_same read size rows bytes out h =
     ap (λ b. from_on (λ j. read (take size (drop (size * j) b))) 0 rows) h
     ∙ from_on-same (λ j. read (take size (drop (size * j) (take (size * rows) bytes)))) (λ j. read (take size (drop (size * j) bytes))) 0 rows
-    (λ j above below. ap read (front (size * rows) (size * j) size bytes (item_fits size j rows (size * rows) (omega (arith, below)) (omega arith))))
+    (λ j below. ap read (front (size * rows) (size * j) size bytes (item_fits size j rows (size * rows) (omega (arith, below)) (omega arith))))
 
 -- ── validity ──
 

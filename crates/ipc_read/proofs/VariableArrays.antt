@@ -1,4 +1,5 @@
 -- Arrays of bytes between offsets: what is wrong with them, by the layout of their kind.
+use Rattle.arrow_types.specs.Numbers.{offsets_by}
 use Rattle.std.proofs.Common.{◌≡◌, ◌⊎◌, inl, inr, ℕ, zero, suc, ◌+◌, ◌<◌, List, [], ◌∷◌, ◌++◌, length, Bool, true, false, Option, ℤ, pos, not, refl, sym, ap, ◌∙◌, arith, subst}
 use Rattle.arrow_spec.specs.declared.error.IpcError.{IpcError}
 use Rattle.arrow_spec.specs.declared.error.IpcError.TheVariants.{OutOfSpec, Memory}
@@ -21,7 +22,7 @@ use Rattle.read_columns.specs.LayoutFaults.{contents_of}
 use Rattle.read_columns.proofs.OffsetsRead.{offsets-read}
 use Rattle.read_columns.proofs.Sound.{utf8_faults-read}
 use Rattle.ipc_read.specs.Queues.{Left, IsWithin, At, short_of}
-use Rattle.ipc_read.specs.Sources.{faults_where, bytes_where, validity_fetched, offsets_by, offsets_of, values_of}
+use Rattle.ipc_read.specs.Sources.{faults_where, bytes_where, validity_fetched, offsets_of, values_of}
 use Rattle.ipc_read.proofs.Refusals.{among_left, among_right, among_sound, among_cause, refuses_left, memory_refuses, both_none}
 use Rattle.ipc_read.proofs.Counted.{Counted, own_buffers, own_looked, refused_in, lacks_or, buffer_end, fine_in, at_next, stated_append}
 use Rattle.ipc_read.proofs.FlatArrays.{by_layout, counted_at}

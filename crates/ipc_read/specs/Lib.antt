@@ -3,3 +3,4 @@ pub mod Queues
 pub mod Sources
 pub mod Skips
 pub mod Readings
+pub mod Batches

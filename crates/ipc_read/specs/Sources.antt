@@ -1,13 +1,11 @@
 -- The body of a record batch in its source, and what a reader answers.
-use Rattle.std.specs.Int.{byte_len}
 use Rattle.arrow_spec.specs.Columns.{buf, from_on, signed_in, offset_width}
-use Rattle.arrow_types.specs.Numbers.{signed_from_bytes}
 use Rattle.std.specs.Prelude.{◌≡◌, ℕ, zero, suc, ◌+◌, ◌≤◌, ◌<◌, ℤ, pos, ◌∷◌, List, [], length, take, drop, ⊤, Bool, true, false, Option, Some, None, Result, IfOk, IfErr}
 use Rattle.arrow_spec.specs.declared.error.IpcError.{IpcError}
 use Rattle.arrow_spec.specs.declared.error.IpcError.TheVariants.{OutOfSpec, Unsupported, Memory, ReadFault}
 use Rattle.arrow_spec.specs.Readings.{Refuses}
 use Rattle.arrow_spec.specs.Flat.{Order, little, big}
-use Rattle.arrow_spec.specs.Kinds.{Offsets, small, large}
+use Rattle.arrow_spec.specs.Kinds.{Offsets}
 use Rattle.arrow_spec.specs.Counts.{RecordBatch, Place, magnitude}
 use Rattle.arrow_spec.specs.declared.message.IpcBuffer.{IpcBuffer}
 use Rattle.arrow_spec.specs.Needed.{validity_looked_at}
@@ -62,11 +60,6 @@ IsRefusal e = ⊥
 abbrev pub part_of : Body → IpcBuffer → Body
 part_of body buffer = record { offset = body.offset + magnitude buffer.offset; length = magnitude buffer.length }
 
--- the width of offsets, by whether they are of 64 bits
-abbrev pub offsets_by : Bool → Offsets
-offsets_by false = small
-offsets_by true = large
-
 -- the stated length of the validity that is looked at; 0 where there are no rows
 abbrev pub validity_fetched : RecordBatch → Place → ℕ → ℕ
 validity_fetched m p zero = 0
@@ -80,12 +73,6 @@ faults_where (suc n) faults = faults
 abbrev pub bytes_where : ℕ → ℕ → ℕ
 bytes_where zero bytes = 0
 bytes_where (suc n) bytes = bytes
-
--- an offset type has its width, and an offset is the number of its bytes
-pub record ReadsOffsets {A : Type 0} (is_large : Bool) (width limit : ℕ) (number : A → ℤ) (read : Order → List ℕ → A) : Type 0 where
-  pub sized : width ≡ byte_len (offset_width (offsets_by is_large))
-  pub reads : (order : Order) (bytes : List ℕ) → number (read order bytes) ≡ signed_from_bytes (offset_width (offsets_by is_large)) order bytes
-  pub above : 0 < limit
 
 -- the offsets of so many rows, 0 alone where there are none
 abbrev pub offsets_of : RecordBatch → Offsets → ℕ → ℕ → List ℤ

@@ -10,7 +10,6 @@ ghost use Rattle.arrow_buffers.specs.Layouts.{is_null, is_boolean, is_primitive,
 ghost use Rattle.read_columns.specs.PartsRead.{boolean_read, primitive_read, fixed_read, numbers_bytes};
 ghost use Rattle.arrow_spec.specs.Laws.{AreBytes};
 ghost use Rattle.arrow_buffers.specs.Flat.{fixed_rows};
-ghost use Rattle.arrow_arrays.specs.Parts.{primitive_size};
 ghost use Rattle.arrow_spec.specs.declared.error.IpcError.TheVariants.{Memory};
 
 use crate::Body;
@@ -99,8 +98,6 @@ pub fn read_primitive<T: NativeType, S: Source>(
     scratch: &mut Vec<u8>,
 ) -> Result<PrimitiveArray<T>, IpcError>
     requires kind { is_primitive T.PRIMITIVE (physical_of (kind_of dtype.now)) ≡ true }
-    requires size { primitive_size T.PRIMITIVE ≡ T.WIDTH }
-    requires above { 0 < T.WIDTH }
     requires room { body.offset + body.length < 2 ^ 63 }
     requires inside { Inside (S.content source.old) body }
     ensures queues { IfOk result (λ _. (m : Batch) (p : Place) → At m p nodes.old.items buffers.old.items → At m (after m (kind_of dtype.now) p) nodes.new.items buffers.new.items) }

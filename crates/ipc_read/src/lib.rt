@@ -1,6 +1,7 @@
 //! Columns of record batches, read from a source by their nodes and buffers, or passed over (Arrow Columnar Format, "RecordBatch message").
 #![tactic(auto)]
 
+mod batch;
 mod body;
 mod buffers;
 mod flat;
@@ -9,9 +10,11 @@ mod makes;
 mod reading;
 mod rows;
 mod skips;
+mod tables;
 mod variable;
 mod views;
 
+pub use batch::read_record_batch;
 pub use body::Body;
 pub use buffers::{read_bitmap, read_buffer, read_bytes, read_validity};
 pub use flat::{read_boolean, read_fixed_size_binary, read_null, read_primitive};
@@ -20,8 +23,6 @@ pub use skips::{
     skip, skip_binary, skip_binview, skip_boolean, skip_fixed_size_binary, skip_null,
     skip_primitive, skip_utf8,
 };
+pub use tables::unread_feature;
 pub use variable::{read_binary, read_utf8};
 pub use views::read_binview;
-
-#[cfg(test)]
-mod tests;

@@ -2,9 +2,10 @@
 ghost use Rattle.std.specs.Prelude.{◌≡◌, ◌⊎◌, ◌∷◌, [], ◌++◌, ◌-◌, Bool, false, length, map, pos, ℕ, suc, ◌+◌, ◌^◌, ◌<◌, ◌≤◌, true, IfOk, IfErr};
 ghost use Rattle.arrow_spec.specs.Counts.{RecordBatch as Batch, Place, after};
 ghost use Rattle.arrow_types.specs.KindOf.{kind_of};
+ghost use Rattle.arrow_types.specs.Numbers.{offsets_by};
 ghost use Rattle.arrow_types.specs.Physical.{physical_of};
 ghost use Rattle.ipc_read.specs.Queues.{Left, NodesAt, At, AllAt, short_of};
-ghost use Rattle.ipc_read.specs.Sources.{Answers, Inside, Known, ReadCause, IsRefusal, order_of, ReadsOffsets, offsets_by, offsets_of, values_of, faults_where, bytes_where};
+ghost use Rattle.ipc_read.specs.Sources.{Answers, Inside, Known, ReadCause, IsRefusal, order_of, offsets_of, values_of, faults_where, bytes_where};
 ghost use Rattle.read_columns.specs.Faults.{read_faults, fetched_at_most, stated};
 ghost use Rattle.arrow_buffers.specs.Layouts.{is_binary, is_text};
 ghost use Rattle.arrow_buffers.specs.Rows.{has_rows};
@@ -54,7 +55,6 @@ fn read_offsets<O: Offset, S: Source>(
     rows: usize,
     is_little_endian: bool,
 ) -> Result<Buffer<O>, IpcError>
-    requires offsets { ReadsOffsets O.IS_LARGE O.WIDTH O.limit O.number O.read }
     requires few { rows < 2 ^ 63 }
     requires room { body.offset + body.length < 2 ^ 63 }
     requires inside { Inside (S.content source.old) body }
@@ -178,7 +178,6 @@ pub fn read_binary<O: Offset, S: Source>(
     scratch: &mut Vec<u8>,
 ) -> Result<BinaryArray<O>, IpcError>
     requires kind { is_binary O.IS_LARGE (physical_of (kind_of dtype.now)) ≡ true }
-    requires offsets { ReadsOffsets O.IS_LARGE O.WIDTH O.limit O.number O.read }
     requires room { body.offset + body.length < 2 ^ 63 }
     requires inside { Inside (S.content source.old) body }
     ensures shape { IfOk result (λ a. (a.kind ≡ kind_of dtype.now) × (variable_rows a.offsets ≡ rows)) }
@@ -223,7 +222,6 @@ pub fn read_utf8<O: Offset, S: Source>(
     scratch: &mut Vec<u8>,
 ) -> Result<Utf8Array<O>, IpcError>
     requires kind { is_text O.IS_LARGE (physical_of (kind_of dtype.now)) ≡ true }
-    requires offsets { ReadsOffsets O.IS_LARGE O.WIDTH O.limit O.number O.read }
     requires room { body.offset + body.length < 2 ^ 63 }
     requires inside { Inside (S.content source.old) body }
     ensures shape { IfOk result (λ a. (a.kind ≡ kind_of dtype.now) × (variable_rows a.offsets ≡ rows)) }

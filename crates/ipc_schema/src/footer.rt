@@ -1,9 +1,10 @@
 //! The footer of a file (Arrow Columnar Format, "IPC File Format", File.fbs).
-ghost use Rattle.std.specs.Prelude.{◌≡◌, ◌+◌, ◌<◌, ◌≤◌, ◌++◌, ◌∷◌, [], map, length, IfOk, OnErr, Err, IfErr};
+ghost use Rattle.std.specs.Prelude.{◌≡◌, true, ◌+◌, ◌<◌, ◌≤◌, ◌++◌, ◌∷◌, [], map, length, IfOk, OnErr, Err, IfErr};
 ghost use Rattle.arrow_spec.specs.declared.error.IpcError.TheVariants.{Memory};
 ghost use Rattle.arrow_spec.specs.Readings.{Gives};
 ghost use Rattle.arrow_spec.specs.Files.{meta_in};
-ghost use Rattle.ipc_fields.specs.IpcFields.{AreNamed, schema_view};
+ghost use Rattle.arrow_types.specs.Schemas.{fields_in};
+ghost use Rattle.ipc_fields.specs.IpcFields.{AreNamed, have_shapes, ids_of, schema_view};
 ghost use Rattle.ipc_schema.specs.Footers.{file_block, footer_view, block_numbers_at, block_by, fault_in, block_in, blocks_in, footer_length_in, records_part, dictionaries_part, schema_in_footer, footer_parts};
 ghost use Rattle.ipc_fields.specs.Causes.{IsOfBytes};
 
@@ -153,6 +154,7 @@ fn read_footer_schema(
 ) -> Result<(ArrowSchema, IpcSchema, Option<Metadata>), IpcError>
     ensures gives { Gives schema_view result (schema_in_footer table.now.bytes table.now.table) }
     ensures named { IfOk result (λ s. AreNamed s.0) }
+    ensures shapes { IfOk result (λ s. have_shapes (fields_in s.0) (ids_of s.1.fields.items) ≡ true) }
     ensures quiet { IfErr result IsOfBytes }
 {
     let schema = table.slot_table(1).map_err(|e| IpcError::OutOfSpec(
@@ -168,6 +170,7 @@ fn read_footer_schema(
 fn read_footer_parts(alloc: Global, bytes: &[u8]) -> Result<Footer, IpcError>
     ensures gives { Gives footer_view result (footer_parts bytes.now) }
     ensures named { IfOk result (λ f. AreNamed f.schema) }
+    ensures shapes { IfOk result (λ f. have_shapes (fields_in f.schema) (ids_of f.ipc_schema.fields.items) ≡ true) }
     ensures quiet { IfErr result IsOfBytes }
 {
     let table = Flat::root(bytes).map_err(|e| IpcError::OutOfSpec(
@@ -196,6 +199,9 @@ pub fn deserialize_footer(alloc: Global, bytes: &[u8]) -> Result<Footer, IpcErro
 
     // Each field stands under its own name.
     ensures named { IfOk result (λ f. AreNamed f.schema) }
+
+    // The IPC fields are those of the schema.
+    ensures shapes { IfOk result (λ f. have_shapes (fields_in f.schema) (ids_of f.ipc_schema.fields.items) ≡ true) }
     ensures quiet { IfErr result IsOfBytes }
 {
     read_footer_parts(alloc, bytes)

@@ -5,7 +5,8 @@ use Rattle.arrow_spec.specs.declared.error.IpcError.{IpcError}
 use Rattle.arrow_spec.specs.declared.error.IpcError.TheVariants as errors
 use Rattle.arrow_spec.specs.declared.error.Feature.TheVariants as features
 use Rattle.arrow_spec.specs.Readings.{bind}
-use Rattle.arrow_spec.specs.Files.{«all», Request, file_reading, file_table, may}
+use Rattle.arrow_spec.specs.Files.{«all», Request, file_reading}
+use Rattle.sent_files.specs.Meaning.{file_table, may}
 use Rattle.ipc_schema.specs.Outside.{Stands}
 use Rattle.ipc_tool.proofs.Refusing.{complete_by_cause}
 use Rattle.ipc_tool.specs.Sends.{Refused, SendCause}

@@ -1,7 +1,7 @@
 -- The blocks of a file, sent one after another.
-use Rattle.std.proofs.Common.{◌≡◌, inr, ℕ, zero, suc, ◌+◌, ◌<◌, ◌≤◌, List, [], ◌∷◌, ◌++◌, length, take, drop, get_or, Option, Some, None, Ok, Err, IfSome, refl, sym, ap, ◌∙◌, subst, Bool, arith, map, option_map, add-one, slice_get, sum_by}
+use Rattle.std.proofs.Common.{◌≡◌, inr, ℕ, zero, suc, ◌+◌, ◌<◌, ◌≤◌, List, [], ◌∷◌, ◌++◌, length, take, drop, get_or, Option, Some, None, IfSome, refl, sym, ap, ◌∙◌, subst, Bool, arith, map, option_map, add-one, slice_get, sum_by}
 use Rattle.std.proofs.Math.Seq.{take-suc}
-use Rattle.std.proofs.lemmas.List.{length-append, length-map, length-take-le, take_all}
+use Rattle.std.proofs.lemmas.List.{length-append, length-take-le, take_all}
 use Rattle.std.proofs.lemmas.List.Sums.{sum_by-append, sum_by-cons}
 use Rattle.std.proofs.lemmas.Option.{get_or_from_slice_get, slice_get-get_or, slice_get-map, slice_get_within}
 use Rattle.std.proofs.KnownBytes.{Appends-kept}
@@ -9,20 +9,20 @@ use Rattle.std.specs.Io.KnownBytes.{Appends}
 use Rattle.arrow_spec.specs.declared.error.IpcError.{IpcError}
 use Rattle.arrow_spec.specs.declared.error.IpcError.TheVariants as errors
 use Rattle.arrow_spec.specs.declared.message.Block.{Block}
-use Rattle.arrow_spec.specs.Built.{so_far}
-use Rattle.arrow_spec.specs.Kinds.{Metadata}
-use Rattle.arrow_spec.specs.Readings.{Reading, Refuses, refusals}
-use Rattle.arrow_spec.specs.Files.{«all», FileBlock, Meta, Request, TableBatch, batch_of, file_reading, to_send}
-use Rattle.arrow_spec.specs.WrittenTables.{Int32Field, batch_bytes, written_so_far, written_table}
-use Rattle.arrow_spec.proofs.FirstFiles.{SentSoFar, file_refused, none_sent, one_more_sent}
-use Rattle.arrow_spec.proofs.GrowingStreams.{one_more_batch}
+use Rattle.arrow_spec.specs.Readings.{Refuses, refusals}
+use Rattle.arrow_spec.specs.Files.{«all», FileBlock, Meta, Request, file_reading, to_send}
+use Rattle.written_columns.specs.Streams.{bare_table, batch_bytes, written_so_far}
+use Rattle.sent_files.specs.Built.{so_far}
+use Rattle.sent_files.specs.Files.{HaveNoDictionaries, SentSoFar}
+use Rattle.sent_files.proofs.Blocks.{none_sent, one_more_sent}
+use Rattle.sent_files.proofs.Refusals.{block_refuses}
+use Rattle.sent_files.proofs.Streams.{one_more_batch}
 use Rattle.ipc_tool.specs.FileBlocks.{file_block}
-use Rattle.ipc_tool.specs.Sends.{Begun, BlockRefused, BlockSent, Refused, SentBlocks, file_asked}
+use Rattle.ipc_tool.specs.Sends.{Begun, BlockRefused, BlockSent, Refused, SentBlocks}
 use Rattle.ipc_tool.specs.Transcode.{AddsFront, AddsPart, IsFrontOf, PutTextCause, text_of}
 use Rattle.ipc_tool.specs.declared.conversion.Summary.{Summary}
-use Rattle.ipc_tool.proofs.FirstStreams.{front_of}
+use Rattle.ipc_tool.proofs.FileStreams.{front_of}
 use Rattle.ipc_tool.proofs.Sending.{Appends-text, IsNext, piece_refused}
-use Rattle.ipc_tool.proofs.SentBlocks.{from_none}
 
 -- ── blocks, one after another ──
 
@@ -34,8 +34,8 @@ split_at [] i x h = cc
 split_at (y ∷ ys) zero x h = ap (λ z. z ∷ ys) cc
 split_at (y ∷ ys) (suc i) x h = let e : suc i + 1 ≡ suc (i + 1) = omega arith in rw e (ap (λ l. y ∷ l) (split_at ys i x h))
 
-pub blocks_begun : (b : List ℕ) (meta : Meta) (fs : List Int32Field) (raw : Bool) (start old : Option (List ℕ)) (n : ℕ) → Begun b meta fs raw start old n → SentBlocks b fs meta.schema.metadata [] raw start old (record { batches = 0; rows = 0; bytes = n })
-blocks_begun b meta fs raw start old n begun = record { batches = []; sent = none_sent b fs; same = refl; added = begun.added; batches_are = refl; rows_are = refl; bytes_are = begun.bytes_are }
+blocks_begun : (b : List ℕ) (meta : Meta) (raw : Bool) (start old : Option (List ℕ)) (n : ℕ) → Begun b meta raw start old n → SentBlocks b meta [] raw start old (record { batches = 0; rows = 0; bytes = n })
+blocks_begun b meta raw start old n begun = record { batches = []; sent = none_sent b meta.schema.fields; same = refl; added = begun.added; batches_are = refl; rows_are = refl; bytes_are = begun.bytes_are }
 
 sums : (a b x y whole : ℕ) → a ≡ x → b ≡ y → whole ≡ x + (y + 0) → a + b ≡ whole
 sums a b x y whole p q h = omega (arith, p, q, h)
@@ -43,19 +43,21 @@ sums a b x y whole p q h = omega (arith, p, q, h)
 lengths : (a b : ℕ) (xs ys whole : List ℕ) → whole ≡ xs ++ ys → a ≡ length xs → b ≡ length ys → a + b ≡ length whole
 lengths a b xs ys whole h p q = rw (p, q) (sym (ap length h ∙ length-append xs ys))
 
-pub one_more_block : (b : List ℕ) (fs : List Int32Field) (pairs : Metadata) (blocks : List FileBlock) (block : FileBlock) (i : ℕ) (raw : Bool) (start mid new : Option (List ℕ)) (s : Summary) (rows bytes : ℕ) → slice_get blocks i ≡ Some block → SentBlocks b fs pairs (take i blocks) raw start mid s → BlockSent b fs block raw mid new rows bytes
-    → SentBlocks b fs pairs (take (i + 1) blocks) raw start new (record { batches = s.batches + 1; rows = s.rows + rows; bytes = s.bytes + bytes })
-one_more_block b fs pairs blocks block i raw start mid new s rows bytes h so_far one =
-    let grown = one_more_batch fs pairs so_far.batches one.batch in
-    let t : take (i + 1) blocks ≡ take i blocks ++ block ∷ [] = take_next blocks i block h in
+one_more_block : (b : List ℕ) (meta : Meta) (block : FileBlock) (i : ℕ) (raw : Bool) (start mid new : Option (List ℕ)) (s : Summary) (rows bytes : ℕ) → slice_get meta.blocks i ≡ Some block → HaveNoDictionaries meta.schema.fields → SentBlocks b meta (take i meta.blocks) raw start mid s → BlockSent b meta.schema.fields block raw mid new rows bytes
+    → SentBlocks b meta (take (i + 1) meta.blocks) raw start new (record { batches = s.batches + 1; rows = s.rows + rows; bytes = s.bytes + bytes })
+one_more_block b meta block i raw start mid new s rows bytes h none behind one =
+    let fs = meta.schema.fields in
+    let pairs = meta.schema.metadata in
+    let grown = one_more_batch fs pairs behind.batches one.batch in
+    let t : take (i + 1) meta.blocks ≡ take i meta.blocks ++ block ∷ [] = take_next meta.blocks i block h in
     record {
-      batches = so_far.batches ++ one.batch ∷ [];
-      sent = subst (λ l. SentSoFar b fs l (so_far.batches ++ one.batch ∷ [])) (sym t) (one_more_sent b fs (take i blocks) block so_far.batches one.batch so_far.sent one.is_sent.read one.is_sent.sent one.is_sent.fit);
-      same = length-append so_far.batches (one.batch ∷ []) ∙ ap (λ n. n + 1) so_far.same ∙ sym (ap length t ∙ length-append (take i blocks) (block ∷ []));
-      added = subst (λ l. Appends start new (text_of raw l)) (sym grown) (Appends-text raw start mid new (written_so_far fs pairs so_far.batches) (batch_bytes one.batch) so_far.added one.added);
-      batches_are = ap (λ n. n + 1) so_far.batches_are ∙ sym (length-append so_far.batches (one.batch ∷ []));
-      rows_are = sums s.rows rows (sum_by (λ x. x.rows) so_far.batches) one.batch.rows _ so_far.rows_are one.rows_are (sum_by-append (λ x. x.rows) so_far.batches (one.batch ∷ []) ∙ ap (λ n. sum_by (λ x. x.rows) so_far.batches + n) (sum_by-cons (λ x. x.rows) one.batch []));
-      bytes_are = lengths s.bytes bytes (written_so_far fs pairs so_far.batches) (batch_bytes one.batch) _ grown so_far.bytes_are one.bytes_are;
+      batches = behind.batches ++ one.batch ∷ [];
+      sent = subst (λ l. SentSoFar b fs l (behind.batches ++ one.batch ∷ [])) (sym t) (one_more_sent b fs (take i meta.blocks) block behind.batches one.batch none behind.sent one.is_sent);
+      same = length-append behind.batches (one.batch ∷ []) ∙ ap (λ n. n + 1) behind.same ∙ sym (ap length t ∙ length-append (take i meta.blocks) (block ∷ []));
+      added = subst (λ l. Appends start new (text_of raw l)) (sym grown) (Appends-text raw start mid new (written_so_far fs pairs behind.batches) (batch_bytes one.batch) behind.added one.added);
+      batches_are = ap (λ n. n + 1) behind.batches_are ∙ sym (length-append behind.batches (one.batch ∷ []));
+      rows_are = sums s.rows rows (sum_by (λ x. x.rows) behind.batches) one.batch.rows _ behind.rows_are one.rows_are (sum_by-append (λ x. x.rows) behind.batches (one.batch ∷ []) ∙ ap (λ n. sum_by (λ x. x.rows) behind.batches + n) (sum_by-cons (λ x. x.rows) one.batch []));
+      bytes_are = lengths s.bytes bytes (written_so_far fs pairs behind.batches) (batch_bytes one.batch) _ grown behind.bytes_are one.bytes_are;
     }
 
 -- ── a block that is not sent ──
@@ -93,60 +95,63 @@ put_refuses errors.NotRepresentable es faults faults' h = absurd h
 put_refuses errors.State es faults faults' h = absurd h
 
 -- the bytes of the blocks so far are a front
-pub front_so_far : (b : List ℕ) (meta : Meta) (fs : List Int32Field) (i : ℕ) (raw : Bool) (start old mid : Option (List ℕ)) (n : ℕ) (s : Summary) → i ≤ length meta.blocks → Begun b meta fs raw start old n → SentBlocks b fs meta.schema.metadata (take i meta.blocks) raw start mid s → AddsFront b «all» (text_of raw) start mid
-front_so_far b meta fs i raw start old mid n s within begun sent = record { bytes = written_so_far fs meta.schema.metadata sent.batches; table = written_table fs meta.schema.metadata sent.batches; stream = front_of b meta fs i sent.batches begun.file sent.sent (sent.same ∙ length-take-le i meta.blocks within); added = sent.added }
+pub front_so_far : (b : List ℕ) (meta : Meta) (i : ℕ) (raw : Bool) (start old mid : Option (List ℕ)) (n : ℕ) (s : Summary) → i ≤ length meta.blocks → Begun b meta raw start old n → SentBlocks b meta (take i meta.blocks) raw start mid s → AddsFront b «all» (text_of raw) start mid
+front_so_far b meta i raw start old mid n s within begun sent = record {
+  bytes = written_so_far meta.schema.fields meta.schema.metadata sent.batches;
+  table = bare_table meta.schema.fields meta.schema.metadata sent.batches;
+  stream = front_of b meta i sent.batches begun.file sent.sent (sent.same ∙ length-take-le i meta.blocks within);
+  added = sent.added;
+}
 
--- a refusal of a block is one of the file
-file_refuses : (e : IpcError) (b : List ℕ) (meta : Meta) (fs : List Int32Field) (i : ℕ) (block : FileBlock) (raw : Bool) (start old mid : Option (List ℕ)) (n : ℕ) (s : Summary) → slice_get meta.blocks i ≡ Some block → Begun b meta fs raw start old n → SentBlocks b fs meta.schema.metadata (take i meta.blocks) raw start mid s
-    → (r : Reading TableBatch) → batch_of to_send b (file_asked fs b) block None ≡ r → Refuses e (refusals r) → Refuses e (refusals (file_reading so_far to_send b «all» None))
-file_refuses e b meta fs i block raw start old mid n s h begun sent (Err es) is refuses = rw (file_refused b meta fs (take i meta.blocks) block (drop (i + 1) meta.blocks) sent.batches es begun.file (split_at meta.blocks i block h) sent.sent is) refuses
-file_refuses e b meta fs i block raw start old mid n s h begun sent (Ok x) is refuses = from_none e (file_reading so_far to_send b «all» None) refuses
-
-pub blocks_refused : (e : IpcError) (b : List ℕ) (meta : Meta) (fs : List Int32Field) (i : ℕ) (block : FileBlock) (raw : Bool) (start old mid new : Option (List ℕ)) (n : ℕ) (s : Summary) (faults faults' : ℕ) → slice_get meta.blocks i ≡ Some block → Begun b meta fs raw start old n → SentBlocks b fs meta.schema.metadata (take i meta.blocks) raw start mid s → BlockRefused b fs block raw mid new e faults faults' → Refused e b raw start new
-blocks_refused e b meta fs i block raw start old mid new n s faults faults' h begun sent (BlockRefused.refused kept refuses) =
+blocks_refused : (e : IpcError) (b : List ℕ) (meta : Meta) (i : ℕ) (block : FileBlock) (raw : Bool) (start old mid new : Option (List ℕ)) (n : ℕ) (s : Summary) (faults faults' : ℕ) → slice_get meta.blocks i ≡ Some block → Begun b meta raw start old n → SentBlocks b meta (take i meta.blocks) raw start mid s → BlockRefused b meta.schema.fields block raw mid new e faults faults' → Refused e b raw start new
+blocks_refused e b meta i block raw start old mid new n s faults faults' h begun sent (BlockRefused.refused kept refuses) =
     let within : i < length meta.blocks = slice_get_within meta.blocks i block h in
-    let front = front_so_far b meta fs i raw start old mid n s (omega (arith, within)) begun sent in
+    let front = front_so_far b meta i raw start old mid n s (omega (arith, within)) begun sent in
     record {
-      refused = file_refuses e b meta fs i block raw start old mid n s h begun sent (batch_of to_send b (file_asked fs b) block None) refl refuses;
+      refused = block_refuses so_far e b meta (take i meta.blocks) block (drop (i + 1) meta.blocks) sent.batches begun.file (split_at meta.blocks i block h) sent.sent refuses;
       part = front_stays e b «all» (text_of raw) start new (record { bytes = front.bytes; table = front.table; stream = front.stream; added = Appends-kept start mid new (text_of raw front.bytes) front.added kept });
     }
-blocks_refused e b meta fs i block raw start old mid new n s faults faults' h begun sent (BlockRefused.not_put x is_sent put cause) =
+blocks_refused e b meta i block raw start old mid new n s faults faults' h begun sent (BlockRefused.not_put x is_sent put cause) =
+    let fs = meta.schema.fields in
+    let pairs = meta.schema.metadata in
     let within : i < length meta.blocks = slice_get_within meta.blocks i block h in
-    let front = front_so_far b meta fs i raw start old mid n s (omega (arith, within)) begun sent in
+    let front = front_so_far b meta i raw start old mid n s (omega (arith, within)) begun sent in
     let t : take (i + 1) meta.blocks ≡ take i meta.blocks ++ block ∷ [] = take_next meta.blocks i block h in
-    let sent_more = subst (λ l. SentSoFar b fs l (sent.batches ++ x ∷ [])) (sym t) (one_more_sent b fs (take i meta.blocks) block sent.batches x sent.sent is_sent.read is_sent.sent is_sent.fit) in
+    let sent_more = subst (λ l. SentSoFar b fs l (sent.batches ++ x ∷ [])) (sym t) (one_more_sent b fs (take i meta.blocks) block sent.batches x begun.file.schema.no_dictionaries sent.sent is_sent) in
     let count : length (sent.batches ++ x ∷ []) ≡ i + 1 = length-append sent.batches (x ∷ []) ∙ ap (λ k. k + 1) (sent.same ∙ length-take-le i meta.blocks (omega (arith, within))) in
-    let next : IsNext b «all» (written_so_far fs meta.schema.metadata sent.batches ++ batch_bytes x) = record { table = written_table fs meta.schema.metadata (sent.batches ++ x ∷ []); stream = inr (subst (λ y. IsFrontOf b «all» y (written_table fs meta.schema.metadata (sent.batches ++ x ∷ []))) (one_more_batch fs meta.schema.metadata sent.batches x) (front_of b meta fs (i + 1) (sent.batches ++ x ∷ []) begun.file sent_more count)) } in
+    let table = bare_table fs pairs (sent.batches ++ x ∷ []) in
+    let next : IsNext b «all» (written_so_far fs pairs sent.batches ++ batch_bytes x) = record { table = table; stream = inr (subst (λ y. IsFrontOf b «all» y table) (one_more_batch fs pairs sent.batches x) (front_of b meta (i + 1) (sent.batches ++ x ∷ []) begun.file sent_more count)) } in
     record {
       refused = put_refuses e (refusals (file_reading so_far to_send b «all» None)) faults faults' cause;
-      part = piece_refused e b «all» raw start mid new (written_so_far fs meta.schema.metadata sent.batches) (batch_bytes x) faults faults' (inr front) sent.added next put cause;
+      part = piece_refused e b «all» raw start mid new (written_so_far fs pairs sent.batches) (batch_bytes x) faults faults' (inr front) sent.added next put cause;
     }
 
 -- ── as the loop has them ──
 
-abbrev pub SentUpTo : List ℕ → List Block → ℕ → ℕ → Bool → Option (List ℕ) → Option (List ℕ) → ℕ → Summary → Type 0
-SentUpTo b blocks i count raw old new n s = (meta : Meta) (fs : List Int32Field) (start : Option (List ℕ)) → meta.blocks ≡ map file_block blocks → length fs ≡ count → Begun b meta fs raw start old n → SentBlocks b fs meta.schema.metadata (take i meta.blocks) raw start new s
+abbrev pub SentUpTo : List ℕ → Meta → ℕ → Bool → Option (List ℕ) → Option (List ℕ) → ℕ → Summary → Type 0
+SentUpTo b meta i raw old new n s = (start : Option (List ℕ)) → Begun b meta raw start old n → SentBlocks b meta (take i meta.blocks) raw start new s
 
-pub at_index : (blocks : List Block) (i : ℕ) (d : Block) → i < length blocks → slice_get (map file_block blocks) i ≡ Some (file_block (get_or blocks i d))
-at_index blocks i d h = slice_get-map file_block blocks i ∙ ap (option_map file_block) (slice_get-get_or blocks i d h)
+-- a block at its place, by the items that the loop goes over
+pub at_index : (blocks items : List Block) (i : ℕ) (d : Block) → items ≡ blocks → i < length items → slice_get (map file_block blocks) i ≡ Some (file_block (get_or items i d))
+at_index blocks items i d same h = subst (λ l. slice_get (map file_block l) i ≡ Some (file_block (get_or items i d))) same (slice_get-map file_block items i ∙ ap (option_map file_block) (slice_get-get_or items i d h))
 
-pub begun_so_far : (content : Option (List ℕ)) (blocks : List Block) (count : ℕ) (raw : Bool) (old : Option (List ℕ)) (n : ℕ) → IfSome content (λ b. SentUpTo b blocks 0 count raw old old n (record { batches = 0; rows = 0; bytes = n }))
-begun_so_far None blocks count raw old n = tt
-begun_so_far (Some b) blocks count raw old n = λ meta fs start same width begun. blocks_begun b meta fs raw start old n begun
+pub begun_so_far : (content : Option (List ℕ)) (meta : Meta) (raw : Bool) (old : Option (List ℕ)) (n : ℕ) → IfSome content (λ b. SentUpTo b meta 0 raw old old n (record { batches = 0; rows = 0; bytes = n }))
+begun_so_far None meta raw old n = tt
+begun_so_far (Some b) meta raw old n = λ start begun. blocks_begun b meta raw start old n begun
 
-pub more_so_far : (content content' : Option (List ℕ)) (blocks : List Block) (i : ℕ) (block : FileBlock) (count : ℕ) (raw : Bool) (old mid new : Option (List ℕ)) (n : ℕ) (s : Summary) (rows bytes : ℕ) → slice_get (map file_block blocks) i ≡ Some block → content' ≡ content → IfSome content (λ b. SentUpTo b blocks i count raw old mid n s)
-    → IfSome content' (λ b. (fs : List Int32Field) → length fs ≡ count → BlockSent b fs block raw mid new rows bytes) → IfSome content (λ b. (meta : Meta) (fs : List Int32Field) (start : Option (List ℕ)) → meta.blocks ≡ map file_block blocks → length fs ≡ count → Begun b meta fs raw start old n → SentBlocks b fs meta.schema.metadata (take (i + 1) meta.blocks) raw start new (record { batches = s.batches + 1; rows = s.rows + rows; bytes = s.bytes + bytes }))
-more_so_far None content' blocks i block count raw old mid new n s rows bytes h kept sent one = tt
-more_so_far (Some b) content' blocks i block count raw old mid new n s rows bytes h kept sent one = λ meta fs start same width begun. one_more_block b fs meta.schema.metadata meta.blocks block i raw start mid new s rows bytes (ap (λ l. slice_get l i) same ∙ h) (sent meta fs start same width begun) (subst (λ o. IfSome o (λ c. (fs : List Int32Field) → length fs ≡ count → BlockSent c fs block raw mid new rows bytes)) kept one fs width)
+pub more_so_far : (content content' : Option (List ℕ)) (meta : Meta) (i : ℕ) (block : FileBlock) (raw : Bool) (old mid new : Option (List ℕ)) (n : ℕ) (s : Summary) (rows bytes : ℕ) → slice_get meta.blocks i ≡ Some block → content' ≡ content → IfSome content (λ b. SentUpTo b meta i raw old mid n s)
+    → IfSome content' (λ b. BlockSent b meta.schema.fields block raw mid new rows bytes) → IfSome content (λ b. SentUpTo b meta (i + 1) raw old new n (record { batches = s.batches + 1; rows = s.rows + rows; bytes = s.bytes + bytes }))
+more_so_far None content' meta i block raw old mid new n s rows bytes h kept sent one = tt
+more_so_far (Some b) content' meta i block raw old mid new n s rows bytes h kept sent one = λ start begun.
+    one_more_block b meta block i raw start mid new s rows bytes h begun.file.schema.no_dictionaries (sent start begun) (subst (λ o. IfSome o (λ c. BlockSent c meta.schema.fields block raw mid new rows bytes)) kept one)
 
-pub refused_so_far : (e : IpcError) (content content' : Option (List ℕ)) (blocks : List Block) (i : ℕ) (block : FileBlock) (count : ℕ) (raw : Bool) (old mid new : Option (List ℕ)) (n : ℕ) (s : Summary) (faults faults' : ℕ) → slice_get (map file_block blocks) i ≡ Some block → content' ≡ content → IfSome content (λ b. SentUpTo b blocks i count raw old mid n s)
-    → IfSome content' (λ b. (fs : List Int32Field) → length fs ≡ count → BlockRefused b fs block raw mid new e faults faults') → IfSome content (λ b. (meta : Meta) (fs : List Int32Field) (start : Option (List ℕ)) → meta.blocks ≡ map file_block blocks → length fs ≡ count → Begun b meta fs raw start old n → Refused e b raw start new)
-refused_so_far e None content' blocks i block count raw old mid new n s faults faults' h kept sent one = tt
-refused_so_far e (Some b) content' blocks i block count raw old mid new n s faults faults' h kept sent one = λ meta fs start same width begun. blocks_refused e b meta fs i block raw start old mid new n s faults faults' (ap (λ l. slice_get l i) same ∙ h) begun (sent meta fs start same width begun) (subst (λ o. IfSome o (λ c. (fs : List Int32Field) → length fs ≡ count → BlockRefused c fs block raw mid new e faults faults')) kept one fs width)
+pub refused_so_far : (e : IpcError) (content content' : Option (List ℕ)) (meta : Meta) (i : ℕ) (block : FileBlock) (raw : Bool) (old mid new : Option (List ℕ)) (n : ℕ) (s : Summary) (faults faults' : ℕ) → slice_get meta.blocks i ≡ Some block → content' ≡ content → IfSome content (λ b. SentUpTo b meta i raw old mid n s)
+    → IfSome content' (λ b. BlockRefused b meta.schema.fields block raw mid new e faults faults') → IfSome content (λ b. (start : Option (List ℕ)) → Begun b meta raw start old n → Refused e b raw start new)
+refused_so_far e None content' meta i block raw old mid new n s faults faults' h kept sent one = tt
+refused_so_far e (Some b) content' meta i block raw old mid new n s faults faults' h kept sent one = λ start begun.
+    blocks_refused e b meta i block raw start old mid new n s faults faults' h begun (sent start begun) (subst (λ o. IfSome o (λ c. BlockRefused c meta.schema.fields block raw mid new e faults faults')) kept one)
 
-pub all_so_far : (content : Option (List ℕ)) (blocks : List Block) (i count : ℕ) (raw : Bool) (old new : Option (List ℕ)) (n : ℕ) (s : Summary) → length blocks ≤ i → IfSome content (λ b. SentUpTo b blocks i count raw old new n s)
-    → IfSome content (λ b. (meta : Meta) (fs : List Int32Field) (start : Option (List ℕ)) → meta.blocks ≡ map file_block blocks → length fs ≡ count → Begun b meta fs raw start old n → SentBlocks b fs meta.schema.metadata meta.blocks raw start new s)
-all_so_far None blocks i count raw old new n s end sent = tt
-all_so_far (Some b) blocks i count raw old new n s end sent = λ meta fs start same width begun.
-    let long : length meta.blocks ≤ i = rw (same, length-map blocks file_block) end in
-    subst (λ l. SentBlocks b fs meta.schema.metadata l raw start new s) (take_all i meta.blocks long) (sent meta fs start same width begun)
+pub all_so_far : (content : Option (List ℕ)) (meta : Meta) (i : ℕ) (raw : Bool) (old new : Option (List ℕ)) (n : ℕ) (s : Summary) → length meta.blocks ≤ i → IfSome content (λ b. SentUpTo b meta i raw old new n s)
+    → IfSome content (λ b. (start : Option (List ℕ)) → Begun b meta raw start old n → SentBlocks b meta meta.blocks raw start new s)
+all_so_far None meta i raw old new n s end sent = tt
+all_so_far (Some b) meta i raw old new n s end sent = λ start begun. subst (λ l. SentBlocks b meta l raw start new s) (take_all i meta.blocks end) (sent start begun)

@@ -3,7 +3,8 @@ use Rattle.std.proofs.Common.{◌≡◌, ℕ, ◌<◌, ◌^◌, ◌⊎◌, inl, 
 use Rattle.std.specs.Prelude.{IsOk}
 use Rattle.std.specs.Io.KnownBytes.{Consumes}
 use Rattle.arrow_spec.specs.declared.error.IpcError.TheVariants as errors
-use Rattle.arrow_spec.specs.Files.{«all», file_table}
+use Rattle.arrow_spec.specs.Files.{«all»}
+use Rattle.sent_files.specs.Meaning.{file_table}
 use Rattle.arrow_spec.specs.SchemaText.{schema_text_of}
 use Rattle.arrow_spec.specs.Words.{Stream, SchemaAsked, bytes_of_hex}
 use Rattle.ipc_schema.specs.Outside.{Held, Stands}

@@ -2,10 +2,11 @@
 use Rattle.std.proofs.Common.{◌≡◌, ℕ, List, [], ◌∷◌, ◌⊎◌, inl, inr, Option, None, Some, Result, Ok, Err, IfErr, IfSome, IsSome, refl, subst}
 use Rattle.arrow_spec.specs.declared.error.IpcError.{IpcError}
 use Rattle.arrow_spec.specs.declared.error.IpcError.TheVariants as errors
-use Rattle.arrow_spec.specs.Built.{so_far}
+use Rattle.sent_files.specs.Built.{so_far}
 use Rattle.arrow_spec.specs.Readings.{Reading, IsAmong, refusals}
-use Rattle.arrow_spec.specs.Files.{Request, ArrowTable, file_table, file_reading, to_send, may}
-use Rattle.arrow_spec.proofs.Purposes.{sent_or_too_large}
+use Rattle.arrow_spec.specs.Files.{Request, ArrowTable, file_reading, to_send}
+use Rattle.sent_files.specs.Meaning.{file_table, may}
+use Rattle.sent_files.proofs.SoFar.{sent_or_too_large}
 use Rattle.ipc_schema.specs.Outside.{Stands}
 use Rattle.ipc_tool.specs.Transcode.{TranscodeCause, IsSmallRefusal}
 use Rattle.ipc_tool.proofs.Noting.{stood}

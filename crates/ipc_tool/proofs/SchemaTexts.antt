@@ -1,11 +1,13 @@
 -- The text of a file's schema that is printed, or that is not.
 use Rattle.std.proofs.Common.{◌≡◌, ℕ, List, Option, Ok, Err, IfSome, refl, sym, ◌∙◌, ap, subst}
+use Rattle.std.specs.Rc.{rc_value}
 use Rattle.arrow_spec.specs.declared.error.IpcError.{IpcError}
 use Rattle.arrow_spec.specs.declared.error.IpcError.TheVariants as errors
 use Rattle.arrow_spec.specs.Files.{Meta, meta_of}
 use Rattle.arrow_spec.specs.Kinds.{Metadata}
 use Rattle.arrow_spec.specs.Readings.{Reading, Refuses, bind, ◌>>=◌, refusals}
 use Rattle.arrow_spec.specs.SchemaText.{schema_text, schema_text_of}
+use Rattle.arrow_types.specs.Schemas.{Keyed}
 use Rattle.ipc_fields.specs.IpcFields.{ids_of, schema_with}
 use Rattle.ipc_schema.specs.Faults.{put_error}
 use Rattle.ipc_schema.specs.Outside.{Puts}
@@ -46,10 +48,12 @@ print_refused errors.WriteFault content reads reads' writes writes' h c = absurd
 print_refused errors.Memory content reads reads' writes writes' h c = tt
 
 -- the text that was made is the schema's
-pub text_made : (content : Option (List ℕ)) (file : FileMetadata) (pairs : Metadata) (text : List ℕ) → IfSome content (λ b. meta_of b ≡ Ok (meta_view file)) → pairs ≡ (meta_view file).schema.metadata
-    → text ≡ schema_text (schema_with file.schema (ids_of file.ipc_schema.fields.items) file.ipc_schema.is_little_endian pairs) → IfSome content (λ b. schema_text_of b ≡ Ok text)
-text_made content file pairs text h same is =
-    let made : text ≡ schema_text (meta_view file).schema = is ∙ ap (λ ps. schema_text (schema_with file.schema (ids_of file.ipc_schema.fields.items) file.ipc_schema.is_little_endian ps)) same in
+pub text_made : (content : Option (List ℕ)) (file : FileMetadata) (schema : List Keyed) (pairs : Metadata) (text : List ℕ) → IfSome content (λ b. meta_of b ≡ Ok (meta_view file)) → schema ≡ rc_value file.schema → pairs ≡ (meta_view file).schema.metadata
+    → text ≡ schema_text (schema_with schema (ids_of file.ipc_schema.fields.items) file.ipc_schema.is_little_endian pairs) → IfSome content (λ b. schema_text_of b ≡ Ok text)
+text_made content file schema pairs text h shared same is =
+    let ids = ids_of file.ipc_schema.fields.items in
+    let order = file.ipc_schema.is_little_endian in
+    let made : text ≡ schema_text (meta_view file).schema = is ∙ ap (λ s. schema_text (schema_with s ids order pairs)) shared ∙ ap (λ ps. schema_text (schema_with (rc_value file.schema) ids order ps)) same in
     told content _ _ (λ b s m. text_said b (meta_view file) m ∙ ap Ok (sym made)) h
 
 -- a text that was put

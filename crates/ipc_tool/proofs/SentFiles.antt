@@ -1,83 +1,45 @@
--- A file's table that is sent, batch by batch.
-use Rattle.std.proofs.Common.{◌≡◌, inl, ℕ, ◌^◌, ◌<◌, List, length, Option, Some, None, Result, Ok, Err, IfOk, IfErr, IfSome, refl, sym, ap, ◌∙◌, subst, true, false, Bool}
+-- The blocks of a file that are read and sent, as the calls have them.
+use Rattle.std.proofs.Common.{◌≡◌, ℕ, List, [], map, length, Option, Some, None, Result, Ok, Err, IfOk, IfErr, IfSome, refl, subst, true, false, Bool, if◌then◌else◌}
 use Rattle.std.specs.Io.KnownBytes.{Appends, Keeps}
-use Rattle.std.proofs.lemmas.List.{length-map}
+use Rattle.std.specs.List.{AllByRecursion}
+use Rattle.std.proofs.lemmas.Bool.{and_parts}
 use Rattle.arrow_spec.specs.declared.error.IpcError.{IpcError}
 use Rattle.arrow_spec.specs.declared.error.IpcError.TheVariants as errors
-use Rattle.arrow_spec.specs.Readings.{Gives, Refuses, bind, ◌>>=◌, refusals}
-use Rattle.arrow_spec.specs.Messages.{RecordMessage}
+use Rattle.arrow_spec.specs.Readings.{Gives, Refuses, refusals}
 use Rattle.arrow_spec.specs.Counts.{first_place}
-use Rattle.arrow_spec.specs.Files.{FileBlock, batch_of_tables, if_sent, to_read, to_send}
-use Rattle.arrow_spec.specs.Files.{batch_of as batch_at}
+use Rattle.arrow_spec.specs.Flat.{little, big}
+use Rattle.arrow_spec.specs.Kinds.{Fields}
+use Rattle.arrow_spec.specs.Messages.{RecordMessage}
+use Rattle.arrow_spec.specs.Files.{FileBlock, batch_of, to_send}
+use Rattle.arrow_spec.specs.Schema.{is_little}
 use Rattle.arrow_spec.specs.Sent.{may_be_sent}
-use Rattle.arrow_spec.specs.WrittenTables.{AreInt32Columns, Int32Field, batch_bytes, table_batch, written_batch}
-use Rattle.arrow_spec.proofs.SentBatches.{AreRead}
+use Rattle.arrow_arrays.specs.Batches.{Batch}
+use Rattle.arrow_arrays.specs.Parts.{cells_in}
+use Rattle.read_columns.specs.Batches.{columns_read}
+use Rattle.written_columns.specs.Columns.{Means}
+use Rattle.written_columns.specs.Streams.{batch_bytes, written_batch}
+use Rattle.sent_files.specs.Built.{are_flat_fields}
+use Rattle.sent_files.specs.Files.{HeaderFits, asked_of}
 use Rattle.ipc_schema.specs.Outside.{IsSize}
-use Rattle.ipc_tool.specs.Arrays.{column_of, columns_of}
-use Rattle.ipc_tool.specs.BatchReads.{all_asked, batch_in, batch_of, bytes_in}
-use Rattle.ipc_tool.specs.FileBlocks.{BlockIn, block_record}
 use Rattle.ipc_schema.specs.Views.{message_of}
 use Rattle.ipc_schema.specs.declared.message.RecordMessage.{RecordMessage as MessageRead}
-use Rattle.ipc_tool.specs.Sends.{BlockRefused, BlockSent, IsSentBatch, ReadsBlock, body_place, file_asked, written_of}
+use Rattle.ipc_write.specs.Batches.{written_batch_of}
+use Rattle.ipc_read.specs.Batches.{batch_in, batch_reading, table_of}
+use Rattle.ipc_read.specs.Sources.{bytes_in}
+use Rattle.ipc_read.specs.declared.body.Body.{Body}
+use Rattle.ipc_tool.specs.FileBlocks.{BlockIn, block_record}
+use Rattle.ipc_tool.specs.FileViews.{IsBuilt, WasRead, meta_view}
+use Rattle.ipc_tool.specs.Sends.{BlockRead, BlockRefused, BlockSent, ReadsBlock, body_place}
 use Rattle.ipc_tool.specs.Transcode.{PutsText, PutTextCause, text_of}
 use Rattle.ipc_tool.specs.Written.{Writes}
-use Rattle.ipc_tool.specs.declared.ipc_read.body.Body.{Body}
-use Rattle.ipc_tool.specs.declared.ipc_read.batch.RecordBatch.{RecordBatch}
-use Rattle.ipc_tool.proofs.SentBlocks.{block_read, block_sent, message_refused, tables_refuse}
+use Rattle.ipc_tool.specs.declared.ipc_files.metadata.FileMetadata.{FileMetadata}
+use Rattle.ipc_tool.proofs.FlatFields.{let_in}
+use Rattle.ipc_tool.proofs.SentBlocks.{AreFlat, block_read, block_too_large, message_refused, sent_batch}
 
 -- of bytes that are told
 pub told : (content : Option (List ℕ)) (P Q : List ℕ → Type 0) → ((b : List ℕ) → content ≡ Some b → P b → Q b) → IfSome content P → IfSome content Q
 told None P Q f h = tt
 told (Some b) P Q f h = f b refl h
-
--- ── a block that is read ──
-
-abbrev ReadsAll : List ℕ → ℕ → FileBlock → Result RecordBatch IpcError → Type 0
-ReadsAll b count block result = (fs : List Int32Field) → length fs ≡ count → ReadsBlock b fs block result
-
-abbrev GivesAll : List ℕ → ℕ → ℕ → RecordMessage → Body → Result RecordBatch IpcError → Type 0
-GivesAll b count size m body result = (fs : List Int32Field) → length fs ≡ count → Gives batch_of result (batch_of_tables to_read (all_asked fs size) m.version m.tables (bytes_in body b) None)
-
-pub message_err : (content : Option (List ℕ)) (count : ℕ) (block : FileBlock) (result : Result RecordBatch IpcError) (e : IpcError) → result ≡ Err e → IfSome content (λ b. Refuses e (refusals (block_record b block))) → IfSome content (λ b. ReadsAll b count block result)
-message_err content count block result e is h = told content _ _ (λ b s r. λ fs n. rw is (record { read = tt; sent = tt; refused = message_refused e b fs block r })) h
-
-batch_read : (b : List ℕ) (count : ℕ) (block : FileBlock) (m : RecordMessage) (result : Result RecordBatch IpcError) → block_record b block ≡ Ok m → GivesAll b count (length b) m (body_place block) result
-    → IfOk result (λ x. AreRead (batch_in m (bytes_in (body_place block) b)) (columns_of x.columns.items) first_place x.rows) → IfOk result (λ x. length (columns_of x.columns.items) ≡ count) → ReadsAll b count block result
-batch_read b count block m (Ok x) is gives are n = λ fs same.
-    let h = gives fs same in
-    record {
-      read = block_read b fs block m (written_of x) is h;
-      sent = block_sent b fs block m (written_of x) is (same ∙ sym n) are h;
-      refused = tt;
-    }
-batch_read b count block m (Err e) is gives are n = λ fs same. record { read = tt; sent = tt; refused = tables_refuse e b fs block m is (gives fs same) }
-
-pub block_answer : (content content' : Option (List ℕ)) (count size : ℕ) (block : FileBlock) (m : RecordMessage) (body : Body) (result : Result RecordBatch IpcError) → content' ≡ content → body ≡ body_place block → IsSize content size → IfSome content (λ b. block_record b block ≡ Ok m)
-    → IfSome content' (λ b. GivesAll b count size m body result) → IfOk result (λ x. IfSome content' (λ b. AreRead (batch_in m (bytes_in body b)) (columns_of x.columns.items) first_place x.rows)) → IfOk result (λ x. length (columns_of x.columns.items) ≡ count) → IfSome content (λ b. ReadsAll b count block result)
-block_answer None content' count size block m body result same place whole is gives are n = tt
-block_answer (Some b) content' count size block m body result same place whole is gives are n =
-    let g : GivesAll b count (length b) m (body_place block) result = subst (λ k. GivesAll b count k m (body_place block) result) whole (subst (λ p. GivesAll b count size m p result) place (subst (λ o. IfSome o (λ x. GivesAll x count size m body result)) same gives)) in
-    batch_read b count block m result is g (of_result result are) n
-  where
-    of_result : (r : Result RecordBatch IpcError) → IfOk r (λ x. IfSome content' (λ c. AreRead (batch_in m (bytes_in body c)) (columns_of x.columns.items) first_place x.rows)) → IfOk r (λ x. AreRead (batch_in m (bytes_in (body_place block) b)) (columns_of x.columns.items) first_place x.rows)
-    of_result (Ok x) h = subst (λ p. AreRead (batch_in m (bytes_in p b)) (columns_of x.columns.items) first_place x.rows) place (subst (λ o. IfSome o (λ c. AreRead (batch_in m (bytes_in body c)) (columns_of x.columns.items) first_place x.rows)) same h)
-    of_result (Err e) h = tt
-
--- ── a block that is sent ──
-
-sent_batch : (b : List ℕ) (fs : List Int32Field) (count : ℕ) (block : FileBlock) (x : RecordBatch) → length fs ≡ count → ReadsBlock b fs block (Ok x) → length (columns_of x.columns.items) ≡ count → AreInt32Columns x.rows (columns_of x.columns.items) → x.rows < 2 ^ 63 → may_be_sent (written_batch (written_of x)) ≡ true → IsSentBatch b fs block (written_of x)
-unfolding bind
-sent_batch b fs count block x same reads n good few size = record {
-  read = reads.read;
-  sent = reads.sent ∙ ap (λ k. if_sent to_send k >>= λ u. Ok (table_batch (written_of x))) size;
-  fit = record { columns = same ∙ sym n; good = good; few = few; size = size };
-}
-
-abbrev RefusedAll : List ℕ → ℕ → FileBlock → Bool → Option (List ℕ) → Option (List ℕ) → IpcError → ℕ → ℕ → Type 0
-RefusedAll b count block raw old new e faults faults' = (fs : List Int32Field) → length fs ≡ count → BlockRefused b fs block raw old new e faults faults'
-
-abbrev SentAll : List ℕ → ℕ → FileBlock → Bool → Option (List ℕ) → Option (List ℕ) → ℕ → ℕ → Type 0
-SentAll b count block raw old new rows bytes = (fs : List Int32Field) → length fs ≡ count → BlockSent b fs block raw old new rows bytes
 
 pub keeps_same : (o : Option (List ℕ)) → Keeps o o
 keeps_same None = tt
@@ -86,42 +48,22 @@ keeps_same (Some x) = refl
 pub of_err : {A : Type 0} (result : Result A IpcError) (e : IpcError) (P : IpcError → Type 0) → result ≡ Err e → P e → IfErr result P
 of_err result e P is h = rw is h
 
-abbrev NotWritten : IpcError → RecordBatch → Type 0
-NotWritten e x = Writes (Err e) (written_batch (written_of x)) (batch_bytes (written_of x))
+-- ── the fields of a file that is built ──
 
-too_large : (b : List ℕ) (fs : List Int32Field) (count : ℕ) (block : FileBlock) (x : RecordBatch) → ReadsBlock b fs block (Ok x) → may_be_sent (written_batch (written_of x)) ≡ false → Refuses errors.TooLarge (refusals (batch_at to_send b (file_asked fs b) block None))
-unfolding bind
-too_large b fs count block x reads size = rw (reads.sent, size) (inl refl)
+pub flat_file : (file : FileMetadata) → IsBuilt (meta_view file) → WasRead file → AreFlat (meta_view file).schema.fields
+flat_file file built read = record { flat = (let_in file built).flat; fit = read.may.fit }
 
-message_refuses : (e : IpcError) (b : List ℕ) (fs : List Int32Field) (count : ℕ) (block : FileBlock) (x : RecordBatch) → NotWritten e x → ReadsBlock b fs block (Ok x) → Refuses e (refusals (batch_at to_send b (file_asked fs b) block None))
-message_refuses errors.TooLarge b fs count block x w reads = too_large b fs count block x reads w
-message_refuses errors.Memory b fs count block x w reads = tt
-message_refuses errors.ReadFault b fs count block x w reads = absurd w
-message_refuses errors.WriteFault b fs count block x w reads = absurd w
-message_refuses (errors.OutOfSpec kind) b fs count block x w reads = absurd w
-message_refuses (errors.Unsupported feature) b fs count block x w reads = absurd w
-message_refuses errors.TooDeep b fs count block x w reads = absurd w
-message_refuses (errors.TooMany counted) b fs count block x w reads = absurd w
-message_refuses (errors.Projection index) b fs count block x w reads = absurd w
-message_refuses errors.SchemaMismatch b fs count block x w reads = absurd w
-message_refuses (errors.DictionaryReplaced id) b fs count block x w reads = absurd w
-message_refuses errors.NotRepresentable b fs count block x w reads = absurd w
-message_refuses errors.State b fs count block x w reads = absurd w
+as_little : (x : Bool) → is_little (if x then little else big) ≡ true → x ≡ true
+as_little true h = refl
+as_little false h = cc
 
-pub block_not_written : (e : IpcError) (content : Option (List ℕ)) (count : ℕ) (block : FileBlock) (raw : Bool) (old new : Option (List ℕ)) (faults faults' : ℕ) (x : RecordBatch) → Keeps old new → NotWritten e x → IfSome content (λ b. ReadsAll b count block (Ok x)) → IfSome content (λ b. RefusedAll b count block raw old new e faults faults')
-block_not_written e content count block raw old new faults faults' x kept w h = told content _ _ (λ b s r. λ fs n. BlockRefused.refused kept (message_refuses e b fs count block x w (r fs n))) h
+pub little_file : (file : FileMetadata) → IsBuilt (meta_view file) → file.ipc_schema.is_little_endian ≡ true
+little_file file built = as_little file.ipc_schema.is_little_endian (and_parts (is_little (meta_view file).schema.order) (are_flat_fields (meta_view file).schema.fields) built).0
 
-pub block_not_put : (e : IpcError) (content : Option (List ℕ)) (count : ℕ) (block : FileBlock) (raw : Bool) (old new : Option (List ℕ)) (faults faults' : ℕ) (x : RecordBatch) → length (columns_of x.columns.items) ≡ count → AreInt32Columns x.rows (columns_of x.columns.items) → x.rows < 2 ^ 63 → may_be_sent (written_batch (written_of x)) ≡ true
-    → (m : List ℕ) → m ≡ batch_bytes (written_of x) → PutsText old new (Err e) (text_of raw m) → PutTextCause e faults faults' → IfSome content (λ b. ReadsAll b count block (Ok x)) → IfSome content (λ b. RefusedAll b count block raw old new e faults faults')
-block_not_put e content count block raw old new faults faults' x n good few size m is put cause h = told content _ _ (λ b s r. λ fs same. BlockRefused.not_put (written_of x) (sent_batch b fs count block x same (r fs same) n good few size) (subst (λ k. PutsText old new (Err e) (text_of raw k)) is put) cause) h
+-- ── a block that is read ──
 
-pub block_was_sent : (content : Option (List ℕ)) (count : ℕ) (block : FileBlock) (raw : Bool) (old new : Option (List ℕ)) (bytes : ℕ) (x : RecordBatch) → length (columns_of x.columns.items) ≡ count → AreInt32Columns x.rows (columns_of x.columns.items) → x.rows < 2 ^ 63 → may_be_sent (written_batch (written_of x)) ≡ true
-    → (m : List ℕ) → m ≡ batch_bytes (written_of x) → Appends old new (text_of raw m) → bytes ≡ length (batch_bytes (written_of x)) → IfSome content (λ b. ReadsAll b count block (Ok x)) → IfSome content (λ b. SentAll b count block raw old new x.rows bytes)
-block_was_sent content count block raw old new bytes x n good few size m is added long h = told content _ _ (λ b s r. λ fs same. record { batch = written_of x; is_sent = sent_batch b fs count block x same (r fs same) n good few size; added = subst (λ k. Appends old new (text_of raw k)) is added; rows_are = refl; bytes_are = long }) h
-
-pub counted : (count : ℕ) (result : Result RecordBatch IpcError) → IfOk result (λ x. length x.columns.items ≡ count) → IfOk result (λ x. length (columns_of x.columns.items) ≡ count)
-counted count (Ok x) h = length-map x.columns.items column_of ∙ h
-counted count (Err e) h = tt
+pub message_err : (content : Option (List ℕ)) (fs : Fields) (block : FileBlock) (result : Result Batch IpcError) (e : IpcError) → result ≡ Err e → IfSome content (λ b. Refuses e (refusals (block_record b block))) → IfSome content (λ b. ReadsBlock b fs block result)
+message_err content fs block result e is h = told content _ _ (λ b s r. rw is (record { read = tt; refused = message_refused e b fs block r })) h
 
 -- what is said of a block's message, where bytes are told
 pub refused_in : (content : Option (List ℕ)) (block : FileBlock) (e : IpcError) → BlockIn content block (Err e) → IfSome content (λ b. Refuses e (refusals (block_record b block)))
@@ -131,3 +73,73 @@ refused_in (Some b) block e h = h
 pub given_in : (content : Option (List ℕ)) (block : FileBlock) (m : MessageRead) → BlockIn content block (Ok m) → IfSome content (λ b. block_record b block ≡ Ok (message_of m))
 given_in None block m h = tt
 given_in (Some b) block m h = h
+
+abbrev GivesAt : Option (List ℕ) → Bool → Fields → ℕ → RecordMessage → Body → Result Batch IpcError → Type 0
+GivesAt content order fs size m body result = IfSome content (λ b. Gives table_of result (batch_reading order fs size m.version m.tables (bytes_in body b)))
+
+abbrev PartsAt : Option (List ℕ) → Bool → Fields → RecordMessage → Body → Result Batch IpcError → Type 0
+PartsAt content order fs m body result = IfOk result (λ x. IfSome content (λ b. x.arrays ≡ columns_read (batch_in order m.version m.tables (bytes_in body b)) fs first_place x.height))
+
+pub block_answer : (content content' : Option (List ℕ)) (order : Bool) (fs read : Fields) (size : ℕ) (block : FileBlock) (m : RecordMessage) (body : Body) (result : Result Batch IpcError)
+    → are_flat_fields fs ≡ true → order ≡ true → read ≡ fs → content' ≡ content → body ≡ body_place block → IsSize content size → IfSome content (λ b. block_record b block ≡ Ok m) → HeaderFits m.tables
+    → GivesAt content' order read size m body result → PartsAt content' order read m body result → IfSome content (λ b. ReadsBlock b fs block result)
+block_answer None content' order fs read size block m body result flat first same kept place whole is fits gives parts = tt
+block_answer (Some b) content' order fs read size block m body result flat first same kept place whole is fits gives parts =
+    let g1 : GivesAt content' order fs size m body result = subst (λ f. GivesAt content' order f size m body result) same gives in
+    let g2 : GivesAt content' true fs size m body result = subst (λ o. GivesAt content' o fs size m body result) first g1 in
+    let g3 : GivesAt content' true fs (length b) m body result = subst (λ n. GivesAt content' true fs n m body result) whole g2 in
+    let g4 : GivesAt content' true fs (length b) m (body_place block) result = subst (λ p. GivesAt content' true fs (length b) m p result) place g3 in
+    let g5 : GivesAt (Some b) true fs (length b) m (body_place block) result = subst (λ o. GivesAt o true fs (length b) m (body_place block) result) kept g4 in
+    let p1 : PartsAt content' order fs m body result = subst (λ f. PartsAt content' order f m body result) same parts in
+    let p2 : PartsAt content' true fs m body result = subst (λ o. PartsAt content' o fs m body result) first p1 in
+    let p3 : PartsAt content' true fs m (body_place block) result = subst (λ p. PartsAt content' true fs m p result) place p2 in
+    let p4 : PartsAt (Some b) true fs m (body_place block) result = subst (λ o. PartsAt o true fs m (body_place block) result) kept p3 in
+    block_read b fs block m result flat is fits g5 p4
+
+-- ── a block that is sent ──
+
+-- a block that was read, where bytes are told
+abbrev Read : Option (List ℕ) → Fields → FileBlock → Batch → Type 0
+Read content fs block x = IfSome content (λ b. ReadsBlock b fs block (Ok x))
+
+abbrev NotWritten : IpcError → Batch → Type 0
+NotWritten e x = Writes (Err e) (written_batch (written_batch_of x)) (batch_bytes (written_batch_of x))
+
+-- its message was written of columns that mean the batch's cells
+pub record IsWritten (x : Batch) (message : List ℕ) : Type 0 where
+  pub size : may_be_sent (written_batch (written_batch_of x)) ≡ true
+  pub is : message ≡ batch_bytes (written_batch_of x)
+  pub means : AllByRecursion (λ c. Means little [] x.height c) (written_batch_of x).columns
+  pub cells : map (λ c. c.cells) (written_batch_of x).columns ≡ map cells_in x.arrays
+
+message_refuses : (e : IpcError) (b : List ℕ) (fs : Fields) (block : FileBlock) (x : Batch) → AreFlat fs → NotWritten e x → BlockRead b fs block x → Refuses e (refusals (batch_of to_send b (asked_of fs (length b)) block None))
+message_refuses errors.TooLarge b fs block x are w read = block_too_large b fs block x are read w
+message_refuses errors.Memory b fs block x are w read = tt
+message_refuses errors.ReadFault b fs block x are w read = absurd w
+message_refuses errors.WriteFault b fs block x are w read = absurd w
+message_refuses (errors.OutOfSpec kind) b fs block x are w read = absurd w
+message_refuses (errors.Unsupported feature) b fs block x are w read = absurd w
+message_refuses errors.TooDeep b fs block x are w read = absurd w
+message_refuses (errors.TooMany counted) b fs block x are w read = absurd w
+message_refuses (errors.Projection index) b fs block x are w read = absurd w
+message_refuses errors.SchemaMismatch b fs block x are w read = absurd w
+message_refuses (errors.DictionaryReplaced id) b fs block x are w read = absurd w
+message_refuses errors.NotRepresentable b fs block x are w read = absurd w
+message_refuses errors.State b fs block x are w read = absurd w
+
+pub block_not_written : (e : IpcError) (content : Option (List ℕ)) (fs : Fields) (block : FileBlock) (raw : Bool) (old new : Option (List ℕ)) (faults faults' : ℕ) (x : Batch) → AreFlat fs → Keeps old new → NotWritten e x → Read content fs block x → IfSome content (λ b. BlockRefused b fs block raw old new e faults faults')
+block_not_written e content fs block raw old new faults faults' x are kept w h = told content _ _ (λ b s r. BlockRefused.refused kept (message_refuses e b fs block x are w r.read)) h
+
+pub block_not_put : (e : IpcError) (content : Option (List ℕ)) (fs : Fields) (block : FileBlock) (raw : Bool) (old new : Option (List ℕ)) (faults faults' : ℕ) (x : Batch) (m : List ℕ) → AreFlat fs → IsWritten x m → PutsText old new (Err e) (text_of raw m) → PutTextCause e faults faults'
+    → Read content fs block x → IfSome content (λ b. BlockRefused b fs block raw old new e faults faults')
+block_not_put e content fs block raw old new faults faults' x m are w put cause h = told content _ _ (λ b s r. BlockRefused.not_put (written_batch_of x) (sent_batch b fs block x are r.read w.size w.means w.cells) (subst (λ k. PutsText old new (Err e) (text_of raw k)) w.is put) cause) h
+
+pub block_was_sent : (content : Option (List ℕ)) (fs : Fields) (block : FileBlock) (raw : Bool) (old new : Option (List ℕ)) (rows bytes : ℕ) (x : Batch) (m : List ℕ) → AreFlat fs → IsWritten x m → Appends old new (text_of raw m) → rows ≡ x.height → bytes ≡ length (batch_bytes (written_batch_of x))
+    → Read content fs block x → IfSome content (λ b. BlockSent b fs block raw old new rows bytes)
+block_was_sent content fs block raw old new rows bytes x m are w added height long h = told content _ _ (λ b s r. record {
+  batch = written_batch_of x;
+  is_sent = sent_batch b fs block x are r.read w.size w.means w.cells;
+  added = subst (λ k. Appends old new (text_of raw k)) w.is added;
+  rows_are = height;
+  bytes_are = long;
+}) h

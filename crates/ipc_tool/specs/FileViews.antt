@@ -1,20 +1,29 @@
 -- What the values of a file that is read stand for.
-use Rattle.std.specs.Prelude.{◌≡◌, ℕ, map, true, ⊤}
+use Rattle.std.specs.Prelude.{◌≡◌, ℕ, ◌^◌, ◌<◌, map, true, ⊤}
+use Rattle.std.specs.Rc.{rc_value}
 use Rattle.arrow_spec.specs.declared.error.IpcError.{IpcError}
 use Rattle.arrow_spec.specs.declared.error.IpcError.TheVariants.{OutOfSpec, Unsupported, TooMany, TooDeep, ReadFault, Memory}
-use Rattle.arrow_spec.specs.Built.{so_far}
 use Rattle.arrow_spec.specs.Files.{Meta}
-use Rattle.ipc_fields.specs.IpcFields.{schema_view}
+use Rattle.arrow_spec.specs.WrittenSchemas.{SchemaMayBeWritten}
+use Rattle.arrow_types.specs.Schemas.{fields_in}
+use Rattle.ipc_fields.specs.IpcFields.{have_shapes, ids_of, schema_view}
 use Rattle.ipc_schema.specs.Outside.{Rose}
+use Rattle.sent_files.specs.Built.{so_far}
 use Rattle.ipc_tool.specs.FileBlocks.{file_block}
 use Rattle.ipc_tool.specs.declared.ipc_files.metadata.FileMetadata.{FileMetadata}
 
 abbrev pub meta_view : FileMetadata → Meta
-meta_view m = record { schema = schema_view (m.schema, m.ipc_schema, m.custom_metadata); blocks = map file_block m.blocks.items; dictionaries = map file_block m.dictionaries.items }
+meta_view m = record { schema = schema_view (rc_value m.schema, m.ipc_schema, m.custom_metadata); blocks = map file_block m.blocks.items; dictionaries = map file_block m.dictionaries.items }
 
 -- the columns of a file are built, and its byte order is
 abbrev pub IsBuilt : Meta → Type 0
 IsBuilt meta = so_far.chosen meta.schema.order meta.schema.fields ≡ true
+
+-- metadata that was read of bytes: its schema may be written, the IPC fields are those of its schema, and the file's size is below 2^63
+pub record WasRead (m : FileMetadata) : Type 0 where
+  pub may : SchemaMayBeWritten (meta_view m).schema.fields (meta_view m).schema.metadata
+  pub shapes : have_shapes (fields_in (rc_value m.schema)) (ids_of m.ipc_schema.fields.items) ≡ true
+  pub most : m.size < 2 ^ 63
 
 -- why metadata is refused: what the bytes say, want of memory, or a fault of the source
 abbrev pub FileCause : IpcError → ℕ → ℕ → Type 0

@@ -4,9 +4,8 @@ pub mod Transcode
 pub mod SchemaPuts
 pub mod Input
 pub mod Run
-pub mod Arrays
+pub mod Built
 pub mod Written
-pub mod BatchReads
 pub mod FileViews
 pub mod Sends
 pub mod FileBlocks

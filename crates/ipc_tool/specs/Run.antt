@@ -3,7 +3,7 @@ use Rattle.std.specs.Prelude.{◌≡◌, ◌⊎◌, ℕ, List, ⊤, Option, Some
 use Rattle.std.specs.Io.KnownBytes.{Appends, Keeps}
 use Rattle.arrow_spec.specs.declared.error.IpcError.{IpcError}
 use Rattle.arrow_spec.specs.declared.error.IpcError.TheVariants as errors
-use Rattle.arrow_spec.specs.Files.{file_table, may}
+use Rattle.sent_files.specs.Meaning.{file_table, may}
 use Rattle.arrow_spec.specs.Words.{Stream, SchemaAsked, Command, of_stream, of_schema, command_of, bytes_of_hex, shown}
 use Rattle.arrow_spec.specs.SchemaText.{schema_text_of}
 use Rattle.ipc_schema.specs.Outside.{Held, Rose, Stands, Lacks, AppendsPrefix}

@@ -3,47 +3,42 @@ use Rattle.std.specs.Prelude.{◌≡◌, ℕ, ◌+◌, List, [], length, sum_by,
 use Rattle.std.specs.Io.KnownBytes.{Appends, Keeps}
 use Rattle.arrow_spec.specs.declared.error.IpcError.{IpcError}
 use Rattle.arrow_spec.specs.declared.error.IpcError.TheVariants as errors
-use Rattle.arrow_spec.specs.Built.{so_far}
-use Rattle.arrow_spec.specs.Kinds.{Metadata}
-use Rattle.arrow_spec.specs.Readings.{◌>>=◌, Refuses, refusals}
-use Rattle.arrow_spec.specs.Sent.{may_be_sent}
-use Rattle.arrow_spec.specs.Files.{Asked, FileBlock, Meta, «all», batch_of, file_reading, if_sent, to_read, to_send}
-use Rattle.arrow_spec.specs.WrittenTables.{Int32Field, MayBeWritten, WrittenBatch, batch_bytes, table_batch, written_batch, written_so_far}
-use Rattle.arrow_spec.proofs.FirstFiles.{IsFirstFile, SentSoFar}
+use Rattle.arrow_spec.specs.Counts.{first_place}
+use Rattle.arrow_spec.specs.Kinds.{Fields}
+use Rattle.arrow_spec.specs.Readings.{Refuses, refusals}
+use Rattle.arrow_spec.specs.Messages.{RecordMessage}
+use Rattle.arrow_spec.specs.Files.{FileBlock, Meta, «all», batch_of, batch_of_tables, block_body, file_reading, record_batch_of, to_read, to_send}
+use Rattle.arrow_arrays.specs.Batches.{Batch}
+use Rattle.read_columns.specs.Batches.{columns_read}
+use Rattle.written_columns.specs.Streams.{WrittenBatch, batch_bytes, written_so_far}
+use Rattle.sent_files.specs.Built.{so_far}
+use Rattle.sent_files.specs.Files.{HeaderFits, IsSentBatch, IsSentFile, SentSoFar, asked_of}
 use Rattle.ipc_schema.specs.Outside.{Rose}
-use Rattle.ipc_tool.specs.Arrays.{columns_of}
-use Rattle.ipc_tool.specs.BatchReads.{all_asked}
+use Rattle.ipc_read.specs.Batches.{table_of}
+use Rattle.ipc_read.specs.declared.body.Body.{Body}
+use Rattle.ipc_tool.specs.FileBlocks.{block_record}
 use Rattle.ipc_tool.specs.Transcode.{AddsPart, PutsText, PutTextCause, text_of}
 use Rattle.ipc_tool.specs.declared.conversion.Summary.{Summary}
-use Rattle.ipc_tool.specs.declared.ipc_read.body.Body.{Body}
-use Rattle.ipc_tool.specs.declared.ipc_read.batch.RecordBatch.{RecordBatch}
-
--- a batch that was read, as it is written
-abbrev pub written_of : RecordBatch → WrittenBatch
-written_of x = record { rows = x.rows; columns = columns_of x.columns.items }
 
 -- where the body of a block's message stands
 abbrev pub body_place : FileBlock → Body
 body_place block = record { offset = block.offset + block.metadata; length = block.body }
 
--- what is asked of each block of a file
-abbrev pub file_asked : List Int32Field → List ℕ → Asked
-file_asked fs b = all_asked fs (length b)
+-- a block that was read: its message, whose numbers have 64 bits, and the batch and the columns that its tables and its body mean
+pub record BlockRead (b : List ℕ) (fs : Fields) (block : FileBlock) (x : Batch) : Type 0 where
+  pub message : RecordMessage
+  pub is : block_record b block ≡ Ok message
+  pub fits : HeaderFits message.tables
+  pub read : batch_of_tables to_read (asked_of fs (length b)) message.version message.tables (block_body b block) None ≡ Ok (table_of x)
+  pub columns : x.arrays ≡ columns_read (record_batch_of (asked_of fs (length b)) message.version message.tables (block_body b block)) fs first_place x.height
 
--- a block that was read: its batch, and that it is sent where its message may be; or a refusal of the block
-pub record ReadsBlock (b : List ℕ) (fs : List Int32Field) (block : FileBlock) (result : Result RecordBatch IpcError) : Type 0 where
-  pub read : IfOk result (λ x. batch_of to_read b (file_asked fs b) block None ≡ Ok (table_batch (written_of x)))
-  pub sent : IfOk result (λ x. batch_of to_send b (file_asked fs b) block None ≡ (if_sent to_send (may_be_sent (written_batch (written_of x))) >>= λ size. Ok (table_batch (written_of x))))
-  pub refused : IfErr result (λ e. Refuses e (refusals (batch_of to_send b (file_asked fs b) block None)))
-
--- a batch of a block that is sent
-pub record IsSentBatch (b : List ℕ) (fs : List Int32Field) (block : FileBlock) (x : WrittenBatch) : Type 0 where
-  pub read : batch_of to_read b (file_asked fs b) block None ≡ Ok (table_batch x)
-  pub sent : batch_of to_send b (file_asked fs b) block None ≡ Ok (table_batch x)
-  pub fit : MayBeWritten (length fs) x
+-- a block that was read, or a refusal of the block
+pub record ReadsBlock (b : List ℕ) (fs : Fields) (block : FileBlock) (result : Result Batch IpcError) : Type 0 where
+  pub read : IfOk result (λ x. BlockRead b fs block x)
+  pub refused : IfErr result (λ e. Refuses e (refusals (batch_of to_send b (asked_of fs (length b)) block None)))
 
 -- a block that was sent: its message, and how many rows and bytes it has
-pub record BlockSent (b : List ℕ) (fs : List Int32Field) (block : FileBlock) (raw : Bool) (old new : Option (List ℕ)) (rows bytes : ℕ) : Type 0 where
+pub record BlockSent (b : List ℕ) (fs : Fields) (block : FileBlock) (raw : Bool) (old new : Option (List ℕ)) (rows bytes : ℕ) : Type 0 where
   pub batch : WrittenBatch
   pub is_sent : IsSentBatch b fs block batch
   pub added : Appends old new (text_of raw (batch_bytes batch))
@@ -51,8 +46,8 @@ pub record BlockSent (b : List ℕ) (fs : List Int32Field) (block : FileBlock) (
   pub bytes_are : bytes ≡ length (batch_bytes batch)
 
 -- a block that was not sent: it is refused and nothing was put, or its message could not be put
-pub data BlockRefused (b : List ℕ) (fs : List Int32Field) (block : FileBlock) (raw : Bool) (old new : Option (List ℕ)) (e : IpcError) (faults faults' : ℕ) : Type 0 where
-  refused : Keeps old new → Refuses e (refusals (batch_of to_send b (file_asked fs b) block None)) → BlockRefused b fs block raw old new e faults faults'
+pub data BlockRefused (b : List ℕ) (fs : Fields) (block : FileBlock) (raw : Bool) (old new : Option (List ℕ)) (e : IpcError) (faults faults' : ℕ) : Type 0 where
+  refused : Keeps old new → Refuses e (refusals (batch_of to_send b (asked_of fs (length b)) block None)) → BlockRefused b fs block raw old new e faults faults'
   not_put : (x : WrittenBatch) → IsSentBatch b fs block x → PutsText old new (Err e) (text_of raw (batch_bytes x)) → PutTextCause e faults faults' → BlockRefused b fs block raw old new e faults faults'
 
 -- why sending is refused, whatever the source tells
@@ -68,20 +63,20 @@ SendCause errors.Memory reads reads' writes writes' = ⊤
 SendCause e reads reads' writes writes' = ⊥
 
 -- the stream is begun: its schema's message was put
-pub record Begun (b : List ℕ) (meta : Meta) (fs : List Int32Field) (raw : Bool) (start new : Option (List ℕ)) (bytes : ℕ) : Type 0 where
-  pub file : IsFirstFile b meta fs
-  pub added : Appends start new (text_of raw (written_so_far fs meta.schema.metadata []))
-  pub bytes_are : bytes ≡ length (written_so_far fs meta.schema.metadata [])
+pub record Begun (b : List ℕ) (meta : Meta) (raw : Bool) (start new : Option (List ℕ)) (bytes : ℕ) : Type 0 where
+  pub file : IsSentFile so_far b meta
+  pub added : Appends start new (text_of raw (written_so_far meta.schema.fields meta.schema.metadata []))
+  pub bytes_are : bytes ≡ length (written_so_far meta.schema.fields meta.schema.metadata [])
 
 -- the blocks so far were sent, each as a batch, behind the schema's message with its pairs
-pub record SentBlocks (b : List ℕ) (fs : List Int32Field) (pairs : Metadata) (blocks : List FileBlock) (raw : Bool) (start new : Option (List ℕ)) (s : Summary) : Type 0 where
+pub record SentBlocks (b : List ℕ) (meta : Meta) (blocks : List FileBlock) (raw : Bool) (start new : Option (List ℕ)) (s : Summary) : Type 0 where
   pub batches : List WrittenBatch
-  pub sent : SentSoFar b fs blocks batches
+  pub sent : SentSoFar b meta.schema.fields blocks batches
   pub same : length batches ≡ length blocks
-  pub added : Appends start new (text_of raw (written_so_far fs pairs batches))
+  pub added : Appends start new (text_of raw (written_so_far meta.schema.fields meta.schema.metadata batches))
   pub batches_are : s.batches ≡ length batches
   pub rows_are : s.rows ≡ sum_by (λ x. x.rows) batches
-  pub bytes_are : s.bytes ≡ length (written_so_far fs pairs batches)
+  pub bytes_are : s.bytes ≡ length (written_so_far meta.schema.fields meta.schema.metadata batches)
 
 -- what a refusal says of the file's bytes, and what was added
 pub record Refused (e : IpcError) (b : List ℕ) (raw : Bool) (start new : Option (List ℕ)) : Type 0 where

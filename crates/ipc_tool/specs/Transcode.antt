@@ -4,7 +4,8 @@ use Rattle.std.specs.Io.KnownBytes.{Appends, Keeps}
 use Rattle.hex.specs.Hex.{encode_lower}
 use Rattle.arrow_spec.specs.declared.error.IpcError.{IpcError}
 use Rattle.arrow_spec.specs.declared.error.IpcError.TheVariants as errors
-use Rattle.arrow_spec.specs.Files.{Request, ArrowTable, file_part, file_table, may}
+use Rattle.arrow_spec.specs.Files.{Request, ArrowTable}
+use Rattle.sent_files.specs.Meaning.{file_part, file_table, may}
 use Rattle.arrow_spec.specs.Streams.{stream_table, closed}
 use Rattle.ipc_schema.specs.Outside.{AppendsPrefix, Rose}
 use Rattle.ipc_tool.specs.declared.conversion.Summary.{Summary}

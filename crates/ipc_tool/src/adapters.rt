@@ -117,32 +117,3 @@ impl<W: Write> Sink for OutputSink<W> {
         Ok(())
     }
 }
-
-#[cfg(test)]
-mod tests {
-    use super::*;
-    use std::test::Fail;
-
-    #[test]
-    fn a_feed_reads_its_reader(rt: HostRuntime) -> Result<(), Fail> {
-        let mut feed = InputFeed::new(b"abcde".as_slice());
-        let mut out = [0; 3];
-        let cases = [b"abc".as_slice(), b"de".as_slice(), b"".as_slice()];
-        for want in cases {
-            let count = feed.pull(&mut out)?;
-            assert_eq!(rt; &out[..count], want);
-        }
-        Ok(())
-    }
-
-    #[test]
-    fn a_sink_writes_to_its_writer(rt: HostRuntime) -> Result<(), Fail> {
-        let mut sink = OutputSink::new(Vec::new(rt.alloc()));
-        sink.put(b"abc")?;
-        sink.put(b"de")?;
-        let OutputSink { writer, faults } = sink;
-        assert_eq!(rt; writer.as_slice(), b"abcde".as_slice());
-        assert_eq!(rt; faults, 0);
-        Ok(())
-    }
-}

@@ -1,17 +1,54 @@
-//! What of a file is built so far: little-endian files whose columns are all 32-bit integers.
-ghost use Rattle.std.specs.Prelude.{◌≡◌, ◌↔◌, ◌<◌, IsTrue, Some, length, map, slice_get};
-ghost use Rattle.arrow_spec.specs.Built.{are_int_32_fields, is_int_32_field};
-ghost use Rattle.arrow_types.specs.KindOf.{child_of};
+//! What of a file is built so far: little-endian files whose columns all have arrays without children.
+ghost use Rattle.std.specs.Prelude.{◌≡◌, ◌↔◌, ◌<◌, ◌++◌, ◌∷◌, [], IsTrue, None, Some, length, map, slice_get};
+ghost use Rattle.arrow_spec.specs.Columns.{chosen_floats};
+ghost use Rattle.arrow_spec.specs.Readings.{IsAmong};
+ghost use Rattle.arrow_spec.specs.declared.error.IpcError.TheVariants.{Unsupported};
+ghost use Rattle.arrow_spec.specs.declared.error.Feature.TheVariants.{NotYet};
+ghost use Rattle.arrow_types.specs.KindOf.{child_of, kind_of};
 ghost use Rattle.arrow_types.specs.Schemas.{fields_in};
+ghost use Rattle.sent_files.specs.Built.{are_flat_fields, is_flat_kind};
+ghost use Rattle.ipc_tool.specs.Built.{are_built_numbers, is_built_layout};
 ghost use Rattle.ipc_tool.specs.FileViews.{meta_view, IsBuilt};
 
 use crate::ipc_files::FileMetadata;
-use arrow_types::{ArrowDataType, ArrowSchema, Field};
+use arrow_spec::Feature;
+use arrow_types::{ArrowDataType, ArrowSchema, Field, PhysicalType, PrimitiveType};
+use ipc_read::unread_feature;
 
-fn is_int32(field: &Field) -> bool
-    ensures { result ≡ is_int_32_field (child_of field.now).kind }
+/// Whether an array of such numbers is built: floats and decimals of 256 bits are not.
+fn are_built(numbers: PrimitiveType) -> bool
+    ensures { result ≡ are_built_numbers numbers }
 {
-    matches!(field.dtype, ArrowDataType::Int32)
+    !matches!(
+        numbers,
+        PrimitiveType::Float16
+            | PrimitiveType::Float32
+            | PrimitiveType::Float64
+            | PrimitiveType::Int256
+    )
+}
+
+/// Whether an array of a layout is built.
+fn is_built_layout(layout: PhysicalType) -> bool
+    ensures { result ≡ is_built_layout layout }
+{
+    match layout {
+        PhysicalType::Primitive(numbers) => are_built(numbers),
+        PhysicalType::List
+        | PhysicalType::LargeList
+        | PhysicalType::FixedSizeList
+        | PhysicalType::Struct
+        | PhysicalType::Union
+        | PhysicalType::Map
+        | PhysicalType::Dictionary(_) => false,
+        _ => true,
+    }
+}
+
+fn is_flat(dtype: &ArrowDataType) -> bool
+    ensures { result ≡ is_flat_kind (kind_of dtype.now) }
+{
+    is_built_layout(dtype.to_physical_type())
 }
 
 fn field_at(schema: &ArrowSchema, index: usize) -> &Field
@@ -24,11 +61,12 @@ fn field_at(schema: &ArrowSchema, index: usize) -> &Field
     }
 }
 
-fn are_int32(schema: &ArrowSchema) -> bool
-    ensures { result ≡ are_int_32_fields (fields_in schema.now) }
+fn are_flat(schema: &ArrowSchema) -> bool
+    ensures { result ≡ are_flat_fields (fields_in schema.now) }
 {
     for i in 0..schema.len() {
-        if !is_int32(field_at(schema, i)) {
+        let field = field_at(schema, i);
+        if !is_flat(&field.dtype) {
             return false;
         }
     }
@@ -39,5 +77,18 @@ fn are_int32(schema: &ArrowSchema) -> bool
 pub fn is_built(file: &FileMetadata) -> bool
     ensures { IsTrue result ↔ IsBuilt (meta_view file.now) }
 {
-    file.ipc_schema.is_little_endian && are_int32(&file.schema)
+    file.ipc_schema.is_little_endian && are_flat(&file.schema)
+}
+
+/// What is not built of a schema's columns: floats or decimals of 256 bits where one has them, else what is to come.
+pub fn missing_feature(schema: &ArrowSchema) -> Feature
+    ensures { IsAmong (chosen_floats None (fields_in schema.now) 0 ++ Unsupported NotYet ∷ []) (Unsupported result) }
+{
+    for i in 0..schema.len() {
+        let field = field_at(schema, i);
+        if let Some(feature) = unread_feature(&field.dtype) {
+            return feature;
+        }
+    }
+    Feature::NotYet
 }

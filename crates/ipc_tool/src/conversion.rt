@@ -1,6 +1,6 @@
 //! From a file to a stream (Arrow Columnar Format, IPC File Format and IPC Streaming Format).
 ghost use Rattle.std.specs.Prelude.{◌≡◌, ◌≤◌, true, IfOk, IfErr, IfSome, IsSome, option_map};
-ghost use Rattle.arrow_spec.specs.Files.{file_table};
+ghost use Rattle.sent_files.specs.Meaning.{file_table};
 ghost use Rattle.ipc_schema.specs.Outside.{Stands};
 ghost use Rattle.ipc_tool.specs.Transcode.{asked, text_of, Transcodes, AddsPart, TranscodeCause, IsSmallRefusal};
 

@@ -1,25 +1,23 @@
 //! A file's table, sent batch by batch.
-ghost use Rattle.std.specs.Prelude.{◌≡◌, ◌+◌, ◌*◌, ◌^◌, ◌<◌, ◌≤◌, List, [], Option, length, map, IfOk, IfErr, IfSome, Ok, ℕ};
-ghost use Rattle.arrow_spec.specs.Files.{«all», Meta, dictionaries_read, has_any, meta_of};
-ghost use Rattle.arrow_spec.specs.WrittenTables.{AreInt32Columns, Int32Field};
-ghost use Rattle.arrow_spec.proofs.FirstSchemas.{IsInt32Schema};
+ghost use Rattle.std.specs.Prelude.{◌≡◌, ◌+◌, ◌*◌, ◌^◌, ◌<◌, ◌≤◌, List, Option, length, IfOk, IfErr, IfSome, Ok, ℕ};
+ghost use Rattle.arrow_spec.specs.Files.{«all», dictionaries_read, has_any, meta_of};
 ghost use Rattle.ipc_schema.specs.Outside.{IsSize};
-ghost use Rattle.ipc_tool.specs.Arrays.{columns_of};
-ghost use Rattle.ipc_tool.specs.FileBlocks.{file_block};
-ghost use Rattle.ipc_tool.specs.FileViews.{meta_view, FileCause, IsBuilt};
-ghost use Rattle.ipc_tool.specs.Sends.{body_place, Begun, BlockRefused, BlockSent, ReadsBlock, Refused, SendCause, SentBlocks};
 ghost use Rattle.ipc_fields.specs.IpcFields.{metadata_in};
-ghost use Rattle.ipc_tool.specs.Written.{WritesSchema};
+ghost use Rattle.ipc_tool.specs.FileBlocks.{file_block};
+ghost use Rattle.ipc_tool.specs.FileViews.{meta_view, FileCause, IsBuilt, WasRead};
+ghost use Rattle.ipc_tool.specs.Sends.{body_place, Begun, BlockRefused, BlockSent, ReadsBlock, Refused, SendCause, SentBlocks};
 ghost use Rattle.ipc_tool.specs.Transcode.{text_of, Transcodes};
 
-use crate::built::is_built;
+use crate::built::{is_built, missing_feature};
 use crate::conversion::Summary;
+use crate::integers::magnitude;
 use crate::ipc_files::{FileMetadata, read_block_message, read_file_metadata};
-use crate::ipc_read::{Body, RecordBatch, magnitude, read_record_batch};
-use crate::ipc_write::{END_MARK, batch_message, schema_message};
+use crate::messages::{END_MARK, batch_message, schema_message};
 use crate::text::put_text;
+use arrow_arrays::RecordBatch;
 use arrow_spec::{Block, Feature, IpcError};
 use arrow_types::Metadata;
+use ipc_read::{Body, Dictionaries, read_record_batch};
 use ipc_schema::{Sink, Source};
 use std::alloc::Global;
 
@@ -38,23 +36,35 @@ fn read_block<S: Source>(
     alloc: Global,
     source: &mut S,
     block: &Block,
-    field_count: usize,
-    size: u64,
+    file: &FileMetadata,
+    scratch: &mut Vec<u8>,
 ) -> Result<RecordBatch, IpcError>
-    requires most { size < 2 ^ 63 }
-    requires whole { IsSize (S.content source.old) size }
-    ensures gives { IfSome (S.content source.old) (λ b. (fs : List Int32Field) → length fs ≡ field_count → ReadsBlock b fs (file_block block.now) result) }
-    ensures good { IfOk result (λ x. AreInt32Columns x.rows (columns_of x.columns.items)) }
-    ensures few { IfOk result (λ x. x.rows < 2 ^ 63) }
-    ensures columns { IfOk result (λ x. length x.columns.items ≡ field_count) }
+    requires built { IsBuilt (meta_view file.now) }
+    requires read { WasRead file.now }
+    requires whole { IsSize (S.content source.old) file.now.size }
+    ensures gives { IfSome (S.content source.old) (λ b. ReadsBlock b (meta_view file.now).schema.fields (file_block block.now) result) }
+    ensures few { IfOk result (λ x. x.height < 2 ^ 63) }
     ensures cause { IfErr result (λ e. FileCause e (S.faults source.old) (S.faults source.new)) }
     ensures content { S.content source.new ≡ S.content source.old }
     ensures faults { S.faults source.old ≤ S.faults source.new }
     ensures same_source { S.references source.new ≡ S.references source.old }
 {
-    let message = read_block_message(alloc, source, block, size)?;
-    let body = place_of_body(block);
-    read_record_batch(alloc, source, &message, field_count, body, size)
+    let message = read_block_message(alloc, source, block, file.size)?;
+    let dictionaries = Dictionaries::new(alloc);
+    read_record_batch(
+        alloc,
+        &message.header,
+        &file.schema,
+        &file.ipc_schema,
+        None,
+        None,
+        &dictionaries,
+        message.version,
+        source,
+        place_of_body(block),
+        file.size,
+        scratch,
+    )
 }
 
 /// What was sent of a block: its rows, and the bytes of its message.
@@ -70,14 +80,15 @@ fn send_block<S: Source, W: Sink>(
     source: &mut S,
     sink: &mut W,
     block: &Block,
-    field_count: usize,
-    size: u64,
+    file: &FileMetadata,
+    scratch: &mut Vec<u8>,
     raw: bool,
 ) -> Result<SentBlock, IpcError>
-    requires most { size < 2 ^ 63 }
-    requires whole { IsSize (S.content source.old) size }
-    ensures sent { IfOk result (λ s. IfSome (S.content source.old) (λ b. (fs : List Int32Field) → length fs ≡ field_count → BlockSent b fs (file_block block.now) raw (W.written sink.old) (W.written sink.new) s.rows s.bytes)) }
-    ensures refused { IfErr result (λ e. IfSome (S.content source.old) (λ b. (fs : List Int32Field) → length fs ≡ field_count → BlockRefused b fs (file_block block.now) raw (W.written sink.old) (W.written sink.new) e (W.faults sink.old) (W.faults sink.new))) }
+    requires built { IsBuilt (meta_view file.now) }
+    requires read { WasRead file.now }
+    requires whole { IsSize (S.content source.old) file.now.size }
+    ensures sent { IfOk result (λ s. IfSome (S.content source.old) (λ b. BlockSent b (meta_view file.now).schema.fields (file_block block.now) raw (W.written sink.old) (W.written sink.new) s.rows s.bytes)) }
+    ensures refused { IfErr result (λ e. IfSome (S.content source.old) (λ b. BlockRefused b (meta_view file.now).schema.fields (file_block block.now) raw (W.written sink.old) (W.written sink.new) e (W.faults sink.old) (W.faults sink.new))) }
     ensures small { IfOk result (λ s. s.bytes < 2 ^ 63) }
     ensures few { IfOk result (λ s. s.rows < 2 ^ 63) }
     ensures cause { IfErr result (λ e. SendCause e (S.faults source.old) (S.faults source.new) (W.faults sink.old) (W.faults sink.new)) }
@@ -88,9 +99,9 @@ fn send_block<S: Source, W: Sink>(
     ensures same_source { S.references source.new ≡ S.references source.old }
     ensures same_sink { W.references sink.new ≡ W.references sink.old }
 {
-    let batch = read_block(alloc, source, block, field_count, size)?;
-    let rows = batch.rows;
-    let message = batch_message(alloc, rows, &batch.columns)?;
+    let batch = read_block(alloc, source, block, file, scratch)?;
+    let rows = batch.height();
+    let message = batch_message(alloc, &batch)?;
     drop(batch);
     put_text(alloc, sink, &message, raw)?;
     Ok(SentBlock {
@@ -104,19 +115,16 @@ fn send_blocks<S: Source, W: Sink>(
     alloc: Global,
     source: &mut S,
     sink: &mut W,
-    blocks: &[Block],
-    field_count: usize,
-    size: u64,
+    file: &FileMetadata,
     schema_length: usize,
     raw: bool,
 ) -> Result<Summary, IpcError>
-    requires most { size < 2 ^ 63 }
-    requires whole { IsSize (S.content source.old) size }
-    ensures sent { IfOk result (λ s. IfSome (S.content source.old) (λ b. (meta : Meta) (fs : List Int32Field) (start : Option (List ℕ)) → meta.blocks ≡ map file_block blocks.now → length fs ≡ field_count →
-        Begun b meta fs raw start (W.written sink.old) schema_length → SentBlocks b fs meta.schema.metadata meta.blocks raw start (W.written sink.new) s)) }
-    ensures refused { IfErr result (λ e. IfSome (S.content source.old) (λ b. (meta : Meta) (fs : List Int32Field) (start : Option (List ℕ)) → meta.blocks ≡ map file_block blocks.now → length fs ≡ field_count →
-        Begun b meta fs raw start (W.written sink.old) schema_length → Refused e b raw start (W.written sink.new))) }
-    ensures small { IfOk result (λ s. s.bytes ≤ (length blocks.now + 1) * 2 ^ 64) }
+    requires built { IsBuilt (meta_view file.now) }
+    requires read { WasRead file.now }
+    requires whole { IsSize (S.content source.old) file.now.size }
+    ensures sent { IfOk result (λ s. IfSome (S.content source.old) (λ b. (start : Option (List ℕ)) → Begun b (meta_view file.now) raw start (W.written sink.old) schema_length → SentBlocks b (meta_view file.now) (meta_view file.now).blocks raw start (W.written sink.new) s)) }
+    ensures refused { IfErr result (λ e. IfSome (S.content source.old) (λ b. (start : Option (List ℕ)) → Begun b (meta_view file.now) raw start (W.written sink.old) schema_length → Refused e b raw start (W.written sink.new))) }
+    ensures small { IfOk result (λ s. s.bytes ≤ (length file.now.blocks.items + 1) * 2 ^ 64) }
     ensures cause { IfErr result (λ e. SendCause e (S.faults source.old) (S.faults source.new) (W.faults sink.old) (W.faults sink.new)) }
     ensures content { S.content source.new ≡ S.content source.old }
     ensures reads { S.faults source.old ≤ S.faults source.new }
@@ -125,13 +133,14 @@ fn send_blocks<S: Source, W: Sink>(
     ensures same_source { S.references source.new ≡ S.references source.old }
     ensures same_sink { W.references sink.new ≡ W.references sink.old }
 {
+    let mut scratch = Vec::new(alloc);
     let mut summary = Summary {
         batches: 0,
         rows: 0,
         bytes: schema_length as u128,
     };
-    for block in blocks {
-        let sent = send_block(alloc, source, sink, block, field_count, size, raw)?;
+    for block in &file.blocks {
+        let sent = send_block(alloc, source, sink, block, file, &mut scratch, raw)?;
         summary.batches += 1;
         summary.rows += sent.rows as u128;
         summary.bytes += sent.bytes as u128;
@@ -156,14 +165,6 @@ pub(crate) fn metadata_of(file: &FileMetadata) -> Option<&Metadata>
     }
 }
 
-/// The schema's message.
-fn first_message(alloc: Global, file: &FileMetadata) -> Result<Vec<u8>, IpcError>
-    requires { IsBuilt (meta_view file.now) }
-    ensures { WritesSchema result (meta_view file.now).schema.fields (meta_view file.now).schema.metadata }
-{
-    schema_message(alloc, &file.schema, metadata_of(file))
-}
-
 /// Puts the schema's message, and answers how many bytes it has.
 fn begin_stream<W: Sink>(
     alloc: Global,
@@ -172,7 +173,8 @@ fn begin_stream<W: Sink>(
     raw: bool,
 ) -> Result<usize, IpcError>
     requires built { IsBuilt (meta_view file.now) }
-    ensures begun { IfOk result (λ n. (b : List ℕ) (fs : List Int32Field) → meta_of b ≡ Ok (meta_view file.now) → IsInt32Schema (meta_view file.now).schema fs → Begun b (meta_view file.now) fs raw (W.written sink.old) (W.written sink.new) n) }
+    requires read { WasRead file.now }
+    ensures begun { IfOk result (λ n. (b : List ℕ) → meta_of b ≡ Ok (meta_view file.now) → Begun b (meta_view file.now) raw (W.written sink.old) (W.written sink.new) n) }
     ensures refused { IfErr result (λ e. (b : List ℕ) → meta_of b ≡ Ok (meta_view file.now) → Refused e b raw (W.written sink.old) (W.written sink.new)) }
     ensures small { IfOk result (λ n. n < 2 ^ 63) }
     ensures cause { IfErr result (λ e. SendCause e 0 0 (W.faults sink.old) (W.faults sink.new)) }
@@ -180,7 +182,7 @@ fn begin_stream<W: Sink>(
     ensures wants { W.wants sink.old ≤ W.wants sink.new }
     ensures same_sink { W.references sink.new ≡ W.references sink.old }
 {
-    let message = first_message(alloc, file)?;
+    let message = schema_message(alloc, file)?;
     if reads_dictionaries(file) {
         return Err(IpcError::Unsupported(Feature::NotYet));
     }
@@ -197,7 +199,7 @@ fn send_table<S: Source, W: Sink>(
     raw: bool,
 ) -> Result<Summary, IpcError>
     requires built { IsBuilt (meta_view file.now) }
-    requires most { file.now.size < 2 ^ 63 }
+    requires read { WasRead file.now }
     requires whole { IsSize (S.content source.old) file.now.size }
     ensures whole { IfOk result (λ s. IfSome (S.content source.old) (λ b. meta_of b ≡ Ok (meta_view file.now) → Transcodes s b «all» (text_of raw) (W.written sink.old) (W.written sink.new))) }
     ensures refused { IfErr result (λ e. IfSome (S.content source.old) (λ b. meta_of b ≡ Ok (meta_view file.now) → Refused e b raw (W.written sink.old) (W.written sink.new))) }
@@ -210,17 +212,7 @@ fn send_table<S: Source, W: Sink>(
     ensures same_sink { W.references sink.new ≡ W.references sink.old }
 {
     let begun = begin_stream(alloc, sink, file, raw)?;
-    let count = file.schema.len();
-    let mut summary = send_blocks(
-        alloc,
-        source,
-        sink,
-        &file.blocks,
-        count,
-        file.size,
-        begun,
-        raw,
-    )?;
+    let mut summary = send_blocks(alloc, source, sink, file, begun, raw)?;
     put_text(alloc, sink, &END_MARK, raw)?;
     summary.bytes += 8;
     Ok(summary)
@@ -245,7 +237,7 @@ pub(crate) fn send_file<S: Source, W: Sink>(
 {
     let file = read_file_metadata(alloc, source)?;
     if !is_built(&file) {
-        return Err(IpcError::Unsupported(Feature::NotYet));
+        return Err(IpcError::Unsupported(missing_feature(&file.schema)));
     }
     send_table(alloc, source, sink, &file, raw)
 }

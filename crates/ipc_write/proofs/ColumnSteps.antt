@@ -46,7 +46,7 @@ map_behind : {A B : Type 0} (f : A → B) (xs ys : List A) → map f (xs ++ ys) 
 map_behind f [] ys = refl
 map_behind f (x ∷ xs) ys = ap (λ t. f x ∷ t) (map_behind f xs ys)
 
-aligned_end : (ns : List ℕ) (at : ℕ) → at % 64 ≡ 0 → body_of at ns % 64 ≡ 0
+pub aligned_end : (ns : List ℕ) (at : ℕ) → at % 64 ≡ 0 → body_of at ns % 64 ≡ 0
 aligned_end [] at h = h
 aligned_end (n ∷ ns) at h = aligned_end ns (up_to 64 (at + n)) (omega arith)
 

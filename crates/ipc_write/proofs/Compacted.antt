@@ -17,7 +17,7 @@ use Rattle.arrow_buffers.proofs.Parts.{shift-from_on}
 use Rattle.arrow_buffers.proofs.Fixed.{quotient}
 use Rattle.arrow_buffers.proofs.Rows.{none_below, none_from, fine_here, null_here}
 use Rattle.arrow_buffers.proofs.ViewParts.{Seen, view_sound, good_row}
-use Rattle.arrow_arrays.specs.Parts.{Parts, nulls, bits, numbers, fixed, binary, text, binary_views, text_views, cells_in, fault_in}
+use Rattle.arrow_arrays.specs.Parts.{Parts, nulls, bits, numbers, fixed, binary, text, binary_views, text_views, rows_in, cells_in, fault_in}
 use Rattle.arrow_arrays.proofs.PieceLaws.{Viewed}
 use Rattle.ipc_write.specs.Compaction.{laid_from, laid_anew, compacted, is_compacted, top, top_views, value_at, value_length}
 use Rattle.ipc_write.specs.Laying.{LaidFits, ColumnFits}
@@ -195,3 +195,21 @@ top_sound (numbers f) e fits = e
 top_sound (fixed f) e fits = e
 top_sound (binary p) e fits = e
 top_sound (text p) e fits = e
+
+top_views_rows : (is_text suits : Bool) (p : Views) → view_fault is_text suits p ≡ None → (is_compacted p ≡ true → LaidFits p) → view_rows (top_views p).views ≡ view_rows p.views
+top_views_rows is_text suits p e fits =
+    elim (cases_Bool (is_compacted p)) [
+      | inl c ↦ rw c (anew is_text suits p e (fits c)).rows
+      | inr c ↦ rw c refl
+    ]
+
+-- and has as many rows
+pub top_rows : (p : Parts) → fault_in p ≡ None → ColumnFits p → rows_in (top p) ≡ rows_in p
+top_rows (binary_views p) e fits = top_views_rows false (is_view false (physical_of p.kind)) p e fits
+top_rows (text_views p) e fits = top_views_rows true (is_view true (physical_of p.kind)) p e fits
+top_rows (nulls n) e fits = refl
+top_rows (bits f) e fits = refl
+top_rows (numbers f) e fits = refl
+top_rows (fixed f) e fits = refl
+top_rows (binary p) e fits = refl
+top_rows (text p) e fits = refl

@@ -8,7 +8,7 @@ use Rattle.arrow_spec.specs.Flat.{little}
 use Rattle.arrow_spec.specs.Kinds.{Kind, binary, utf8, small, large, extension, «list», Offsets}
 use Rattle.arrow_spec.specs.Counts.{magnitude}
 use Rattle.arrow_spec.specs.Columns.{offset_width}
-use Rattle.arrow_spec.specs.WrittenTables.{validity_bytes}
+use Rattle.arrow_spec.specs.Framing.{validity_bytes}
 use Rattle.arrow_spec.specs.Framing.{packed}
 use Rattle.arrow_spec.proofs.PackedBits.{length-packed}
 use Rattle.arrow_spec.proofs.Bodies.{body_above}

@@ -7,3 +7,6 @@ mod Messages
 pub mod CompactedViews
 pub mod CompactedRows
 pub mod Compacted
+mod Meanings
+pub mod Written
+mod SameRecords

@@ -8,7 +8,9 @@ use Rattle.arrow_spec.specs.Framing.{body_bytes}
 use Rattle.arrow_spec.specs.Sent.{SentMessage, message, batch_node, all_written}
 use Rattle.arrow_arrays.specs.Batches.{Batch}
 use Rattle.arrow_arrays.specs.Parts.{Parts}
-use Rattle.array_writer.specs.Pieces.{written_in, pieces_in}
+use Rattle.written_columns.specs.Columns.{WrittenColumn}
+use Rattle.written_columns.specs.Streams.{WrittenBatch}
+use Rattle.array_writer.specs.Pieces.{written_in, pieces_in, column_in}
 use Rattle.ipc_write.specs.Compaction.{top}
 
 -- what columns are written with
@@ -30,3 +32,10 @@ batch_message b = message 3 (batch_node b.height (columns_written b.arrays)) (le
 -- its padded metadata is within a limit, and its rows and its body are below 2^63
 unfoldable pub is_within : ℕ → Batch → Bool
 is_within limit b = nat_le (up_to 8 (size (batch_message b).node)) (min limit 2147483647) && nat_le (batch_message b).body 9223372036854775807 && nat_le b.height 9223372036854775807
+
+-- a top column as it is written, and a batch of them
+abbrev pub top_column : Parts → WrittenColumn
+top_column p = column_in little (top p)
+
+abbrev pub written_batch_of : Batch → WrittenBatch
+written_batch_of b = record { rows = b.height; columns = map top_column b.arrays }

@@ -1,5 +1,6 @@
 -- Columns that are added one behind another.
 use Rattle.std.specs.Prelude.{◌≡◌, ℕ, ◌^◌, ◌<◌, ◌≤◌, List, [], ◌∷◌, length, map, ⊤, Option, Some, None, Result, Ok, Err, true, false, pos}
+use Rattle.std.specs.List.{AllByRecursion}
 use Rattle.arrow_spec.specs.declared.error.IpcError.{IpcError}
 use Rattle.arrow_spec.specs.declared.error.IpcError.TheVariants as errors
 use Rattle.arrow_spec.specs.Flat.{little}
@@ -7,9 +8,10 @@ use Rattle.arrow_spec.specs.Framing.{body_bytes}
 use Rattle.arrow_spec.specs.Sent.{placed}
 use Rattle.arrow_spec.specs.Layout.{layout}
 use Rattle.arrow_arrays.specs.Batches.{Batch}
-use Rattle.arrow_arrays.specs.Parts.{Parts, rows_in}
+use Rattle.arrow_arrays.specs.Parts.{Parts, rows_in, cells_in}
+use Rattle.written_columns.specs.Columns.{Means}
 use Rattle.array_writer.specs.Outputs.{Outputs, outputs, written_behind}
-use Rattle.ipc_write.specs.Batches.{columns_written, columns_pieces, batch_message, batch_body, is_within}
+use Rattle.ipc_write.specs.Batches.{columns_written, columns_pieces, batch_message, batch_body, is_within, top_column}
 use Rattle.ipc_write.specs.Compaction.{top}
 use Rattle.ipc_write.specs.Ends.{end_of_array}
 use Rattle.ipc_write.specs.declared.columns.Columns.{Columns}
@@ -43,6 +45,15 @@ Adds (Err e) p before now = ⊥
 abbrev pub IsTop : Parts → Option Parts → Type 0
 IsTop p None = top p ≡ p
 IsTop p (Some q) = (q ≡ top p) × (rows_in q < 2 ^ 63)
+
+-- what a top column is written as means the cells of its array
+pub record TopMeans (rows : ℕ) (p : Parts) : Type 0 where
+  pub means : Means little [] rows (top_column p)
+  pub cells : cells_in (top p) ≡ cells_in p
+
+-- the same of each of several
+abbrev pub AllMean : ℕ → List Parts → Type 0
+AllMean rows ps = AllByRecursion (λ p. TopMeans rows p) ps
 
 -- columns have been written, or their body passes 2^63 - 1, or memory was wanted
 abbrev pub WritesColumns : Result Columns IpcError → List Parts → Type 0

@@ -6,3 +6,5 @@ pub mod Laying
 pub mod Compaction
 pub mod Batches
 pub mod Outcomes
+pub mod RecordCode
+pub mod Records

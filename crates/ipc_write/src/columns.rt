@@ -1,11 +1,15 @@
 //! Columns to nodes, buffers and a body (Arrow Columnar Format, "RecordBatch message").
-ghost use Rattle.std.specs.Prelude.{◌≡◌, ◌%◌, ◌^◌, ◌<◌, length, true, IfOk};
+ghost use Rattle.std.specs.Prelude.{◌≡◌, ◌%◌, ◌^◌, ◌<◌, [], length, true, IfOk};
 ghost use Rattle.std.specs.Option.{option_map};
+ghost use Rattle.arrow_spec.specs.Flat.{little};
 ghost use Rattle.arrow_arrays.specs.Batches.{have_rows};
 ghost use Rattle.arrow_arrays.specs.Parts.{rows_in};
 ghost use Rattle.arrow_arrays.specs.PartsOf.{parts_of, all_parts_of};
+ghost use Rattle.written_columns.specs.Columns.{Means};
+ghost use Rattle.array_writer.specs.Pieces.{column_in};
 ghost use Rattle.ipc_write.specs.Compaction.{top};
-ghost use Rattle.ipc_write.specs.Encoding.{outputs_of, Adds, IsTop, WritesColumns};
+ghost use Rattle.ipc_write.specs.Laying.{ColumnFits};
+ghost use Rattle.ipc_write.specs.Encoding.{outputs_of, Adds, AllMean, IsTop, TopMeans, WritesColumns};
 
 use crate::compaction::compact;
 use crate::ends::array_end;
@@ -25,7 +29,8 @@ pub(crate) struct Columns {
 
 /// The array that stands for a top column, where it is another.
 fn top_array(alloc: Global, array: &Array) -> Result<Option<Array>, AllocError>
-    ensures { IfOk result (λ o. IsTop (parts_of array.now) (option_map parts_of o)) }
+    ensures top { IfOk result (λ o. IsTop (parts_of array.now) (option_map parts_of o)) }
+    ensures fits { IfOk result (λ _. ColumnFits (parts_of array.now)) }
 {
     match array {
         Array::BinaryView(views) => match compact(alloc, views)? {
@@ -44,7 +49,8 @@ fn top_array(alloc: Global, array: &Array) -> Result<Option<Array>, AllocError>
 fn add_array(array: &Array, columns: &mut Columns) -> Result<(), IpcError>
     requires few { rows_in (parts_of array.now) < 2 ^ 63 }
     requires aligned { length columns.old.body.items % 64 ≡ 0 }
-    ensures { Adds result (parts_of array.now) (outputs_of columns.old) (outputs_of columns.new) }
+    ensures adds { Adds result (parts_of array.now) (outputs_of columns.old) (outputs_of columns.new) }
+    ensures means { IfOk result (λ _. Means little [] (rows_in (parts_of array.now)) (column_in little (parts_of array.now))) }
 {
     if array_end(columns.body.len(), array).is_none() {
         return Err(IpcError::TooLarge);
@@ -65,8 +71,10 @@ fn add_array(array: &Array, columns: &mut Columns) -> Result<(), IpcError>
 fn add_column(alloc: Global, array: &Array, columns: &mut Columns) -> Result<(), IpcError>
     requires few { rows_in (parts_of array.now) < 2 ^ 63 }
     requires aligned { length columns.old.body.items % 64 ≡ 0 }
-    ensures { Adds result (top (parts_of array.now)) (outputs_of columns.old) (outputs_of columns.new) }
+    ensures adds { Adds result (top (parts_of array.now)) (outputs_of columns.old) (outputs_of columns.new) }
+    ensures means { IfOk result (λ _. TopMeans (rows_in (parts_of array.now)) (parts_of array.now)) }
 {
+    let _rows = array.len();
     match top_array(alloc, array) {
         Ok(Some(compacted)) => add_array(&compacted, columns),
         Ok(None) => add_array(array, columns),
@@ -82,7 +90,8 @@ pub(crate) fn write_columns(
 ) -> Result<Columns, IpcError>
     requires few { height < 2 ^ 63 }
     requires heights { have_rows height (all_parts_of arrays.now) ≡ true }
-    ensures { WritesColumns result (all_parts_of arrays.now) }
+    ensures written { WritesColumns result (all_parts_of arrays.now) }
+    ensures means { IfOk result (λ _. AllMean height (all_parts_of arrays.now)) }
 {
     let mut columns = Columns {
         nodes: Vec::new(alloc),

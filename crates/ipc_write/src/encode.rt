@@ -1,5 +1,11 @@
 //! Record batches to messages (Arrow Columnar Format, "RecordBatch message").
-ghost use Rattle.ipc_write.specs.Encoding.{Makes};
+ghost use Rattle.std.specs.Prelude.{◌≡◌, [], map, IfOk};
+ghost use Rattle.std.specs.List.{AllByRecursion};
+ghost use Rattle.arrow_spec.specs.Flat.{little};
+ghost use Rattle.arrow_arrays.specs.Parts.{cells_in};
+ghost use Rattle.written_columns.specs.Columns.{Means};
+ghost use Rattle.ipc_write.specs.Batches.{written_batch_of};
+ghost use Rattle.ipc_write.specs.Encoding.{AllMean, Makes};
 ghost use Rattle.ipc_write.specs.Outcomes.{Encodes};
 
 use crate::columns::{Columns, write_columns};
@@ -17,7 +23,8 @@ const MOST_METADATA: usize = 0x7fff_ffff;
 
 /// The message of a batch whose padded metadata is within a limit.
 fn batch_message(alloc: Global, batch: &RecordBatch, limit: usize) -> Result<EncodedData, IpcError>
-    ensures { Makes result limit batch.now }
+    ensures makes { Makes result limit batch.now }
+    ensures means { IfOk result (λ _. AllMean batch.now.height batch.now.arrays) }
 {
     let rows = batch.height();
     if rows > MOST_ROWS {
@@ -55,7 +62,10 @@ pub fn encode_record_batch(
     options: &WriteOptions,
     encoded: &mut EncodedData,
 ) -> Result<(), IpcError>
-    ensures { Encodes result options.now batch.now encoded.old encoded.new }
+    ensures encodes { Encodes result options.now batch.now encoded.old encoded.new }
+    // What was written means the cells of the batch.
+    ensures means { IfOk result (λ _. AllByRecursion (λ c. Means little [] batch.now.height c) (written_batch_of batch.now).columns) }
+    ensures cells { IfOk result (λ _. map (λ c. c.cells) (written_batch_of batch.now).columns ≡ map cells_in batch.now.arrays) }
 {
     if options.compression.is_some() {
         return Err(IpcError::Unsupported(Feature::Compression));

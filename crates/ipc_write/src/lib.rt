@@ -9,12 +9,11 @@ mod ends;
 mod frame;
 mod metadata;
 mod options;
+mod record;
 
 pub use array_writer::write;
 pub use encode::encode_record_batch;
 pub use encoded::EncodedData;
 pub use frame::{pad_to_64, write_continuation, write_message};
 pub use options::{Compression, WriteOptions};
-
-#[cfg(test)]
-mod tests;
+pub use record::Record;

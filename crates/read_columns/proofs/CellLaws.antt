@@ -11,14 +11,14 @@ use Rattle.arrow_spec.specs.Columns as spec
 use Rattle.arrow_spec.specs.Columns.{Dictionaries, buf, bit, valid, if_valid, cell, from_on, cause, if_sound, some_valid_row, node_faults, validity_faults, fixed_faults, view_parts_faults, bad_view_faults, views_faults, view_text_faults, view_of, array_faults}
 use Rattle.arrow_spec.specs.Laws.{AreBytes}
 use Rattle.arrow_spec.proofs.Fewer.{cause-none, none_first, none_second, sound_first, sound_second, some_row-none}
-use Rattle.arrow_types.specs.Physical.{physical_of}
+use Rattle.arrow_types.specs.Physical.{primitive_size, physical_of}
 use Rattle.arrow_types.specs.declared.physical.PrimitiveType.{PrimitiveType}
 use Rattle.arrow_buffers.specs.Rows.{masked}
 use Rattle.arrow_buffers.specs.Flat.{fixed_row}
 use Rattle.arrow_buffers.specs.Variable.{variable_cells, row_bytes}
 use Rattle.arrow_buffers.specs.Views.{view_cells, view_cell, view_at, view_bytes}
 use Rattle.arrow_buffers.proofs.Parts.{shift-from_on}
-use Rattle.arrow_arrays.specs.Parts.{number_size, cells_in, number_cell, layout_cell, primitive_size}
+use Rattle.arrow_arrays.specs.Parts.{number_size, cells_in, number_cell, layout_cell}
 use Rattle.arrow_arrays.specs.FlatKinds.{is_flat_kind}
 use Rattle.read_columns.specs.PartsRead.{parts_in, parts_read, numbers_bytes, bytes_of_rows, validity_read, variable_read, views_read, number_read, item_bytes}
 use Rattle.read_columns.proofs.Buffers.{buf_bytes, take_bytes, part_bytes, map-from_on, numbers_held}

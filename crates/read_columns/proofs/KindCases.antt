@@ -11,12 +11,11 @@ use Rattle.arrow_spec.specs.Cells.{Cell}
 use Rattle.arrow_spec.specs.Counts.{RecordBatch, Place}
 use Rattle.arrow_spec.specs.Columns.{Dictionaries, signed_in, unsigned_in, part_of_row, if_valid, cell, node_faults, fixed_faults, array_faults}
 use Rattle.arrow_spec.specs.Sent.{own, written_part}
-use Rattle.arrow_types.specs.Physical.{physical_of}
+use Rattle.arrow_types.specs.Physical.{primitive_size, physical_of}
 use Rattle.arrow_types.specs.declared.physical.PhysicalType.TheVariants as physical
 use Rattle.arrow_types.specs.declared.physical.PrimitiveType.{PrimitiveType}
 use Rattle.arrow_types.specs.declared.physical.PrimitiveType.TheVariants as primitive
 use Rattle.arrow_buffers.specs.Layouts.{binary_size}
-use Rattle.arrow_arrays.specs.Parts.{primitive_size}
 use Rattle.arrow_arrays.specs.FlatKinds.{is_flat_kind}
 use Rattle.read_columns.specs.LayoutFaults.{buffers_faults, buffers_of}
 

@@ -16,7 +16,8 @@ use Rattle.arrow_types.specs.NumberLaws.{unsigned_back, unsigned_agrees}
 use Rattle.arrow_types.specs.declared.physical.PrimitiveType.{PrimitiveType}
 use Rattle.arrow_types.specs.declared.physical.PrimitiveType.TheVariants as primitive
 use Rattle.arrow_buffers.proofs.Parts.{part-part}
-use Rattle.arrow_arrays.specs.Parts.{as_bytes, primitive_cell, primitive_size}
+use Rattle.arrow_arrays.specs.Parts.{as_bytes, primitive_cell}
+use Rattle.arrow_types.specs.Physical.{primitive_size}
 use Rattle.read_columns.specs.PartsRead.{number_read, item_bytes, primitive_read}
 use Rattle.read_columns.proofs.Buffers.{take_bytes, drop_bytes, map-from_on}
 use Rattle.read_columns.proofs.KindCases.{primitive_at}

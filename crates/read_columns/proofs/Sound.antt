@@ -10,7 +10,7 @@ use Rattle.arrow_spec.specs.Counts.{RecordBatch, Place, count_at}
 use Rattle.arrow_spec.specs.Columns.{buf, range_of, cause, if_sound, is_big, validity_faults, numbers_faults, fixed_faults, offsets_buffer_faults, range_faults, offsets_faults, bytes_faults, utf8_faults, view_parts_faults, view_count_faults, data_faults, bad_view_faults, some_valid_row, view_of}
 use Rattle.arrow_spec.specs.Columns as spec
 use Rattle.arrow_spec.proofs.Fewer.{none_first, none_second, sound_second}
-use Rattle.arrow_types.specs.Physical.{physical_of}
+use Rattle.arrow_types.specs.Physical.{primitive_size, physical_of}
 use Rattle.arrow_types.specs.declared.physical.PhysicalType.TheVariants as physical
 use Rattle.arrow_types.specs.declared.physical.PrimitiveType.{PrimitiveType}
 use Rattle.arrow_buffers.specs.declared.error.ArrayError.TheVariants.{Offsets as BadOffsets, Utf8, View}
@@ -19,7 +19,7 @@ use Rattle.arrow_buffers.specs.Flat.{flat_fault, fixed_fault}
 use Rattle.arrow_buffers.specs.Variable.{are_offsets, has_bad_text, binary_fault, text_fault}
 use Rattle.arrow_buffers.specs.Views.{has_bad_view, has_bad_view_text, view_fault}
 use Rattle.arrow_buffers.proofs.Parts.{length-from_on}
-use Rattle.arrow_arrays.specs.Parts.{numbers, fault_in, primitive_size, number_size}
+use Rattle.arrow_arrays.specs.Parts.{numbers, fault_in, number_size}
 use Rattle.read_columns.specs.PartsRead.{validity_read, primitive_read, fixed_read, variable_read, views_read, bytes_of_rows, number_read, item_bytes}
 use Rattle.read_columns.proofs.Buffers.{numbers_held, all-from_on}
 use Rattle.read_columns.proofs.Validities.{has_rows-read}

@@ -8,12 +8,12 @@ use Rattle.arrow_spec.specs.Counts.{RecordBatch, Place, Written, count_at}
 use Rattle.arrow_spec.specs.Columns.{Dictionaries, buf, bit, has_nulls, signed_in, offset, offset_width, node_faults, view_parts_faults, views_faults, view_text_faults, array_faults}
 use Rattle.arrow_spec.specs.Sent.{own, with_views, lengths_on, validity_length, written_part, written}
 use Rattle.arrow_spec.proofs.Fewer.{none_second, sound_first}
-use Rattle.arrow_types.specs.Physical.{physical_of}
+use Rattle.arrow_types.specs.Physical.{primitive_size, physical_of}
 use Rattle.arrow_types.specs.declared.physical.PrimitiveType.{PrimitiveType}
 use Rattle.arrow_buffers.specs.Rows.{null_rows}
 use Rattle.arrow_buffers.specs.Variable.{place_at, variable_rows}
 use Rattle.arrow_buffers.proofs.Parts.{length-from_on}
-use Rattle.arrow_arrays.specs.Parts.{primitive_size, number_size}
+use Rattle.arrow_arrays.specs.Parts.{number_size}
 use Rattle.arrow_arrays.specs.FlatKinds.{is_flat_kind}
 use Rattle.read_columns.specs.PartsRead.{parts_in, parts_read, bits_read, validity_read, number_read, item_bytes}
 use Rattle.read_columns.specs.WrittenParts.{bits_length, validity_bytes, written_in}

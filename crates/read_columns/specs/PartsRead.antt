@@ -6,7 +6,7 @@ use Rattle.arrow_spec.specs.Kinds.{Kind, Offsets, small, large}
 use Rattle.arrow_spec.specs.Counts.{RecordBatch, Place, count_at}
 use Rattle.arrow_spec.specs.Columns.{buf, has_nulls, from_on, signed_in, offset_width}
 use Rattle.arrow_types.specs.Numbers.{signed_to_bytes, signed_from_bytes, unsigned_to_bytes, unsigned_from_bytes, days_ms_to_bytes, days_ms_from_bytes, months_days_ns_to_bytes, months_days_ns_from_bytes}
-use Rattle.arrow_types.specs.Physical.{physical_of}
+use Rattle.arrow_types.specs.Physical.{primitive_size, physical_of}
 use Rattle.arrow_types.specs.declared.physical.PhysicalType.{PhysicalType}
 use Rattle.arrow_types.specs.declared.physical.PhysicalType.TheVariants as physical
 use Rattle.arrow_types.specs.declared.physical.PrimitiveType.{PrimitiveType}
@@ -16,7 +16,7 @@ use Rattle.arrow_buffers.specs.Layouts.{binary_size}
 use Rattle.arrow_buffers.specs.Flat.{Flat}
 use Rattle.arrow_buffers.specs.Variable.{Variable}
 use Rattle.arrow_buffers.specs.Views.{Views}
-use Rattle.arrow_arrays.specs.Parts.{Parts, nulls, bits, numbers, fixed, binary, text, binary_views, text_views, primitive_size, number_size}
+use Rattle.arrow_arrays.specs.Parts.{Parts, nulls, bits, numbers, fixed, binary, text, binary_views, text_views, number_size}
 
 -- ── validity and values ──
 

@@ -7,7 +7,7 @@ use Rattle.arrow_spec.specs.Kinds.{Fields}
 use Rattle.arrow_spec.specs.Messages.{BatchHeader}
 use Rattle.arrow_spec.specs.Sent.{may_be_sent}
 use Rattle.arrow_spec.specs.Files.{FileBlock, batch_of, batch_of_tables, if_sent, record_batch_of, to_read, to_send}
-pub use Rattle.arrow_spec.proofs.FirstFiles.{tables_refused, tables_sent}
+pub use Rattle.arrow_spec.proofs.SentMessages.{tables_refused, tables_sent}
 use Rattle.written_columns.specs.Streams.{MayBeWritten, WrittenBatch, table_batch, written_batch, written_of}
 use Rattle.written_columns.proofs.SentBatches.{batch_sent}
 use Rattle.sent_files.specs.Files.{HeaderFits, IsReadBatch, IsSentBatch, asked_of}

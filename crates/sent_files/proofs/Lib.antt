@@ -7,3 +7,5 @@ pub mod Streams
 pub mod Refusals
 pub mod Numbers
 pub mod Headers
+pub mod SoFar
+mod BuiltRows

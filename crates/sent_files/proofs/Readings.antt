@@ -11,7 +11,7 @@ use Rattle.arrow_spec.specs.Built.{Built}
 use Rattle.arrow_spec.specs.Columns.{cause, chosen_floats}
 use Rattle.arrow_spec.specs.Sent.{stream_schema, may_be_sent}
 use Rattle.arrow_spec.specs.Files.{ArrowTable, FileBlock, Meta, Purpose, «all», batches_of, dictionaries_of, dictionaries_read, file_reading, has_any, if_sent, meta_of, taken, to_read, to_send}
-pub use Rattle.arrow_spec.proofs.FirstFiles.{on_err}
+pub use Rattle.arrow_spec.proofs.SentMessages.{on_err}
 use Rattle.arrow_spec.proofs.Fewer.{none_first, none_second}
 use Rattle.arrow_spec.proofs.Projection.{on, place-ok}
 use Rattle.arrow_spec.proofs.ReadPairs.{same_read, through}

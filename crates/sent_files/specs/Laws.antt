@@ -1,6 +1,7 @@
 -- What holds of files that are sent. Each statement is the contract of a public function without a body (src/lib.rt).
-use Rattle.std.specs.Prelude.{◌≡◌, ℕ, List, [], ◌∷◌, ◌++◌, length, take, Some, None, Ok, Err, true}
+use Rattle.std.specs.Prelude.{◌≡◌, ◌⊎◌, ℕ, List, [], ◌∷◌, ◌++◌, length, take, Some, None, Ok, Err, true}
 use Rattle.arrow_spec.specs.declared.error.IpcError.{IpcError}
+use Rattle.arrow_spec.specs.declared.error.IpcError.TheVariants.{TooLarge}
 use Rattle.arrow_spec.specs.declared.message.MetadataVersion.{MetadataVersion}
 use Rattle.arrow_spec.specs.Readings.{◌>>=◌, meaning}
 use Rattle.arrow_spec.specs.Flat.{Table, little}
@@ -10,14 +11,20 @@ use Rattle.arrow_spec.specs.Columns.{chosen_floats}
 use Rattle.arrow_spec.specs.Schema.{Schema, schema_of}
 use Rattle.arrow_spec.specs.Messages.{BatchHeader}
 use Rattle.arrow_spec.specs.Sent.{may_be_sent}
-use Rattle.arrow_spec.specs.Files.{FileBlock, Meta, «all», batch_of, batch_of_tables, file_reading, if_sent, record_batch_of, to_read, to_send}
+use Rattle.arrow_spec.specs.Files.{ArrowTable, FileBlock, Meta, Request, «all», batch_of, batch_of_tables, file_reading, if_sent, record_batch_of, to_read, to_send}
 use Rattle.arrow_spec.specs.WrittenSchemas.{AreSizes, sizes_in}
 use Rattle.written_columns.specs.Streams.{MayBeWritten, WrittenBatch, bare_table, table_batch, written_batch, written_so_far, written_stream}
+use Rattle.sent_files.specs.Built.{so_far}
+use Rattle.sent_files.specs.Meaning.{file_table}
 use Rattle.sent_files.specs.Files.{HeaderFits, IsFrontOf, IsReadBatch, IsSendable, IsSentFile, IsStreamOf, SentSoFar, asked_of}
 
 -- A schema that was read, little-endian, of built kinds that can be read and without dictionaries, is one that a stream takes as it is.
 abbrev pub ReadSchemaIsSendable : Type 0
 ReadSchemaIsSendable = (built : Built) (b : List ℕ) (t : Table) (s : Schema) → schema_of b t ≡ Ok s → s.order ≡ little → built.chosen s.order s.fields ≡ true → chosen_floats None s.fields 0 ≡ [] → dictionary_counts s.fields ≡ 0 → AreSizes (sizes_in s.fields) → IsSendable built s
+
+-- So is each schema that was read and is let through so far.
+abbrev pub SchemaSoFarIsSendable : Type 0
+SchemaSoFarIsSendable = (b : List ℕ) (t : Table) (s : Schema) → schema_of b t ≡ Ok s → so_far.chosen s.order s.fields ≡ true → AreSizes (sizes_in s.fields) → IsSendable so_far s
 
 -- A batch that was read may be written where its message may be sent, and there it is sent.
 abbrev pub BatchIsSendable : Type 0
@@ -48,3 +55,13 @@ SentFileIsItsStream = (built : Built) (b : List ℕ) (meta : Meta) (xs : List Wr
 abbrev pub SentBlocksAreAFront : Type 0
 SentBlocksAreAFront = (built : Built) (b : List ℕ) (meta : Meta) (n : ℕ) (xs : List WrittenBatch) → IsSentFile built b meta → SentSoFar b meta.schema.fields (take n meta.blocks) xs → length xs ≡ n
     → IsFrontOf built b (written_so_far meta.schema.fields meta.schema.metadata xs) (bare_table meta.schema.fields meta.schema.metadata xs)
+
+-- ── what is built so far ──
+
+-- A file that means a table can be sent, or a message of it is too large.
+abbrev pub SentOrTooLarge : Type 0
+SentOrTooLarge = (b : List ℕ) (r : Request) (t : ArrowTable) → file_table b r ≡ Some t → (file_reading so_far to_send b r None ≡ Ok t) ⊎ (file_reading so_far to_send b r None ≡ Err (TooLarge ∷ []))
+
+-- What is sent is what the file means.
+abbrev pub SentMeans : Type 0
+SentMeans = (b : List ℕ) (r : Request) (t : ArrowTable) → file_reading so_far to_send b r None ≡ Ok t → file_table b r ≡ Some t

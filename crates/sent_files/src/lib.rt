@@ -1,11 +1,16 @@
 //! Files that are sent as streams: what is read of them and what is written, block by block. Each function's contract is a law, proved in `proofs/`.
 #![tactic(auto)]
 
-ghost use Rattle.sent_files.specs.Laws.{BatchIsSendable, BlockRefusesItsFile, PartOfFileMeansItsTable, ReadSchemaIsSendable, SentBlocksAreAFront, SentFileIsItsStream, WholeFileMeansItsTable};
+ghost use Rattle.sent_files.specs.Laws.{BatchIsSendable, BlockRefusesItsFile, PartOfFileMeansItsTable, ReadSchemaIsSendable, SchemaSoFarIsSendable, SentBlocksAreAFront, SentFileIsItsStream, SentMeans, SentOrTooLarge, WholeFileMeansItsTable};
 
 /// A schema that was read, little-endian and without dictionaries, is one that a stream takes as it is (Arrow Columnar Format, "Schema message").
 pub fn read_schema_is_sendable()
     ensures { ReadSchemaIsSendable }
+{}
+
+/// So is a schema of little-endian columns of flat kinds, which alone is let through so far.
+pub fn schema_so_far_is_sendable()
+    ensures { SchemaSoFarIsSendable }
 {}
 
 /// A batch that was read is sent where its message may be, and may be written there (Arrow Columnar Format, "RecordBatch message").
@@ -36,4 +41,14 @@ pub fn sent_file_is_its_stream()
 /// What is written of the first blocks is a front of a stream that means what they mean.
 pub fn sent_blocks_are_a_front()
     ensures { SentBlocksAreAFront }
+{}
+
+/// A file that means a table is read to be sent as that table, or a message of it is too large.
+pub fn sent_or_too_large()
+    ensures { SentOrTooLarge }
+{}
+
+/// A file that is read to be sent is read as what it means.
+pub fn sent_means()
+    ensures { SentMeans }
 {}

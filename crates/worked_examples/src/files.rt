@@ -1,4 +1,5 @@
 //! Files of one column, in parts, as hex text (Arrow Columnar Format, "IPC File Format").
+use crate::kinds::Piece;
 use std::alloc::Global;
 use std::test::Fail;
 
@@ -50,6 +51,8 @@ pub(crate) enum Part {
     NotHex,
     /// A digit.
     HalfByte,
+    /// A part of a file of other columns.
+    Kind(Piece),
 }
 
 impl Part {
@@ -95,6 +98,7 @@ impl Part {
             Part::WhiteSpace => b" \t\x0c\r\n",
             Part::NotHex => b"4G",
             Part::HalfByte => b"4",
+            Part::Kind(piece) => piece.text(),
         }
     }
 }

@@ -2,7 +2,11 @@
 #![tactic(auto)]
 
 #[cfg(test)]
+mod adapters;
+#[cfg(test)]
 mod files;
+#[cfg(test)]
+mod kinds;
 #[cfg(test)]
 mod runs;
 #[cfg(test)]

@@ -1,5 +1,6 @@
 //! Runs over memory, from words to status.
 use crate::files::{ONE_COLUMN, Part, text_of};
+use crate::kinds::{FLOATS, NULLS, Piece, STRINGS, THREE};
 use ipc_schema::{MemoryFeed, MemoryShelf, MemorySink};
 use ipc_tool::run;
 use std::alloc::Global;
@@ -146,6 +147,37 @@ const CASES: &[Case] = &[
     },
 ];
 
+const OF_KINDS: &[Case] = &[
+    Case {
+        title: "integers of 32 bits, texts, and integers of 64 bits",
+        input: THREE,
+        text: &[Part::Kind(Piece::Three), Part::EndMark, Part::LineFeed],
+        added: 1601,
+        ..WHOLE
+    },
+    Case {
+        title: "byte strings and texts of each layout, and extensions",
+        input: STRINGS,
+        text: &[Part::Kind(Piece::Strings), Part::EndMark, Part::LineFeed],
+        added: 6417,
+        ..WHOLE
+    },
+    Case {
+        title: "many nulls",
+        input: NULLS,
+        text: &[Part::Kind(Piece::Nulls), Part::EndMark, Part::LineFeed],
+        added: 465,
+        ..WHOLE
+    },
+    Case {
+        title: "floats are not read",
+        input: FLOATS,
+        status: 2,
+        notes: b"refused 2 Float\n",
+        ..REFUSED
+    },
+];
+
 const OF_SCHEMAS: &[Case] = &[
     Case {
         title: "the schema of one column",
@@ -198,6 +230,11 @@ fn run_cases(rt: &impl Abort, alloc: Global, cases: &[Case]) -> Result<(), Fail>
 #[test]
 fn a_run_gives_its_text_its_status_and_its_note(rt: HostRuntime) -> Result<(), Fail> {
     run_cases(&rt, rt.alloc(), CASES)
+}
+
+#[test]
+fn a_run_gives_the_text_of_each_kind(rt: HostRuntime) -> Result<(), Fail> {
+    run_cases(&rt, rt.alloc(), OF_KINDS)
 }
 
 #[test]

@@ -2,9 +2,15 @@
 use crate::files::{
     ONE_COLUMN, ONE_COLUMN_STREAM, Part, TWO_BATCHES, TWO_BATCHES_STREAM, bytes_of,
 };
+use crate::kinds::{
+    ANEW, ANEW_STREAM, FLOATS, KEPT, KEPT_STREAM, NULLS, NULLS_STREAM, NUMBERS, NUMBERS_STREAM,
+    SLICED, SLICED_STREAM, STRINGS, STRINGS_STREAM, THREE, THREE_STREAM, TIMES, TIMES_STREAM,
+    VIEWS, VIEWS_STREAM, WASTE, WASTE_STREAM,
+};
 use ipc_schema::{Feature, IpcError, MemorySink, MemorySource, OutOfSpecKind};
 use ipc_tool::{Summary, transcode};
 use std::alloc::Global;
+use std::process::Abort;
 use std::test::Fail;
 
 // A file's first `length` bytes with some of them changed, and the first `added` bytes of a stream.
@@ -201,6 +207,181 @@ const CASES: &[Case] = &[
     },
 ];
 
+const THREE_COLUMNS: Case = Case {
+    title: "integers of 32 bits, texts, and integers of 64 bits",
+    file: THREE,
+    length: 1130,
+    answer: Ok(Summary {
+        batches: 1,
+        rows: 2,
+        bytes: 800,
+    }),
+    stream: THREE_STREAM,
+    added: 800,
+    ..WHOLE
+};
+
+const ONE_VIEW: Case = Case {
+    title: "a view of 13 bytes, of which 12 more are unused",
+    file: KEPT,
+    length: 618,
+    answer: Ok(Summary {
+        batches: 1,
+        rows: 1,
+        bytes: 440,
+    }),
+    stream: KEPT_STREAM,
+    added: 440,
+    ..WHOLE
+};
+
+const A_PART: Case = Case {
+    title: "offsets that begin behind 0 are counted from the first, and bits past the end are 0",
+    file: SLICED,
+    length: 794,
+    answer: Ok(Summary {
+        batches: 1,
+        rows: 4,
+        bytes: 808,
+    }),
+    stream: SLICED_STREAM,
+    added: 808,
+    ..WHOLE
+};
+
+const OF_NUMBERS: Case = Case {
+    title: "nulls, truth values, integers and decimals",
+    file: NUMBERS,
+    length: 3706,
+    answer: Ok(Summary {
+        batches: 1,
+        rows: 3,
+        bytes: 2768,
+    }),
+    stream: NUMBERS_STREAM,
+    added: 2768,
+    ..WHOLE
+};
+
+const OF_KINDS: &[Case] = &[
+    THREE_COLUMNS,
+    ONE_VIEW,
+    A_PART,
+    OF_NUMBERS,
+    Case {
+        title: "bits past the end of a validity and of truth values",
+        changes: &[(1552, 0b1010_1101), (1616, 0b1111_1101)],
+        ..OF_NUMBERS
+    },
+    Case {
+        title: "dates, times, timestamps, durations and intervals",
+        file: TIMES,
+        length: 4274,
+        answer: Ok(Summary {
+            batches: 1,
+            rows: 3,
+            bytes: 3224,
+        }),
+        stream: TIMES_STREAM,
+        added: 3224,
+        ..WHOLE
+    },
+    Case {
+        title: "byte strings and texts of each layout, and extensions",
+        file: STRINGS,
+        length: 4178,
+        answer: Ok(Summary {
+            batches: 1,
+            rows: 3,
+            bytes: 3208,
+        }),
+        stream: STRINGS_STREAM,
+        added: 3208,
+        ..WHOLE
+    },
+    Case {
+        title: "a view of 13 bytes, of which 13 more are unused, is laid anew",
+        file: ANEW,
+        stream: ANEW_STREAM,
+        ..ONE_VIEW
+    },
+    Case {
+        title: "views of short, long and null texts",
+        file: VIEWS,
+        length: 826,
+        answer: Ok(Summary {
+            batches: 1,
+            rows: 5,
+            bytes: 648,
+        }),
+        stream: VIEWS_STREAM,
+        added: 648,
+        ..WHOLE
+    },
+    Case {
+        title: "the same byte strings laid anew: zeros in the null row, and one buffer",
+        file: WASTE,
+        length: 826,
+        answer: Ok(Summary {
+            batches: 1,
+            rows: 5,
+            bytes: 568,
+        }),
+        stream: WASTE_STREAM,
+        added: 568,
+        ..WHOLE
+    },
+    Case {
+        title: "many nulls",
+        file: NULLS,
+        length: 410,
+        answer: Ok(Summary {
+            batches: 1,
+            rows: 4_611_686_018_427_387_904,
+            bytes: 232,
+        }),
+        stream: NULLS_STREAM,
+        added: 232,
+        ..WHOLE
+    },
+    Case {
+        title: "floats are not read",
+        file: FLOATS,
+        length: 530,
+        answer: Err(IpcError::Unsupported(Feature::Float)),
+        added: 0,
+        ..WHOLE
+    },
+    Case {
+        title: "no text",
+        changes: &[(673, 255)],
+        answer: Err(IpcError::OutOfSpec(OutOfSpecKind::InvalidUtf8)),
+        added: 272,
+        ..THREE_COLUMNS
+    },
+    Case {
+        title: "no text where the next row is null and has none either",
+        changes: &[(459, 255)],
+        answer: Err(IpcError::OutOfSpec(OutOfSpecKind::InvalidUtf8)),
+        added: 184,
+        ..A_PART
+    },
+    Case {
+        title: "an offset that falls",
+        changes: &[(612, 3), (616, 2)],
+        answer: Err(IpcError::OutOfSpec(OutOfSpecKind::InvalidOffsets)),
+        added: 272,
+        ..THREE_COLUMNS
+    },
+    Case {
+        title: "a view whose first bytes are not its buffer's",
+        changes: &[(319, b'e')],
+        answer: Err(IpcError::OutOfSpec(OutOfSpecKind::InvalidView)),
+        added: 120,
+        ..ONE_VIEW
+    },
+];
+
 fn source(alloc: Global, case: &Case) -> Result<MemorySource, Fail> {
     let mut bytes = bytes_of(alloc, case.file)?;
     for (at, value) in case.changes {
@@ -218,10 +399,8 @@ fn source(alloc: Global, case: &Case) -> Result<MemorySource, Fail> {
     Ok(MemorySource::new(bytes, Vec::new(alloc), places))
 }
 
-#[test]
-fn a_file_gives_its_stream_or_its_refusal(rt: HostRuntime) -> Result<(), Fail> {
-    let alloc = rt.alloc();
-    for case in CASES {
+fn transcode_cases(rt: &impl Abort, alloc: Global, cases: &[Case]) -> Result<(), Fail> {
+    for case in cases {
         let mut source = source(alloc, case)?;
         let mut sink = MemorySink::new(alloc, case.room, Vec::new(alloc));
         let answer = transcode(alloc, &mut source, &mut sink, None, None);
@@ -231,6 +410,16 @@ fn a_file_gives_its_stream_or_its_refusal(rt: HostRuntime) -> Result<(), Fail> {
         assert_eq!(rt; sink.bytes(), stream.as_slice(), "{}", case.title);
     }
     Ok(())
+}
+
+#[test]
+fn a_file_gives_its_stream_or_its_refusal(rt: HostRuntime) -> Result<(), Fail> {
+    transcode_cases(&rt, rt.alloc(), CASES)
+}
+
+#[test]
+fn a_file_of_each_kind_gives_its_stream_or_its_refusal(rt: HostRuntime) -> Result<(), Fail> {
+    transcode_cases(&rt, rt.alloc(), OF_KINDS)
 }
 
 #[test]

@@ -4,3 +4,4 @@ pub mod Counts
 pub mod Streams
 pub mod SentBatches
 pub mod PlainFields
+mod WorkedRows

@@ -22,7 +22,7 @@ use Rattle.arrow_spec.proofs.SchemasFit.{schema_fits}
 use Rattle.arrow_spec.proofs.NumberedFields.{numbered_may}
 use Rattle.arrow_spec.proofs.NestedSchemas.{schema_back, schema_message_read}
 use Rattle.arrow_spec.proofs.NextMessages.{next_written, body_back, rest_back}
-use Rattle.arrow_spec.proofs.WrittenStreams.{sent_bounds}
+use Rattle.arrow_spec.proofs.SentMessages.{sent_bounds}
 use Rattle.arrow_spec.proofs.Bodies.{length-body}
 use Rattle.written_columns.specs.Streams.{MayBeWritten, StreamMayBeWritten, TableMayBeWritten, WrittenBatch, bare_table, batch_bytes, body_for, pieces_of, table_batch, written_batch, written_of, written_so_far, written_stream, written_table}
 use Rattle.written_columns.proofs.Batches.{batch_read}

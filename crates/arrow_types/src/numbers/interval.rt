@@ -39,8 +39,10 @@ impl NativeType for days_ms {
     ghost use Rattle.std.specs.Int.{w32};
     ghost use Rattle.std.specs.Int.RustNames.{FitsSigned};
     ghost use Rattle.arrow_spec.specs.Cells.{interval};
+    ghost use Rattle.std.proofs.Common.{refl};
     ghost use Rattle.arrow_types.specs.declared.physical.PrimitiveType.TheVariants.{DaysMs};
     ghost use Rattle.arrow_types.specs.Numbers.{days_ms_to_bytes, days_ms_from_bytes, days_ms_num};
+    ghost use Rattle.arrow_types.specs.NumberLaws.{above};
     ghost use Rattle.arrow_types.specs.IntervalLaws.{days_ms_back, days_ms_width, days_ms_agrees};
 
     ghost WIDTH = { 8 };
@@ -62,6 +64,10 @@ impl NativeType for days_ms {
     ghost fits = { λ x. FitsSigned w32 x.days × FitsSigned w32 x.milliseconds };
 
     ghost cell = { λ x. interval x.days x.milliseconds (pos 0) };
+
+    ghost sized = { refl };
+
+    ghost above = { above 7 };
 
     ghost reads_back = { days_ms_back };
 
@@ -96,8 +102,10 @@ impl NativeType for months_days_ns {
     ghost use Rattle.std.specs.Int.{w32, w64};
     ghost use Rattle.std.specs.Int.RustNames.{FitsSigned};
     ghost use Rattle.arrow_spec.specs.Cells.{interval};
+    ghost use Rattle.std.proofs.Common.{refl};
     ghost use Rattle.arrow_types.specs.declared.physical.PrimitiveType.TheVariants.{MonthDayNano};
     ghost use Rattle.arrow_types.specs.Numbers.{months_days_ns_to_bytes, months_days_ns_from_bytes, months_days_ns_num};
+    ghost use Rattle.arrow_types.specs.NumberLaws.{above};
     ghost use Rattle.arrow_types.specs.IntervalLaws.{months_days_ns_back, months_days_ns_width, months_days_ns_agrees};
 
     ghost WIDTH = { 16 };
@@ -119,6 +127,10 @@ impl NativeType for months_days_ns {
     ghost fits = { λ x. FitsSigned w32 x.months × FitsSigned w32 x.days × FitsSigned w64 x.ns };
 
     ghost cell = { λ x. interval x.months x.days x.ns };
+
+    ghost sized = { refl };
+
+    ghost above = { above 15 };
 
     ghost reads_back = { months_days_ns_back };
 

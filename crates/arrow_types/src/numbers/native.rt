@@ -8,10 +8,11 @@ use std::convert::AsSlice;
 
 /// A number of fixed width, which is stored as its bytes in either order.
 pub trait NativeType: Copy {
-    ghost use Rattle.std.specs.Prelude.{◌≡◌, ◌+◌, ◌≤◌, ℕ, List, Option, Some, length, take, drop};
+    ghost use Rattle.std.specs.Prelude.{◌≡◌, ◌+◌, ◌≤◌, ◌<◌, ℕ, List, Option, Some, length, take, drop};
     ghost use Rattle.arrow_spec.specs.Flat.{Order, little, big};
     ghost use Rattle.arrow_spec.specs.Cells.{Cell};
     ghost use Rattle.arrow_types.specs.declared.physical.PrimitiveType.{PrimitiveType};
+    ghost use Rattle.arrow_types.specs.Physical.{primitive_size};
 
     /// The bytes of a number.
     ghost WIDTH: { ℕ };
@@ -56,6 +57,11 @@ pub trait NativeType: Copy {
         requires { length bytes.now ≡ WIDTH }
         ensures { result ≡ read big bytes.now };
 
+    /// The layout's numbers are of the width, which is not 0.
+    ghost sized: { primitive_size PRIMITIVE ≡ WIDTH };
+
+    ghost above: { 0 < WIDTH };
+
     /// Each order reads back what it wrote.
     ghost reads_back: { (order : Order) (x : Self) → fits x → read order (written order x) ≡ x };
 
@@ -70,7 +76,8 @@ impl NativeType for i8 {
     ghost use Rattle.std.specs.Int.{w8};
     ghost use Rattle.arrow_spec.specs.Cells.{number};
     ghost use Rattle.arrow_types.specs.Numbers.{signed_to_bytes, signed_from_bytes, signed_num};
-    ghost use Rattle.arrow_types.specs.NumberLaws.{signed_back, signed_width, signed_agrees};
+    ghost use Rattle.arrow_types.specs.NumberLaws.{above, signed_back, signed_width, signed_agrees};
+    ghost use Rattle.std.proofs.Common.{refl};
     ghost use Rattle.arrow_types.specs.declared.physical.PrimitiveType.TheVariants.{Int8};
     ghost use Rattle.std.specs.Int.RustNames.{FitsSigned};
 
@@ -93,6 +100,10 @@ impl NativeType for i8 {
     ghost fits = { FitsSigned w8 };
 
     ghost cell = { number };
+
+    ghost sized = { refl };
+
+    ghost above = { above 0 };
 
     ghost reads_back = { signed_back w8 };
 
@@ -121,7 +132,8 @@ impl NativeType for i16 {
     ghost use Rattle.std.specs.Int.{w16};
     ghost use Rattle.arrow_spec.specs.Cells.{number};
     ghost use Rattle.arrow_types.specs.Numbers.{signed_to_bytes, signed_from_bytes, signed_num};
-    ghost use Rattle.arrow_types.specs.NumberLaws.{signed_back, signed_width, signed_agrees};
+    ghost use Rattle.arrow_types.specs.NumberLaws.{above, signed_back, signed_width, signed_agrees};
+    ghost use Rattle.std.proofs.Common.{refl};
     ghost use Rattle.arrow_types.specs.declared.physical.PrimitiveType.TheVariants.{Int16};
     ghost use Rattle.std.specs.Int.RustNames.{FitsSigned};
 
@@ -144,6 +156,10 @@ impl NativeType for i16 {
     ghost fits = { FitsSigned w16 };
 
     ghost cell = { number };
+
+    ghost sized = { refl };
+
+    ghost above = { above 1 };
 
     ghost reads_back = { signed_back w16 };
 
@@ -172,7 +188,8 @@ impl NativeType for i32 {
     ghost use Rattle.std.specs.Int.{w32};
     ghost use Rattle.arrow_spec.specs.Cells.{number};
     ghost use Rattle.arrow_types.specs.Numbers.{signed_to_bytes, signed_from_bytes, signed_num};
-    ghost use Rattle.arrow_types.specs.NumberLaws.{signed_back, signed_width, signed_agrees};
+    ghost use Rattle.arrow_types.specs.NumberLaws.{above, signed_back, signed_width, signed_agrees};
+    ghost use Rattle.std.proofs.Common.{refl};
     ghost use Rattle.arrow_types.specs.declared.physical.PrimitiveType.TheVariants.{Int32};
     ghost use Rattle.std.specs.Int.RustNames.{FitsSigned};
 
@@ -195,6 +212,10 @@ impl NativeType for i32 {
     ghost fits = { FitsSigned w32 };
 
     ghost cell = { number };
+
+    ghost sized = { refl };
+
+    ghost above = { above 3 };
 
     ghost reads_back = { signed_back w32 };
 
@@ -223,7 +244,8 @@ impl NativeType for i64 {
     ghost use Rattle.std.specs.Int.{w64};
     ghost use Rattle.arrow_spec.specs.Cells.{number};
     ghost use Rattle.arrow_types.specs.Numbers.{signed_to_bytes, signed_from_bytes, signed_num};
-    ghost use Rattle.arrow_types.specs.NumberLaws.{signed_back, signed_width, signed_agrees};
+    ghost use Rattle.arrow_types.specs.NumberLaws.{above, signed_back, signed_width, signed_agrees};
+    ghost use Rattle.std.proofs.Common.{refl};
     ghost use Rattle.arrow_types.specs.declared.physical.PrimitiveType.TheVariants.{Int64};
     ghost use Rattle.std.specs.Int.RustNames.{FitsSigned};
 
@@ -246,6 +268,10 @@ impl NativeType for i64 {
     ghost fits = { FitsSigned w64 };
 
     ghost cell = { number };
+
+    ghost sized = { refl };
+
+    ghost above = { above 7 };
 
     ghost reads_back = { signed_back w64 };
 
@@ -274,7 +300,8 @@ impl NativeType for i128 {
     ghost use Rattle.std.specs.Int.{w128};
     ghost use Rattle.arrow_spec.specs.Cells.{number};
     ghost use Rattle.arrow_types.specs.Numbers.{signed_to_bytes, signed_from_bytes, signed_num};
-    ghost use Rattle.arrow_types.specs.NumberLaws.{signed_back, signed_width, signed_agrees};
+    ghost use Rattle.arrow_types.specs.NumberLaws.{above, signed_back, signed_width, signed_agrees};
+    ghost use Rattle.std.proofs.Common.{refl};
     ghost use Rattle.arrow_types.specs.declared.physical.PrimitiveType.TheVariants.{Int128};
     ghost use Rattle.std.specs.Int.RustNames.{FitsSigned};
 
@@ -297,6 +324,10 @@ impl NativeType for i128 {
     ghost fits = { FitsSigned w128 };
 
     ghost cell = { number };
+
+    ghost sized = { refl };
+
+    ghost above = { above 15 };
 
     ghost reads_back = { signed_back w128 };
 
@@ -325,7 +356,8 @@ impl NativeType for u8 {
     ghost use Rattle.std.specs.Int.{w8};
     ghost use Rattle.arrow_spec.specs.Cells.{number};
     ghost use Rattle.arrow_types.specs.Numbers.{unsigned_to_bytes, unsigned_from_bytes, unsigned_num};
-    ghost use Rattle.arrow_types.specs.NumberLaws.{unsigned_back, unsigned_width, unsigned_agrees};
+    ghost use Rattle.arrow_types.specs.NumberLaws.{above, unsigned_back, unsigned_width, unsigned_agrees};
+    ghost use Rattle.std.proofs.Common.{refl};
     ghost use Rattle.arrow_types.specs.declared.physical.PrimitiveType.TheVariants.{UInt8};
     ghost use Rattle.std.specs.Prelude.{◌<◌, ◌^◌, pos};
 
@@ -348,6 +380,10 @@ impl NativeType for u8 {
     ghost fits = { λ x. x < 2 ^ 8 };
 
     ghost cell = { λ x. number (pos x) };
+
+    ghost sized = { refl };
+
+    ghost above = { above 0 };
 
     ghost reads_back = { unsigned_back w8 };
 
@@ -376,7 +412,8 @@ impl NativeType for u16 {
     ghost use Rattle.std.specs.Int.{w16};
     ghost use Rattle.arrow_spec.specs.Cells.{number};
     ghost use Rattle.arrow_types.specs.Numbers.{unsigned_to_bytes, unsigned_from_bytes, unsigned_num};
-    ghost use Rattle.arrow_types.specs.NumberLaws.{unsigned_back, unsigned_width, unsigned_agrees};
+    ghost use Rattle.arrow_types.specs.NumberLaws.{above, unsigned_back, unsigned_width, unsigned_agrees};
+    ghost use Rattle.std.proofs.Common.{refl};
     ghost use Rattle.arrow_types.specs.declared.physical.PrimitiveType.TheVariants.{UInt16};
     ghost use Rattle.std.specs.Prelude.{◌<◌, ◌^◌, pos};
 
@@ -399,6 +436,10 @@ impl NativeType for u16 {
     ghost fits = { λ x. x < 2 ^ 16 };
 
     ghost cell = { λ x. number (pos x) };
+
+    ghost sized = { refl };
+
+    ghost above = { above 1 };
 
     ghost reads_back = { unsigned_back w16 };
 
@@ -427,7 +468,8 @@ impl NativeType for u32 {
     ghost use Rattle.std.specs.Int.{w32};
     ghost use Rattle.arrow_spec.specs.Cells.{number};
     ghost use Rattle.arrow_types.specs.Numbers.{unsigned_to_bytes, unsigned_from_bytes, unsigned_num};
-    ghost use Rattle.arrow_types.specs.NumberLaws.{unsigned_back, unsigned_width, unsigned_agrees};
+    ghost use Rattle.arrow_types.specs.NumberLaws.{above, unsigned_back, unsigned_width, unsigned_agrees};
+    ghost use Rattle.std.proofs.Common.{refl};
     ghost use Rattle.arrow_types.specs.declared.physical.PrimitiveType.TheVariants.{UInt32};
     ghost use Rattle.std.specs.Prelude.{◌<◌, ◌^◌, pos};
 
@@ -450,6 +492,10 @@ impl NativeType for u32 {
     ghost fits = { λ x. x < 2 ^ 32 };
 
     ghost cell = { λ x. number (pos x) };
+
+    ghost sized = { refl };
+
+    ghost above = { above 3 };
 
     ghost reads_back = { unsigned_back w32 };
 
@@ -478,7 +524,8 @@ impl NativeType for u64 {
     ghost use Rattle.std.specs.Int.{w64};
     ghost use Rattle.arrow_spec.specs.Cells.{number};
     ghost use Rattle.arrow_types.specs.Numbers.{unsigned_to_bytes, unsigned_from_bytes, unsigned_num};
-    ghost use Rattle.arrow_types.specs.NumberLaws.{unsigned_back, unsigned_width, unsigned_agrees};
+    ghost use Rattle.arrow_types.specs.NumberLaws.{above, unsigned_back, unsigned_width, unsigned_agrees};
+    ghost use Rattle.std.proofs.Common.{refl};
     ghost use Rattle.arrow_types.specs.declared.physical.PrimitiveType.TheVariants.{UInt64};
     ghost use Rattle.std.specs.Prelude.{◌<◌, ◌^◌, pos};
 
@@ -501,6 +548,10 @@ impl NativeType for u64 {
     ghost fits = { λ x. x < 2 ^ 64 };
 
     ghost cell = { λ x. number (pos x) };
+
+    ghost sized = { refl };
+
+    ghost above = { above 7 };
 
     ghost reads_back = { unsigned_back w64 };
 

@@ -8,6 +8,7 @@ use crate::numbers::native::NativeType;
 /// An offset of 32 or 64 bits.
 pub trait Offset: NativeType {
     ghost use Rattle.std.specs.Prelude.{◌≡◌, ℕ, ℤ, Bool};
+    ghost use Rattle.arrow_types.specs.Numbers.{ReadsOffsets};
 
     /// Whether the offsets have 64 bits, as in the layouts named large.
     ghost IS_LARGE: { Bool };
@@ -29,12 +30,16 @@ pub trait Offset: NativeType {
     fn from_usize(length: usize) -> Option<Self>
         ensures { option_map number result ≡ below_limit limit length };
 
+    /// An offset has its width, and is the number of its bytes.
+    ghost reads_offsets: { ReadsOffsets IS_LARGE Self.WIDTH limit number Self.read };
+
     /// Two offsets of one number are the same.
     ghost number_same: { (x y : Self) → number x ≡ number y → x ≡ y };
 }
 
 impl Offset for i32 {
     ghost use Rattle.std.specs.Prelude.{false, ◌^◌};
+    ghost use Rattle.arrow_types.specs.NumberLaws.{small_reads};
 
     ghost IS_LARGE = { false };
 
@@ -43,6 +48,8 @@ impl Offset for i32 {
     ghost number = { λ x. x };
 
     ghost limit = { 2 ^ 31 };
+
+    ghost reads_offsets = { small_reads };
 
     ghost number_same = { λ x y e. e };
 
@@ -61,6 +68,7 @@ impl Offset for i32 {
 
 impl Offset for i64 {
     ghost use Rattle.std.specs.Prelude.{true, ◌^◌};
+    ghost use Rattle.arrow_types.specs.NumberLaws.{large_reads};
 
     ghost IS_LARGE = { true };
 
@@ -69,6 +77,8 @@ impl Offset for i64 {
     ghost number = { λ x. x };
 
     ghost limit = { 2 ^ 63 };
+
+    ghost reads_offsets = { large_reads };
 
     ghost number_same = { λ x y e. e };
 

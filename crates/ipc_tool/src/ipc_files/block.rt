@@ -1,11 +1,16 @@
 //! The messages of a file's blocks.
 ghost use Rattle.std.specs.Prelude.{◌≡◌, ◌+◌, ◌≤◌, ◌<◌, ◌^◌, IfOk, IfErr, OnOk};
+ghost use Rattle.arrow_spec.specs.Messages.{record_message};
+ghost use Rattle.arrow_spec.specs.Readings.{Gives};
+ghost use Rattle.ipc_fields.specs.Causes.{IsOfBytes};
 ghost use Rattle.ipc_schema.specs.Outside.{IsSize};
+ghost use Rattle.ipc_schema.specs.Views.{message_of};
+ghost use Rattle.sent_files.specs.Files.{HeaderFits};
 ghost use Rattle.ipc_tool.specs.FileBlocks.{Lies, PrefixIn, BlockIn, file_block};
 ghost use Rattle.ipc_tool.specs.FileViews.{FileCause};
 
 use super::fetch::fetch;
-use crate::ipc_read::magnitude;
+use crate::integers::magnitude;
 use arrow_spec::{Block, IpcError, OutOfSpecKind};
 use ipc_schema::{RecordMessage, Source, is_continuation, metadata_length, read_record_message};
 use std::alloc::Global;
@@ -44,6 +49,15 @@ fn read_prefix<S: Source>(
     metadata_length(&four, 8, size)
 }
 
+/// The record batch's message in some bytes.
+fn message_in(alloc: Global, bytes: &[u8]) -> Result<RecordMessage, IpcError>
+    ensures gives { Gives message_of result (record_message bytes.now) }
+    ensures fits { IfOk result (λ m. HeaderFits (message_of m).tables) }
+    ensures quiet { IfErr result IsOfBytes }
+{
+    read_record_message(alloc, bytes)
+}
+
 /// The message of a record batch in a block of a file of `size` bytes; of the block, the prefix and the metadata are read.
 ///
 /// # Errors
@@ -60,6 +74,7 @@ pub(crate) fn read_block_message<S: Source>(
     requires { IsSize (S.content source.old) size }
     ensures within { OnOk result ((file_block block.now).offset + (file_block block.now).metadata + (file_block block.now).body ≤ size) }
     ensures message { BlockIn (S.content source.old) (file_block block.now) result }
+    ensures fits { IfOk result (λ m. HeaderFits (message_of m).tables) }
     ensures content { S.content source.new ≡ S.content source.old }
     ensures faults { S.faults source.old ≤ S.faults source.new }
     ensures cause { IfErr result (λ e. FileCause e (S.faults source.old) (S.faults source.new)) }
@@ -73,5 +88,5 @@ pub(crate) fn read_block_message<S: Source>(
     }
     let (start, length) = read_prefix(alloc, source, offset, metadata as usize)?;
     let bytes = fetch(alloc, source, offset + start as u64, length)?;
-    read_record_message(alloc, &bytes)
+    message_in(alloc, &bytes)
 }

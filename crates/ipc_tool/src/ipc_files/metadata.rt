@@ -1,22 +1,28 @@
 //! What a file's footer says (Arrow Columnar Format, "IPC File Format", File.fbs).
-ghost use Rattle.std.specs.Prelude.{◌≡◌, ◌+◌, ◌≤◌, ◌<◌, ◌^◌, length, IfOk, IfErr, IfSome};
+ghost use Rattle.std.specs.Prelude.{◌≡◌, ◌+◌, ◌≤◌, ◌<◌, ◌^◌, true, length, IfOk, IfErr, IfSome};
 ghost use Rattle.arrow_spec.specs.Readings.{Gives};
-ghost use Rattle.arrow_spec.specs.Files.{footer_of, meta_of};
+ghost use Rattle.arrow_spec.specs.Files.{footer_of, meta_in, meta_of};
+ghost use Rattle.arrow_spec.specs.WrittenSchemas.{SchemaMayBeWritten};
+ghost use Rattle.arrow_types.specs.Schemas.{fields_in};
+ghost use Rattle.ipc_fields.specs.IpcFields.{have_shapes, ids_of};
+ghost use Rattle.ipc_fields.specs.Causes.{IsOfBytes};
+ghost use Rattle.ipc_schema.specs.Footers.{footer_view};
 ghost use Rattle.ipc_tool.specs.FileBlocks.{GivesIn};
-ghost use Rattle.ipc_tool.specs.FileViews.{meta_view, FileCause};
+ghost use Rattle.ipc_tool.specs.FileViews.{meta_view, FileCause, WasRead};
 ghost use Rattle.ipc_schema.specs.Outside.{IsSize};
 
 use super::fetch::fetch;
 use arrow_spec::{Block, IpcError, OutOfSpecKind};
-use arrow_types::{ArrowSchema, Metadata};
-use ipc_schema::{IpcSchema, Source, decode_footer_len, deserialize_footer};
+use arrow_types::{ArrowSchemaRef, Metadata};
+use ipc_schema::{Footer, IpcSchema, Source, decode_footer_len, deserialize_footer};
 use std::alloc::Global;
+use std::rc::Rc;
 
 /// The schema with its IPC schema and its metadata, the blocks of record batches and of dictionaries in the footer's
 /// order, and the file's size in bytes.
 #[derive(Drop)]
 pub(crate) struct FileMetadata {
-    pub schema: ArrowSchema,
+    pub schema: ArrowSchemaRef,
     pub ipc_schema: IpcSchema,
     pub custom_metadata: Option<Metadata>,
     pub blocks: Vec<Block>,
@@ -43,6 +49,16 @@ fn fetch_footer<S: Source>(alloc: Global, source: &mut S, size: u64) -> Result<V
     Ok(bytes)
 }
 
+/// The footer in some bytes.
+fn footer_in(alloc: Global, bytes: &[u8]) -> Result<Footer, IpcError>
+    ensures gives { Gives footer_view result (meta_in bytes.now) }
+    ensures may { IfOk result (λ f. SchemaMayBeWritten (footer_view f).schema.fields (footer_view f).schema.metadata) }
+    ensures shapes { IfOk result (λ f. have_shapes (fields_in f.schema) (ids_of f.ipc_schema.fields.items) ≡ true) }
+    ensures quiet { IfErr result IsOfBytes }
+{
+    deserialize_footer(alloc, bytes)
+}
+
 /// Reads the footer of a file.
 pub(crate) fn read_file_metadata<S: Source>(
     alloc: Global,
@@ -50,7 +66,7 @@ pub(crate) fn read_file_metadata<S: Source>(
 ) -> Result<FileMetadata, IpcError>
     ensures gives { IfSome (S.content source.old) (λ b. Gives meta_view result (meta_of b)) }
     ensures size { IfOk result (λ m. IsSize (S.content source.old) m.size) }
-    ensures most { IfOk result (λ m. m.size < 2 ^ 63) }
+    ensures read { IfOk result WasRead }
     ensures cause { IfErr result (λ e. FileCause e (S.faults source.old) (S.faults source.new)) }
     ensures content { S.content source.new ≡ S.content source.old }
     ensures faults { S.faults source.old ≤ S.faults source.new }
@@ -58,9 +74,12 @@ pub(crate) fn read_file_metadata<S: Source>(
 {
     let size = source.size()?;
     let bytes = fetch_footer(alloc, source, size)?;
-    let footer = deserialize_footer(alloc, &bytes)?;
+    let footer = footer_in(alloc, &bytes)?;
+    let Ok(schema) = Rc::new(alloc, footer.schema) else {
+        return Err(IpcError::Memory);
+    };
     Ok(FileMetadata {
-        schema: footer.schema,
+        schema,
         ipc_schema: footer.ipc_schema,
         custom_metadata: footer.custom_metadata,
         blocks: footer.blocks,

@@ -9,20 +9,20 @@ use Rattle.ipc_read.proofs.flat.read_primitive.Goals as goal
 
 pub returns-in_err-node-clause-gives : goal.returns-in_err-node-clause-gives
 returns-in_err-node-clause-gives g c = λ m p a t.
-    let f = flat_primitive m (kind_of c.args.dtype.now) p c.args.rows g.T.NativeType.WIDTH g.T.NativeType.PRIMITIVE c.requires.kind c.requires.size c.requires.above in
+    let f = flat_primitive m (kind_of c.args.dtype.now) p c.args.rows g.T.NativeType.WIDTH g.T.NativeType.PRIMITIVE c.requires.kind g.met.T.NativeType.sized g.met.T.NativeType.above in
     err_from _ _ c.in_err-node.field-0.0 _ _ _ c.from_residual.ensures.0 c.from_residual.ensures.1 (λ x e. e)
     (node_refused m (kind_of c.args.dtype.now) p c.args.rows _ c.in_err-node.field-0.0 f (c.in_err-node.ensures.err m p a.nodes))
 
 pub returns-in_err-validity-clause-gives : goal.returns-in_err-validity-clause-gives
 returns-in_err-validity-clause-gives g c = λ m p a t.
-    let f = flat_primitive m (kind_of c.args.dtype.now) p c.args.rows g.T.NativeType.WIDTH g.T.NativeType.PRIMITIVE c.requires.kind c.requires.size c.requires.above in
+    let f = flat_primitive m (kind_of c.args.dtype.now) p c.args.rows g.T.NativeType.WIDTH g.T.NativeType.PRIMITIVE c.requires.kind g.met.T.NativeType.sized g.met.T.NativeType.above in
     let q = c.in_ok-node.ensures.queue m p a.nodes in
     err_from _ _ c.in_err-validity.field-0.0 _ _ _ c.from_residual-in_err-validity.ensures.0 c.from_residual-in_err-validity.ensures.1 (λ x e. e)
     (validity_refused m (kind_of c.args.dtype.now) p c.args.rows _ c.in_err-validity.field-0.0 f (c.in_err-validity.ensures.gives m p c.args.is_little_endian a.buffers q.0 t).err)
 
 pub returns-in_err-values-clause-gives : goal.returns-in_err-values-clause-gives
 returns-in_err-values-clause-gives g c = λ m p a t.
-    let f = flat_primitive m (kind_of c.args.dtype.now) p c.args.rows g.T.NativeType.WIDTH g.T.NativeType.PRIMITIVE c.requires.kind c.requires.size c.requires.above in
+    let f = flat_primitive m (kind_of c.args.dtype.now) p c.args.rows g.T.NativeType.WIDTH g.T.NativeType.PRIMITIVE c.requires.kind g.met.T.NativeType.sized g.met.T.NativeType.above in
     let q = c.in_ok-node.ensures.queue m p a.nodes in
     let b = left_next m.buffers (suc p.buffer) (p.buffer + 1) _ (omega arith) (c.in_ok-validity.ensures.queue m p.buffer a.buffers) in
     err_from _ _ c.in_err-values.field-0.0 _ _ _ c.from_residual-in_err-values.ensures.0 c.from_residual-in_err-values.ensures.1 (λ x e. e)
@@ -30,14 +30,14 @@ returns-in_err-values-clause-gives g c = λ m p a t.
 
 pub returns-clause-queues : goal.returns-clause-queues
 returns-clause-queues g c = λ m p a.
-    let f = flat_primitive m (kind_of c.args.dtype.now) p c.args.rows g.T.NativeType.WIDTH g.T.NativeType.PRIMITIVE c.requires.kind c.requires.size c.requires.above in
+    let f = flat_primitive m (kind_of c.args.dtype.now) p c.args.rows g.T.NativeType.WIDTH g.T.NativeType.PRIMITIVE c.requires.kind g.met.T.NativeType.sized g.met.T.NativeType.above in
     let q = c.in_ok-node.ensures.queue m p a.nodes in
     let b = left_next m.buffers (suc p.buffer) (p.buffer + 1) _ (omega arith) (c.in_ok-validity.ensures.queue m p.buffer a.buffers) in
     flat_next m (kind_of c.args.dtype.now) p c.args.rows _ _ _ f a.within q.1 (c.in_ok-values.ensures.queue m (p.buffer + 1) b)
 
 pub returns-clause-gives : goal.returns-clause-gives
 returns-clause-gives g c = λ m p a t.
-    let f = flat_primitive m (kind_of c.args.dtype.now) p c.args.rows g.T.NativeType.WIDTH g.T.NativeType.PRIMITIVE c.requires.kind c.requires.size c.requires.above in
+    let f = flat_primitive m (kind_of c.args.dtype.now) p c.args.rows g.T.NativeType.WIDTH g.T.NativeType.PRIMITIVE c.requires.kind g.met.T.NativeType.sized g.met.T.NativeType.above in
     let q = c.in_ok-node.ensures.queue m p a.nodes in
     let b = left_next m.buffers (suc p.buffer) (p.buffer + 1) _ (omega arith) (c.in_ok-validity.ensures.queue m p.buffer a.buffers) in
     let v = (c.in_ok-validity.ensures.gives m p c.args.is_little_endian a.buffers q.0 t).ok in
@@ -54,14 +54,14 @@ returns-clause-gives g c = λ m p a t.
 
 pub returns-in_err-validity-clause-fetched : goal.returns-in_err-validity-clause-fetched
 returns-in_err-validity-clause-fetched g c = λ m p a.
-    let f = flat_primitive m (kind_of c.args.dtype.now) p c.args.rows g.T.NativeType.WIDTH g.T.NativeType.PRIMITIVE c.requires.kind c.requires.size c.requires.above in
+    let f = flat_primitive m (kind_of c.args.dtype.now) p c.args.rows g.T.NativeType.WIDTH g.T.NativeType.PRIMITIVE c.requires.kind g.met.T.NativeType.sized g.met.T.NativeType.above in
     let q = c.in_ok-node.ensures.queue m p a.nodes in
     let z = flat_fetched m (kind_of c.args.dtype.now) p c.args.rows _ f in
     omega (arith, z, c.in_err-validity.ensures.fetched m p a.buffers q.0)
 
 pub returns-in_err-values-clause-fetched : goal.returns-in_err-values-clause-fetched
 returns-in_err-values-clause-fetched g c = λ m p a.
-    let f = flat_primitive m (kind_of c.args.dtype.now) p c.args.rows g.T.NativeType.WIDTH g.T.NativeType.PRIMITIVE c.requires.kind c.requires.size c.requires.above in
+    let f = flat_primitive m (kind_of c.args.dtype.now) p c.args.rows g.T.NativeType.WIDTH g.T.NativeType.PRIMITIVE c.requires.kind g.met.T.NativeType.sized g.met.T.NativeType.above in
     let q = c.in_ok-node.ensures.queue m p a.nodes in
     let b = left_next m.buffers (suc p.buffer) (p.buffer + 1) _ (omega arith) (c.in_ok-validity.ensures.queue m p.buffer a.buffers) in
     let z = flat_fetched m (kind_of c.args.dtype.now) p c.args.rows _ f in
@@ -69,7 +69,7 @@ returns-in_err-values-clause-fetched g c = λ m p a.
 
 pub returns-in_err-array-clause-fetched : goal.returns-in_err-array-clause-fetched
 returns-in_err-array-clause-fetched g c = λ m p a.
-    let f = flat_primitive m (kind_of c.args.dtype.now) p c.args.rows g.T.NativeType.WIDTH g.T.NativeType.PRIMITIVE c.requires.kind c.requires.size c.requires.above in
+    let f = flat_primitive m (kind_of c.args.dtype.now) p c.args.rows g.T.NativeType.WIDTH g.T.NativeType.PRIMITIVE c.requires.kind g.met.T.NativeType.sized g.met.T.NativeType.above in
     let q = c.in_ok-node.ensures.queue m p a.nodes in
     let b = left_next m.buffers (suc p.buffer) (p.buffer + 1) _ (omega arith) (c.in_ok-validity.ensures.queue m p.buffer a.buffers) in
     let z = flat_fetched m (kind_of c.args.dtype.now) p c.args.rows _ f in
@@ -77,7 +77,7 @@ returns-in_err-array-clause-fetched g c = λ m p a.
 
 pub returns-clause-fetched : goal.returns-clause-fetched
 returns-clause-fetched g c = λ m p a.
-    let f = flat_primitive m (kind_of c.args.dtype.now) p c.args.rows g.T.NativeType.WIDTH g.T.NativeType.PRIMITIVE c.requires.kind c.requires.size c.requires.above in
+    let f = flat_primitive m (kind_of c.args.dtype.now) p c.args.rows g.T.NativeType.WIDTH g.T.NativeType.PRIMITIVE c.requires.kind g.met.T.NativeType.sized g.met.T.NativeType.above in
     let q = c.in_ok-node.ensures.queue m p a.nodes in
     let b = left_next m.buffers (suc p.buffer) (p.buffer + 1) _ (omega arith) (c.in_ok-validity.ensures.queue m p.buffer a.buffers) in
     let z = flat_fetched m (kind_of c.args.dtype.now) p c.args.rows _ f in
@@ -86,4 +86,4 @@ returns-clause-fetched g c = λ m p a.
 pub returns-clause-bytes : goal.returns-clause-bytes
 returns-clause-bytes g c = λ m p a t.
     let b = left_next m.buffers (suc p.buffer) (p.buffer + 1) _ (omega arith) (c.in_ok-validity.ensures.queue m p.buffer a.buffers) in
-    bytes_of_numbers m (kind_of c.args.dtype.now) p c.args.rows g.T.NativeType.WIDTH g.T.NativeType.PRIMITIVE c.requires.kind c.requires.size (c.in_ok-values.ensures.bytes m (p.buffer + 1) b (known_on _ _ c.args.body c.args.is_little_endian m c.in_ok-validity.ensures.content t))
+    bytes_of_numbers m (kind_of c.args.dtype.now) p c.args.rows g.T.NativeType.WIDTH g.T.NativeType.PRIMITIVE c.requires.kind g.met.T.NativeType.sized (c.in_ok-values.ensures.bytes m (p.buffer + 1) b (known_on _ _ c.args.body c.args.is_little_endian m c.in_ok-validity.ensures.content t))

@@ -1,9 +1,9 @@
+use Rattle.arrow_types.specs.Numbers.{offsets_by}
 use Rattle.std.proofs.Common.{◌≡◌, ◌+◌, suc, length, map, refl, arith, ◌∙◌}
 use Rattle.std.proofs.lemmas.List.{length-map}
 use Rattle.arrow_types.specs.KindOf.{kind_of}
 use Rattle.arrow_spec.specs.Columns.{validity_faults}
 use Rattle.ipc_read.specs.Queues.{short_of}
-use Rattle.ipc_read.specs.Sources.{offsets_by}
 use Rattle.ipc_read.proofs.Refusals.{err_from, none_of_both}
 use Rattle.ipc_read.proofs.Counted.{left_next}
 use Rattle.ipc_read.proofs.FlatArrays.{known_on}

@@ -1,16 +1,25 @@
-use Rattle.std.proofs.Common.{◌≡◌, Err}
+use Rattle.std.proofs.Common.{◌≡◌, Err, sym}
 use Rattle.ipc_tool.specs.FileBlocks.{file_block}
+use Rattle.ipc_tool.specs.FileViews.{meta_view}
 use Rattle.ipc_schema.specs.Views.{message_of}
-use Rattle.ipc_tool.proofs.BatchParts.{is_err}
-use Rattle.ipc_tool.proofs.SentFiles.{block_answer, counted, given_in, message_err, refused_in}
+use Rattle.ipc_tool.proofs.Errors.{is_err}
+use Rattle.ipc_tool.proofs.FlatFields.{column_kinds, field_count, same_fields}
+use Rattle.ipc_tool.proofs.SentFiles.{block_answer, flat_file, given_in, little_file, message_err, refused_in}
 use Rattle.ipc_tool.proofs.file.read_block.Goals as goal
 
 pub returns-in_err-message-clause-gives : goal.returns-in_err-message-clause-gives
 returns-in_err-message-clause-gives g c =
     let e : c.from_residual.result ≡ Err c.in_err-message.field-0.0 = is_err _ _ _ c.from_residual.ensures.0 c.from_residual.ensures.1 (λ f h. h) in
-    message_err (g.S.Source.content c.args.source.now) c.args.field_count (file_block c.args.block.now) c.from_residual.result c.in_err-message.field-0.0 e (refused_in _ _ _ c.in_err-message.ensures.message)
+    message_err (g.S.Source.content c.args.source.now) (meta_view c.args.file.now).schema.fields (file_block c.args.block.now) c.from_residual.result c.in_err-message.field-0.0 e (refused_in _ _ _ c.in_err-message.ensures.message)
 
 pub returns-clause-gives : goal.returns-clause-gives
 returns-clause-gives g c =
-    block_answer (g.S.Source.content c.args.source.now) _ c.args.field_count c.args.size (file_block c.args.block.now) (message_of c.in_ok-message.message) c.place_of_body-body.result c.read_record_batch.result
-    c.in_ok-message.ensures.content c.place_of_body-body.ensures c.requires.whole (given_in _ _ _ c.in_ok-message.ensures.message) c.read_record_batch.ensures.gives c.read_record_batch.ensures.read (counted c.args.field_count c.read_record_batch.result c.read_record_batch.ensures.columns)
+    let file = c.args.file.now in
+    block_answer (g.S.Source.content c.args.source.now) _ file.ipc_schema.is_little_endian (meta_view file).schema.fields _ file.size (file_block c.args.block.now) (message_of c.in_ok-message.message) c.place_of_body.result c.read_record_batch.result
+    (flat_file file c.requires.built c.requires.read).flat (little_file file c.requires.built) (sym (same_fields file c.requires.built)) c.in_ok-message.ensures.content c.place_of_body.ensures c.requires.whole (given_in _ _ _ c.in_ok-message.ensures.message) c.in_ok-message.ensures.fits c.read_record_batch.ensures.gives c.read_record_batch.ensures.parts
+
+pub read_record_batch-requires-clause-columns : goal.read_record_batch-requires-clause-columns
+read_record_batch-requires-clause-columns g c = column_kinds c.args.file.now c.requires.built c.requires.read
+
+pub read_record_batch-requires-clause-fields : goal.read_record_batch-requires-clause-fields
+read_record_batch-requires-clause-fields g c = field_count c.args.file.now c.requires.read

@@ -1,13 +1,11 @@
-use Rattle.std.proofs.Common.{◌≡◌, ◌+◌, ◌*◌, ◌^◌, ◌≤◌, ℕ, List, Option, length, map, take, IfSome}
-use Rattle.arrow_spec.specs.Files.{Meta}
-use Rattle.arrow_spec.specs.WrittenTables.{Int32Field}
-use Rattle.ipc_tool.specs.FileBlocks.{file_block}
+use Rattle.std.proofs.Common.{◌≡◌, ◌+◌, ◌*◌, ◌^◌, ◌≤◌, ℕ, List, Option, take, IfSome}
+use Rattle.ipc_tool.specs.FileViews.{meta_view}
 use Rattle.ipc_tool.specs.Sends.{Begun, SentBlocks}
 use Rattle.ipc_tool.proofs.file.send_blocks.Given as goal
 
 abbrev pub invariant-loop-block : goal.invariant-loop-block
 invariant-loop-block g l = record {
-  sent : IfSome (g.S.Source.content l.fn.source) (λ b. (meta : Meta) (fs : List Int32Field) (start : Option (List ℕ)) → meta.blocks ≡ map file_block l.blocks → length fs ≡ l.field_count → Begun b meta fs l.raw start (g.W.Sink.written l.fn.sink) l.schema_length → SentBlocks b fs meta.schema.metadata (take l.block-index meta.blocks) l.raw start (g.W.Sink.written l.sink) l.summary);
+  sent : IfSome (g.S.Source.content l.fn.source) (λ b. (start : Option (List ℕ)) → Begun b (meta_view l.file) l.raw start (g.W.Sink.written l.fn.sink) l.schema_length → SentBlocks b (meta_view l.file) (take l.block-index (meta_view l.file).blocks) l.raw start (g.W.Sink.written l.sink) l.summary);
   batches : l.summary.batches ≡ l.block-index;
   few : l.summary.rows ≤ l.block-index * 2 ^ 63;
   small : l.summary.bytes ≤ (l.block-index + 1) * 2 ^ 64;

@@ -1,6 +1,8 @@
-use Rattle.std.proofs.Common.{◌≡◌, Err}
+use Rattle.std.proofs.Common.{◌≡◌, Err, ap, sym}
+use Rattle.arrow_types.specs.Schemas.{fields_in}
+use Rattle.ipc_fields.specs.IpcFields.{fields_with, ids_of}
 use Rattle.ipc_tool.specs.FileViews.{meta_view, IsBuilt}
-use Rattle.ipc_tool.proofs.BatchParts.{is_err}
+use Rattle.ipc_tool.proofs.Errors.{is_err}
 use Rattle.ipc_tool.proofs.SentFiles.{of_err}
 use Rattle.ipc_tool.proofs.StreamSteps.{file_not_built, file_refused}
 use Rattle.ipc_tool.proofs.file.send_file.Goals as goal
@@ -13,4 +15,6 @@ returns-in_err-file-clause-refused g c =
 pub returns-then-not-is_built-clause-refused : goal.returns-then-not-is_built-clause-refused
 returns-then-not-is_built-clause-refused g c =
     let beyond : IsBuilt (meta_view c.in_ok-file.file) → ⊥ = λ b. let t = c.is_built.ensures.1 b in cc in
-    file_not_built (g.S.Source.content c.args.source.now) (meta_view c.in_ok-file.file) c.args.raw (g.W.Sink.written c.args.sink.now) beyond c.in_ok-file.ensures.gives
+    let file = c.in_ok-file.file in
+    let below = ids_of file.ipc_schema.fields.items in
+    file_not_built (g.S.Source.content c.args.source.now) (meta_view file) c.deref.result.now below c.missing_feature.result c.args.raw (g.W.Sink.written c.args.sink.now) beyond (ap (λ s. fields_with (fields_in s) below) (sym c.deref.ensures)) c.missing_feature.ensures c.in_ok-file.ensures.gives

@@ -1,9 +1,6 @@
-use Rattle.std.proofs.Common.{◌≡◌, Err, refl, sym, ap}
-use Rattle.std.specs.Prelude.{map}
-use Rattle.ipc_fields.specs.IpcFields.{ids_of}
-use Rattle.ipc_tool.specs.FileBlocks.{file_block}
+use Rattle.std.proofs.Common.{◌≡◌, Err, refl}
 use Rattle.ipc_tool.specs.FileViews.{meta_view}
-use Rattle.ipc_tool.proofs.BatchParts.{is_err}
+use Rattle.ipc_tool.proofs.Errors.{is_err}
 use Rattle.ipc_tool.proofs.SentFiles.{of_err}
 use Rattle.ipc_tool.proofs.StreamSteps.{table_not_ended, table_refused, table_sent}
 use Rattle.ipc_tool.proofs.file.send_table.Goals as goal
@@ -12,14 +9,14 @@ pub returns-in_err-summary-clause-refused : goal.returns-in_err-summary-clause-r
 returns-in_err-summary-clause-refused g c =
     let e : c.from_residual-in_err-summary.result ≡ Err c.in_err-summary.field-0.0 = is_err _ _ _ c.from_residual-in_err-summary.ensures.0 c.from_residual-in_err-summary.ensures.1 (λ f h. h) in
     of_err c.from_residual-in_err-summary.result c.in_err-summary.field-0.0 _ e
-    (table_refused c.in_err-summary.field-0.0 (g.S.Source.content c.args.source.now) (meta_view c.args.file.now) c.args.file.now.schema (ids_of c.args.file.now.ipc_schema.fields.items) c.deref.result.now c.len-count.result c.args.raw (g.W.Sink.written c.args.sink.now) _ _ _ (ap (λ l. map file_block l) (sym c.deref.ensures.value)) c.requires.built refl c.len-count.ensures.count c.in_ok-begun.ensures.begun c.in_err-summary.ensures.refused)
+    (table_refused c.in_err-summary.field-0.0 (g.S.Source.content c.args.source.now) (meta_view c.args.file.now) c.args.raw (g.W.Sink.written c.args.sink.now) _ _ _ c.in_ok-begun.ensures.begun c.in_err-summary.ensures.refused)
 
 pub returns-in_err-put_text-clause-refused : goal.returns-in_err-put_text-clause-refused
 returns-in_err-put_text-clause-refused g c =
     let e : c.from_residual-in_err-put_text.result ≡ Err c.in_err-put_text.field-0.0 = is_err _ _ _ c.from_residual-in_err-put_text.ensures.0 c.from_residual-in_err-put_text.ensures.1 (λ f h. h) in
     of_err c.from_residual-in_err-put_text.result c.in_err-put_text.field-0.0 _ e
-    (table_not_ended c.in_err-put_text.field-0.0 (g.S.Source.content c.args.source.now) (meta_view c.args.file.now) c.args.file.now.schema (ids_of c.args.file.now.ipc_schema.fields.items) c.deref.result.now c.len-count.result c.args.raw (g.W.Sink.written c.args.sink.now) _ _ _ _ c.in_ok-summary.summary _ _ _ (ap (λ l. map file_block l) (sym c.deref.ensures.value)) c.requires.built refl c.len-count.ensures.count c.in_ok-begun.ensures.begun c.in_ok-summary.ensures.sent refl c.in_err-put_text.ensures.bytes c.in_err-put_text.ensures.cause)
+    (table_not_ended c.in_err-put_text.field-0.0 (g.S.Source.content c.args.source.now) (meta_view c.args.file.now) c.args.raw (g.W.Sink.written c.args.sink.now) _ _ _ _ c.in_ok-summary.summary _ _ _ c.in_ok-begun.ensures.begun c.in_ok-summary.ensures.sent refl c.in_err-put_text.ensures.bytes c.in_err-put_text.ensures.cause)
 
 pub returns-clause-whole : goal.returns-clause-whole
 returns-clause-whole g c =
-    table_sent (g.S.Source.content c.args.source.now) (meta_view c.args.file.now) c.args.file.now.schema (ids_of c.args.file.now.ipc_schema.fields.items) c.deref.result.now c.len-count.result c.args.raw (g.W.Sink.written c.args.sink.now) _ _ _ _ c.in_ok-summary.summary _ (ap (λ l. map file_block l) (sym c.deref.ensures.value)) c.requires.built refl c.len-count.ensures.count c.in_ok-begun.ensures.begun c.in_ok-summary.ensures.sent refl c.in_ok-put_text.ensures.bytes
+    table_sent (g.S.Source.content c.args.source.now) (meta_view c.args.file.now) c.args.raw (g.W.Sink.written c.args.sink.now) _ _ _ _ c.in_ok-summary.summary _ c.in_ok-begun.ensures.begun c.in_ok-summary.ensures.sent refl c.in_ok-put_text.ensures.bytes

@@ -1,0 +1,41 @@
+use Rattle.std.proofs.Common.{◌≡◌, Err, Ok, None, length, sym, ap, ◌∙◌, arith, subst, refl}
+use Rattle.std.proofs.lemmas.List.{length-map}
+use Rattle.std.specs.Rc.{rc_value}
+use Rattle.arrow_spec.specs.Counts.{first_place, magnitude}
+use Rattle.arrow_types.specs.Schemas.{fields_in}
+use Rattle.arrow_arrays.specs.PartsOf.{parts_of, all_parts_of}
+use Rattle.read_columns.specs.Batches.{columns_read}
+use Rattle.ipc_schema.specs.Views.{header_of}
+use Rattle.ipc_read.specs.Batches.{batch_in, batch_reading, batch_fetched, table_of}
+use Rattle.ipc_read.specs.Sources.{bytes_in}
+use Rattle.ipc_read.proofs.Passing.{is_err}
+use Rattle.ipc_read.proofs.BatchTables.{some_refused, some_given, some_same, batch_fine}
+use Rattle.ipc_read.proofs.batch.read_record_batch.Goals as goal
+
+pub returns-in_err-columns-clause-gives : goal.returns-in_err-columns-clause-gives
+returns-in_err-columns-clause-gives g c =
+    let e : c.from_residual.result ≡ Err c.in_err-columns.field-0.0 = is_err _ _ _ c.from_residual.ensures.0 c.from_residual.ensures.1 (λ f h. h) in
+    some_refused _ table_of c.from_residual.result c.in_err-columns.field-0.0 (λ s b. batch_reading c.args.ipc_schema.now.is_little_endian (fields_in s) c.args.size c.args.version (header_of c.args.header.now) (bytes_in c.args.body b)) c.deref.result.now (rc_value c.args.schema.now) e c.deref.ensures c.in_err-columns.ensures.gives
+
+pub returns-in_err-columns-clause-fetched : goal.returns-in_err-columns-clause-fetched
+returns-in_err-columns-clause-fetched g c = λ bytes.
+    let k = c.read_arrays.ensures.fetched bytes in
+    let n = ap (λ s. batch_fetched (batch_in c.args.ipc_schema.now.is_little_endian c.args.version (header_of c.args.header.now) bytes) (fields_in s) (magnitude c.args.header.now.length)) c.deref.ensures in
+    omega (arith, k, n)
+
+pub new-requires : goal.new-requires
+new-requires g c =
+    let n = c.in_ok-columns.ensures.count ∙ ap length c.deref.ensures in
+    batch_fine c.in_ok-columns.columns.0 _ (all_parts_of c.in_ok-columns.columns.1.items) (ap length c.in-Ok.ensures.cases ∙ sym n ∙ sym (length-map c.in_ok-columns.columns.1.items parts_of)) c.in_ok-columns.ensures.shape
+
+pub returns-clause-gives : goal.returns-clause-gives
+returns-clause-gives g c = some_given _ (λ s b. batch_reading c.args.ipc_schema.now.is_little_endian (fields_in s) c.args.size c.args.version (header_of c.args.header.now) (bytes_in c.args.body b)) c.deref.result.now (rc_value c.args.schema.now) _ _ c.deref.ensures (sym (ap table_of c.new.ensures)) c.in_ok-columns.ensures.gives
+
+pub returns-clause-parts : goal.returns-clause-parts
+returns-clause-parts g c = some_same _ (λ n s b. columns_read (batch_in c.args.ipc_schema.now.is_little_endian c.args.version (header_of c.args.header.now) (bytes_in c.args.body b)) (fields_in s) first_place n) c.deref.result.now (rc_value c.args.schema.now) _ _ _ _ c.deref.ensures (sym (ap (λ x. x.height) c.new.ensures)) (sym (ap (λ x. x.arrays) c.new.ensures)) c.in_ok-columns.ensures.parts
+
+pub returns-clause-fetched : goal.returns-clause-fetched
+returns-clause-fetched g c = λ bytes.
+    let k = c.read_arrays.ensures.fetched bytes in
+    let n = ap (λ s. batch_fetched (batch_in c.args.ipc_schema.now.is_little_endian c.args.version (header_of c.args.header.now) bytes) (fields_in s) (magnitude c.args.header.now.length)) c.deref.ensures in
+    omega (arith, k, n)

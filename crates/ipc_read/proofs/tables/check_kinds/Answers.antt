@@ -1,0 +1,44 @@
+use Rattle.std.proofs.Common.{◌≡◌, Err, sym, ◌∙◌, ap, arith, subst, refl}
+use Rattle.std.specs.Prelude.{None}
+use Rattle.arrow_spec.specs.Columns.{float_faults}
+use Rattle.arrow_spec.specs.Readings.{Refuses}
+use Rattle.arrow_types.specs.KindOf.{child_of, kind_of}
+use Rattle.arrow_buffers.specs.Layouts.{binary_size}
+use Rattle.arrow_types.specs.Physical.{physical_of}
+use Rattle.ipc_read.specs.Skips.{is_plain_kind}
+use Rattle.ipc_read.proofs.Passing.{is_err, answers_err}
+use Rattle.ipc_read.proofs.ColumnKinds.{columns_next, column_is_plain, column_is_flat, flat_next, floats_next, floats_refused, floats_end, flat_end}
+use Rattle.ipc_read.proofs.tables.check_kinds.Goals as goal
+
+pub check_kind-requires : goal.check_kind-requires
+check_kind-requires c =
+    let f = c.field_at-field.ensures in
+    let k = (columns_next c.args.schema.now c.loop-i.i _ f.at c.loop-i.invariant.columns).0 in
+    let p = column_is_plain (physical_of (child_of c.field_at-field.result.now).kind) (binary_size (child_of c.field_at-field.result.now).kind) k in
+    record { plain = ap is_plain_kind (sym f.kind) ∙ p }
+
+pub returns-in_err-check_kind-clause-exact : goal.returns-in_err-check_kind-clause-exact
+returns-in_err-check_kind-clause-exact c =
+    let e : c.from_residual.result ≡ Err c.in_err-check_kind.field-0.0 = is_err _ _ _ c.from_residual.ensures.0 c.from_residual.ensures.1 (λ f h. h) in
+    let f = c.field_at-field.ensures in
+    let r = subst (λ k. Refuses c.in_err-check_kind.field-0.0 (float_faults k)) (sym f.kind) c.in_err-check_kind.ensures.exact.err in
+    answers_err _ c.from_residual.result c.in_err-check_kind.field-0.0 _ _ e (subst (λ es. Refuses c.in_err-check_kind.field-0.0 es) (sym c.loop-i.invariant.floats) (floats_refused c.args.schema.now c.loop-i.i _ c.in_err-check_kind.field-0.0 f.at r))
+
+pub returns : goal.returns
+returns c = record {
+  exact = record { ok = (c.loop-i.invariant.floats ∙ floats_end c.args.schema.now c.loop-i.i (omega arith), refl); err = tt };
+  flat = c.loop-i.invariant.flat ∙ flat_end c.args.schema.now c.loop-i.i (omega arith);
+  cause = tt;
+}
+
+pub loop-i-preserved : goal.loop-i-preserved
+loop-i-preserved c =
+    let f = c.field_at-field.ensures in
+    let n = columns_next c.args.schema.now c.loop-i.i _ f.at c.loop-i.invariant.columns in
+    let z = ap float_faults f.kind ∙ c.in_ok-check_kind.ensures.exact.ok.0 in
+    record {
+      within = omega arith;
+      floats = c.loop-i.invariant.floats ∙ floats_next c.args.schema.now c.loop-i.i _ f.at z;
+      columns = n.1;
+      flat = c.loop-i.invariant.flat ∙ flat_next c.args.schema.now c.loop-i.i _ f.at (column_is_flat (child_of c.field_at-field.result.now).kind n.0 z);
+    }

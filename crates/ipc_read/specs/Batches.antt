@@ -1,0 +1,114 @@
+-- Record batches that are read from a source: what they mean, and how many bytes are fetched for them.
+use Rattle.std.specs.Prelude.{◌≡◌, ℕ, zero, suc, ◌+◌, ◌≤◌, List, [], ◌∷◌, map, Bool, true, false, Option, Some, None, nat_lt, ◌&&◌, ℤ, pos, slice_get}
+use Rattle.arrow_spec.specs.Readings.{Reading, place, ◌>>=◌}
+use Rattle.arrow_spec.specs.Flat.{Order}
+use Rattle.arrow_spec.specs.Kinds.{Kind, Fields, none, field}
+use Rattle.arrow_spec.specs.Messages.{BatchHeader}
+use Rattle.arrow_spec.specs.declared.message.MetadataVersion.{MetadataVersion}
+use Rattle.arrow_spec.specs.Counts.{RecordBatch, Place, first_place, after}
+use Rattle.arrow_spec.specs.Columns.{chosen_floats}
+use Rattle.arrow_spec.specs.Needed.{columns_looked_at}
+use Rattle.arrow_spec.specs.Files.{Asked, TableBatch, batch_of_tables, to_read, none_negative, lengths_sum}
+use Rattle.arrow_spec.specs.declared.message.FieldNode.{FieldNode}
+use Rattle.arrow_spec.specs.declared.message.IpcBuffer.{IpcBuffer}
+use Rattle.arrow_types.specs.Physical.{physical_of}
+use Rattle.arrow_types.specs.Schemas.{Keyed}
+use Rattle.arrow_types.specs.declared.physical.PhysicalType.{PhysicalType}
+use Rattle.arrow_types.specs.declared.physical.PhysicalType.TheVariants.{FixedSizeBinary, Primitive}
+use Rattle.arrow_types.specs.declared.physical.PrimitiveType.{PrimitiveType}
+use Rattle.arrow_types.specs.declared.physical.PrimitiveType.TheVariants as primitive
+use Rattle.arrow_types.specs.declared.data_type.Field.{Field}
+use Rattle.arrow_types.specs.KindOf.{kind_of, child_of}
+use Rattle.arrow_spec.specs.declared.error.Feature.{Feature}
+use Rattle.arrow_spec.specs.declared.error.Feature.TheVariants as features
+use Rattle.arrow_buffers.specs.Layouts.{binary_size}
+use Rattle.arrow_arrays.specs.Parts.{Parts, cells_in}
+use Rattle.arrow_arrays.specs.Batches.{Batch}
+use Rattle.arrow_arrays.specs.FlatKinds.{is_flat_kind}
+use Rattle.read_columns.specs.Faults.{stated_of, fetched_at_most}
+use Rattle.ipc_read.specs.Skips.{is_plain_layout}
+use Rattle.ipc_read.specs.Sources.{order_of}
+
+-- ── the columns ──
+
+-- columns of the kind may be read or refused: it has no children, is no dictionary, and is not of byte strings of size 0
+abbrev pub is_column_layout : PhysicalType → ℕ → Bool
+is_column_layout FixedSizeBinary size = nat_lt 0 size
+is_column_layout layout size = is_plain_layout layout
+
+abbrev pub is_column_kind : Kind → Bool
+is_column_kind k = is_column_layout (physical_of k) (binary_size k)
+
+-- the same of each field
+abbrev pub are_column_kinds : List Keyed → Bool
+are_column_kinds [] = true
+are_column_kinds (p ∷ ps) = is_column_kind p.1.kind && are_column_kinds ps
+
+-- each field's kind is one that arrays have
+abbrev pub are_flat_kinds : List Keyed → Bool
+are_flat_kinds [] = true
+are_flat_kinds (p ∷ ps) = is_flat_kind p.1.kind && are_flat_kinds ps
+
+-- what of numbers, and of a layout, is not read
+abbrev pub unread_number : PrimitiveType → Option Feature
+unread_number primitive.Float16 = Some features.Float
+unread_number primitive.Float32 = Some features.Float
+unread_number primitive.Float64 = Some features.Float
+unread_number primitive.Int256 = Some features.Decimal256
+unread_number t = None
+
+abbrev pub unread_feature : PhysicalType → Option Feature
+unread_feature (Primitive t) = unread_number t
+unread_feature layout = None
+
+-- a field stands at a place of a schema
+pub record IsFieldAt (s : List Keyed) (i : ℕ) (f : Field) : Type 0 where
+  pub key : List ℕ
+  pub at : slice_get s i ≡ Some (key, child_of f)
+  pub kind : (child_of f).kind ≡ kind_of f.dtype
+
+-- ── the batch ──
+
+-- the record batch of tables and a body
+abbrev pub batch_in : Bool → MetadataVersion → BatchHeader → List ℕ → RecordBatch
+batch_in is_little_endian version tables body = record { order = order_of is_little_endian; version = version; nodes = tables.nodes; buffers = tables.buffers; variadic = tables.variadic; body = body }
+
+-- all columns are asked for
+abbrev pub all_asked : Order → Fields → ℕ → Asked
+all_asked order fs most = record { order = order; fields = fs; columns = None; dictionaries = []; most = most }
+
+-- what a batch means, whose kinds are looked at first
+abbrev pub batch_reading : Bool → Fields → ℕ → MetadataVersion → BatchHeader → List ℕ → Reading TableBatch
+batch_reading is_little_endian fs most version tables body = place (chosen_floats None fs 0) >>= λ readable. batch_of_tables to_read (all_asked (order_of is_little_endian) fs most) version tables body None
+
+-- the batch as a table has it
+abbrev pub table_in : ℕ → List Parts → TableBatch
+table_in rows arrays = record { rows = rows; columns = map cells_in arrays }
+
+abbrev pub table_of : Batch → TableBatch
+table_of b = table_in b.height b.arrays
+
+-- the queues are those of a batch's tables
+pub record AreQueuesOf (tables : BatchHeader) (ns : List FieldNode) (bs : List IpcBuffer) (vs : List ℤ) : Type 0 where
+  pub nodes : ns ≡ tables.nodes
+  pub buffers : bs ≡ tables.buffers
+  pub variadic : vs ≡ tables.variadic
+
+-- the tables let their columns be read for so many rows
+pub record MayBeRead (tables : BatchHeader) (most rows : ℕ) : Type 0 where
+  pub plain : tables.compressed ≡ false
+  pub count : tables.length ≡ pos rows
+  pub natural : none_negative tables.buffers ≡ true
+  pub few : lengths_sum tables.buffers ≤ most
+
+-- ── what is fetched ──
+
+-- the stated lengths of the buffers that are looked at, where there are rows
+abbrev pub batch_fetched : RecordBatch → Fields → ℕ → ℕ
+batch_fetched m fs zero = 0
+batch_fetched m fs (suc n) = stated_of m (columns_looked_at m None fs 0 first_place)
+
+-- the same of columns that stand from a place on, one after another
+abbrev pub columns_fetched : RecordBatch → Fields → Place → ℕ → ℕ
+columns_fetched m none p rows = 0
+columns_fetched m (field name nullable metadata k others) p rows = fetched_at_most m k p rows + columns_fetched m others (after m k p) rows

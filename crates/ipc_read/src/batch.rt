@@ -1,0 +1,244 @@
+//! A record batch: its rows and its columns (Arrow Columnar Format, "RecordBatch message").
+ghost use Rattle.std.specs.Prelude.{◌≡◌, ℕ, ◌+◌, ◌^◌, ◌<◌, ◌≤◌, List, [], length, map, true, IfOk, IfErr, IfSome, None};
+ghost use Rattle.std.specs.Rc.{rc_value};
+ghost use Rattle.arrow_spec.specs.Readings.{Gives};
+ghost use Rattle.arrow_spec.specs.Counts.{RecordBatch as Batch, Place, first_place, after, magnitude};
+ghost use Rattle.arrow_spec.specs.Columns.{cell, columns_at, column_faults, from_on};
+ghost use Rattle.arrow_types.specs.KindOf.{kind_of};
+ghost use Rattle.arrow_types.specs.Schemas.{fields_in};
+ghost use Rattle.arrow_arrays.specs.Batches.{have_rows};
+ghost use Rattle.arrow_arrays.specs.FlatKinds.{is_flat_kind};
+ghost use Rattle.arrow_arrays.specs.Parts.{kind_in, rows_in, cells_in};
+ghost use Rattle.arrow_arrays.specs.PartsOf.{parts_of, all_parts_of};
+ghost use Rattle.read_columns.specs.Batches.{columns_read};
+ghost use Rattle.read_columns.specs.Faults.{fetched_at_most};
+ghost use Rattle.read_columns.specs.PartsRead.{parts_read};
+ghost use Rattle.ipc_schema.specs.Views.{header_of};
+ghost use Rattle.ipc_read.specs.Batches.{table_in, are_column_kinds, are_flat_kinds, batch_in, batch_reading, table_of, batch_fetched, columns_fetched};
+ghost use Rattle.ipc_read.specs.Queues.{AllAt};
+ghost use Rattle.ipc_read.specs.Sources.{Answers, Inside, Known, ReadCause, bytes_in};
+
+use crate::Body;
+use crate::reading::{Dictionaries, read};
+use crate::tables::{check_kinds, check_node, field_at, queues_of, row_count};
+use arrow_arrays::{Array, RecordBatch};
+use arrow_spec::{FieldNode, IpcBuffer, IpcError, MetadataVersion};
+use arrow_types::{ArrowSchema, ArrowSchemaRef, Field};
+use ipc_fields::{IpcField, IpcSchema};
+use ipc_schema::{BatchHeader, Source};
+use std::alloc::Global;
+use std::collections::VecDeque;
+
+/// A column: its node has exactly the batch's rows.
+fn read_column<S: Source>(
+    alloc: Global,
+    nodes: &mut VecDeque<FieldNode>,
+    variadic: &mut VecDeque<i64>,
+    field: &Field,
+    ipc_field: &IpcField,
+    buffers: &mut VecDeque<IpcBuffer>,
+    source: &mut S,
+    dictionaries: &Dictionaries,
+    body: Body,
+    is_little_endian: bool,
+    rows: usize,
+    version: MetadataVersion,
+    scratch: &mut Vec<u8>,
+) -> Result<Array, IpcError>
+    requires flat { is_flat_kind (kind_of field.now.dtype) ≡ true }
+    requires room { body.offset + body.length < 2 ^ 63 }
+    requires inside { Inside (S.content source.old) body }
+    ensures queues { IfOk result (λ _. (m : Batch) (p : Place) → AllAt m p nodes.old.items buffers.old.items variadic.old.items → AllAt m (after m (kind_of field.now.dtype) p) nodes.new.items buffers.new.items variadic.new.items) }
+    ensures parts { (m : Batch) (p : Place) → AllAt m p nodes.old.items buffers.old.items variadic.old.items → Known (S.content source.old) body is_little_endian m → Answers (λ a. parts_of a) result (column_faults m [] (kind_of field.now.dtype) p rows rows) (parts_read m (kind_of field.now.dtype) p rows) }
+    ensures cells { (m : Batch) (p : Place) → AllAt m p nodes.old.items buffers.old.items variadic.old.items → Known (S.content source.old) body is_little_endian m → Answers (λ a. cells_in (parts_of a)) result (column_faults m [] (kind_of field.now.dtype) p rows rows) (from_on (cell m [] (kind_of field.now.dtype) p) 0 rows) }
+    ensures shape { IfOk result (λ a. (kind_in (parts_of a) ≡ (kind_of field.now.dtype)) × (rows_in (parts_of a) ≡ rows)) }
+    ensures cause { IfErr result (λ e. ReadCause e (S.faults source.old) (S.faults source.new)) }
+    ensures content { S.content source.new ≡ S.content source.old }
+    ensures faults { S.faults source.old ≤ S.faults source.new }
+    ensures fetched { (m : Batch) (p : Place) → AllAt m p nodes.old.items buffers.old.items variadic.old.items → S.fetched source.new ≤ S.fetched source.old + fetched_at_most m (kind_of field.now.dtype) p rows }
+    ensures same_source { S.references source.new ≡ S.references source.old }
+{
+    check_node(nodes, rows)?;
+    read(
+        alloc,
+        nodes,
+        variadic,
+        field,
+        ipc_field,
+        buffers,
+        source,
+        dictionaries,
+        body,
+        is_little_endian,
+        rows,
+        version,
+        scratch,
+    )
+}
+
+/// All columns, one after another.
+fn read_columns<S: Source>(
+    alloc: Global,
+    nodes: &mut VecDeque<FieldNode>,
+    variadic: &mut VecDeque<i64>,
+    schema: &ArrowSchema,
+    ipc_schema: &IpcSchema,
+    buffers: &mut VecDeque<IpcBuffer>,
+    source: &mut S,
+    dictionaries: &Dictionaries,
+    body: Body,
+    rows: usize,
+    version: MetadataVersion,
+    scratch: &mut Vec<u8>,
+) -> Result<Vec<Array>, IpcError>
+    requires flat { are_flat_kinds schema.now ≡ true }
+    requires fields { length ipc_schema.now.fields.items ≡ length schema.now }
+    requires room { body.offset + body.length < 2 ^ 63 }
+    requires inside { Inside (S.content source.old) body }
+    ensures gives { (m : Batch) → AllAt m first_place nodes.old.items buffers.old.items variadic.old.items → Known (S.content source.old) body ipc_schema.now.is_little_endian m → Gives (λ v. map cells_in (all_parts_of v.items)) result (columns_at m [] None (fields_in schema.now) 0 first_place rows rows) }
+    ensures parts { IfOk result (λ v. (m : Batch) → AllAt m first_place nodes.old.items buffers.old.items variadic.old.items → Known (S.content source.old) body ipc_schema.now.is_little_endian m → all_parts_of v.items ≡ columns_read m (fields_in schema.now) first_place rows) }
+    ensures shape { IfOk result (λ v. have_rows rows (all_parts_of v.items) ≡ true) }
+    ensures count { IfOk result (λ v. length v.items ≡ length schema.now) }
+    ensures cause { IfErr result (λ e. ReadCause e (S.faults source.old) (S.faults source.new)) }
+    ensures content { S.content source.new ≡ S.content source.old }
+    ensures faults { S.faults source.old ≤ S.faults source.new }
+    ensures fetched { (m : Batch) → AllAt m first_place nodes.old.items buffers.old.items variadic.old.items → S.fetched source.new ≤ S.fetched source.old + columns_fetched m (fields_in schema.now) first_place rows }
+    ensures same_source { S.references source.new ≡ S.references source.old }
+{
+    let mut arrays = Vec::new(alloc);
+    for i in 0..schema.len() {
+        let field = field_at(schema, i);
+        let ipc_field = &ipc_schema.fields[i];
+        let array = read_column(
+            alloc,
+            nodes,
+            variadic,
+            field,
+            ipc_field,
+            buffers,
+            source,
+            dictionaries,
+            body,
+            ipc_schema.is_little_endian,
+            rows,
+            version,
+            scratch,
+        )?;
+        if arrays.push(array).is_err() {
+            return Err(IpcError::Memory);
+        }
+    }
+    Ok(arrays)
+}
+
+/// The rows and the columns of a batch.
+fn read_arrays<S: Source>(
+    alloc: Global,
+    header: &BatchHeader,
+    schema: &ArrowSchema,
+    ipc_schema: &IpcSchema,
+    dictionaries: &Dictionaries,
+    version: MetadataVersion,
+    source: &mut S,
+    body: Body,
+    size: u64,
+    scratch: &mut Vec<u8>,
+) -> Result<(usize, Vec<Array>), IpcError>
+    requires columns { are_column_kinds schema.now ≡ true }
+    requires fields { length ipc_schema.now.fields.items ≡ length schema.now }
+    requires room { body.offset + body.length < 2 ^ 63 }
+    requires inside { Inside (S.content source.old) body }
+    ensures gives { IfSome (S.content source.old) (λ b. Gives (λ r. table_in r.0 (all_parts_of r.1.items)) result (batch_reading ipc_schema.now.is_little_endian (fields_in schema.now) size version (header_of header.now) (bytes_in body b))) }
+    ensures parts { IfOk result (λ r. IfSome (S.content source.old) (λ b. all_parts_of r.1.items ≡ columns_read (batch_in ipc_schema.now.is_little_endian version (header_of header.now) (bytes_in body b)) (fields_in schema.now) first_place r.0)) }
+    ensures shape { IfOk result (λ r. have_rows r.0 (all_parts_of r.1.items) ≡ true) }
+    ensures count { IfOk result (λ r. length r.1.items ≡ length schema.now) }
+    ensures height { IfOk result (λ r. r.0 ≡ magnitude header.now.length) }
+    ensures cause { IfErr result (λ e. ReadCause e (S.faults source.old) (S.faults source.new)) }
+    ensures content { S.content source.new ≡ S.content source.old }
+    ensures faults { S.faults source.old ≤ S.faults source.new }
+    ensures fetched { (bytes : List ℕ) → S.fetched source.new ≤ S.fetched source.old + batch_fetched (batch_in ipc_schema.now.is_little_endian version (header_of header.now) bytes) (fields_in schema.now) (magnitude header.now.length) }
+    ensures same_source { S.references source.new ≡ S.references source.old }
+{
+    check_kinds(schema)?;
+    let rows = row_count(header, size)?;
+    let queues = queues_of(alloc, header)?;
+    let (mut nodes, mut buffers, mut variadic) = queues;
+    let arrays = read_columns(
+        alloc,
+        &mut nodes,
+        &mut variadic,
+        schema,
+        ipc_schema,
+        &mut buffers,
+        source,
+        dictionaries,
+        body,
+        rows,
+        version,
+        scratch,
+    )?;
+    Ok((rows, arrays))
+}
+
+/// Reads a record batch whose body stands in a place of the source. The lengths of all buffers together are at most
+/// `size`. The columns' kinds have no children and are no dictionaries; the IPC schema has a field for each field.
+///
+/// # Errors
+///
+/// `Unsupported(Float)`, `Unsupported(Decimal256)` by the columns' kinds; `Unsupported(Compression)`;
+/// `UnexpectedNegativeInteger`, `InvalidBuffersLength` by the tables; then as `read` for each column in order, and
+/// `NodeLength` where a column has not the batch's rows; `ReadFault`, `Memory`.
+pub fn read_record_batch<S: Source>(
+    alloc: Global,
+    header: &BatchHeader,
+    schema: &ArrowSchemaRef,
+    ipc_schema: &IpcSchema,
+    projection: Option<&[usize]>,
+    limit: Option<usize>,
+    dictionaries: &Dictionaries,
+    version: MetadataVersion,
+    source: &mut S,
+    body: Body,
+    size: u64,
+    scratch: &mut Vec<u8>,
+) -> Result<RecordBatch, IpcError>
+    requires all_columns { projection ≡ None }
+    requires all_rows { limit ≡ None }
+    requires columns { are_column_kinds (rc_value schema.now) ≡ true }
+    requires fields { length ipc_schema.now.fields.items ≡ length (rc_value schema.now) }
+    requires room { body.offset + body.length < 2 ^ 63 }
+    requires inside { Inside (S.content source.old) body }
+
+    // The batch is what its columns' kinds, its tables and its body mean, or a refusal of theirs.
+    ensures gives { IfSome (S.content source.old) (λ b. Gives table_of result (batch_reading ipc_schema.now.is_little_endian (fields_in (rc_value schema.now)) size version (header_of header.now) (bytes_in body b))) }
+
+    // Also under null rows each column has the values of its buffers.
+    ensures parts { IfOk result (λ x. IfSome (S.content source.old) (λ b. x.arrays ≡ columns_read (batch_in ipc_schema.now.is_little_endian version (header_of header.now) (bytes_in body b)) (fields_in (rc_value schema.now)) first_place x.height)) }
+    ensures schema { IfOk result (λ x. x.schema ≡ rc_value schema.now) }
+    ensures height { IfOk result (λ x. x.height ≡ magnitude header.now.length) }
+    ensures cause { IfErr result (λ e. ReadCause e (S.faults source.old) (S.faults source.new)) }
+    ensures content { S.content source.new ≡ S.content source.old }
+    ensures faults { S.faults source.old ≤ S.faults source.new }
+
+    // A validity is fetched only where there are rows and nulls, and other buffers only where there are rows.
+    ensures fetched { (bytes : List ℕ) → S.fetched source.new ≤ S.fetched source.old + batch_fetched (batch_in ipc_schema.now.is_little_endian version (header_of header.now) bytes) (fields_in (rc_value schema.now)) (magnitude header.now.length) }
+    ensures same_source { S.references source.new ≡ S.references source.old }
+{
+    let columns = read_arrays(
+        alloc,
+        header,
+        schema,
+        ipc_schema,
+        dictionaries,
+        version,
+        source,
+        body,
+        size,
+        scratch,
+    )?;
+    let (rows, arrays) = columns;
+    let Ok(shared) = schema.clone() else {
+        return Err(IpcError::Memory);
+    };
+    Ok(RecordBatch::new(rows, shared, arrays))
+}

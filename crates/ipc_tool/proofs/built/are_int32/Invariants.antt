@@ -1,8 +1,0 @@
-use Rattle.std.proofs.Common.{◌≡◌, drop, map}
-use Rattle.arrow_spec.specs.Built.{are_int_32_fields}
-use Rattle.arrow_types.specs.Child.{fields_from}
-use Rattle.arrow_types.specs.Schemas.{fields_in}
-use Rattle.ipc_tool.proofs.built.are_int32.Given as goal
-
-abbrev pub invariant-loop-i : goal.invariant-loop-i
-invariant-loop-i l = record { left : are_int_32_fields (fields_in l.schema) ≡ are_int_32_fields (fields_from (drop l.i (map (λ p. p.1) l.schema))) }

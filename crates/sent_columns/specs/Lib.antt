@@ -1,0 +1,2 @@
+pub mod FlatFields
+pub mod Laws

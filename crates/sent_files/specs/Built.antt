@@ -1,0 +1,35 @@
+-- What is built so far. Each stage of the work lets more through, and the last one takes this file out.
+use Rattle.std.specs.Prelude.{Bool, true, false, ◌&&◌}
+use Rattle.arrow_spec.specs.Kinds.{Kind, Fields, none, field, null, boolean, integer, date32, date64, time32, time64, timestamp, duration, interval, decimal, binary, utf8, binary_view, utf8_view, fixed_size_binary, extension}
+use Rattle.arrow_spec.specs.Built.{Built}
+use Rattle.arrow_spec.specs.Schema.{is_little}
+
+-- a kind without children that is no float, no decimal of 256 bits and no dictionary, or an extension over one
+abbrev pub is_flat_kind : Kind → Bool
+is_flat_kind null = true
+is_flat_kind boolean = true
+is_flat_kind (integer t) = true
+is_flat_kind date32 = true
+is_flat_kind date64 = true
+is_flat_kind (time32 u) = true
+is_flat_kind (time64 u) = true
+is_flat_kind (timestamp u tz) = true
+is_flat_kind (duration u) = true
+is_flat_kind (interval u) = true
+is_flat_kind (decimal p s) = true
+is_flat_kind (binary o) = true
+is_flat_kind (utf8 o) = true
+is_flat_kind binary_view = true
+is_flat_kind utf8_view = true
+is_flat_kind (fixed_size_binary n) = true
+is_flat_kind (extension name metadata k) = is_flat_kind k
+is_flat_kind k = false
+
+-- each of them
+abbrev pub are_flat_fields : Fields → Bool
+are_flat_fields none = true
+are_flat_fields (field name nullable metadata k others) = is_flat_kind k && are_flat_fields others
+
+-- little-endian files whose chosen columns are all of flat kinds
+abbrev pub so_far : Built
+so_far = record { chosen = λ o fs. is_little o && are_flat_fields fs; dictionaries = false; requests = false }
