@@ -4,3 +4,4 @@ pub mod NoRows
 pub mod PieceLaws
 pub mod Sliced
 pub mod CellRows
+pub mod SameBatches

@@ -8,3 +8,5 @@ pub mod CellCode
 pub mod RowLaws
 pub mod RowCells
 pub mod Contents
+pub mod BatchCode
+pub mod SameBatches

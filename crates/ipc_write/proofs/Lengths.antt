@@ -33,7 +33,7 @@ length_of_packed bits n hn = hn ∙ omega (arith, length-packed bits)
 
 -- ── numbers ──
 
-in_little : (l : PhysicalType) (bytes : List ℕ) → layout_in_order little l bytes ≡ bytes
+pub in_little : (l : PhysicalType) (bytes : List ℕ) → layout_in_order little l bytes ≡ bytes
 in_little (physical.Primitive p) bytes = refl
 in_little l bytes = refl
 
@@ -103,10 +103,10 @@ length-written o (n ∷ ns) =
     let first : length (to_bytes little (offset_width o) n) ≡ byte_len (offset_width o) = unsigned_width (offset_width o) little n in
     omega (arith, length-append (to_bytes little (offset_width o) n) (flat_map (λ m. to_bytes little (offset_width o) m) ns), first, length-written o ns)
 
-length-offsets : (o : Offsets) (offsets : List ℤ) → length (offset_bytes little o offsets) ≡ byte_len (offset_width o) * length offsets
+pub length-offsets : (o : Offsets) (offsets : List ℤ) → length (offset_bytes little o offsets) ≡ byte_len (offset_width o) * length offsets
 length-offsets o offsets = length-written o (rebased offsets) ∙ ap (λ n. byte_len (offset_width o) * n) (length-map offsets (λ x. magnitude x - place_at offsets 0))
 
-length-between : (offsets : List ℤ) (values : List ℕ) → are_offsets offsets (length values) ≡ true → length (bytes_between offsets values) ≡ place_at offsets (variable_rows offsets) - place_at offsets 0
+pub length-between : (offsets : List ℤ) (values : List ℕ) → are_offsets offsets (length values) ≡ true → length (bytes_between offsets values) ≡ place_at offsets (variable_rows offsets) - place_at offsets 0
 length-between offsets values h =
     let some = some_offset offsets (length values) h in
     let last = offset_risen offsets (length values) (variable_rows offsets) h (omega arith) in

@@ -1,5 +1,5 @@
 mod Laying
-mod Lengths
+pub mod Lengths
 mod Putting
 mod Headers
 mod ColumnSteps

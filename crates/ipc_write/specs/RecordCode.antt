@@ -5,22 +5,10 @@ use Rattle.std.specs.Cmp.{IsEquivalence}
 use base.Stored.{Gv, gnil, gnum, gcons, num}
 use Rattle.arrow_types.specs.KindCode.{head, tail, by_tree, by_tree_told, by_tree_equiv}
 use Rattle.arrow_types.specs.Schemas.{Keyed, keyed_to, keyed_from, keyed_from-keyed_to}
-use Rattle.arrow_arrays.specs.CellCode.{Content, content_to, content_from, content_from-content_to}
+use Rattle.arrow_arrays.specs.BatchCode.{contents_to, contents_from, contents_from-contents_to}
+use Rattle.arrow_arrays.specs.CellCode.{Content}
 use Rattle.ipc_fields.specs.IpcFields.{Tree}
 use Rattle.ipc_fields.specs.IpcFieldCode.{tree_to, tree_from, tree_from-tree_to}
-
-abbrev pub contents_to : List Content → Gv
-contents_to [] = gnil
-contents_to (c ∷ cs) = gcons (content_to c) (contents_to cs)
-
-abbrev pub contents_from : Gv → List Content
-contents_from gnil = []
-contents_from (gnum n) = []
-contents_from (gcons a b) = content_from a ∷ contents_from b
-
-pub contents_from-contents_to : (cs : List Content) → contents_from (contents_to cs) ≡ cs
-contents_from-contents_to [] = refl
-contents_from-contents_to (c ∷ cs) = ap (λ x. x ∷ contents_from (contents_to cs)) (content_from-content_to c) ∙ ap (λ xs. c ∷ xs) (contents_from-contents_to cs)
 
 abbrev pub trees_to : List Tree → Gv
 trees_to [] = gnil

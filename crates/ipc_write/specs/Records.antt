@@ -1,9 +1,8 @@
 -- What a record holds: a batch, and the IPC fields of its columns where it has any.
-use Rattle.std.specs.Prelude.{◌≡◌, List, map, Option}
+use Rattle.std.specs.Prelude.{List, map, Option}
 use Rattle.std.specs.Option.{option_map}
 use Rattle.arrow_arrays.specs.Batches.{Batch}
-use Rattle.arrow_arrays.specs.CellCode.{Content}
-use Rattle.arrow_arrays.specs.Parts.{Parts, kind_in, cells_in}
+use Rattle.arrow_arrays.specs.SameBatches.{contents_in}
 use Rattle.ipc_fields.specs.IpcFields.{Tree, tree_of}
 use Rattle.ipc_write.specs.RecordCode.{Whole}
 use Rattle.ipc_write.specs.declared.record.Held.{Held}
@@ -25,16 +24,6 @@ batch_of r = batch_in r.held
 -- its IPC fields
 abbrev pub fields_of : Record → Option (List Tree)
 fields_of r = fields_in r.held
-
--- what columns hold: their kinds and their cells
-abbrev pub contents_in : List Parts → List Content
-contents_in = map (λ p. (kind_in p, cells_in p))
-
--- two batches have as many rows and the same schema, and their columns hold the same
-pub record SameBatch (a b : Batch) : Type 0 where
-  pub rows : a.height ≡ b.height
-  pub schema : a.schema ≡ b.schema
-  pub columns : contents_in a.arrays ≡ contents_in b.arrays
 
 -- a batch and IPC fields together
 abbrev pub whole_with : Batch → Option (List Tree) → Whole

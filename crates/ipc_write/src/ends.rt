@@ -6,7 +6,7 @@ ghost use Rattle.arrow_spec.specs.Layout.{up_to};
 ghost use Rattle.arrow_spec.specs.Sent.{body_of};
 ghost use Rattle.arrow_spec.specs.Framing.{validity_bytes};
 ghost use Rattle.arrow_buffers.specs.Variable.{place_at, variable_rows, are_offsets};
-ghost use Rattle.arrow_arrays.specs.Parts.{nulls, bits, numbers, fixed, binary, text, binary_views, text_views, as_bytes};
+ghost use Rattle.arrow_arrays.specs.Parts.{bits, numbers, binary, text, as_bytes};
 ghost use Rattle.arrow_arrays.specs.PartsOf.{parts_of};
 ghost use Rattle.array_writer.specs.Pieces.{view_pieces};
 ghost use Rattle.ipc_write.specs.Ends.{IsPlace, end_of_array};

@@ -1,11 +1,10 @@
 //! Record batches with IPC fields.
 ghost use Rattle.std.specs.Prelude.{◌≡◌, ◌↔◌, map, IfOk, IsTrue};
 ghost use Rattle.std.specs.Option.{option_map};
-ghost use Rattle.arrow_arrays.specs.Contents.{content_of};
 ghost use Rattle.ipc_fields.specs.IpcFields.{tree_of};
-ghost use Rattle.ipc_write.specs.Records.{SameBatch, batch_of, fields_of};
+ghost use Rattle.ipc_write.specs.Records.{batch_of, fields_of};
 
-use arrow_arrays::{Array, RecordBatch};
+use arrow_arrays::RecordBatch;
 use ipc_fields::IpcField;
 use std::alloc::{AllocError, Global};
 
@@ -54,21 +53,6 @@ fn owned_fields(
         None => Ok(None),
         Some(lent) => Ok(Some(clone_fields(alloc, lent)?)),
     }
-}
-
-fn are_same_arrays(a: &[Array], b: &[Array]) -> bool
-    ensures { IsTrue result ↔ (map content_of a.now ≡ map content_of b.now) }
-{
-    a == b
-}
-
-fn is_same_batch(a: &RecordBatch, b: &RecordBatch) -> bool
-    ensures { IsTrue result ↔ SameBatch a.now b.now }
-{
-    if a.height() != b.height() {
-        return false;
-    }
-    **a.schema() == **b.schema() && are_same_arrays(a.arrays(), b.arrays())
 }
 
 fn are_same_fields(a: &[IpcField], b: &[IpcField]) -> bool
@@ -150,7 +134,8 @@ impl PartialEq for Record<'_> {
     ghost use Rattle.std.specs.Prelude.{◌≡◌, ◌↔◌, IsTrue};
     ghost use Rattle.std.specs.Ordering.{on};
     ghost use Rattle.std.specs.Cmp.{on_per, partial_equiv_from_equiv};
-    ghost use Rattle.ipc_write.specs.Records.{SameBatch, batch_of, fields_of, whole_of};
+    ghost use Rattle.arrow_arrays.specs.SameBatches.{SameBatch};
+    ghost use Rattle.ipc_write.specs.Records.{batch_of, fields_of, whole_of};
     ghost use Rattle.ipc_write.specs.RecordCode.{whole_eq, whole_eq_equiv};
 
     ghost eq = { on whole_of whole_eq };
@@ -162,7 +147,6 @@ impl PartialEq for Record<'_> {
         ensures eq { result ≡ whole_eq (whole_of self.now) (whole_of other.now) }
         ensures same { IsTrue result ↔ (SameBatch (batch_of self.now) (batch_of other.now) × (fields_of self.now ≡ fields_of other.now)) }
     {
-        is_same_batch(self.columns(), other.columns())
-            && may_be_same_fields(self.fields(), other.fields())
+        *self.columns() == *other.columns() && may_be_same_fields(self.fields(), other.fields())
     }
 }

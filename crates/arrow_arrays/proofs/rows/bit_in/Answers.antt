@@ -2,7 +2,6 @@ use Rattle.std.proofs.Common.{◌≡◌, Bool, true, false, List, Bor, map, leng
 use Rattle.std.specs.Option.{option_map}
 use Rattle.std.proofs.lemmas.List.{length-map}
 use Rattle.arrow_spec.specs.Cells as cells
-use Rattle.arrow_spec.specs.Cells.{Cell}
 use Rattle.arrow_buffers.specs.Rows.{is_valid}
 use Rattle.arrow_arrays.proofs.CellRows.{read_valid, null_row, valid_row, get-map}
 use Rattle.arrow_arrays.proofs.rows.bit_in.Goals as goal

@@ -1,7 +1,6 @@
 use Rattle.std.proofs.Common.{◌≡◌, ◌∙◌, sym, ap, Bool, true, false, List, Some, Bor}
 use Rattle.std.specs.Option.{option_map}
 use Rattle.arrow_spec.specs.Cells as cells
-use Rattle.arrow_spec.specs.Cells.{Cell}
 use Rattle.arrow_buffers.specs.Rows.{is_valid}
 use Rattle.arrow_buffers.specs.Layouts.{binary_size}
 use Rattle.arrow_buffers.specs.Flat.{fixed_row, fixed_rows}

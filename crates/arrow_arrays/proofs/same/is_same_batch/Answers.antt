@@ -1,6 +1,6 @@
 use Rattle.std.proofs.Common.{◌≡◌, arith}
-use Rattle.ipc_write.proofs.SameRecords.{batches_same}
-use Rattle.ipc_write.proofs.record.is_same_batch.Goals as goal
+use Rattle.arrow_arrays.proofs.SameBatches.{batches_same}
+use Rattle.arrow_arrays.proofs.same.is_same_batch.Goals as goal
 
 pub returns-then-eq : goal.returns-then-eq
 returns-then-eq c =
