@@ -1,5 +1,5 @@
 -- The tables of a record batch: when it is refused before its columns are read, and what it means with them.
-use Rattle.std.proofs.Common.{◌≡◌, ℕ, List, [], ◌∷◌, ◌++◌, Option, Some, None, Result, Ok, Err, Bool, true, false, refl, sym, ap, ◌∙◌, subst, inl, ℤ, pos, negsuc, arith}
+use Rattle.std.proofs.Common.{◌≡◌, ℕ, List, [], ◌∷◌, Option, Some, None, Result, Ok, Err, Bool, true, false, refl, sym, ap, ◌∙◌, subst, inl, ℤ, pos, negsuc, arith}
 use Rattle.std.specs.Prelude.{length, nat_le, IfSome}
 use Rattle.std.proofs.lemmas.Bool.{le-leb}
 use Rattle.arrow_spec.specs.declared.error.IpcError.{IpcError}

@@ -1,5 +1,5 @@
 -- The kinds of columns: what of them is not read, and that the others are those of arrays.
-use Rattle.std.proofs.Common.{◌≡◌, ℕ, suc, ◌+◌, ◌≤◌, ◌<◌, List, [], ◌∷◌, ◌++◌, length, drop, Option, Some, None, Bool, true, false, refl, sym, ap, ◌∙◌, arith, subst, zero, inl}
+use Rattle.std.proofs.Common.{◌≡◌, ℕ, suc, ◌+◌, ◌≤◌, List, [], ◌∷◌, ◌++◌, length, drop, Option, Some, None, Bool, true, false, refl, sym, ap, ◌∙◌, arith, subst, zero, inl}
 use Rattle.std.specs.Prelude.{slice_get, ◌&&◌}
 use Rattle.arrow_spec.specs.declared.error.IpcError.{IpcError}
 use Rattle.arrow_spec.specs.declared.error.IpcError.TheVariants.{Unsupported}
@@ -7,7 +7,7 @@ use Rattle.arrow_spec.specs.declared.error.Feature.{Feature}
 use Rattle.arrow_spec.specs.declared.types.IntegerType.TheVariants as integers
 use Rattle.arrow_spec.specs.declared.types.IntervalUnit.TheVariants.{YearMonth, DayTime, MonthDayNano}
 use Rattle.arrow_spec.specs.Readings.{Refuses}
-use Rattle.arrow_spec.specs.Kinds.{Kind, null, boolean, integer, float, date32, date64, time32, time64, timestamp, duration, interval, decimal, decimal256, binary, utf8, binary_view, utf8_view, fixed_size_binary, «list», fixed_size_list, struct, map, union, dictionary, extension, small, large, half, single, double, field}
+use Rattle.arrow_spec.specs.Kinds.{Kind, null, boolean, integer, float, date32, date64, time32, time64, timestamp, duration, interval, decimal, decimal256, binary, utf8, binary_view, utf8_view, fixed_size_binary, «list», fixed_size_list, struct, map, union, dictionary, extension, small, large, half, single, double}
 use Rattle.arrow_spec.specs.Columns.{float_faults, chosen_floats}
 use Rattle.arrow_types.specs.Physical.{physical_of}
 use Rattle.arrow_types.specs.Schemas.{Keyed, fields_in}

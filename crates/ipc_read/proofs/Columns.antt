@@ -1,11 +1,10 @@
 -- Columns that are read one after another: what is done, and what is left at the present place.
-use Rattle.std.proofs.Common.{◌≡◌, ℕ, zero, suc, ◌+◌, ◌≤◌, ◌<◌, List, [], ◌∷◌, ◌++◌, length, drop, Option, Some, None, Result, Ok, Err, Bool, true, false, refl, sym, ap, ◌∙◌, arith, subst, map, add-zero, append-nil, append_assoc}
-use Rattle.std.specs.Prelude.{slice_get, slice_index_or, IfOk, nat_eq, not, ◌&&◌}
+use Rattle.std.proofs.Common.{◌≡◌, ℕ, zero, suc, ◌+◌, ◌≤◌, ◌<◌, List, [], ◌∷◌, ◌++◌, length, drop, Some, None, Result, Ok, Err, Bool, true, false, refl, sym, ap, ◌∙◌, arith, subst, map, append-nil, append_assoc}
+use Rattle.std.specs.Prelude.{slice_get, slice_index_or, nat_eq, not, ◌&&◌}
 use Rattle.std.specs.List.{list_all}
 use Rattle.std.proofs.lemmas.List.{map-append}
 use Rattle.arrow_spec.specs.declared.error.IpcError.{IpcError}
-use Rattle.arrow_spec.specs.Readings.{bind, Reading, IsAmong, Refuses, Gives, refusals, place, ◌>>=◌}
-use Rattle.arrow_spec.specs.Cells.{Cell}
+use Rattle.arrow_spec.specs.Readings.{bind, Refuses, refusals, place, ◌>>=◌}
 use Rattle.arrow_spec.specs.Kinds.{Kind, Fields, none, field}
 use Rattle.arrow_spec.specs.Counts.{RecordBatch, Place, first_place, after, magnitude}
 use Rattle.arrow_spec.specs.declared.message.FieldNode.{FieldNode}
@@ -21,11 +20,10 @@ use Rattle.arrow_arrays.specs.Parts.{Parts, cells_in, rows_in}
 use Rattle.arrow_arrays.specs.Batches.{have_rows}
 use Rattle.arrow_arrays.specs.FlatKinds.{is_flat_kind}
 use Rattle.read_columns.specs.Batches.{columns_read}
-use Rattle.read_columns.specs.Faults.{read_faults, stated, stated_of, fetched_at_most}
+use Rattle.read_columns.specs.Faults.{read_faults, stated_of, fetched_at_most}
 use Rattle.read_columns.specs.PartsRead.{parts_read}
 use Rattle.ipc_read.specs.Batches.{IsFieldAt, are_flat_kinds, batch_fetched, columns_fetched}
-use Rattle.ipc_read.specs.Sources.{Answers}
-use Rattle.ipc_read.proofs.Passing.{next_of, answers_same, answers_err, refuses_more, among_left, among_right}
+use Rattle.ipc_read.proofs.Passing.{next_of, refuses_more, among_left, among_right}
 use Rattle.ipc_read.proofs.ColumnKinds.{drop_at, drop_all, both_first, both_second}
 use Rattle.ipc_read.proofs.BatchTables.{refused_first, refused_place, place_none}
 

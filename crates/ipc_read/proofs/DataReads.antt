@@ -1,6 +1,6 @@
 -- Buffers behind one another, as many as a count says.
 use Rattle.std.proofs.Common.{◌≡◌, ℕ, zero, suc, ◌+◌, ◌-◌, ◌≤◌, ◌<◌, List, [], ◌∷◌, ◌++◌, length, drop, Option, Some, None, Result, ℤ, pos, negsuc, ◌≤ℤ◌, false, refl, sym, ap, ◌∙◌, arith, subst, length-drop}
-use Rattle.std.specs.Prelude.{nat_lt, nat_le, slice_get, MatchOption}
+use Rattle.std.specs.Prelude.{nat_lt, slice_get, MatchOption}
 use Rattle.std.specs.Option.{option_to_list}
 use Rattle.std.proofs.lemmas.Bool.{le-ltb}
 use Rattle.arrow_spec.specs.declared.error.IpcError.{IpcError}

@@ -7,7 +7,7 @@ use Rattle.arrow_spec.specs.declared.message.FieldNode.{FieldNode}
 use Rattle.arrow_spec.specs.declared.message.IpcBuffer.{IpcBuffer}
 use Rattle.arrow_spec.specs.Readings.{IsAmong, Refuses}
 use Rattle.arrow_spec.specs.Kinds as kind
-use Rattle.arrow_spec.specs.Kinds.{Kind, small, large}
+use Rattle.arrow_spec.specs.Kinds.{Kind}
 use Rattle.arrow_spec.specs.Counts.{RecordBatch, Place, after}
 use Rattle.arrow_spec.specs.Laws.{AreBytes}
 use Rattle.arrow_spec.specs.Columns.{buf, node_faults, validity_faults, bitmap_faults, numbers_faults, array_faults}

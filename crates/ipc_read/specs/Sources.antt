@@ -1,6 +1,6 @@
 -- The body of a record batch in its source, and what a reader answers.
 use Rattle.arrow_spec.specs.Columns.{buf, from_on, signed_in, offset_width}
-use Rattle.std.specs.Prelude.{◌≡◌, ℕ, zero, suc, ◌+◌, ◌≤◌, ◌<◌, ℤ, pos, ◌∷◌, List, [], length, take, drop, ⊤, Bool, true, false, Option, Some, None, Result, IfOk, IfErr}
+use Rattle.std.specs.Prelude.{◌≡◌, ℕ, zero, suc, ◌+◌, ◌≤◌, ℤ, pos, ◌∷◌, List, [], length, take, drop, ⊤, Bool, true, false, Option, Some, None, Result, IfOk, IfErr}
 use Rattle.arrow_spec.specs.declared.error.IpcError.{IpcError}
 use Rattle.arrow_spec.specs.declared.error.IpcError.TheVariants.{OutOfSpec, Unsupported, Memory, ReadFault}
 use Rattle.arrow_spec.specs.Readings.{Refuses}

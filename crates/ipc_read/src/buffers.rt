@@ -1,5 +1,5 @@
 //! One buffer of a body (Arrow Columnar Format, Message.fbs, Buffer).
-ghost use Rattle.std.specs.Prelude.{◌≡◌, ◌⊎◌, ℕ, suc, ◌+◌, ◌*◌, ◌/◌, ◌^◌, ◌<◌, ◌≤◌, ◌++◌, ◌&&◌, Bool, Some, None, [], length, take, nat_lt, true, slice_get, drop, List, IfOk, IfErr};
+ghost use Rattle.std.specs.Prelude.{◌≡◌, ◌⊎◌, ℕ, suc, ◌+◌, ◌*◌, ◌/◌, ◌^◌, ◌<◌, ◌≤◌, ◌++◌, ◌&&◌, Bool, Some, None, length, take, nat_lt, true, slice_get, drop, List, IfOk, IfErr};
 ghost use Rattle.arrow_spec.specs.Counts.{RecordBatch as Batch, Place, magnitude};
 ghost use Rattle.arrow_spec.specs.Columns.{buf, from_on, range_of, range_causes, range_faults, bitmap_faults, numbers_faults, validity_faults};
 ghost use Rattle.arrow_spec.specs.Laws.{AreBytes};

@@ -1,10 +1,10 @@
 //! Arrays of values of one width (Arrow Columnar Format, "Fixed-size Primitive Layout", "Null Layout").
-ghost use Rattle.std.specs.Prelude.{◌≡◌, ◌⊎◌, length, ℕ, suc, ◌+◌, ◌^◌, ◌<◌, ◌≤◌, true, IfOk, IfErr};
+ghost use Rattle.std.specs.Prelude.{◌≡◌, ◌⊎◌, length, ℕ, ◌+◌, ◌^◌, ◌<◌, ◌≤◌, true, IfOk, IfErr};
 ghost use Rattle.arrow_spec.specs.Counts.{RecordBatch as Batch, Place, after};
 ghost use Rattle.arrow_types.specs.KindOf.{kind_of};
 ghost use Rattle.arrow_types.specs.Physical.{physical_of};
-ghost use Rattle.ipc_read.specs.Queues.{NodesAt, At, AllAt};
-ghost use Rattle.ipc_read.specs.Sources.{Answers, Inside, Known, ReadCause, IsRefusal, order_of};
+ghost use Rattle.ipc_read.specs.Queues.{NodesAt, At};
+ghost use Rattle.ipc_read.specs.Sources.{Answers, Inside, Known, ReadCause, IsRefusal};
 ghost use Rattle.read_columns.specs.Faults.{read_faults, fetched_at_most};
 ghost use Rattle.arrow_buffers.specs.Layouts.{is_null, is_boolean, is_primitive, binary_size};
 ghost use Rattle.read_columns.specs.PartsRead.{boolean_read, primitive_read, fixed_read, numbers_bytes};

@@ -4,6 +4,7 @@
 mod batch;
 mod body;
 mod buffers;
+mod counts;
 mod flat;
 mod integers;
 mod makes;

@@ -1,5 +1,5 @@
 //! The array of a column of any kind without children (Arrow Columnar Format, "Physical Memory Layout").
-ghost use Rattle.std.specs.Prelude.{◌≡◌, ℕ, ◌+◌, ◌^◌, ◌<◌, ◌≤◌, List, [], true, IfOk, IfErr};
+ghost use Rattle.std.specs.Prelude.{◌≡◌, ℕ, ◌+◌, ◌^◌, ◌<◌, ◌≤◌, [], true, IfOk, IfErr};
 ghost use Rattle.arrow_spec.specs.Counts.{RecordBatch as Batch, Place, after};
 ghost use Rattle.arrow_types.specs.KindOf.{kind_of};
 ghost use Rattle.arrow_types.specs.Physical.{physical_of};
@@ -75,161 +75,34 @@ fn read_numbers<S: Source>(
     ensures same_source { S.references source.new ≡ S.references source.old }
     ensures bytes { IfOk result (λ _. (m : Batch) (p : Place) → At m p nodes.old.items buffers.old.items → Known (S.content source.old) body is_little_endian m → AreBytes (numbers_bytes m (kind_of dtype.now) p rows)) }
 {
+    macro_rules! array_of {
+        ($number:ty, $kind:ident) => {{
+            let array = read_primitive::<$number, S>(
+                alloc,
+                nodes,
+                dtype,
+                buffers,
+                source,
+                body,
+                is_little_endian,
+                rows,
+                scratch,
+            )?;
+            Ok(Array::$kind(array))
+        }};
+    }
     match primitive {
-        PrimitiveType::Int8 => {
-            let array = read_primitive::<i8, S>(
-                alloc,
-                nodes,
-                dtype,
-                buffers,
-                source,
-                body,
-                is_little_endian,
-                rows,
-                scratch,
-            )?;
-            Ok(Array::Int8(array))
-        }
-        PrimitiveType::Int16 => {
-            let array = read_primitive::<i16, S>(
-                alloc,
-                nodes,
-                dtype,
-                buffers,
-                source,
-                body,
-                is_little_endian,
-                rows,
-                scratch,
-            )?;
-            Ok(Array::Int16(array))
-        }
-        PrimitiveType::Int32 => {
-            let array = read_primitive::<i32, S>(
-                alloc,
-                nodes,
-                dtype,
-                buffers,
-                source,
-                body,
-                is_little_endian,
-                rows,
-                scratch,
-            )?;
-            Ok(Array::Int32(array))
-        }
-        PrimitiveType::Int64 => {
-            let array = read_primitive::<i64, S>(
-                alloc,
-                nodes,
-                dtype,
-                buffers,
-                source,
-                body,
-                is_little_endian,
-                rows,
-                scratch,
-            )?;
-            Ok(Array::Int64(array))
-        }
-        PrimitiveType::Int128 => {
-            let array = read_primitive::<i128, S>(
-                alloc,
-                nodes,
-                dtype,
-                buffers,
-                source,
-                body,
-                is_little_endian,
-                rows,
-                scratch,
-            )?;
-            Ok(Array::Int128(array))
-        }
-        PrimitiveType::UInt8 => {
-            let array = read_primitive::<u8, S>(
-                alloc,
-                nodes,
-                dtype,
-                buffers,
-                source,
-                body,
-                is_little_endian,
-                rows,
-                scratch,
-            )?;
-            Ok(Array::UInt8(array))
-        }
-        PrimitiveType::UInt16 => {
-            let array = read_primitive::<u16, S>(
-                alloc,
-                nodes,
-                dtype,
-                buffers,
-                source,
-                body,
-                is_little_endian,
-                rows,
-                scratch,
-            )?;
-            Ok(Array::UInt16(array))
-        }
-        PrimitiveType::UInt32 => {
-            let array = read_primitive::<u32, S>(
-                alloc,
-                nodes,
-                dtype,
-                buffers,
-                source,
-                body,
-                is_little_endian,
-                rows,
-                scratch,
-            )?;
-            Ok(Array::UInt32(array))
-        }
-        PrimitiveType::UInt64 => {
-            let array = read_primitive::<u64, S>(
-                alloc,
-                nodes,
-                dtype,
-                buffers,
-                source,
-                body,
-                is_little_endian,
-                rows,
-                scratch,
-            )?;
-            Ok(Array::UInt64(array))
-        }
-        PrimitiveType::DaysMs => {
-            let array = read_primitive::<days_ms, S>(
-                alloc,
-                nodes,
-                dtype,
-                buffers,
-                source,
-                body,
-                is_little_endian,
-                rows,
-                scratch,
-            )?;
-            Ok(Array::DaysMs(array))
-        }
-        PrimitiveType::MonthDayNano => {
-            let array = read_primitive::<months_days_ns, S>(
-                alloc,
-                nodes,
-                dtype,
-                buffers,
-                source,
-                body,
-                is_little_endian,
-                rows,
-                scratch,
-            )?;
-            Ok(Array::MonthsDaysNs(array))
-        }
+        PrimitiveType::Int8 => array_of!(i8, Int8),
+        PrimitiveType::Int16 => array_of!(i16, Int16),
+        PrimitiveType::Int32 => array_of!(i32, Int32),
+        PrimitiveType::Int64 => array_of!(i64, Int64),
+        PrimitiveType::Int128 => array_of!(i128, Int128),
+        PrimitiveType::UInt8 => array_of!(u8, UInt8),
+        PrimitiveType::UInt16 => array_of!(u16, UInt16),
+        PrimitiveType::UInt32 => array_of!(u32, UInt32),
+        PrimitiveType::UInt64 => array_of!(u64, UInt64),
+        PrimitiveType::DaysMs => array_of!(days_ms, DaysMs),
+        PrimitiveType::MonthDayNano => array_of!(months_days_ns, MonthsDaysNs),
         _ => unreachable!(),
     }
 }
@@ -261,91 +134,29 @@ fn read_values<S: Source>(
     ensures fetched { (m : Batch) (p : Place) → At m p nodes.old.items buffers.old.items → S.fetched source.new ≤ S.fetched source.old + fetched_at_most m (kind_of dtype.now) p rows }
     ensures same_source { S.references source.new ≡ S.references source.old }
 {
+    macro_rules! array_of {
+        ($read:expr, $kind:ident) => {{
+            let array = $read(
+                alloc,
+                nodes,
+                dtype,
+                buffers,
+                source,
+                body,
+                is_little_endian,
+                rows,
+                scratch,
+            )?;
+            Ok(Array::$kind(array))
+        }};
+    }
     match layout {
-        PhysicalType::Boolean => {
-            let array = read_boolean(
-                alloc,
-                nodes,
-                dtype,
-                buffers,
-                source,
-                body,
-                is_little_endian,
-                rows,
-                scratch,
-            )?;
-            Ok(Array::Boolean(array))
-        }
-        PhysicalType::FixedSizeBinary => {
-            let array = read_fixed_size_binary(
-                alloc,
-                nodes,
-                dtype,
-                buffers,
-                source,
-                body,
-                is_little_endian,
-                rows,
-                scratch,
-            )?;
-            Ok(Array::FixedSizeBinary(array))
-        }
-        PhysicalType::Binary => {
-            let array = read_binary::<i32, S>(
-                alloc,
-                nodes,
-                dtype,
-                buffers,
-                source,
-                body,
-                is_little_endian,
-                rows,
-                scratch,
-            )?;
-            Ok(Array::Binary(array))
-        }
-        PhysicalType::LargeBinary => {
-            let array = read_binary::<i64, S>(
-                alloc,
-                nodes,
-                dtype,
-                buffers,
-                source,
-                body,
-                is_little_endian,
-                rows,
-                scratch,
-            )?;
-            Ok(Array::LargeBinary(array))
-        }
-        PhysicalType::Utf8 => {
-            let array = read_utf8::<i32, S>(
-                alloc,
-                nodes,
-                dtype,
-                buffers,
-                source,
-                body,
-                is_little_endian,
-                rows,
-                scratch,
-            )?;
-            Ok(Array::Utf8(array))
-        }
-        PhysicalType::LargeUtf8 => {
-            let array = read_utf8::<i64, S>(
-                alloc,
-                nodes,
-                dtype,
-                buffers,
-                source,
-                body,
-                is_little_endian,
-                rows,
-                scratch,
-            )?;
-            Ok(Array::LargeUtf8(array))
-        }
+        PhysicalType::Boolean => array_of!(read_boolean, Boolean),
+        PhysicalType::FixedSizeBinary => array_of!(read_fixed_size_binary, FixedSizeBinary),
+        PhysicalType::Binary => array_of!(read_binary::<i32, S>, Binary),
+        PhysicalType::LargeBinary => array_of!(read_binary::<i64, S>, LargeBinary),
+        PhysicalType::Utf8 => array_of!(read_utf8::<i32, S>, Utf8),
+        PhysicalType::LargeUtf8 => array_of!(read_utf8::<i64, S>, LargeUtf8),
         _ => unreachable!(),
     }
 }

@@ -5,7 +5,7 @@ ghost use Rattle.arrow_spec.specs.Columns.{buf, bitmap_faults, numbers_faults, n
 ghost use Rattle.arrow_spec.specs.Laws.{AreBytes};
 ghost use Rattle.arrow_spec.specs.Readings.{Refuses};
 ghost use Rattle.ipc_read.specs.Queues.{Left, short_of};
-ghost use Rattle.ipc_read.specs.Sources.{Answers, Inside, Known, ReadCause, IsRefusal, order_of, faults_where, bytes_where};
+ghost use Rattle.ipc_read.specs.Sources.{Answers, Inside, Known, ReadCause, IsRefusal, faults_where, bytes_where};
 ghost use Rattle.read_columns.specs.PartsRead.{bits_read, items_read, bytes_of_rows};
 ghost use Rattle.read_columns.specs.Faults.{stated};
 

@@ -1,17 +1,16 @@
 //! Arrays that are passed over: what they take of the queues is taken, and nothing is read (Arrow Columnar Format, "RecordBatch message", "Variadic buffers").
-ghost use Rattle.std.specs.Prelude.{◌≡◌, ℕ, ◌+◌, ◌^◌, ◌<◌, ◌≤◌, List, length, drop, true, IfOk, IfErr};
+ghost use Rattle.std.specs.Prelude.{◌≡◌, ◌+◌, ◌<◌, ◌≤◌, length, drop, true, IfOk, IfErr};
 ghost use Rattle.arrow_spec.specs.Counts.{RecordBatch as Batch, Place, after, count_at};
 ghost use Rattle.arrow_spec.specs.Columns.{count_faults, counts_faults};
-ghost use Rattle.arrow_spec.specs.Readings.{IsAmong};
 ghost use Rattle.arrow_spec.specs.Kinds.{binary_view};
 ghost use Rattle.arrow_spec.specs.declared.error.IpcError.TheVariants.{OutOfSpec};
 ghost use Rattle.arrow_spec.specs.declared.error.OutOfSpecKind.TheVariants.{ExpectedBuffer};
 ghost use Rattle.arrow_types.specs.KindOf.{kind_of};
-ghost use Rattle.ipc_read.specs.Queues.{Left, NodesAt, At, AllAt};
-ghost use Rattle.ipc_read.specs.Skips.{moved, is_plain_kind, IsDamage, IsNextCount, next_count_faults};
+ghost use Rattle.ipc_read.specs.Queues.{NodesAt, At, AllAt};
+ghost use Rattle.ipc_read.specs.Skips.{moved, is_plain_kind, IsDamage};
 ghost use Rattle.ipc_read.specs.Sources.{Answers};
 
-use crate::integers::{is_negative, magnitude};
+use crate::counts::take_count;
 use arrow_spec::{FieldNode, IpcBuffer, IpcError, MetadataVersion, OutOfSpecKind};
 use arrow_types::{ArrowDataType, PhysicalType};
 use std::collections::VecDeque;
@@ -137,22 +136,6 @@ pub fn skip_fixed_size_binary(
     ensures damage { IfErr result IsDamage }
 {
     skip_parts(nodes, buffers, 2)
-}
-
-/// Takes the next view count.
-fn take_count(variadic: &mut VecDeque<i64>) -> Result<usize, IpcError>
-    ensures count { IfOk result (λ n. (m : Batch) (i : ℕ) → Left m.variadic i variadic.old.items → IsNextCount m i n variadic.new.items) }
-    ensures err { IfErr result (λ e. (m : Batch) (i : ℕ) → Left m.variadic i variadic.old.items → IsAmong (next_count_faults m i) e) }
-    ensures small { IfOk result (λ n. n < 2 ^ 63) }
-    ensures damage { IfErr result IsDamage }
-{
-    let Some(count) = variadic.pop_front() else {
-        return Err(IpcError::OutOfSpec(OutOfSpecKind::MissingVariadicCount));
-    };
-    if is_negative(count) {
-        return Err(IpcError::OutOfSpec(OutOfSpecKind::UnexpectedNegativeInteger));
-    }
-    Ok(magnitude(count) as usize)
 }
 
 /// Passes over an array of views: a node, a validity, the views, a view count and as many data buffers as it says.

@@ -1,5 +1,5 @@
 //! The tables of a record batch, before its body is looked at (Arrow Columnar Format, Message.fbs, RecordBatch).
-ghost use Rattle.std.specs.Prelude.{◌≡◌, ◌*◌, ◌^◌, ◌<◌, ◌≤◌, ℕ, List, length, IfOk, IfErr, None, not, true, slice_get};
+ghost use Rattle.std.specs.Prelude.{◌≡◌, ◌*◌, ◌^◌, ◌<◌, ℕ, List, length, IfOk, IfErr, None, not, true, slice_get};
 ghost use Rattle.arrow_spec.specs.Readings.{Refuses, refusals};
 ghost use Rattle.arrow_spec.specs.Flat.{Order};
 ghost use Rattle.arrow_spec.specs.Kinds.{Fields};

@@ -1,15 +1,14 @@
 //! Arrays of views of byte strings and texts (Arrow Columnar Format, "Variable-size Binary View Layout").
-ghost use Rattle.std.specs.Prelude.{◌≡◌, ◌⊎◌, ℕ, suc, ◌+◌, ◌*◌, ◌^◌, ◌<◌, ◌≤◌, Bool, Some, length, drop, nat_lt, not, ◌&&◌, true, IfOk, IfErr};
-ghost use Rattle.arrow_spec.specs.Counts.{RecordBatch as Batch, Place, after, count_at};
-ghost use Rattle.arrow_spec.specs.Kinds.{binary_view};
-ghost use Rattle.arrow_spec.specs.Columns.{buf, from_on, ranges_faults, view_count_faults};
+ghost use Rattle.std.specs.Prelude.{◌≡◌, ◌⊎◌, ℕ, ◌+◌, ◌*◌, ◌^◌, ◌<◌, ◌≤◌, Bool, Some, length, drop, nat_lt, not, ◌&&◌, true, IfOk, IfErr};
+ghost use Rattle.arrow_spec.specs.Counts.{RecordBatch as Batch, Place, after};
+ghost use Rattle.arrow_spec.specs.Columns.{buf, from_on, ranges_faults};
 ghost use Rattle.arrow_spec.specs.Needed.{numbers_from};
 ghost use Rattle.arrow_spec.specs.declared.error.IpcError.TheVariants.{Memory, OutOfSpec};
 ghost use Rattle.arrow_spec.specs.declared.error.OutOfSpecKind.TheVariants.{InvalidUtf8, InvalidView};
 ghost use Rattle.arrow_types.specs.KindOf.{kind_of};
 ghost use Rattle.arrow_types.specs.Physical.{physical_of};
 ghost use Rattle.ipc_read.specs.Queues.{Left, AllAt};
-ghost use Rattle.ipc_read.specs.Sources.{Answers, Inside, Known, ReadCause, IsRefusal, bytes_where};
+ghost use Rattle.ipc_read.specs.Sources.{Answers, Inside, Known, ReadCause, bytes_where};
 ghost use Rattle.ipc_read.specs.DataBuffers.{data_causes, data_of};
 ghost use Rattle.read_columns.specs.Faults.{read_faults, fetched_at_most, stated_of};
 ghost use Rattle.arrow_buffers.specs.declared.error.ArrayError.TheVariants.{Utf8, View};
@@ -20,7 +19,7 @@ ghost use Rattle.read_columns.specs.PartsRead.{views_read};
 
 use crate::Body;
 use crate::buffers::{read_bytes, read_validity};
-use crate::integers::magnitude;
+use crate::counts::take_count;
 use crate::rows::{read_rows, take_node};
 use arrow_buffers::{ArrayError, BinaryViewArrayGeneric, Bitmap, Buffer, ViewType};
 use arrow_spec::{Feature, FieldNode, IpcBuffer, IpcError, OutOfSpecKind};
@@ -28,21 +27,6 @@ use arrow_types::ArrowDataType;
 use ipc_schema::Source;
 use std::alloc::Global;
 use std::collections::VecDeque;
-
-/// Takes the count of an array's data buffers.
-fn take_count(variadic: &mut VecDeque<i64>) -> Result<usize, IpcError>
-    ensures queue { IfOk result (λ _. (m : Batch) (i : ℕ) → Left m.variadic i variadic.old.items → Left m.variadic (suc i) variadic.new.items) }
-    ensures gives { (m : Batch) (p : Place) → Left m.variadic p.view variadic.old.items → Answers (λ n. n) result (view_count_faults m binary_view p) (count_at m p.view) }
-    ensures refusal { IfErr result IsRefusal }
-{
-    let Some(count) = variadic.pop_front() else {
-        return Err(IpcError::OutOfSpec(OutOfSpecKind::MissingVariadicCount));
-    };
-    if count < 0 {
-        return Err(IpcError::OutOfSpec(OutOfSpecKind::UnexpectedNegativeInteger));
-    }
-    Ok(magnitude(count) as usize)
-}
 
 /// Passes over so many buffers.
 fn pass_buffers(buffers: &mut VecDeque<IpcBuffer>, count: usize)

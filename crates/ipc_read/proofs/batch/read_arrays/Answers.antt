@@ -1,11 +1,11 @@
-use Rattle.std.proofs.Common.{◌≡◌, Err, Ok, None, sym, ap, ◌∙◌, arith, subst, map}
-use Rattle.arrow_spec.specs.Readings.{Refuses, Gives, refusals}
-use Rattle.arrow_spec.specs.Counts.{first_place, magnitude}
+use Rattle.std.proofs.Common.{◌≡◌, Err, sym, ap, ◌∙◌, arith, subst, map}
+use Rattle.arrow_spec.specs.Readings.{Refuses, refusals}
+use Rattle.arrow_spec.specs.Counts.{magnitude}
 use Rattle.arrow_types.specs.Schemas.{fields_in}
 use Rattle.arrow_arrays.specs.Parts.{cells_in}
 use Rattle.arrow_arrays.specs.PartsOf.{all_parts_of}
 use Rattle.ipc_schema.specs.Views.{header_of}
-use Rattle.ipc_read.specs.Batches.{batch_in, batch_reading, batch_fetched, columns_fetched, table_in}
+use Rattle.ipc_read.specs.Batches.{batch_in, batch_reading, batch_fetched, table_in}
 use Rattle.ipc_read.specs.Sources.{bytes_in, order_of}
 use Rattle.ipc_read.proofs.Passing.{is_err}
 use Rattle.ipc_read.proofs.Columns.{fetched_is}

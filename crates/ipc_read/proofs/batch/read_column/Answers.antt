@@ -1,4 +1,4 @@
-use Rattle.std.proofs.Common.{◌≡◌, Err, sym}
+use Rattle.std.proofs.Common.{◌≡◌, Err}
 use Rattle.arrow_types.specs.KindOf.{kind_of}
 use Rattle.ipc_read.proofs.Passing.{is_err, answers_err, answers_same}
 use Rattle.ipc_read.proofs.Columns.{column_is, node_refused}

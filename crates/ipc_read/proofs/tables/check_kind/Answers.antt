@@ -1,4 +1,4 @@
-use Rattle.std.proofs.Common.{◌≡◌, refl, ap, ◌∙◌}
+use Rattle.std.proofs.Common.{refl, ap, ◌∙◌}
 use Rattle.arrow_types.specs.KindOf.{kind_of}
 use Rattle.ipc_read.proofs.ColumnKinds.{floats_of, kind_refused, feature_faults}
 use Rattle.ipc_read.proofs.tables.check_kind.Goals as goal

@@ -1,8 +1,7 @@
 use Rattle.std.proofs.Common.{◌≡◌, Err, sym, ◌∙◌, ap, arith, subst, refl}
-use Rattle.std.specs.Prelude.{None}
 use Rattle.arrow_spec.specs.Columns.{float_faults}
 use Rattle.arrow_spec.specs.Readings.{Refuses}
-use Rattle.arrow_types.specs.KindOf.{child_of, kind_of}
+use Rattle.arrow_types.specs.KindOf.{child_of}
 use Rattle.arrow_buffers.specs.Layouts.{binary_size}
 use Rattle.arrow_types.specs.Physical.{physical_of}
 use Rattle.ipc_read.specs.Skips.{is_plain_kind}
