@@ -16,7 +16,7 @@ use Rattle.arrow_buffers.specs.declared.error.ArrayError.TheVariants.{DataType, 
 use Rattle.arrow_buffers.specs.Rows.{has_rows, is_valid, null_rows}
 use Rattle.arrow_buffers.specs.Layouts.{is_view}
 use Rattle.arrow_buffers.specs.Views as held
-use Rattle.arrow_buffers.specs.Views.{Views, view_rows, view_at, buffer_at, short_bytes, long_bytes, leads_right, has_bad_view, has_bad_view_text, view_cell, view_cells, view_fault}
+use Rattle.arrow_buffers.specs.Views.{Views, view_rows, view_at, buffer_at, has_bad_view, has_bad_view_text, view_cell, view_cells, view_fault}
 use Rattle.arrow_buffers.proofs.Rows.{none_below, none_from, fine_here, null_here}
 use Rattle.arrow_buffers.proofs.Views.{short_view, long_view, short_good, long_good, by_prefix, leads}
 use Rattle.arrow_buffers.proofs.ViewParts.{Seen, view_sound, good_row}

@@ -1,5 +1,5 @@
 //! The buffers of each layout (Arrow Columnar Format, "Buffer Listing for Each Layout").
-ghost use Rattle.std.specs.Prelude.{◌≡◌, ◌+◌, ◌-◌, ◌^◌, ◌<◌, ◌≤◌, ◌++◌, [], ◌∷◌, length, map, pos, true, false, IfOk};
+ghost use Rattle.std.specs.Prelude.{◌≡◌, ◌-◌, ◌^◌, ◌<◌, [], ◌∷◌, length, map, true, IfOk};
 ghost use Rattle.std.specs.Option.{option_map};
 ghost use Rattle.arrow_spec.specs.Flat.{Order, little};
 ghost use Rattle.arrow_spec.specs.Sent.{body_of};

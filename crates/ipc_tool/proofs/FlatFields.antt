@@ -6,7 +6,7 @@ use Rattle.std.proofs.lemmas.Bool.{and_parts, and_from, lt-ltb}
 use Rattle.arrow_spec.specs.declared.types.IntegerType.TheVariants as integers
 use Rattle.arrow_spec.specs.declared.types.IntervalUnit.TheVariants.{YearMonth, DayTime, MonthDayNano}
 use Rattle.arrow_spec.specs.Flat.{Order}
-use Rattle.arrow_spec.specs.Kinds.{Kind, Fields, none, field, null, boolean, integer, float, date32, date64, time32, time64, timestamp, duration, interval, decimal, decimal256, binary, utf8, binary_view, utf8_view, fixed_size_binary, «list», fixed_size_list, struct, union, dictionary, extension, half, single, double, small, large, numbered, uses_in, uses_of}
+use Rattle.arrow_spec.specs.Kinds.{Kind, Fields, none, field, integer, float, interval, decimal, decimal256, binary, utf8, fixed_size_binary, «list», fixed_size_list, struct, union, dictionary, extension, half, single, double, small, large, numbered, uses_in, uses_of}
 use Rattle.arrow_spec.specs.Kinds as kind
 use Rattle.arrow_spec.specs.Regular.{are_representable, fields_below, fields_from, is_no_dictionary, is_representable_kind, is_size, representable}
 use Rattle.arrow_spec.specs.WrittenSchemas.{FieldsFit, KindFits, Part, of_dictionary, of_extension, of_field}

@@ -1,5 +1,5 @@
 //! A run from words to status.
-ghost use Rattle.std.specs.Prelude.{◌≡◌, ◌⊎◌, ◌↔◌, ◌<◌, ◌≤◌, ◌^◌, ℕ, IsNone, IsSome, IsSomeAnd, MatchOption, IsTrue, IsFalse, List, Option, Some, None, [], length, OnOk, IfOk, IfErr, IfSome};
+ghost use Rattle.std.specs.Prelude.{◌≡◌, ◌⊎◌, ◌↔◌, ◌<◌, ◌≤◌, IsNone, IsSome, IsSomeAnd, MatchOption, IsTrue, IsFalse, Some, None, OnOk, IfErr, IfSome};
 ghost use Rattle.std.specs.Io.KnownBytes.{Keeps, IsAtEnd};
 ghost use Rattle.arrow_spec.specs.Words.{command_of, request_of, schema_request_of};
 ghost use Rattle.ipc_schema.specs.Outside.{Rose, Lacks};

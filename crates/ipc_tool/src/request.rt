@@ -1,5 +1,5 @@
 //! What the words of a call ask for.
-ghost use Rattle.std.specs.Prelude.{◌≡◌, ◌∷◌, [], IfOk, IfErr};
+ghost use Rattle.std.specs.Prelude.{◌∷◌, [], IfOk, IfErr};
 ghost use Rattle.ipc_tool.specs.Request.{texts, IsAsked, WordsCause};
 
 use crate::refusal::Refusal;

@@ -8,7 +8,7 @@ use Rattle.arrow_spec.specs.Cells as cells
 use Rattle.arrow_spec.specs.Cells.{Cell}
 use Rattle.arrow_spec.specs.Counts.{RecordBatch, Place}
 use Rattle.arrow_spec.specs.Columns as spec
-use Rattle.arrow_spec.specs.Columns.{Dictionaries, buf, bit, valid, if_valid, cell, from_on, cause, if_sound, some_valid_row, node_faults, validity_faults, fixed_faults, view_parts_faults, bad_view_faults, views_faults, view_text_faults, view_of, array_faults}
+use Rattle.arrow_spec.specs.Columns.{Dictionaries, buf, bit, valid, if_valid, cell, from_on, node_faults, validity_faults, fixed_faults, view_parts_faults, bad_view_faults, views_faults, view_text_faults, view_of, array_faults}
 use Rattle.arrow_spec.specs.Laws.{AreBytes}
 use Rattle.arrow_spec.proofs.Fewer.{cause-none, none_first, none_second, sound_first, sound_second, some_row-none}
 use Rattle.arrow_types.specs.Physical.{primitive_size, physical_of}

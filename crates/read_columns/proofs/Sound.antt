@@ -7,7 +7,7 @@ use Rattle.arrow_spec.specs.declared.error.IpcError.TheVariants.{OutOfSpec}
 use Rattle.arrow_spec.specs.declared.error.OutOfSpecKind.TheVariants as kinds
 use Rattle.arrow_spec.specs.Kinds.{Kind, Offsets, binary_view}
 use Rattle.arrow_spec.specs.Counts.{RecordBatch, Place, count_at}
-use Rattle.arrow_spec.specs.Columns.{buf, range_of, cause, if_sound, is_big, validity_faults, numbers_faults, fixed_faults, offsets_buffer_faults, range_faults, offsets_faults, bytes_faults, utf8_faults, view_parts_faults, view_count_faults, data_faults, bad_view_faults, some_valid_row, view_of}
+use Rattle.arrow_spec.specs.Columns.{buf, cause, is_big, validity_faults, fixed_faults, offsets_buffer_faults, range_faults, bytes_faults, utf8_faults, view_parts_faults, view_count_faults, data_faults, bad_view_faults, some_valid_row, view_of}
 use Rattle.arrow_spec.specs.Columns as spec
 use Rattle.arrow_spec.proofs.Fewer.{none_first, none_second, sound_second}
 use Rattle.arrow_types.specs.Physical.{primitive_size, physical_of}

@@ -4,7 +4,7 @@ use Rattle.std.specs.Str.{is_utf8, bytes_eq}
 use Rattle.std.proofs.lemmas.Bool.{le-ltb, ltb-true, cases_lt, and_parts}
 use Rattle.arrow_spec.specs.Counts.{RecordBatch, Place, count_at}
 use Rattle.arrow_spec.specs.Columns as spec
-use Rattle.arrow_spec.specs.Columns.{buf, range_faults, ranges_faults, data_faults, range_of, some_row, some_valid_row, valid, from_on, view_of, u32_of, all_zero}
+use Rattle.arrow_spec.specs.Columns.{buf, range_faults, ranges_faults, data_faults, some_row, some_valid_row, valid, from_on, view_of, u32_of, all_zero}
 use Rattle.arrow_spec.specs.Sent.{lengths_on}
 use Rattle.arrow_spec.proofs.Fewer.{none_first, none_second}
 use Rattle.arrow_buffers.specs.Rows.{is_valid}

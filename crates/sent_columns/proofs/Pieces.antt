@@ -1,25 +1,20 @@
 -- The lengths of the buffers that parts are written with.
-use Rattle.std.proofs.Common.{◌≡◌, ℕ, ◌+◌, ◌-◌, ◌*◌, ◌≤◌, List, [], ◌∷◌, Bool, true, false, Option, Some, None, ℤ, length, map, drop, get_or, refl, sym, ap, ◌∙◌, arith, inl, inr, length-append, length-take, length-drop}
+use Rattle.std.proofs.Common.{◌≡◌, ℕ, ◌+◌, ◌-◌, ◌*◌, List, [], ◌∷◌, Bool, true, false, Option, Some, None, length, map, refl, sym, ap, ◌∙◌, arith, inl, inr, length-append}
 use Rattle.std.specs.Prelude.{nat_eq, nat_lt, ◌||◌}
 use Rattle.std.specs.List.{flat_map, list_all}
 use Rattle.std.specs.Int.{byte_len}
 use Rattle.std.proofs.lemmas.Bool.{and_parts, cases_Bool, eqb-true}
-use Rattle.std.proofs.lemmas.List.{length-map}
 use Rattle.std.proofs.lemmas.List.Concat.{flat_map-cons}
 use Rattle.arrow_spec.specs.Flat.{little}
-use Rattle.arrow_spec.specs.Kinds.{Kind, Offsets}
-use Rattle.arrow_spec.specs.Counts.{Written, magnitude}
+use Rattle.arrow_spec.specs.Kinds.{Kind}
+use Rattle.arrow_spec.specs.Counts.{Written}
 use Rattle.arrow_spec.specs.Columns.{offset_width}
 use Rattle.arrow_spec.specs.Framing as framing
 use Rattle.arrow_spec.proofs.PackedBits.{length-packed}
-use Rattle.arrow_types.specs.Numbers.{to_bytes}
-use Rattle.arrow_types.specs.NumberLaws.{unsigned_width}
 use Rattle.arrow_types.specs.Physical.{physical_of}
 use Rattle.arrow_types.specs.declared.physical.PhysicalType.{PhysicalType}
-use Rattle.arrow_types.specs.declared.physical.PhysicalType.TheVariants as physical
 use Rattle.arrow_buffers.specs.Layouts.{is_binary, is_text}
-use Rattle.arrow_buffers.specs.Variable.{Variable, place_at, are_offsets, variable_rows, binary_fault, text_fault}
-use Rattle.arrow_buffers.proofs.Rising.{some_offset, offset_risen}
+use Rattle.arrow_buffers.specs.Variable.{Variable, place_at, are_offsets, variable_rows}
 use Rattle.arrow_buffers.proofs.Variable.{binary_sound, text_sound}
 use Rattle.arrow_arrays.specs.Parts.{Parts, nulls, bits, numbers, fixed, binary as binaries, text, binary_views, text_views, number_size, are_numbers}
 use Rattle.arrow_arrays.proofs.NumberParts.{flat_suits}
@@ -27,9 +22,9 @@ use Rattle.written_columns.specs.Streams.{written_of}
 use Rattle.written_columns.proofs.SentBatches.{written_of_one}
 use Rattle.read_columns.specs.WrittenParts.{validity_bytes, offset_bytes, lengths_in, views_in, written_in}
 use Rattle.array_writer.specs.Pieces as pieces
-use Rattle.array_writer.specs.Pieces.{layout_in_order, offsets_of, rebased, bytes_between, pieces_in, counts_in, column_in, node_in}
+use Rattle.array_writer.specs.Pieces.{layout_in_order, offsets_of, pieces_in, counts_in, column_in, node_in}
 use Rattle.array_writer.proofs.RoundTripFit.{offsets_by, binary_offsets, text_offsets}
-use Rattle.array_writer.proofs.RoundTripNumbers.{length-items}
+use Rattle.ipc_write.proofs.Lengths.{in_little, length-offsets, length-between, binary_suits, text_suits}
 use Rattle.sent_columns.specs.Laws.{LengthsAreOfPieces, WrittenAsColumn}
 
 -- ── buffer by buffer ──
@@ -38,11 +33,6 @@ use Rattle.sent_columns.specs.Laws.{LengthsAreOfPieces, WrittenAsColumn}
 pub length-validity : (v : Option (List Bool)) → validity_bytes v ≡ length (framing.validity_bytes v)
 length-validity None = refl
 length-validity (Some marks) = sym (length-packed marks)
-
--- a number's bytes, the lowest first, are left as they are
-in_little : (l : PhysicalType) (bytes : List ℕ) → layout_in_order little l bytes ≡ bytes
-in_little (physical.Primitive p) bytes = refl
-in_little l bytes = refl
 
 -- numbers
 length-numbers : (l : PhysicalType) (size : ℕ) (values : List (List ℕ)) → list_all (λ bytes. nat_eq (length bytes) size) values ≡ true → size * length values ≡ length (flat_map (layout_in_order little l) values)
@@ -53,23 +43,6 @@ length-numbers l size (x ∷ values) h =
     let rest : size * length values ≡ length (flat_map (layout_in_order little l) values) = length-numbers l size values sized.1 in
     let all : length (flat_map (layout_in_order little l) (x ∷ values)) ≡ length (layout_in_order little l x) + length (flat_map (layout_in_order little l) values) = ap length (flat_map-cons (layout_in_order little l) x values) ∙ length-append (layout_in_order little l x) (flat_map (layout_in_order little l) values) in
     omega (arith, all, first, rest)
-
--- offsets
-length-offsets : (o : Offsets) (offsets : List ℤ) → length (pieces.offset_bytes little o offsets) ≡ byte_len (offset_width o) * length offsets
-length-offsets o offsets =
-    let w = offset_width o in
-    length-items (λ n. to_bytes little w n) (byte_len w) (rebased offsets) 0 (λ i lt. unsigned_width w little (get_or (rebased offsets) i 0))
-    ∙ ap (λ n. byte_len w * n) (length-map offsets (λ x. magnitude x - place_at offsets 0))
-
--- the bytes between them
-length-between : (offsets : List ℤ) (values : List ℕ) → are_offsets offsets (length values) ≡ true → place_at offsets (variable_rows offsets) - place_at offsets 0 ≡ length (bytes_between offsets values)
-length-between offsets values h =
-    let some = some_offset offsets (length values) h in
-    let last = offset_risen offsets (length values) (variable_rows offsets) h (omega arith) in
-    let from = place_at offsets 0 in
-    let to = place_at offsets (variable_rows offsets) in
-    let within : to ≤ length values = last.within in
-    omega (arith, length-take (to - from) (drop from values), length-drop from values, within)
 
 -- how wide offsets are
 abbrev width_by : Bool → ℕ
@@ -98,15 +71,6 @@ text_wide k h =
       | inr e ↦ ap offset_bytes e ∙ wide false ∙ ap (λ o. byte_len (offset_width o)) (sym (text_offsets false k (one_of _ _ h e)))
     ]
 
--- a fault at a layout that does not suit
-binary_suits : (s : Bool) (p : Variable) → binary_fault s p ≡ None → s ≡ true
-binary_suits true p e = refl
-binary_suits false p e = cc
-
-text_suits : (s : Bool) (p : Variable) → text_fault s p ≡ None → s ≡ true
-text_suits true p e = refl
-text_suits false p e = cc
-
 -- ── parts by parts ──
 
 two_same : (a b c d : ℕ) → a ≡ b → c ≡ d → a ∷ c ∷ [] ≡ b ∷ d ∷ []
@@ -118,7 +82,7 @@ three_same a b c d x y e f g = rw (e, f, g) refl
 variable_lengths : (p : Variable) (bytes : ℕ) → bytes ≡ byte_len (offset_width (offsets_of p.kind)) → are_offsets p.offsets (length p.values) ≡ true
     → validity_bytes p.validity ∷ (bytes * length p.offsets) ∷ (place_at p.offsets (variable_rows p.offsets) - place_at p.offsets 0) ∷ [] ≡ map length (pieces.variable_pieces little p)
 variable_lengths p bytes e rise =
-    three_same _ _ _ _ _ _ (length-validity p.validity) (ap (λ w. w * length p.offsets) e ∙ sym (length-offsets (offsets_of p.kind) p.offsets)) (length-between p.offsets p.values rise)
+    three_same _ _ _ _ _ _ (length-validity p.validity) (ap (λ w. w * length p.offsets) e ∙ sym (length-offsets (offsets_of p.kind) p.offsets)) (sym (length-between p.offsets p.values rise))
 
 pub lengths_are : LengthsAreOfPieces
 lengths_are (nulls n) h = refl
