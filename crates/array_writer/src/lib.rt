@@ -7,6 +7,3 @@ mod bytes;
 mod layouts;
 
 pub use array::write;
-
-#[cfg(test)]
-mod tests;

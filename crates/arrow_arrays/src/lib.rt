@@ -14,6 +14,3 @@ pub use array::{Array, ArrayRef};
 pub use empty::new_empty_array;
 pub use pieces::extend_from_lengths;
 pub use record_batch::{BatchError, RecordBatch, RecordBatchT};
-
-#[cfg(test)]
-mod tests;

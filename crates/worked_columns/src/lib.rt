@@ -2,6 +2,14 @@
 #![tactic(auto)]
 
 #[cfg(test)]
+mod arrays;
+#[cfg(test)]
 mod columns;
 #[cfg(test)]
 mod messages;
+#[cfg(test)]
+mod round_trips;
+#[cfg(test)]
+mod steps;
+#[cfg(test)]
+mod values;

@@ -1,4 +1,5 @@
-use super::*;
+//! Parts, copies and equality of arrays and of batches.
+use arrow_arrays::{Array, BatchError, RecordBatch, extend_from_lengths, new_empty_array};
 use arrow_buffers::{Bitmap, Buffer, PrimitiveArray};
 use arrow_types::{ArrowDataType, ArrowSchema, Field, TimeUnit};
 use std::alloc::{AllocError, Global};
@@ -58,6 +59,7 @@ fn batches_have_one_height(rt: HostRuntime) -> Result<(), Fail> {
     match RecordBatch::try_new(3, schema, arrays) {
         Ok(batch) => {
             let copy = batch.try_clone(alloc)?;
+            assert!(rt; copy == batch);
             assert!(rt; copy.len() == 3 && copy.width() == 1 && !copy.is_empty());
             assert_eq!(rt; copy.schema().len(), 1);
             assert_eq!(rt; copy.columns().len(), 1);

@@ -1,3 +1,4 @@
+//! Arrays as they are written alone.
 ghost use Rattle.std.specs.Prelude.{◌≡◌, ◌^◌, ◌<◌, [], ◌∷◌, length, map, pos, None, Some, true, false, IfOk};
 ghost use Rattle.arrow_spec.specs.declared.types.IntegerType.TheVariants.{UInt8};
 ghost use Rattle.arrow_spec.specs.declared.types.IntervalUnit.TheVariants.{DayTime};
@@ -8,7 +9,7 @@ ghost use Rattle.arrow_arrays.specs.PartsOf.{parts_of};
 ghost use Rattle.array_writer.specs.Pieces.{pieces_in};
 ghost use Rattle.array_writer.specs.Outputs.{MayHaveOrder, order_of};
 
-use super::*;
+use array_writer::write;
 use arrow_arrays::Array;
 use arrow_buffers::{Bitmap, BooleanArray, Buffer, PrimitiveArray, Utf8Array, Utf8ViewArray};
 use arrow_spec::{FieldNode, IpcBuffer};
