@@ -1,5 +1,5 @@
 -- The tables of a batch and of a dictionary batch are read back, of whatever kinds.
-use Rattle.std.proofs.Common.{◌≡◌, ℕ, suc, ◌+◌, ◌*◌, ◌^◌, ◌<◌, ◌≤◌, List, [], ◌∷◌, ◌++◌, length, Some, None, Ok, refl, subst, arith, true, false, Bool, ℤ, pos, SFits}
+use Rattle.std.proofs.Common.{◌≡◌, ℕ, suc, ◌+◌, ◌*◌, ◌^◌, ◌<◌, ◌≤◌, List, [], ◌∷◌, ◌++◌, length, Some, None, Ok, refl, subst, arith, true, Bool, ℤ, pos, SFits}
 use Rattle.std.specs.Prelude.{map as each_of}
 use Rattle.std.specs.Int.{w64, to_le_bytes, cast_unsigned}
 use Rattle.std.specs.List.{flat_map, AllByRecursion}
@@ -11,13 +11,15 @@ use Rattle.arrow_spec.specs.Layout.{Slots}
 use Rattle.arrow_spec.specs.Held.{Stands, HoldsSlots}
 use Rattle.arrow_spec.specs.Messages.{numbers_at, batch_at, dictionary_at}
 use Rattle.arrow_spec.specs.Counts.{Written}
-use Rattle.arrow_spec.specs.Sent.{node_bytes, buffer_bytes, placed, views_slot, batch_slots, batch_node, dictionary_slots, node_rows, message}
+use Rattle.arrow_spec.specs.Sent.{flag, node_bytes, buffer_bytes, placed, views_slot, batch_slots, batch_node, dictionary_slots, node_rows, message}
 use Rattle.arrow_spec.specs.Framing.{message_bytes, padded_size}
+use Rattle.arrow_spec.specs.Kinds.{Metadata}
+use Rattle.arrow_spec.specs.WrittenSchemas.{CustomMayBeWritten}
 use Rattle.arrow_spec.specs.Laws.{IsNextMessage, TablesFit, header_of}
 use Rattle.arrow_spec.proofs.Standing.{stands_left}
-use Rattle.arrow_spec.proofs.Found.{right_at, within, slot_past}
+use Rattle.arrow_spec.proofs.Found.{right_at, within}
 use Rattle.arrow_spec.proofs.Lengths.{length-numbers64}
-use Rattle.arrow_spec.proofs.Slots.{bool_absent, table_absent, table_there, vector_absent, vector_there, zero_back}
+use Rattle.arrow_spec.proofs.Slots.{flag_back, table_absent, table_there, vector_absent, vector_there, zero_back}
 use Rattle.arrow_spec.proofs.MessageTables.{fits_pos, signed_stands, nodes_slot, buffers_slot}
 use Rattle.arrow_spec.proofs.MessagesFit.{batch_fits, dictionary_fits, message_fits}
 use Rattle.arrow_spec.proofs.Bodies.{placed_fits}
@@ -68,31 +70,31 @@ batch_back rows w b t fit h =
     let views = views_back w.views b t 4 fit.views len.1.1.1.1 in
     rw (len.0, ns.1, ns.2, bs.1, bs.2, compression, views) refl
 
-pub dictionary_back : (id : ℕ) (w : Written) (b : List ℕ) (t : Table) → id < 2 ^ 63 → TablesFit (node_rows w.nodes) w → HoldsSlots (dictionary_slots id w) b t 0 → dictionary_at b t ≡ Ok (record { id = pos id; is_delta = false; values = header_of (node_rows w.nodes) w })
+pub dictionary_back : (id : ℕ) (is_delta : Bool) (w : Written) (b : List ℕ) (t : Table) → id < 2 ^ 63 → TablesFit (node_rows w.nodes) w → HoldsSlots (dictionary_slots id is_delta w) b t 0 → dictionary_at b t ≡ Ok (record { id = pos id; is_delta = is_delta; values = header_of (node_rows w.nodes) w })
 unfolding dictionary_at bind
-dictionary_back id w b t few fit h =
-    let number = zero_back w64 (pos id) (layout.child (batch_node (node_rows w.nodes) w) layout.no_more) b t 0 (fits_pos id few) h in
+dictionary_back id is_delta w b t few fit h =
+    let number = zero_back w64 (pos id) (layout.child (batch_node (node_rows w.nodes) w) (flag is_delta layout.no_more)) b t 0 (fits_pos id few) h in
     let c = number.1.0 in
     let t' : Table = c.4.0 in
     let values : slot_table b t 1 ≡ Ok (Some t') = table_there b t 1 c.0 c.1 t' c.2 c.3 c.4.1 in
-    let delta : slot_bool b t 2 ≡ Ok false = bool_absent b t 2 (slot_past b t 2 (omega (arith, number.1.1))) in
+    let delta : slot_bool b t 2 ≡ Ok is_delta = (flag_back is_delta layout.no_more b t 2 number.1.1).0 in
     let batch = batch_back (node_rows w.nodes) w b t' fit c.4.2 in
     rw (number.0, values, delta, batch) refl
 
 -- ── their messages ──
 
-pub batch_message_back : (taken : ℕ → Bool) (rows : ℕ) (w : Written) (body rest : List ℕ) → taken 3 ≡ true → TablesFit rows w → length body < 2 ^ 63 → padded_size (message 3 (batch_node rows w) (length body)).node < 2 ^ 31
-    → (next : IsNextMessage taken 3 (batch_slots rows w) body rest (message_bytes (message 3 (batch_node rows w) (length body)).node body ++ rest)) × (batch_at next.framed.metadata next.found.header ≡ Ok (header_of rows w))
-batch_message_back taken rows w body rest expected fit few short =
-    let fits = message_fits 3 (length body) (batch_node rows w) (omega arith) few (batch_fits rows w fit.few fit.node_count fit.buffer_count) in
-    let next = framed_message_is_next taken 3 (batch_slots rows w) body rest (omega arith) (omega arith) expected few fits short in
+pub batch_message_back : (taken : ℕ → Bool) (rows : ℕ) (w : Written) (body : List ℕ) (custom : Metadata) (rest : List ℕ) → taken 3 ≡ true → TablesFit rows w → length body < 2 ^ 63 → CustomMayBeWritten custom → padded_size (message 3 (batch_node rows w) (length body) custom).node < 2 ^ 31
+    → (next : IsNextMessage taken 3 (batch_slots rows w) body custom rest (message_bytes (message 3 (batch_node rows w) (length body) custom).node body ++ rest)) × (batch_at next.framed.metadata next.found.header ≡ Ok (header_of rows w))
+batch_message_back taken rows w body custom rest expected fit few may short =
+    let fits = message_fits 3 (length body) (batch_node rows w) custom (omega arith) few (batch_fits rows w fit.few fit.node_count fit.buffer_count) in
+    let next = framed_message_is_next taken 3 (batch_slots rows w) body custom rest (omega arith) (omega arith) expected few may fits short in
     (next, batch_back rows w next.framed.metadata next.found.header fit next.header)
 
-pub dictionary_message_back : (taken : ℕ → Bool) (id : ℕ) (w : Written) (body rest : List ℕ) → taken 2 ≡ true → id < 2 ^ 63 → TablesFit (node_rows w.nodes) w → length body < 2 ^ 63 → padded_size (message 2 (layout.table (dictionary_slots id w)) (length body)).node < 2 ^ 31
-    → (next : IsNextMessage taken 2 (dictionary_slots id w) body rest (message_bytes (message 2 (layout.table (dictionary_slots id w)) (length body)).node body ++ rest))
-    × (dictionary_at next.framed.metadata next.found.header ≡ Ok (record { id = pos id; is_delta = false; values = header_of (node_rows w.nodes) w }))
-dictionary_message_back taken id w body rest expected low fit few short =
+pub dictionary_message_back : (taken : ℕ → Bool) (id : ℕ) (is_delta : Bool) (w : Written) (body rest : List ℕ) → taken 2 ≡ true → id < 2 ^ 63 → TablesFit (node_rows w.nodes) w → length body < 2 ^ 63 → padded_size (message 2 (layout.table (dictionary_slots id is_delta w)) (length body) []).node < 2 ^ 31
+    → (next : IsNextMessage taken 2 (dictionary_slots id is_delta w) body [] rest (message_bytes (message 2 (layout.table (dictionary_slots id is_delta w)) (length body) []).node body ++ rest))
+    × (dictionary_at next.framed.metadata next.found.header ≡ Ok (record { id = pos id; is_delta = is_delta; values = header_of (node_rows w.nodes) w }))
+dictionary_message_back taken id is_delta w body rest expected low fit few short =
     let values = batch_fits (node_rows w.nodes) w fit.few fit.node_count fit.buffer_count in
-    let fits = message_fits 2 (length body) (layout.table (dictionary_slots id w)) (omega arith) few (dictionary_fits id w low values) in
-    let next = framed_message_is_next taken 2 (dictionary_slots id w) body rest (omega arith) (omega arith) expected few fits short in
-    (next, dictionary_back id w next.framed.metadata next.found.header low fit next.header)
+    let fits = message_fits 2 (length body) (layout.table (dictionary_slots id is_delta w)) [] (omega arith) few (dictionary_fits id is_delta w low values) in
+    let next = framed_message_is_next taken 2 (dictionary_slots id is_delta w) body [] rest (omega arith) (omega arith) expected few (record { ascend = tt; few = omega arith }) fits short in
+    (next, dictionary_back id is_delta w next.framed.metadata next.found.header low fit next.header)

@@ -11,19 +11,15 @@ use Rattle.arrow_spec.specs.Layout.{up_to, zeros}
 use Rattle.arrow_spec.specs.Held.{Stands}
 use Rattle.arrow_spec.specs.Framing.{body_bytes}
 use Rattle.arrow_spec.specs.Counts.{RecordBatch, magnitude}
-use Rattle.arrow_spec.specs.Columns.{buf, range_faults}
+use Rattle.arrow_spec.specs.Arrays.{buf}
+use Rattle.arrow_spec.specs.Faults.{range_faults}
 use Rattle.arrow_spec.specs.Sent.{placed, body_of}
 use Rattle.arrow_spec.specs.Files.{lengths_sum, none_negative}
 use Rattle.arrow_spec.proofs.Standing.{stands_left}
 use Rattle.arrow_spec.proofs.Found.{right_at, within}
 use Rattle.arrow_spec.proofs.Slots.{taken}
-use Rattle.arrow_spec.proofs.MessageTables.{BufferFits, fits_pos}
-
--- a list from a place on
-pub record From {A : Type 0} (l : List A) (i : ℕ) (xs : List A) : Type 0 where
-  pub front : List A
-  pub whole : l ≡ front ++ xs
-  pub place : length front ≡ i
+use Rattle.arrow_spec.proofs.MessageTables.{fits_pos}
+use Rattle.arrow_spec.specs.Bodies.{BufferFits, From, BufferHeld, AreHeld}
 
 get_seam : {A : Type 0} (front : List A) (x : A) (xs : List A) → slice_get (front ++ x ∷ xs) (length front) ≡ Some x
 get_seam [] x xs = refl
@@ -38,12 +34,6 @@ from_tail l i x xs h = record { front = h.front ++ x ∷ []; whole = h.whole ∙
 pub from_length : {A : Type 0} (l : List A) (i : ℕ) (xs : List A) → From l i xs → length l ≡ i + length xs
 from_length l i xs h = omega (arith, ap length h.whole, length-append h.front xs, h.place)
 
--- the i-th buffer is these bytes
-pub record BufferHeld (m : RecordBatch) (i : ℕ) (bytes : List ℕ) : Type 0 where
-  pub at : ℕ
-  pub range : slice_get m.buffers i ≡ Some (record { offset = pos at; length = pos (length bytes) })
-  pub stands : Stands m.body at bytes
-
 pub held_bytes : (m : RecordBatch) (i : ℕ) (bytes : List ℕ) → BufferHeld m i bytes → buf m i ≡ bytes
 unfolding buf
 held_bytes m i bytes h = rw h.range (taken m.body h.at bytes h.stands)
@@ -53,10 +43,6 @@ unfolding range_faults
 held_faults m i bytes h =
     let inside : nat_lt (length m.body) (h.at + length bytes) ≡ false = le-ltb _ _ (within m.body h.at bytes h.stands) in
     rw (h.range, inside) refl
-
-abbrev pub AreHeld : RecordBatch → ℕ → List (List ℕ) → Type 0
-AreHeld m i [] = Unit {0}
-AreHeld m i (x ∷ xs) = BufferHeld m i x × AreHeld m (suc i) xs
 
 pub buffers_held : (xs : List (List ℕ)) (m : RecordBatch) (i at : ℕ) → From m.buffers i (placed at (each_of length xs)) → Stands m.body at (body_bytes at xs) → AreHeld m i xs
 buffers_held [] m i at f h = tt

@@ -2,7 +2,7 @@
 use Rattle.std.proofs.Common.{◌≡◌, List, [], ◌∷◌, ◌++◌, Ok, refl, inl, inr}
 use Rattle.arrow_spec.specs.declared.error.IpcError.{IpcError}
 use Rattle.arrow_spec.specs.declared.error.IpcError.TheVariants as errors
-use Rattle.arrow_spec.specs.Readings.{place, IsAmong, Refuses, refusals}
+use Rattle.arrow_spec.specs.Readings.{free_of, IsAmong, Refuses, refusals}
 
 among_first : (xs ys : List IpcError) (e : IpcError) → IsAmong xs e → IsAmong (xs ++ ys) e
 among_first (x ∷ xs) ys e (inl h) = inl h
@@ -28,16 +28,16 @@ refuses_mono xs ys (errors.DictionaryReplaced id) f h = f h
 refuses_mono xs ys errors.NotRepresentable f h = f h
 refuses_mono xs ys errors.State f h = f h
 
-pub refusals-place : (xs : List IpcError) → refusals (place xs) ≡ xs
+pub refusals-place : (xs : List IpcError) → refusals (free_of xs) ≡ xs
 refusals-place [] = refl
 refusals-place (x ∷ xs) = refl
 
-pub refuses_first : (xs ys : List IpcError) (e : IpcError) → Refuses e (refusals (place xs)) → Refuses e (refusals (place (xs ++ ys)))
+pub refuses_first : (xs ys : List IpcError) (e : IpcError) → Refuses e (refusals (free_of xs)) → Refuses e (refusals (free_of (xs ++ ys)))
 refuses_first xs ys e h = rw (refusals-place (xs ++ ys)) (refuses_mono xs (xs ++ ys) e (among_first xs ys e) (rw (refusals-place xs) at h))
 
-pub refuses_second : (xs ys : List IpcError) (e : IpcError) → Refuses e (refusals (place ys)) → Refuses e (refusals (place (xs ++ ys)))
+pub refuses_second : (xs ys : List IpcError) (e : IpcError) → Refuses e (refusals (free_of ys)) → Refuses e (refusals (free_of (xs ++ ys)))
 refuses_second xs ys e h = rw (refusals-place (xs ++ ys)) (refuses_mono ys (xs ++ ys) e (among_second xs ys e) (rw (refusals-place ys) at h))
 
-pub place_both : (xs ys : List IpcError) → place xs ≡ Ok tt → place ys ≡ Ok tt → place (xs ++ ys) ≡ Ok tt
+pub place_both : (xs ys : List IpcError) → free_of xs ≡ Ok tt → free_of ys ≡ Ok tt → free_of (xs ++ ys) ≡ Ok tt
 place_both [] ys h k = k
 place_both (x ∷ xs) ys h k = cc

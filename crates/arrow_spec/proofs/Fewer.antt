@@ -5,6 +5,8 @@ use Rattle.std.specs.Int.{byte_len}
 use Rattle.std.specs.Str.{is_utf8}
 use Rattle.std.proofs.lemmas.Bool.{ltb-false, le-ltb, or_parts, or_from, and_left, and_right, and_cases, false≢true}
 use Rattle.arrow_spec.specs.declared.error.IpcError.{IpcError}
+use Rattle.arrow_spec.specs.declared.error.IpcError.TheVariants.{OutOfSpec}
+use Rattle.arrow_spec.specs.declared.error.OutOfSpecKind.TheVariants as kinds
 use Rattle.arrow_spec.specs.declared.message.FieldNode.{FieldNode}
 use Rattle.arrow_spec.specs.declared.types.UnionMode.{UnionMode}
 use Rattle.arrow_spec.specs.declared.types.UnionMode.TheVariants.{Dense, Sparse}
@@ -13,7 +15,8 @@ use Rattle.arrow_spec.specs.declared.types.IntegerType.{IntegerType}
 use Rattle.arrow_spec.specs.Kinds.{Kind, Fields, none, field, null, boolean, integer, float, date32, date64, time32, time64, timestamp, duration, interval, decimal, decimal256, binary, utf8, binary_view, utf8_view, fixed_size_binary, «list», fixed_size_list, struct, map, union, dictionary, extension, Offsets, small}
 use Rattle.arrow_spec.specs.Counts.{RecordBatch, Place, magnitude, is_negative, inside, after, union_buffers}
 use Rattle.arrow_spec.specs.Cells.{Cell}
-use Rattle.arrow_spec.specs.Columns.{Dictionaries, cause, if_sound, some_row, some_valid_row, valid, has_nulls, node_causes, node_faults, range_of, bitmap_faults, validity_faults, numbers_faults, fixed_faults, offset_width, offset, signed_in, offsets_buffer_faults, offsets_faults, bytes_faults, utf8_faults, row_bytes, view_parts_faults, views_faults, view_text_faults, key_faults, integer_width, found, types_buffer, dense_buffer_faults, dense_faults, union_faults, flat_faults, array_faults, child_faults, view_count_faults, node_of}
+use Rattle.arrow_spec.specs.Arrays.{Dictionaries, valid, has_nulls, range_of, offset_width, offset, signed_in, row_bytes, integer_width, found, types_buffer, node_of}
+use Rattle.arrow_spec.specs.Faults.{cause, if_sound, some_row, some_valid_row, node_causes, node_faults, bitmap_faults, validity_faults, numbers_faults, fixed_faults, offsets_buffer_faults, offsets_faults, bytes_faults, utf8_faults, view_parts_faults, views_faults, view_text_faults, key_faults, dense_buffer_faults, dense_faults, union_faults, flat_faults, array_faults, child_faults, view_count_faults}
 
 -- ── nothing is wrong with the whole where nothing is with its parts ──
 
@@ -85,7 +88,11 @@ not_below_less x n few less h = le-ltb x few (omega (arith, less, ltb-false x n 
 
 node_causes-fewer : (x : Option FieldNode) (n few : ℕ) → few ≤ n → node_causes x n ≡ [] → node_causes x few ≡ []
 node_causes-fewer None n few less h = cc
-node_causes-fewer (Some node) n few less h = along _ _ _ _ (λ k. k) (along_cause _ _ _ _ (not_below_less (magnitude node.length) n few less)) h
+node_causes-fewer (Some node) n few less h = by_sign (is_negative node.length) h
+  where
+    by_sign : (negative : Bool) → cond negative (OutOfSpec kinds.UnexpectedNegativeInteger ∷ []) (cause (nat_lt (magnitude node.length) n) (OutOfSpec kinds.NodeLength)) ≡ [] → cond negative (OutOfSpec kinds.UnexpectedNegativeInteger ∷ []) (cause (nat_lt (magnitude node.length) few) (OutOfSpec kinds.NodeLength)) ≡ []
+    by_sign true g = cc
+    by_sign false g = along_cause _ _ _ _ (not_below_less (magnitude node.length) n few less) g
 
 pub node_faults-fewer : (m : RecordBatch) (p : Place) (n few : ℕ) → few ≤ n → node_faults m p n ≡ [] → node_faults m p few ≡ []
 unfolding node_faults

@@ -7,7 +7,7 @@ use Rattle.arrow_spec.specs.declared.types.IntegerType.{IntegerType}
 use Rattle.arrow_spec.specs.declared.types.IntegerType.TheVariants.{Int8, Int16, Int32, Int64, Int128, UInt8, UInt16, UInt32, UInt64}
 use Rattle.arrow_spec.specs.Readings.{bind}
 use Rattle.arrow_spec.specs.Flat.{Table, slot_signed, slot_bool, slot_table, slot_vector}
-use Rattle.arrow_spec.specs.Columns.{integer_width, is_unsigned}
+use Rattle.arrow_spec.specs.Arrays.{integer_width, is_unsigned}
 use Rattle.arrow_spec.specs.Schema.{integer_at, integer_of, encoding_at, pairs_of, pairs_from}
 use Rattle.arrow_spec.specs.Layout as layout
 use Rattle.arrow_spec.specs.Layout.{Slots}

@@ -11,15 +11,17 @@ use Rattle.arrow_spec.specs.declared.message.FieldNode.{FieldNode}
 use Rattle.arrow_spec.specs.declared.message.IpcBuffer.{IpcBuffer}
 use Rattle.arrow_spec.specs.declared.message.MetadataVersion.TheVariants.{V5}
 use Rattle.arrow_spec.specs.Readings.{bind, each}
-use Rattle.arrow_spec.specs.Flat.{Table, Vector, signed_at, slot, slot_unsigned, slot_vector}
+use Rattle.arrow_spec.specs.Flat.{Table, Vector, root, signed_at, slot, slot_unsigned, slot_vector}
 use Rattle.arrow_spec.specs.Layout as layout
 use Rattle.arrow_spec.specs.Layout.{Node, Slots, Nodes}
 use Rattle.arrow_spec.specs.Held.{Stands, HoldsSlots, Rooted}
 use Rattle.arrow_spec.specs.Messages.{Message, node_at, nodes_at, buffer_at, buffers_at, message_of, version_of}
-use Rattle.arrow_spec.specs.Sent.{i64_bytes, node_bytes, buffer_bytes, message_slots}
+use Rattle.arrow_spec.specs.Sent.{i64_bytes, node_bytes, buffer_bytes, custom_slot, message_slots}
+use Rattle.arrow_spec.specs.Kinds.{Metadata}
 use Rattle.arrow_spec.proofs.Standing.{stands_left}
 use Rattle.arrow_spec.proofs.Found.{right_at, within, number_stands}
 use Rattle.arrow_spec.proofs.Slots.{unsigned_there, vector_there, zero_back}
+use Rattle.arrow_spec.specs.Bodies.{NodeFits, BufferFits}
 
 pub fits_pos : (n : ℕ) → n < 2 ^ 63 → SFits w64 (pos n)
 fits_pos n h = record { sfits = h }
@@ -57,9 +59,6 @@ length-structs Fit bytes read rule (x ∷ xs) = omega (arith, ap length (flat_ma
 
 -- ── nodes ──
 
-abbrev pub NodeFits : FieldNode → Type 0
-NodeFits x = SFits w64 x.length × SFits w64 x.null_count
-
 node_is_read : IsRead NodeFits node_bytes node_at
 unfolding bind
 node_is_read = record {
@@ -79,9 +78,6 @@ nodes_slot xs s b t i fits h =
     (record { first = q + 4; count = length xs }, vector_there 16 b t i h.0.0 q (length xs) h.0.2 h.0.3 h.0.4.0 inside, structs_back NodeFits node_bytes node_at node_is_read xs b q fits bytes)
 
 -- ── buffers ──
-
-abbrev pub BufferFits : IpcBuffer → Type 0
-BufferFits x = SFits w64 x.offset × SFits w64 x.length
 
 buffer_is_read : IsRead BufferFits buffer_bytes buffer_at
 unfolding bind
@@ -103,18 +99,20 @@ buffers_slot xs s b t i fits h =
 
 -- ── a message ──
 
--- metadata that is read as a message of a tag with such slots in its header
-pub record MessageBack (taken : ℕ → Bool) (tag body : ℕ) (s : Slots) (b : List ℕ) : Type 0 where
+-- metadata that is read as a message of a tag with such slots in its header, behind which such pairs stand
+pub record MessageBack (taken : ℕ → Bool) (tag body : ℕ) (custom : Metadata) (s : Slots) (b : List ℕ) : Type 0 where
   pub found : Message
   pub read : message_of b taken ≡ Ok found
   pub version : version_of b found ≡ Ok V5
   pub tag_is : found.tag ≡ tag
   pub body_is : found.body ≡ body
   pub header : HoldsSlots s b found.header 0
+  pub root_is : root b ≡ Ok found.table
+  pub last : HoldsSlots (custom_slot custom) b found.table 4
 
-pub message_back : (taken : ℕ → Bool) (tag body : ℕ) (s : Slots) (b : List ℕ) → not (nat_eq tag 0) ≡ true → nat_le tag 5 ≡ true → taken tag ≡ true → body < 2 ^ 63 → Rooted (message_slots tag (layout.table s) body) b → MessageBack taken tag body s b
+pub message_back : (taken : ℕ → Bool) (tag body : ℕ) (custom : Metadata) (s : Slots) (b : List ℕ) → not (nat_eq tag 0) ≡ true → nat_le tag 5 ≡ true → taken tag ≡ true → body < 2 ^ 63 → Rooted (message_slots tag (layout.table s) body custom) b → MessageBack taken tag body custom s b
 unfolding message_of version_of bind
-message_back taken tag body s b some listed expected few r =
+message_back taken tag body custom s b some listed expected few r =
     let t = r.root_table in
     let h = r.slots in
     let v : slot_unsigned w16 0 b t 0 ≡ Ok 4 = unsigned_there w16 0 b t 0 h.0.0 4 h.0.1 h.0.2 in
@@ -122,7 +120,7 @@ message_back taken tag body s b some listed expected few r =
     let c = h.1.1.0 in
     let there : slot b t 2 ≡ Ok (Some c.0) = c.2 in
     let t' : Table = c.4.0 in
-    let body' = zero_back w64 (pos body) layout.no_more b t 3 (fits_pos body few) h.1.1.1 in
+    let body' = zero_back w64 (pos body) (custom_slot custom) b t 3 (fits_pos body few) h.1.1.1 in
     record {
       found = record { table = t; tag = tag; header = t'; body = body };
       read = rw (r.found, n, there, some, listed, expected, c.3, c.4.1, body'.0) refl;
@@ -130,4 +128,6 @@ message_back taken tag body s b some listed expected few r =
       tag_is = refl;
       body_is = refl;
       header = c.4.2;
+      root_is = r.found;
+      last = body'.1;
     }

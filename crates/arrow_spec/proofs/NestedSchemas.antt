@@ -1,5 +1,5 @@
 -- A schema of nested kinds is read back from its message.
-use Rattle.std.proofs.Common.{ap, ◌≡◌, ℕ, ◌+◌, ◌*◌, ◌^◌, ◌<◌, ◌≤◌, List, [], ◌++◌, length, Some, Ok, refl, ◌∙◌, arith}
+use Rattle.std.proofs.Common.{true, ap, ◌≡◌, ℕ, ◌+◌, ◌*◌, ◌^◌, ◌<◌, ◌≤◌, List, [], ◌++◌, length, Some, Ok, refl, ◌∙◌, arith}
 use Rattle.std.specs.Prelude.{nat_eq}
 use Rattle.std.specs.Int.{w16}
 use Rattle.arrow_spec.specs.declared.error.IpcError.TheVariants.{Unsupported}
@@ -13,13 +13,13 @@ use Rattle.arrow_spec.specs.Layout.{Slots, node_count}
 use Rattle.arrow_spec.specs.Held.{HoldsSlots}
 use Rattle.arrow_spec.specs.Framing.{message_bytes, padded_size}
 use Rattle.arrow_spec.specs.declared.message.MetadataVersion.TheVariants.{V5}
-use Rattle.arrow_spec.specs.Messages.{Message, message_of, version_of}
-use Rattle.arrow_spec.specs.Streams.{schema_message_of}
+use Rattle.arrow_spec.specs.Messages.{Message, message_of, message_pairs, version_of}
+use Rattle.arrow_spec.specs.Streams.{schema_message_of, stream_head}
 use Rattle.arrow_spec.specs.Laws.{IsNextMessage, SchemaBytesReadBack}
 use Rattle.arrow_spec.proofs.Back.{layout_back}
 use Rattle.arrow_spec.proofs.MessageTables.{message_back}
 use Rattle.arrow_spec.specs.Sent.{field_nodes, message_slots, order_slot, pair_nodes, pairs_slot, schema_slots, schema_message}
-use Rattle.arrow_spec.specs.WrittenSchemas.{IdsMayBeWritten, SchemaMayBeWritten, after_fields}
+use Rattle.arrow_spec.specs.WrittenSchemas.{CustomMayBeWritten, IdsMayBeWritten, SchemaMayBeWritten, after_fields}
 use Rattle.arrow_spec.proofs.Slots.{unsigned_absent, unsigned_there, vector_there}
 use Rattle.arrow_spec.proofs.SchemaPairs.{ascend_texts, pairs_slot_back}
 use Rattle.arrow_spec.proofs.PairMaps.{all_ascend, all_pairs}
@@ -60,21 +60,26 @@ pub schema_message_read : (md : List ℕ) (m : Message) (s : Schema) → message
 unfolding schema_message_of
 schema_message_read md m s e f g = on _ _ m e ∙ on _ _ V5 f ∙ on _ _ s g
 
+-- the first message of a stream, by its pairs too
+pub stream_head_read : (md : List ℕ) (m : Message) (custom : Metadata) (s : Schema) → message_of md (λ tag. nat_eq tag 1) ≡ Ok m → version_of md m ≡ Ok V5 → message_pairs true md ≡ Ok custom → schema_of md m.header ≡ Ok s → stream_head md ≡ Ok (m, custom, s)
+unfolding stream_head
+stream_head_read md m custom s e f p g = on _ _ m e ∙ on _ _ V5 f ∙ on _ _ custom p ∙ on _ _ s g
+
 -- the bytes of a schema message by themselves
 pub schema_bytes_back : SchemaBytesReadBack
 unfolding schema_message
-schema_bytes_back order fs pairs rest w ids short =
+schema_bytes_back order fs pairs custom rest w ids short =
     let s = schema_slots order fs pairs in
-    let b = layout.layout (layout.table (message_slots 1 (layout.table s) 0)) ++ rest in
-    let fits = message_fits 1 0 (layout.table s) (omega arith) (omega arith) (schema_fits order fs pairs w.fit ids.within) in
-    let back = message_back (λ tag. nat_eq tag 1) 1 0 s b refl refl refl (omega arith) (layout_back (message_slots 1 (layout.table s) 0) rest fits short) in
+    let b = layout.layout (layout.table (message_slots 1 (layout.table s) 0 custom)) ++ rest in
+    let fits = message_fits 1 0 (layout.table s) custom (omega arith) (omega arith) (schema_fits order fs pairs w.fit ids.within) in
+    let back = message_back (λ tag. nat_eq tag 1) 1 0 custom s b refl refl refl (omega arith) (layout_back (message_slots 1 (layout.table s) 0 custom) rest fits short) in
     let m = back.found in
     (m, schema_message_read b m (record { order = order; fields = fs; metadata = pairs }) back.read back.version (schema_back order fs pairs b m.header w ids back.header))
 
 -- the message of a schema is the next one, and is read as the schema
-pub schema_message_back : (order : Order) (fs : Fields) (pairs : Metadata) (rest : List ℕ) → SchemaMayBeWritten fs pairs → IdsMayBeWritten fs → padded_size (schema_message order fs pairs).node < 2 ^ 31
-    → (next : IsNextMessage (λ tag. nat_eq tag 1) 1 (schema_slots order fs pairs) [] rest (message_bytes (schema_message order fs pairs).node [] ++ rest)) × (schema_of next.framed.metadata next.found.header ≡ Ok (record { order = order; fields = fs; metadata = pairs }))
+pub schema_message_back : (order : Order) (fs : Fields) (pairs custom : Metadata) (rest : List ℕ) → SchemaMayBeWritten fs pairs → IdsMayBeWritten fs → CustomMayBeWritten custom → padded_size (schema_message order fs pairs custom).node < 2 ^ 31
+    → (next : IsNextMessage (λ tag. nat_eq tag 1) 1 (schema_slots order fs pairs) [] custom rest (message_bytes (schema_message order fs pairs custom).node [] ++ rest)) × (schema_of next.framed.metadata next.found.header ≡ Ok (record { order = order; fields = fs; metadata = pairs }))
 unfolding schema_message
-schema_message_back order fs pairs rest w ids short =
-    let next = framed_message_is_next (λ tag. nat_eq tag 1) 1 (schema_slots order fs pairs) [] rest (omega arith) (omega arith) refl (omega arith) (message_fits 1 0 (layout.table (schema_slots order fs pairs)) (omega arith) (omega arith) (schema_fits order fs pairs w.fit ids.within)) short in
+schema_message_back order fs pairs custom rest w ids may short =
+    let next = framed_message_is_next (λ tag. nat_eq tag 1) 1 (schema_slots order fs pairs) [] custom rest (omega arith) (omega arith) refl (omega arith) may (message_fits 1 0 (layout.table (schema_slots order fs pairs)) custom (omega arith) (omega arith) (schema_fits order fs pairs w.fit ids.within)) short in
     (next, schema_back order fs pairs next.framed.metadata next.found.header w ids next.header)

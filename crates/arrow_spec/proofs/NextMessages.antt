@@ -10,7 +10,11 @@ use Rattle.arrow_spec.specs.Flat.{unsigned_at}
 use Rattle.arrow_spec.specs.Layout as layout
 use Rattle.arrow_spec.specs.Layout.{Node, Slots, layout as bytes_of, size, zeros, u32}
 use Rattle.arrow_spec.specs.Held.{Stands, Fits}
+use Rattle.arrow_spec.specs.declared.error.OutOfSpecKind.TheVariants.{InvalidFlatbufferMessage}
+use Rattle.arrow_spec.specs.Kinds.{Metadata}
 use Rattle.arrow_spec.specs.Messages.{Message}
+use Rattle.arrow_spec.specs.WrittenSchemas.{CustomMayBeWritten}
+use Rattle.arrow_spec.proofs.SchemaPairs.{custom_back}
 use Rattle.arrow_spec.specs.Sent.{message_slots}
 use Rattle.arrow_spec.specs.Streams.{stream_prefix, framed, next_message, body_in}
 use Rattle.arrow_spec.specs.Laws.{IsNextMessage}
@@ -97,26 +101,26 @@ pub rest_back : (body rest : List ℕ) (m : Message) → m.body ≡ length body 
 rest_back body rest m e = rw e (drop_at body rest (length body) refl)
 
 -- what is read of bytes that begin with a written message
-pub record Next (taken_tags : ℕ → Bool) (tag : ℕ) (s : Slots) (body rest : List ℕ) (b : List ℕ) : Type 0 where
-  pub back : MessageBack taken_tags tag (length body) s (padded (layout.table (message_slots tag (layout.table s) (length body))))
-  pub read : next_message b ≡ Ok (Some (record { metadata = padded (layout.table (message_slots tag (layout.table s) (length body))); behind = body ++ rest }))
+pub record Next (taken_tags : ℕ → Bool) (tag : ℕ) (s : Slots) (body : List ℕ) (custom : Metadata) (rest : List ℕ) (b : List ℕ) : Type 0 where
+  pub back : MessageBack taken_tags tag (length body) custom s (padded (layout.table (message_slots tag (layout.table s) (length body) custom)))
+  pub read : next_message b ≡ Ok (Some (record { metadata = padded (layout.table (message_slots tag (layout.table s) (length body) custom)); behind = body ++ rest }))
 
-pub next_written : (taken_tags : ℕ → Bool) (tag : ℕ) (s : Slots) (body rest : List ℕ) → not (nat_eq tag 0) ≡ true → nat_le tag 5 ≡ true → taken_tags tag ≡ true → length body < 2 ^ 63 → Fits (layout.table (message_slots tag (layout.table s) (length body)))
-    → padded_size (layout.table (message_slots tag (layout.table s) (length body))) < 2 ^ 31 → Next taken_tags tag s body rest (message_bytes (layout.table (message_slots tag (layout.table s) (length body))) body ++ rest)
-next_written taken_tags tag s body rest some listed expected few fits short =
-    let n = layout.table (message_slots tag (layout.table s) (length body)) in
+pub next_written : (taken_tags : ℕ → Bool) (tag : ℕ) (s : Slots) (body : List ℕ) (custom : Metadata) (rest : List ℕ) → not (nat_eq tag 0) ≡ true → nat_le tag 5 ≡ true → taken_tags tag ≡ true → length body < 2 ^ 63 → Fits (layout.table (message_slots tag (layout.table s) (length body) custom))
+    → padded_size (layout.table (message_slots tag (layout.table s) (length body) custom)) < 2 ^ 31 → Next taken_tags tag s body custom rest (message_bytes (layout.table (message_slots tag (layout.table s) (length body) custom)) body ++ rest)
+next_written taken_tags tag s body custom rest some listed expected few fits short =
+    let n = layout.table (message_slots tag (layout.table s) (length body) custom) in
     let least : 4 ≤ size n = size_least n in
-    let back = message_back taken_tags tag (length body) s (padded n) some listed expected few (layout_back (message_slots tag (layout.table s) (length body)) (zeros (padded_size n - size n)) fits (omega (arith, short))) in
+    let back = message_back taken_tags tag (length body) custom s (padded n) some listed expected few (layout_back (message_slots tag (layout.table s) (length body) custom) (zeros (padded_size n - size n)) fits (omega (arith, short))) in
     record { back = back; read = next_framed n body rest short }
 
 some_tag : (tag : ℕ) → 0 < tag → not (nat_eq tag 0) ≡ true
 some_tag tag h = let other : nat_eq tag 0 ≡ false = grind (arith, h) in rw other refl
 
-pub framed_message_is_next : (taken_tags : ℕ → Bool) (tag : ℕ) (s : Slots) (body rest : List ℕ) → 0 < tag → tag ≤ 5 → taken_tags tag ≡ true → length body < 2 ^ 63 → Fits (layout.table (message_slots tag (layout.table s) (length body)))
-    → padded_size (layout.table (message_slots tag (layout.table s) (length body))) < 2 ^ 31 → IsNextMessage taken_tags tag s body rest (message_bytes (layout.table (message_slots tag (layout.table s) (length body))) body ++ rest)
-framed_message_is_next taken_tags tag s body rest some listed expected few fits short =
-    let md = padded (layout.table (message_slots tag (layout.table s) (length body))) in
-    let next = next_written taken_tags tag s body rest (some_tag tag some) (le-leb _ _ listed) expected few fits short in
+pub framed_message_is_next : (taken_tags : ℕ → Bool) (tag : ℕ) (s : Slots) (body : List ℕ) (custom : Metadata) (rest : List ℕ) → 0 < tag → tag ≤ 5 → taken_tags tag ≡ true → length body < 2 ^ 63 → CustomMayBeWritten custom → Fits (layout.table (message_slots tag (layout.table s) (length body) custom))
+    → padded_size (layout.table (message_slots tag (layout.table s) (length body) custom)) < 2 ^ 31 → IsNextMessage taken_tags tag s body custom rest (message_bytes (layout.table (message_slots tag (layout.table s) (length body) custom)) body ++ rest)
+framed_message_is_next taken_tags tag s body custom rest some listed expected few may fits short =
+    let md = padded (layout.table (message_slots tag (layout.table s) (length body) custom)) in
+    let next = next_written taken_tags tag s body custom rest (some_tag tag some) (le-leb _ _ listed) expected few fits short in
     let m = next.back.found in
     record {
       framed = record { metadata = md; behind = body ++ rest };
@@ -128,4 +132,5 @@ framed_message_is_next taken_tags tag s body rest some listed expected few fits 
       body_is = body_back md body rest m next.back.body_is;
       rest_is = rest_back body rest m next.back.body_is;
       header = next.back.header;
+      custom_is = custom_back InvalidFlatbufferMessage custom md m.table may next.back.root_is next.back.last;
     }

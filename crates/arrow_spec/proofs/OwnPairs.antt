@@ -8,7 +8,7 @@ use Rattle.arrow_spec.specs.Kinds as kind
 use Rattle.arrow_spec.specs.Kinds.{Kind, Fields, Metadata, Use, none, field, small, large, same, agrees_with, are_same_ids, dictionary_count, dictionary_counts, have_same_kinds, is_same_flag, is_same_integer, is_same_kind, is_same_mode, is_same_offsets, is_same_text, uses_in, uses_of, values_under, width}
 use Rattle.arrow_spec.specs.Layout as layout
 use Rattle.arrow_spec.specs.Layout.{Nodes, Slots}
-use Rattle.arrow_spec.specs.Schema.{extension_metadata, extension_name, first_is_struct_of_two, has_distinct_names, has_name, is_struct_of_two, own_pairs, uses_agree, value_of, without_key}
+use Rattle.arrow_spec.specs.Schema.{extension_metadata, extension_name, first_is_struct_of_two, has_distinct_names, has_name, is_struct_of_two, own_pairs, uses_agree, value_of, without_key, is_reserved}
 use Rattle.arrow_spec.specs.Sent.{child_nodes, encoding_slot, field_nodes, field_pairs, pairs_slot, schema_message, type_node, type_tag}
 use Rattle.arrow_spec.specs.WrittenSchemas.{AreIds, Ascend, HaveNoReserved, HaveTexts, KindHasNoReserved, KindHasTexts, own_fields, own_kind}
 use Rattle.arrow_spec.proofs.SchemaPairs.{ascend_texts}
@@ -87,9 +87,9 @@ mutual
       let below = layout.child (layout.tables (child_nodes k)) last in
       rw (pairs_own k metadata texts.1, children_own k texts.2, encoding_own k below, node_own k, tag_own k, nodes_own others texts.3) refl
 
-pub message_own : (order : Order) (fs : Fields) (pairs : Metadata) → HaveTexts fs → schema_message order (own_fields fs) pairs ≡ schema_message order fs pairs
+pub message_own : (order : Order) (fs : Fields) (pairs custom : Metadata) → HaveTexts fs → schema_message order (own_fields fs) pairs custom ≡ schema_message order fs pairs custom
 unfolding schema_message
-message_own order fs pairs texts = rw (nodes_own fs texts) refl
+message_own order fs pairs custom texts = rw (nodes_own fs texts) refl
 
 -- ── uses of dictionaries ──
 
@@ -220,10 +220,6 @@ mutual
   count_own (field name nullable metadata k others) = rw (count_kind_own k, count_own others) refl
 
 -- ── own pairs one by one ──
-
--- a reserved key
-abbrev pub is_reserved : List ℕ → Bool
-is_reserved key = bytes_eq extension_name key || bytes_eq extension_metadata key
 
 own_step : (x : List ℕ × List ℕ) (m : Metadata) → IsSorted (x ∷ m) → own_pairs (x ∷ m) ≡ cond (is_reserved x.0) (own_pairs m) (x ∷ own_pairs m)
 own_step x m sorted = elim (bool_cases (bytes_eq extension_metadata x.0)) [

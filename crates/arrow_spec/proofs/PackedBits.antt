@@ -6,7 +6,7 @@ use Rattle.std.proofs.lemmas.Bool.{cases_lt}
 use Rattle.std.proofs.lemmas.List.{get_or_append_left, get_or-append_right}
 use Rattle.std.proofs.Math.Nat.{pow-suc, pow-succ'}
 use Rattle.std.proofs.lemmas.Nat.Bits.{bit_at-suc, bit_at_lowest}
-use Rattle.arrow_spec.specs.Columns.{bit}
+use Rattle.arrow_spec.specs.Arrays.{bit}
 use Rattle.arrow_spec.specs.Framing.{packed, packed_from}
 
 one_if : Bool → ℕ

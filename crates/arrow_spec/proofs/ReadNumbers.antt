@@ -5,7 +5,7 @@ use Rattle.std.specs.Int.{w32, w64, from_le_bytes, cast_signed}
 use Rattle.std.proofs.Math.Facts.{sfits_to_z}
 use Rattle.std.proofs.lemmas.List.{get_or-take, get_or-drop}
 use Rattle.arrow_spec.specs.declared.types.UnionMode.TheVariants.{Dense, Sparse}
-use Rattle.arrow_spec.specs.Readings.{bind, ◌>>=◌, Reading}
+use Rattle.arrow_spec.specs.Readings.{bind, ◌>>=◌, Reading, required}
 use Rattle.arrow_spec.specs.Flat.{Table, slot, if_present, or_default, unsigned_at, signed_at, slot_signed}
 use Rattle.arrow_spec.specs.Kinds as kind
 use Rattle.arrow_spec.specs.Kinds.{Kind, Fields, Metadata, Use, small, large, uses_in, uses_of}
@@ -145,7 +145,7 @@ unfolding bind
 decimal_numbers bits precision scale k p s h = by_tests (nat_eq bits 128) (nat_eq bits 256) (nat_eq bits 32) (nat_eq bits 64) h
   where
     by_tests : (a b c d : Bool)
-        → (schema.required (Rattle.arrow_spec.specs.declared.error.IpcError.TheVariants.OutOfSpec Rattle.arrow_spec.specs.declared.error.OutOfSpecKind.TheVariants.InvalidDataType) (cond a (Some (Ok (kind.decimal precision scale))) (cond b (Some (Ok (kind.decimal256 precision scale))) (cond c (Some (Rattle.arrow_spec.specs.Readings.unsupported Rattle.arrow_spec.specs.declared.error.Feature.TheVariants.DecimalWidth)) (cond d (Some (Rattle.arrow_spec.specs.Readings.unsupported Rattle.arrow_spec.specs.declared.error.Feature.TheVariants.DecimalWidth)) None)))) >>= λ x. x) ≡ Ok k
+        → (required (Rattle.arrow_spec.specs.declared.error.IpcError.TheVariants.OutOfSpec Rattle.arrow_spec.specs.declared.error.OutOfSpecKind.TheVariants.InvalidDataType) (cond a (Some (Ok (kind.decimal precision scale))) (cond b (Some (Ok (kind.decimal256 precision scale))) (cond c (Some (Rattle.arrow_spec.specs.Readings.unsupported Rattle.arrow_spec.specs.declared.error.Feature.TheVariants.DecimalWidth)) (cond d (Some (Rattle.arrow_spec.specs.Readings.unsupported Rattle.arrow_spec.specs.declared.error.Feature.TheVariants.DecimalWidth)) None)))) >>= λ x. x) ≡ Ok k
         → KindNumbers k
     by_tests true b c d g = subst KindNumbers (same_read _ k g) (record { sizes_fit = (p, (s, tt)); ids_fit = tt })
     by_tests false true c d g = subst KindNumbers (same_read _ k g) (record { sizes_fit = (p, (s, tt)); ids_fit = tt })

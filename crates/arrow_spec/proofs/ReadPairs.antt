@@ -5,11 +5,14 @@ use Rattle.std.specs.Str.{is_utf8, bytes_eq}
 use Rattle.std.proofs.lemmas.Bool.{leb-true}
 use Rattle.arrow_spec.specs.declared.error.IpcError.{IpcError}
 use Rattle.arrow_spec.specs.declared.error.FlatError.{FlatError}
-use Rattle.arrow_spec.specs.Readings.{bind, ◌>>=◌, Reading, unless}
+use Rattle.arrow_spec.specs.Readings.{bind, ◌>>=◌, Reading, unless, as_kind}
 use Rattle.arrow_spec.specs.Flat.{Table, slot, text, items, if_present, slot_text}
 use Rattle.arrow_spec.specs.Kinds.{Metadata}
+use Rattle.arrow_spec.specs.declared.error.OutOfSpecKind.{OutOfSpecKind}
+use Rattle.arrow_spec.specs.declared.error.OutOfSpecKind.TheVariants.{InvalidFlatbufferSchema}
+use Rattle.arrow_spec.specs.Messages.{custom_pairs}
 use Rattle.arrow_spec.specs.Schema.{schema_part, empty_vector, stands_before, with_pair, without_key, value_of, with_read_pair, pairs_from, pairs_of, extension_name, extension_metadata, own_pairs}
-use Rattle.arrow_spec.specs.WrittenSchemas.{AreFieldPairs, Ascend, IsBehind, IsText}
+use Rattle.arrow_spec.specs.WrittenSchemas.{AreFieldPairs, Ascend, CustomMayBeWritten, IsBehind, IsText}
 use Rattle.arrow_spec.proofs.PairOrder.{before_never, before_or_behind, before_then, key_same}
 use Rattle.arrow_spec.proofs.PairMaps.{AllBefore, IsSorted, bool_cases, clash, other_key, sorted_with, sorted_without}
 use Rattle.arrow_spec.proofs.SchemaPairs.{AreTexts}
@@ -68,6 +71,15 @@ pub in_schema : {A : Type 0} (r : Result A FlatError) (x : A) → schema_part r 
 in_schema (Ok y) x h = cc
 in_schema (Err e) x h = cc
 
+in_part : {A : Type 0} (kind : FlatError → OutOfSpecKind) (r : Result A FlatError) (x : A) → as_kind kind r ≡ Ok x → r ≡ Ok x
+in_part kind (Ok y) x h = cc
+in_part kind (Err e) x h = cc
+
+slot_text_in : (kind : FlatError → OutOfSpecKind) (b : List ℕ) (t : Table) (i : ℕ) (x : Option (List ℕ)) → as_kind kind (slot_text b t i) ≡ Ok x → IsText x
+slot_text_in kind b t i x h =
+    let p = goes (slot b t i) _ x (in_part kind _ x h) in
+    if_text b p.got x p.rest
+
 pub slot_text_is : (b : List ℕ) (t : Table) (i : ℕ) (x : Option (List ℕ)) → schema_part (slot_text b t i) ≡ Ok x → IsText x
 slot_text_is b t i x h =
     let p = goes (slot b t i) _ x (in_schema _ x h) in
@@ -113,15 +125,15 @@ with_read (Some k) (Some v) m most p q r = record { texts = texts_with k v m p q
 with_read None v m most p q r = record { texts = r.texts; sorted = r.sorted; few = omega (arith, r.few) }
 with_read (Some k) None m most p q r = record { texts = r.texts; sorted = r.sorted; few = omega (arith, r.few) }
 
-from_read : (b : List ℕ) (n at : ℕ) (m r : Metadata) (most : ℕ) → pairs_from b at n m ≡ Ok r → ArePairs m most → ArePairs r (most + n)
+from_read : (kind : FlatError → OutOfSpecKind) (b : List ℕ) (n at : ℕ) (m r : Metadata) (most : ℕ) → pairs_from kind b at n m ≡ Ok r → ArePairs m most → ArePairs r (most + n)
 unfolding pairs_from
-from_read b zero at m r most h p =
+from_read kind b zero at m r most h p =
     let e : m ≡ r = same_read m r h in
     subst (λ x. ArePairs x (most + 0)) e (record { texts = p.texts; sorted = p.sorted; few = omega (arith, p.few) })
-from_read b (suc n) at m r most h p =
+from_read kind b (suc n) at m r most h p =
     through _ _ r h λ t t_is h1. through _ _ r h1 λ key key_is h2. through _ _ r h2 λ value value_is h3.
-    let next = with_read key value m most (slot_text_is b t 0 key key_is) (slot_text_is b t 1 value value_is) p in
-    let rest = from_read b n (at + 4) (with_read_pair key value m) r (suc most) h3 next in
+    let next = with_read key value m most (slot_text_in kind b t 0 key key_is) (slot_text_in kind b t 1 value value_is) p in
+    let rest = from_read kind b n (at + 4) (with_read_pair key value m) r (suc most) h3 next in
     record { texts = rest.texts; sorted = rest.sorted; few = omega (arith, rest.few) }
 
 -- what is read of the pairs in a slot: the map, and how many pairs there are up to their end
@@ -136,7 +148,7 @@ unfolding pairs_of
 pairs_are_read b t slot before p h =
     through _ _ p h λ v v_is h1. through _ _ p h1 λ u room h2. through _ _ p h2 λ m m_is h3.
     let n = (empty_vector v).count in
-    let read' = from_read b n (empty_vector v).first [] m 0 m_is (record { texts = tt; sorted = tt; few = omega arith }) in
+    let read' = from_read InvalidFlatbufferSchema b n (empty_vector v).first [] m 0 m_is (record { texts = tt; sorted = tt; few = omega arith }) in
     let most : before + n ≤ 1048576 = leb-true (before + n) 1048576 (is_true _ _ _ room) in
     subst (λ x. ReadPairs before x) (same_read _ p h3) (record { texts = read'.texts; sorted = read'.sorted; more = omega (arith, read'.few); few = most })
 
@@ -176,6 +188,29 @@ none_before (x ∷ xs) = (tt, none_before xs)
 
 pub sorted_ascend : (xs : Metadata) → AreTexts xs → IsSorted xs → Ascend [] xs
 sorted_ascend xs texts sorted = ascend_from [] xs texts sorted (none_before xs)
+
+-- pairs of a footer or of a message that are read may be written
+pub custom_may : (carried : Bool) (kind : FlatError → OutOfSpecKind) (b : List ℕ) (m : Metadata) → custom_pairs carried kind b ≡ Ok m → CustomMayBeWritten m
+unfolding custom_pairs
+custom_may carried kind b m h =
+    through _ _ m h λ t t_is h1. through _ _ m h1 λ v v_is h2. through _ _ m h2 λ u known h3. through _ _ m h3 λ u' room h4.
+    let n = (empty_vector v).count in
+    let read' = from_read kind b n (empty_vector v).first [] m 0 h4 (record { texts = tt; sorted = tt; few = omega arith }) in
+    let most : n ≤ 1048576 = leb-true n 1048576 (is_true _ _ _ room) in
+    record { ascend = sorted_ascend m read'.texts read'.sorted; few = omega (arith, read'.few, most) }
+
+no_more : (kind : FlatError → OutOfSpecKind) (b : List ℕ) (at n : ℕ) → n ≡ 0 → (m : Metadata) → pairs_from kind b at n [] ≡ Ok m → m ≡ []
+unfolding pairs_from
+no_more kind b at zero e m h = cc
+no_more kind b at (suc n) e m h = absurd (omega (arith, e))
+
+-- until they are carried there are none
+pub none_carried : (kind : FlatError → OutOfSpecKind) (b : List ℕ) (m : Metadata) → custom_pairs false kind b ≡ Ok m → m ≡ []
+unfolding custom_pairs pairs_from
+none_carried kind b m h =
+    through _ _ m h λ t t_is h1. through _ _ m h1 λ v v_is h2. through _ _ m h2 λ u known h3. through _ _ m h3 λ u' room h4.
+    let none : (empty_vector v).count ≡ 0 = Rattle.std.proofs.lemmas.Bool.eqb-true (empty_vector v).count 0 (is_true _ _ _ known) in
+    no_more kind b (empty_vector v).first (empty_vector v).count none m h4
 
 -- a key behind one pair of a list
 behind_one : (front back : Metadata) (x : List ℕ × List ℕ) (key : List ℕ) → IsBehind (front ++ x ∷ back) key → stands_before x.0 key ≡ true

@@ -7,12 +7,12 @@ use Rattle.arrow_spec.specs.declared.error.IpcError.TheVariants.{OutOfSpec}
 use Rattle.arrow_spec.specs.declared.error.OutOfSpecKind.TheVariants.{InvalidDataType}
 use Rattle.arrow_spec.specs.declared.types.IntegerType.{IntegerType}
 use Rattle.arrow_spec.specs.declared.types.UnionMode.TheVariants.{Dense, Sparse}
-use Rattle.arrow_spec.specs.Readings.{bind, ◌>>=◌, Reading, only_if, unsupported, each}
+use Rattle.arrow_spec.specs.Readings.{bind, ◌>>=◌, Reading, only_if, unsupported, each, is_absent, required}
 use Rattle.arrow_spec.specs.Flat.{Table, Vector, signed_at}
 use Rattle.arrow_spec.specs.Kinds as kind
 use Rattle.arrow_spec.specs.Kinds.{Kind, Fields, Metadata, none, small, large, width, unit_number}
 use Rattle.arrow_spec.specs.Schema as schema
-use Rattle.arrow_spec.specs.Schema.{Before, Encoding, Tag, is_absent, is_nested, are_ids, counted_ids, schema_part, natural_slot, choice, positive, required, one_of, time_of, unit_of, decimal_of, decimal_at, time_at, timestamp_at, of_one_child, flat, ids_at, union_at, integer_at, type_at, is_whole, first_is_struct_of_two, value_of, extension_name, extension_metadata, own_pairs, with_extension, with_encoding}
+use Rattle.arrow_spec.specs.Schema.{Before, Encoding, Tag, is_nested, are_ids, counted_ids, schema_part, natural_slot, choice, positive, one_of, time_of, unit_of, decimal_of, decimal_at, time_at, timestamp_at, of_one_child, flat, ids_at, union_at, integer_at, type_at, is_whole, first_is_struct_of_two, value_of, extension_name, extension_metadata, own_pairs, with_extension, with_encoding}
 use Rattle.arrow_spec.specs.WrittenSchemas.{AreSizes, AreStated, FieldsFit, IsText, KindFits, Part, of_field, of_dictionary, of_extension, after_fields, after_kind, pairs_for, sizes_in, sizes_of}
 use Rattle.arrow_spec.proofs.SchemaPairs.{AreTexts}
 use Rattle.arrow_spec.proofs.ExtensionPairs.{extension_there, no_extension}

@@ -229,18 +229,18 @@ regular_may fs pairs reg rep texts none' ascend =
     (subst (λ gs. SchemaMayBeWritten gs pairs) (own_fields_same fs none') may.0, may.1)
 
 pub regular_back : RegularReadsBack
-regular_back order fs pairs rest reg rep texts ascend agree short =
+regular_back order fs pairs custom rest reg rep texts ascend agree short =
     let may = own_regular_may fs pairs reg rep texts ascend in
     let ids : IdsMayBeWritten (own_fields fs) = record { within = subst AreIds (sym (uses_own fs)) (own_ids (uses_in fs) may.1); agree = uses_agree_own fs agree } in
-    let same = message_own order fs pairs texts in
-    let small : size (schema_message order (own_fields fs) pairs).node < 2 ^ 31 = rw same short in
-    let read = schema_bytes_back order (own_fields fs) pairs rest may.0 ids small in
+    let same = message_own order fs pairs custom texts in
+    let small : size (schema_message order (own_fields fs) pairs custom).node < 2 ^ 31 = rw same short in
+    let read = schema_bytes_back order (own_fields fs) pairs custom rest may.0 ids small in
     (read.0, subst (λ x. schema_message_of (layout x.node ++ rest) ≡ Ok (read.0, record { order = order; fields = own_fields fs; metadata = pairs })) same read.1)
 
 -- the schema message of a stream
 pub stream_schema_back : StreamSchemaReadsBack
-stream_schema_back fs pairs rest reg rep texts ascend short =
+stream_schema_back fs pairs custom rest reg rep texts ascend short =
     let may = own_regular_may fs pairs reg rep texts ascend in
     let start : Before = record { fields = 0; pairs = length pairs } in
     let few : dictionary_counts fs ≤ 2 ^ 63 = omega (arith, fields_count (own_fields fs) 64 start may.0.fit, may.0.few_fields, count_own fs) in
-    regular_back little (numbered fs 0) pairs rest (regular_numbered fs pairs 0 ∙ reg) (representable_numbered fs few rep) (texts_numbered fs 0 texts) ascend (uses_numbered fs) short
+    regular_back little (numbered fs 0) pairs custom rest (regular_numbered fs pairs 0 ∙ reg) (representable_numbered fs few rep) (texts_numbered fs 0 texts) ascend (uses_numbered fs) short

@@ -1,5 +1,5 @@
 -- The tree of a schema's message fits, for all kinds.
-use Rattle.std.proofs.Common.{ℕ, suc, zero, ◌^◌, ◌<◌, ◌≤◌, List, [], ◌∷◌, Option, Some, None, arith, true, false, Bool, ℤ, pos, negsuc, SFits}
+use Rattle.std.proofs.Common.{ℕ, suc, zero, ◌^◌, ◌<◌, ◌≤◌, List, Option, Some, None, arith, true, false, Bool, ℤ, pos, negsuc, SFits}
 use Rattle.std.proofs.Math.Facts.{Fits-of_z, Fits-lt-pow}
 use Rattle.std.specs.Int.{w8, w16, w32, w64, cast_unsigned}
 use Rattle.arrow_spec.specs.declared.types.TimeUnit.{TimeUnit}
@@ -15,7 +15,7 @@ use Rattle.arrow_spec.specs.Layout.{Node, Slots, Nodes, slot_count}
 use Rattle.arrow_spec.specs.Held.{Fits, AllFit, NodesFit}
 use Rattle.arrow_spec.specs.Sent.{unless_zero, flag, int_node, type_tag, type_node, encoding_slot, field_pairs, pair_nodes, extension_pair, pairs_slot, child_nodes, field_nodes, order_slot, schema_slots, unit_slot, text_slot, ids_slot}
 use Rattle.arrow_spec.specs.WrittenSchemas.{AreIds, Part, of_field, of_dictionary, of_extension, KindFits, FieldsFit}
-use Rattle.arrow_spec.proofs.MessagesFit.{count_flag, fit_flag, int_fits, one_more-least}
+use Rattle.arrow_spec.proofs.MessagesFit.{count_flag, fit_flag, int_fits, one_more-least, pairs_fit}
 use Rattle.arrow_spec.proofs.NestedFields.{within_both}
 
 -- slots that fit, of which there are at most so many
@@ -119,10 +119,6 @@ encoding_few n (kind.dictionary t ordered id k) s h few =
     let table = few_fits 3 (unless_zero w64 id inner) (omega arith) (zero64_few 2 id inner h.0 (child_few 1 (int_node t) (flag ordered layout.no_more) (int_fits t) (flag_few 0 ordered layout.no_more none_few))) in
     child_few n (layout.table (unless_zero w64 id inner)) s table few
 encoding_few n k s h few = absent_few n s few
-
-pairs_fit : (xs : Metadata) → NodesFit (pair_nodes xs)
-pairs_fit [] = tt
-pairs_fit (x ∷ xs) = ((omega arith, (tt, (tt, tt))), pairs_fit xs)
 
 extension_fits : (more : Option (List ℕ)) (ns : Nodes) → NodesFit ns → NodesFit (extension_pair more ns)
 extension_fits None ns fit = fit

@@ -4,9 +4,10 @@ use Rattle.std.specs.Prelude.{nat_lt, nat_eq}
 use Rattle.std.proofs.lemmas.Bool.{lt-ltb, ltb-false}
 use Rattle.arrow_spec.specs.declared.error.IpcError.{IpcError}
 use Rattle.arrow_spec.specs.Readings.{bind, ◌>>=◌, Reading}
-use Rattle.arrow_spec.specs.Columns.{Dictionaries}
+use Rattle.arrow_spec.specs.Arrays.{Dictionaries}
 use Rattle.arrow_spec.specs.Messages.{Message, is_mark}
-use Rattle.arrow_spec.specs.Streams.{Framed, Read, Reader, Step, framed, next_message, stream_batch, stream_batches, stream_dictionary, stream_prefix, stream_step}
+use Rattle.arrow_spec.specs.Files.{TableBatch}
+use Rattle.arrow_spec.specs.Streams.{Framed, Reader, Step, framed, next_message, stream_batch, stream_batches, stream_dictionary, stream_prefix, stream_step}
 
 -- what a reading means, if anything, has a property
 data Means {A : Type 0} (P : A → Type 0) : Reading A → Type 0 where
@@ -74,13 +75,13 @@ unfolding next_message
 none_next b h = let short : nat_lt (length b) 4 ≡ true = lt-ltb _ _ h in rw (next_message, short) refl
 
 -- what is read behind the next message
-abbrev rest_of : ℕ → Reader → Dictionaries → List ℕ → Option Framed → Reading Read
-rest_of most s d b None = Ok (record { batches = []; left = b })
-rest_of most s d b (Some f) = stream_step s d f >>= λ step. stream_batches most s step.dictionaries step.rest >>= λ others. Ok (record { batches = step.batch ++ others.batches; left = others.left })
+abbrev rest_of : ℕ → Reader → Dictionaries → List ℕ → Option Framed → Reading (List TableBatch)
+rest_of most s d b None = Ok []
+rest_of most s d b (Some f) = stream_step s d f >>= λ step. stream_batches most s step.dictionaries step.rest >>= λ others. Ok (step.batch ++ others)
 
 by_next : (m n : ℕ) (s : Reader) (d : Dictionaries) (b : List ℕ) (next : Option Framed) → IsShorter b next → ((e : Dictionaries) (rest : List ℕ) → length rest + 4 ≤ length b → stream_batches m s e rest ≡ stream_batches n s e rest) → rest_of m s d b next ≡ rest_of n s d b next
 by_next m n s d b None less again = refl
-by_next m n s d b (Some f) less again = same_then (step_takes s d f) λ step shorter. ap (λ r. r >>= λ others. Ok (record { batches = step.batch ++ others.batches; left = others.left })) (again step.dictionaries step.rest (omega (arith, less, shorter)))
+by_next m n s d b (Some f) less again = same_then (step_takes s d f) λ step shorter. ap (λ r. r >>= λ others. Ok (step.batch ++ others)) (again step.dictionaries step.rest (omega (arith, less, shorter)))
 
 same_fuel : (m n : ℕ) (s : Reader) (d : Dictionaries) (b : List ℕ) → length b ≤ m → length b ≤ n → stream_batches m s d b ≡ stream_batches n s d b
 unfolding stream_batches bind

@@ -7,6 +7,8 @@ use Rattle.arrow_spec.specs.Kinds.{Fields}
 pub record Built : Type 0 where
   -- where the features of chosen kinds stand: the byte order, and the columns asked for
   pub chosen : Order → Fields → Bool
+  -- at the pairs of the footer and of each record message
+  pub custom : Bool
   -- at the first dictionary
   pub dictionaries : Bool
   -- before the size: columns or a limit
@@ -14,4 +16,4 @@ pub record Built : Type 0 where
 
 -- nothing is refused as not built
 abbrev pub everything : Built
-everything = record { chosen = λ o fs. true; dictionaries = true; requests = true }
+everything = record { chosen = λ o fs. true; custom = true; dictionaries = true; requests = true }

@@ -9,15 +9,17 @@ use Rattle.arrow_spec.specs.declared.error.Feature.TheVariants as features
 use Rattle.arrow_spec.specs.declared.error.OutOfSpecKind.TheVariants as kinds
 use Rattle.arrow_spec.specs.declared.message.IpcBuffer.{IpcBuffer}
 use Rattle.arrow_spec.specs.declared.message.MetadataVersion.{MetadataVersion}
-use Rattle.arrow_spec.specs.Readings.{bind, ◌>>=◌, Reading, refuse, damaged, unless, only_if, each, place}
+use Rattle.arrow_spec.specs.Readings.{bind, ◌>>=◌, Reading, refuse, damaged, unless, only_if, each, free_of, required, natural, as_kind, is_absent}
 use Rattle.arrow_spec.specs.Flat.{Vector, Order, root, or_default, signed_at, slot_table, slot_vector}
 use Rattle.arrow_spec.specs.Kinds.{Fields, none, field, Metadata, bare, width, uses_in, values_under}
 use Rattle.arrow_spec.specs.Built.{Built}
 use Rattle.arrow_spec.specs.Cells.{Cell}
-use Rattle.arrow_spec.specs.Schema.{Schema, schema_of, required}
-use Rattle.arrow_spec.specs.Messages.{Message, natural, as_kind, prefix_of, message_of, version_of, batch_at, BatchHeader, DictionaryBatch, dictionary_at}
+use Rattle.arrow_spec.specs.Schema.{Schema, schema_of, empty_vector}
+use Rattle.arrow_spec.specs.Messages.{Message, prefix_of, message_of, version_of, message_pairs, footer_pairs, batch_at, BatchHeader, DictionaryBatch, dictionary_at}
 use Rattle.arrow_spec.specs.Counts.{RecordBatch, first_place, magnitude, is_negative}
-use Rattle.arrow_spec.specs.Columns.{columns_at, Dictionaries, HeldDictionary, found, stands_in, chosen_floats, float_faults, cause}
+use Rattle.arrow_spec.specs.Arrays.{Dictionaries, HeldDictionary, found}
+use Rattle.arrow_spec.specs.Columns.{columns_at, stands_in}
+use Rattle.arrow_spec.specs.Features.{float_faults, feature_faults}
 use Rattle.arrow_spec.specs.Sent.{SentMessage, stream_schema, batch_message, written, dictionary_messages, may_be_sent, all_may_be_sent}
 
 -- the columns that are asked for, and how many rows at most
@@ -41,14 +43,16 @@ pub record Meta : Type 0 where
   pub blocks : List FileBlock
   pub dictionaries : List FileBlock
 
--- a batch of a table: its rows, and of each column a list of cells
+-- a batch of a table: its rows, of each column a list of cells, and the pairs of its message
 pub record TableBatch : Type 0 where
   pub rows : ℕ
   pub columns : List (List Cell)
+  pub custom : Metadata
 
--- a table: its pairs, its fields without dictionary ids, and its batches
+-- a table: the pairs of its schema, those of its footer (in a stream those of the schema's message), its fields without dictionary ids, and its batches
 pub record ArrowTable : Type 0 where
   pub metadata : Metadata
+  pub custom : Metadata
   pub fields : Fields
   pub batches : List TableBatch
 
@@ -102,10 +106,6 @@ block_at fault b p = do
 abbrev pub blocks_at : (FlatError → IpcError) → List ℕ → Vector → Reading (List FileBlock)
 blocks_at fault b v = each (λ i. block_at fault b (v.first + 24 * i)) 0 v.count
 
--- an absent list is an empty one
-abbrev pub no_blocks : Option Vector → Vector
-no_blocks v = or_default (record { first = 0; count = 0 }) v
-
 -- what a footer's bytes say
 unfoldable pub meta_in : List ℕ → Reading Meta
 meta_in f = do
@@ -113,7 +113,7 @@ meta_in f = do
   record_vector ← as_kind kinds.InvalidFlatbufferRecordBatches (slot_vector 24 f t 3) >>= required (OutOfSpec kinds.MissingRecordBatches)
   blocks ← blocks_at (λ e. OutOfSpec (kinds.InvalidFlatbufferRecordBatches e)) f record_vector
   dictionary_vector ← as_kind kinds.InvalidFlatbufferDictionaries (slot_vector 24 f t 2)
-  dictionaries ← blocks_at (λ e. OutOfSpec (kinds.InvalidFlatbufferDictionaries e)) f (no_blocks dictionary_vector)
+  dictionaries ← blocks_at (λ e. OutOfSpec (kinds.InvalidFlatbufferDictionaries e)) f (empty_vector dictionary_vector)
   schema_table ← as_kind kinds.InvalidFlatbufferSchema (slot_table f t 1) >>= required (OutOfSpec kinds.MissingSchema)
   schema ← schema_of f schema_table
   Ok (record { schema = schema; blocks = blocks; dictionaries = dictionaries })
@@ -122,12 +122,16 @@ meta_in f = do
 unfoldable pub meta_of : List ℕ → Reading Meta
 meta_of b = footer_of b >>= λ f. meta_in f
 
+-- the pairs of a file's footer
+unfoldable pub custom_of : Bool → List ℕ → Reading Metadata
+custom_of carried b = footer_of b >>= λ f. footer_pairs carried f
+
 -- there is one
 abbrev pub has_any : {A : Type 0} → List A → Bool
 has_any [] = false
 has_any (x ∷ xs) = true
 
--- the lesser of a batch's length and what is left of the limit; and what it leaves
+-- the lesser of a batch's length and what is left of the limit
 abbrev pub share : Option ℕ → ℕ → ℕ
 share None n = n
 share (Some left) n = min n left
@@ -156,12 +160,12 @@ abbrev pub if_sent : Purpose → Bool → Reading (Unit {0})
 if_sent to_read ok = Ok tt
 if_sent to_send ok = unless ok TooLarge
 
--- the columns asked for, of columns in the file's order
+-- the cells of a column, or none
 abbrev pub column_or_none : Option (List Cell) → List Cell
 column_or_none None = []
 column_or_none (Some x) = x
 
--- the columns in the order asked
+-- the columns in the order asked, of columns in the file's order
 abbrev pub as_asked : Option (List ℕ) → List (List Cell) → List (List Cell)
 as_asked None columns = columns
 as_asked (Some cs) columns = map (λ c. column_or_none (slice_get columns c)) cs
@@ -169,7 +173,9 @@ as_asked (Some cs) columns = map (λ c. column_or_none (slice_get columns c)) cs
 -- each column asked for is one, and stands there once
 abbrev pub wrong_columns : ℕ → List ℕ → List ℕ → Reading (Unit {0})
 wrong_columns count earlier [] = Ok tt
-wrong_columns count earlier (c ∷ cs) = unless (nat_lt c count && not (stands_in earlier c)) (Projection c) >>= λ right. wrong_columns count (c ∷ earlier) cs
+wrong_columns count earlier (c ∷ cs) =
+    unless (nat_lt c count && not (stands_in earlier c)) (Projection c)
+    >>= λ right. wrong_columns count (c ∷ earlier) cs
 
 -- the columns asked for, if any are
 abbrev pub columns_right : Option (List ℕ) → ℕ → Reading (Unit {0})
@@ -200,20 +206,25 @@ pub record Asked : Type 0 where
   pub dictionaries : Dictionaries
   pub most : ℕ
 
--- a record batch by its tables, its version and its body
-abbrev pub record_batch_of : Asked → MetadataVersion → BatchHeader → List ℕ → RecordBatch
-record_batch_of a version tables body = record { order = a.order; version = version; nodes = tables.nodes; buffers = tables.buffers; variadic = tables.variadic; body = body }
+-- all columns of some fields, where no dictionary is held
+abbrev pub all_asked : Order → Fields → ℕ → Asked
+all_asked order fs most = record { order = order; fields = fs; columns = None; dictionaries = []; most = most }
 
--- a batch by its tables and its body, where rows are left to be read
-unfoldable pub batch_of_tables : Purpose → Asked → MetadataVersion → BatchHeader → List ℕ → Option ℕ → Reading TableBatch
-batch_of_tables purpose a version tables body left = do
+-- a record batch by its byte order, its version, its tables and its body
+abbrev pub record_batch_of : Order → MetadataVersion → BatchHeader → List ℕ → RecordBatch
+record_batch_of order version tables body =
+    record { order = order; version = version; nodes = tables.nodes; buffers = tables.buffers; variadic = tables.variadic; body = body }
+
+-- a batch by its message's version and pairs, its tables and its body, where rows are left to be read
+unfoldable pub batch_of_tables : Purpose → Asked → MetadataVersion → Metadata → BatchHeader → List ℕ → Option ℕ → Reading TableBatch
+batch_of_tables purpose a version custom tables body left = do
   compression ← unless (not tables.compressed) (Unsupported features.Compression)
   rows ← natural tables.length
   negative ← only_if (none_negative tables.buffers) kinds.UnexpectedNegativeInteger
   sum ← only_if (nat_le (lengths_sum tables.buffers) a.most) (kinds.InvalidBuffersLength (lengths_sum tables.buffers) a.most)
-  columns ← columns_at (record_batch_of a version tables body) a.dictionaries a.columns a.fields 0 first_place rows (share left rows)
-  size ← if_sent purpose (may_be_sent (batch_message (record_batch_of a version tables body) a.columns a.fields (share left rows)))
-  Ok (record { rows = share left rows; columns = as_asked a.columns columns })
+  columns ← columns_at (record_batch_of a.order version tables body) a.dictionaries a.columns a.fields 0 first_place rows (share left rows)
+  size ← if_sent purpose (may_be_sent (batch_message (record_batch_of a.order version tables body) a.columns a.fields (share left rows) custom))
+  Ok (record { rows = share left rows; columns = as_asked a.columns columns; custom = custom })
 
 -- a block's metadata and its header's table; the header has to have this tag
 unfoldable pub block_message : List ℕ → FileBlock → ℕ → Reading (List ℕ × Message)
@@ -227,13 +238,14 @@ block_message b block tag = do
 abbrev pub block_body : List ℕ → FileBlock → List ℕ
 block_body b block = take block.body (drop (block.offset + block.metadata) b)
 
--- a record block
-unfoldable pub batch_of : Purpose → List ℕ → Asked → FileBlock → Option ℕ → Reading TableBatch
-batch_of purpose b a block left = do
+-- a record block; its message's pairs are carried or not
+unfoldable pub batch_of : Bool → Purpose → List ℕ → Asked → FileBlock → Option ℕ → Reading TableBatch
+batch_of carried purpose b a block left = do
   m ← block_message b block 3
   tables ← batch_at m.0 m.1.header
   version ← version_of m.0 m.1
-  batch_of_tables purpose a version tables (block_body b block) left
+  custom ← message_pairs carried m.0
+  batch_of_tables purpose a version custom tables (block_body b block) left
 
 -- the dictionaries are written with the first batch, and each message may be too large
 abbrev pub dictionaries_sent : Bool → Purpose → Asked → Reading (Unit {0})
@@ -241,12 +253,12 @@ dictionaries_sent true purpose a = if_sent purpose (all_may_be_sent (dictionary_
 dictionaries_sent false purpose a = Ok tt
 
 -- record blocks in order, each cut to what the ones before leave of the limit
-unfoldable pub batches_of : Purpose → List ℕ → Asked → Bool → List FileBlock → Option ℕ → Reading (List TableBatch)
-batches_of purpose b a is_first [] left = Ok []
-batches_of purpose b a is_first (block ∷ blocks) left = do
-  first ← batch_of purpose b a block left
+unfoldable pub batches_of : Bool → Purpose → List ℕ → Asked → Bool → List FileBlock → Option ℕ → Reading (List TableBatch)
+batches_of carried purpose b a is_first [] left = Ok []
+batches_of carried purpose b a is_first (block ∷ blocks) left = do
+  first ← batch_of carried purpose b a block left
   dictionaries ← dictionaries_sent is_first purpose a
-  others ← batches_of purpose b a false blocks (what_is_left left first.rows)
+  others ← batches_of carried purpose b a false blocks (what_is_left left first.rows)
   Ok (first ∷ others)
 
 -- a dictionary's values are the one column of their batch
@@ -254,22 +266,27 @@ abbrev pub first_column : List (List Cell) → List Cell
 first_column [] = []
 first_column (x ∷ xs) = x
 
--- there is a dictionary
-abbrev pub is_held : Option (List Cell) → Bool
-is_held None = false
-is_held (Some x) = true
-
--- The values of a dictionary message, read under the dictionaries before it. Its buffers may be so long together.
+-- The values of a dictionary message, read under the dictionaries before it. Its buffers may be so long together. Where none may be replaced, a dictionary that is no delta stands before all others of its id.
 unfoldable pub dictionary_of : Schema → Dictionaries → ℕ → DictionaryBatch → MetadataVersion → List ℕ → Bool → Reading HeldDictionary
 dictionary_of s d most x version body may_replace = do
-  delta ← unless (not x.is_delta) (Unsupported features.DeltaDictionary)
   kind ← required (OutOfSpec (kinds.InvalidId x.id)) (values_under x.id (uses_in s.fields))
-  new ← only_if (may_replace || not (is_held (found d x.id))) kinds.DuplicateDictionary
-  floats ← place (float_faults kind)
-  values ← batch_of_tables to_read (record { order = s.order; fields = field [] true [] kind none; columns = None; dictionaries = d; most = most }) version x.values body None
-  Ok (record { id = x.id; cells = first_column values.columns; written = written (record_batch_of (record { order = s.order; fields = none; columns = None; dictionaries = d; most = most }) version x.values body) kind first_place values.rows 0 values.rows })
+  new ← only_if (x.is_delta || may_replace || is_absent (found d x.id)) kinds.DuplicateDictionary
+  floats ← free_of (float_faults kind)
+  values ← batch_of_tables to_read (record {
+    order = s.order;
+    fields = field [] true [] kind none;
+    columns = None;
+    dictionaries = d;
+    most = most;
+  }) version [] x.values body None
+  Ok (record {
+    id = x.id;
+    is_delta = x.is_delta;
+    cells = first_column values.columns;
+    written = written (record_batch_of s.order version x.values body) kind first_place values.rows 0 values.rows;
+  })
 
--- a file's dictionaries in order: one of each id
+-- a file's dictionaries in order: of each id at most one that is no delta, and it is the first
 unfoldable pub dictionaries_of : List ℕ → Meta → Dictionaries → List FileBlock → Reading Dictionaries
 dictionaries_of b meta d [] = Ok d
 dictionaries_of b meta d (block ∷ blocks) = do
@@ -289,24 +306,20 @@ abbrev pub taken : Option ℕ → List FileBlock → List FileBlock
 taken None blocks = blocks
 taken (Some j) blocks = take j blocks
 
--- it was asked for
-abbrev pub is_given : {A : Type 0} → Option A → Bool
-is_given None = false
-is_given (Some x) = true
-
 -- what a file means under a request, in all its blocks or the first j
 unfoldable pub file_reading : Built → Purpose → List ℕ → Request → Option ℕ → Reading ArrowTable
 file_reading built purpose b r j = do
-  known ← unless (built.requests || not (is_given r.columns || is_given r.limit)) (Unsupported features.NotYet)
+  known ← unless (built.requests || is_absent r.columns && is_absent r.limit) (Unsupported features.NotYet)
   meta ← meta_of b
+  custom ← custom_of built.custom b
   columns ← columns_right r.columns (width meta.schema.fields)
-  floats ← place (chosen_floats r.columns meta.schema.fields 0 ++ cause (not (built.chosen meta.schema.order (fields_as_asked r.columns meta.schema.fields))) (Unsupported features.NotYet))
-  size ← if_sent purpose (may_be_sent (stream_schema (fields_as_asked r.columns meta.schema.fields) meta.schema.metadata))
+  floats ← free_of (feature_faults r.columns meta.schema.fields (built.chosen meta.schema.order (fields_as_asked r.columns meta.schema.fields)))
+  size ← if_sent purpose (may_be_sent (stream_schema (fields_as_asked r.columns meta.schema.fields) meta.schema.metadata custom))
   read ← unless (built.dictionaries || not (has_any (dictionaries_read (taken j meta.blocks) meta.dictionaries))) (Unsupported features.NotYet)
   dictionaries ← dictionaries_of b meta [] (dictionaries_read (taken j meta.blocks) meta.dictionaries)
   let asked : Asked = record { order = meta.schema.order; fields = meta.schema.fields; columns = r.columns; dictionaries = dictionaries; most = length b }
-  batches ← batches_of purpose b asked true (taken j meta.blocks) r.limit
-  Ok (record { metadata = meta.schema.metadata; fields = bare (fields_as_asked r.columns meta.schema.fields); batches = batches })
+  batches ← batches_of built.custom purpose b asked true (taken j meta.blocks) r.limit
+  Ok (record { metadata = meta.schema.metadata; custom = custom; fields = bare (fields_as_asked r.columns meta.schema.fields); batches = batches })
 
 -- ── the messages of a stream that means what a file means ──
 
@@ -316,8 +329,9 @@ batch_sent b a block left = do
   m ← block_message b block 3
   tables ← batch_at m.0 m.1.header
   version ← version_of m.0 m.1
+  custom ← message_pairs true m.0
   rows ← natural tables.length
-  Ok (batch_message (record_batch_of a version tables (block_body b block)) a.columns a.fields (share left rows), share left rows)
+  Ok (batch_message (record_batch_of a.order version tables (block_body b block)) a.columns a.fields (share left rows) custom, share left rows)
 
 -- the messages of record blocks
 unfoldable pub batches_sent : List ℕ → Asked → List FileBlock → Option ℕ → Reading (List SentMessage)
@@ -336,23 +350,30 @@ dictionaries_before messages (block ∷ blocks) = messages
 unfoldable pub sent : List ℕ → Request → Option ℕ → Reading (List SentMessage)
 sent b r j = do
   meta ← meta_of b
+  custom ← custom_of true b
   let fields = fields_as_asked r.columns meta.schema.fields
   dictionaries ← dictionaries_of b meta [] (dictionaries_read (taken j meta.blocks) meta.dictionaries)
   let asked : Asked = record { order = meta.schema.order; fields = meta.schema.fields; columns = r.columns; dictionaries = dictionaries; most = length b }
   batches ← batches_sent b asked (taken j meta.blocks) r.limit
-  Ok (stream_schema fields meta.schema.metadata ∷ dictionaries_before (dictionary_messages dictionaries fields) (taken j meta.blocks) ++ batches)
+  Ok (stream_schema fields meta.schema.metadata custom ∷ dictionaries_before (dictionary_messages dictionaries fields) (taken j meta.blocks) ++ batches)
 
 -- ── tables of columns and of rows ──
 
--- the columns asked for, rows kept
+-- the columns asked for, rows and pairs kept
 abbrev pub project : ArrowTable → Option (List ℕ) → ArrowTable
-project t columns = record { metadata = t.metadata; fields = fields_as_asked columns t.fields; batches = map (λ x. record { rows = x.rows; columns = as_asked columns x.columns }) t.batches }
+project t columns = record {
+  metadata = t.metadata;
+  custom = t.custom;
+  fields = fields_as_asked columns t.fields;
+  batches = map (λ x. record { rows = x.rows; columns = as_asked columns x.columns; custom = x.custom }) t.batches;
+}
 
 -- each batch cut to its share of the limit
 abbrev pub cut_batches : List TableBatch → Option ℕ → List TableBatch
 cut_batches [] left = []
-cut_batches (x ∷ xs) left = record { rows = share left x.rows; columns = map (λ cells. take (share left x.rows) cells) x.columns } ∷ cut_batches xs (what_is_left left (share left x.rows))
+cut_batches (x ∷ xs) left = record { rows = share left x.rows; columns = map (λ cells. take (share left x.rows) cells) x.columns; custom = x.custom }
+    ∷ cut_batches xs (what_is_left left (share left x.rows))
 
 -- each batch cut, the rest kept
 abbrev pub cut : ArrowTable → Option ℕ → ArrowTable
-cut t limit = record { metadata = t.metadata; fields = t.fields; batches = cut_batches t.batches limit }
+cut t limit = record { metadata = t.metadata; custom = t.custom; fields = t.fields; batches = cut_batches t.batches limit }

@@ -15,6 +15,11 @@ pub data Order : Type 0 where
   little : Order
   big : Order
 
+-- the byte order of a flag that says whether it is little-endian
+abbrev pub order_by : Bool → Order
+order_by true = little
+order_by false = big
+
 -- the number that a width of bytes makes in an order
 abbrev pub from_bytes : Order → Width → List ℕ → ℕ
 from_bytes little w bytes = from_le_bytes w bytes

@@ -26,7 +26,8 @@ body_bytes at (x ∷ xs) = x ++ zeros (up_to 64 (at + length x) - (at + length x
 -- bits behind those of a byte that are known, which lie below the weight
 abbrev pub packed_from : ℕ → ℕ → List Bool → List ℕ
 packed_from weight byte [] = if nat_eq weight 1 then [] else (byte ∷ [])
-packed_from weight byte (b ∷ bs) = if nat_eq weight 128 then ((if b then byte + weight else byte) ∷ packed_from 1 0 bs) else packed_from (weight * 2) (if b then byte + weight else byte) bs
+packed_from weight byte (b ∷ bs) =
+    if nat_eq weight 128 then ((if b then byte + weight else byte) ∷ packed_from 1 0 bs) else packed_from (weight * 2) (if b then byte + weight else byte) bs
 
 -- eight bits a byte, the lowest first, and zero behind the last
 abbrev pub packed : List Bool → List ℕ

@@ -142,7 +142,8 @@ abbrev mutual
   laid (structs n xs) c = zeros (before_eight c - c) ++ u32 n ++ xs
   laid (numbers32 xs) c = zeros (up_to 4 c - c) ++ u32 (length xs) ++ flat_map (λ x. to_le_bytes w32 (cast_unsigned w32 x)) xs
   laid (numbers64 xs) c = zeros (before_eight c - c) ++ u32 (length xs) ++ flat_map (λ x. to_le_bytes w64 (cast_unsigned w64 x)) xs
-  laid (tables ns) c = zeros (up_to 4 c - c) ++ u32 (node_count ns) ++ offsets ns (up_to 4 c + 4) (up_to 4 c + 4 + 4 * node_count ns) ++ laid_nodes ns (up_to 4 c + 4 + 4 * node_count ns)
+  laid (tables ns) c = zeros (up_to 4 c - c) ++ u32 (node_count ns) ++ offsets ns (up_to 4 c + 4) (up_to 4 c + 4 + 4 * node_count ns)
+      ++ laid_nodes ns (up_to 4 c + 4 + 4 * node_count ns)
 
   pub laid_children : Slots → ℕ → List ℕ
   laid_children no_more c = []

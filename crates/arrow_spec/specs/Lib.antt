@@ -9,9 +9,14 @@ pub mod Regular
 pub mod Messages
 pub mod Headers
 pub mod Counts
+pub mod Arrays
+pub mod ArrayCells
+pub mod Faults
 pub mod Columns
+pub mod Features
 pub mod Layout
 pub mod Held
+pub mod Bodies
 pub mod Sent
 pub mod Files
 pub mod Footers

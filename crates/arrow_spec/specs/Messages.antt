@@ -1,5 +1,5 @@
 -- Encapsulated messages: prefix, metadata, header. (Arrow Columnar Format, "Encapsulated message format", Message.fbs.)
-use Rattle.std.specs.Prelude.{◌≡◌, ℕ, zero, suc, ◌+◌, ◌-◌, ◌*◌, ◌^◌, List, [], ◌∷◌, length, take, drop, Bool, true, false, Option, Some, None, Result, Ok, Err, nat_le, nat_lt, nat_eq, not, ◌&&◌, if◌then◌else◌, ℤ, pos, negsuc}
+use Rattle.std.specs.Prelude.{◌≡◌, ℕ, zero, suc, ◌+◌, ◌-◌, ◌*◌, ◌^◌, List, [], ◌∷◌, length, take, drop, Bool, true, false, Option, Some, None, Result, Ok, Err, nat_le, nat_lt, nat_eq, not, ◌&&◌, ◌||◌, if◌then◌else◌, ℤ, pos, negsuc}
 use Rattle.std.specs.Int.{w8, w16, w32, w64}
 use Rattle.std.specs.Str.{bytes_eq}
 use Rattle.arrow_spec.specs.declared.error.FlatError.{FlatError}
@@ -12,9 +12,12 @@ use Rattle.arrow_spec.specs.declared.message.FieldNode.{FieldNode}
 use Rattle.arrow_spec.specs.declared.message.IpcBuffer.{IpcBuffer}
 use Rattle.arrow_spec.specs.declared.message.MetadataVersion.{MetadataVersion}
 use Rattle.arrow_spec.specs.declared.message.MetadataVersion.TheVariants.{V4, V5}
-use Rattle.arrow_spec.specs.Readings.{◌>>=◌, Reading, refuse, damaged, only_if, in_terms_of, each}
+use Rattle.arrow_spec.specs.Readings.{◌>>=◌, Reading, refuse, damaged, unless, only_if, each, required, is_absent, as_kind, natural}
 use Rattle.arrow_spec.specs.Flat.{Table, Vector, root, unsigned_at, signed_at, slot, slot_unsigned, slot_signed, slot_bool, slot_table, slot_vector}
-use Rattle.arrow_spec.specs.Schema.{required, is_absent}
+use Rattle.arrow_spec.specs.declared.error.IpcError.TheVariants.{TooMany}
+use Rattle.arrow_spec.specs.declared.error.Counted.TheVariants as counted
+use Rattle.arrow_spec.specs.Kinds.{Metadata}
+use Rattle.arrow_spec.specs.Schema.{empty_vector, pairs_from}
 
 -- the tables of a record batch
 pub record BatchHeader : Type 0 where
@@ -45,15 +48,6 @@ abbrev pub numbers_at : List ℕ → Option Vector → Result (List ℤ) FlatErr
 numbers_at b None = Ok []
 numbers_at b (Some v) = each (λ i. signed_at w64 b (v.first + 8 * i)) 0 v.count
 
--- a fault under the name of its part
-abbrev pub as_kind : {A : Type 0} → (FlatError → OutOfSpecKind) → Result A FlatError → Reading A
-as_kind kind r = in_terms_of (λ f. OutOfSpec (kind f) ∷ []) r
-
--- a number that must not be negative
-abbrev pub natural : ℤ → Reading ℕ
-natural (pos n) = Ok n
-natural (negsuc n) = damaged kinds.UnexpectedNegativeInteger
-
 -- the tables of a record batch (Message.fbs, RecordBatch)
 unfoldable pub batch_at : List ℕ → Table → Reading BatchHeader
 batch_at b t = do
@@ -66,7 +60,7 @@ batch_at b t = do
   variadic ← as_kind kinds.InvalidFlatbufferRecordBatches (slot_vector 8 b t 4 >>= numbers_at b)
   Ok (record { length = length; nodes = nodes; buffers = buffers; compressed = not (is_absent compression); variadic = variadic })
 
--- the metadata's length and where it begins: after the mark and the length, or after the length alone
+-- the mark that stands before the length of a message's metadata
 abbrev pub is_mark : List ℕ → Bool
 is_mark bytes = bytes_eq bytes (255 ∷ 255 ∷ 255 ∷ 255 ∷ [])
 
@@ -102,7 +96,11 @@ message_of b taken = do
 
 -- a version by its number (Schema.fbs, MetadataVersion)
 abbrev pub version_of_number : ℕ → Reading MetadataVersion
-version_of_number n = elim (nat_le n 2) [ true ↦ refuse (Unsupported features.Version) | false ↦ elim (nat_eq n 3) [ true ↦ Ok V4 | false ↦ elim (nat_eq n 4) [ true ↦ Ok V5 | false ↦ damaged (kinds.InvalidFlatbufferVersion Number) ] ] ]
+version_of_number n = elim (nat_le n 2) [
+  | true ↦ refuse (Unsupported features.Version)
+  | false ↦ elim
+      (nat_eq n 3) [ true ↦ Ok V4 | false ↦ elim (nat_eq n 4) [ true ↦ Ok V5 | false ↦ damaged (kinds.InvalidFlatbufferVersion Number) ] ]
+]
 
 -- a message's version
 unfoldable pub version_of : List ℕ → Message → Reading MetadataVersion
@@ -122,6 +120,23 @@ dictionary_at b t = do
   data_table ← as_kind kinds.InvalidFlatbufferData (slot_table b t 1) >>= required (OutOfSpec kinds.MissingData)
   values ← batch_at b data_table
   Ok (record { id = id; is_delta = is_delta; values = values })
+
+-- The pairs of a footer or of a message by its bytes: both have them in slot 4. Until they are carried there may be none, whatever would be in them. (File.fbs, Footer; Message.fbs, Message.)
+unfoldable pub custom_pairs : Bool → (FlatError → OutOfSpecKind) → List ℕ → Reading Metadata
+custom_pairs carried kind b = do
+  t ← as_kind kind (root b)
+  v ← as_kind kind (slot_vector 4 b t 4)
+  known ← unless (carried || nat_eq (empty_vector v).count 0) (Unsupported features.NotYet)
+  room ← unless (nat_le (empty_vector v).count 1048576) (TooMany counted.Pairs)
+  pairs_from kind b (empty_vector v).first (empty_vector v).count []
+
+-- the pairs of a message by its metadata
+abbrev pub message_pairs : Bool → List ℕ → Reading Metadata
+message_pairs carried b = custom_pairs carried kinds.InvalidFlatbufferMessage b
+
+-- the pairs of a footer
+abbrev pub footer_pairs : Bool → List ℕ → Reading Metadata
+footer_pairs carried f = custom_pairs carried kinds.InvalidFlatbufferFooter f
 
 -- the tables and the version of a record batch's message
 pub record RecordMessage : Type 0 where

@@ -69,7 +69,6 @@ feature_name features.ViewBigEndian = codes "ViewBigEndian"
 feature_name features.Version = codes "Version"
 feature_name features.Compression = codes "Compression"
 feature_name features.UnionNulls = codes "UnionNulls"
-feature_name features.DeltaDictionary = codes "DeltaDictionary"
 feature_name features.BigEndianAppend = codes "BigEndianAppend"
 feature_name features.NotYet = codes "NotYet"
 

@@ -3,15 +3,15 @@ use Rattle.std.specs.Prelude.{ℕ, zero, suc, ◌+◌, ◌-◌, List, [], ◌∷
 use Rattle.arrow_spec.specs.declared.error.IpcError.TheVariants.{OutOfSpec}
 use Rattle.arrow_spec.specs.declared.error.OutOfSpecKind.TheVariants.{InvalidId}
 use Rattle.arrow_spec.specs.declared.message.MetadataVersion.{MetadataVersion}
-use Rattle.arrow_spec.specs.Readings.{Reading, meaning, ◌>>=◌}
-use Rattle.arrow_spec.specs.Schema.{required}
+use Rattle.arrow_spec.specs.Readings.{Reading, meaning, ◌>>=◌, required}
 use Rattle.arrow_spec.specs.declared.types.UnionMode.{UnionMode}
 use Rattle.arrow_spec.specs.declared.types.UnionMode.TheVariants.{Dense, Sparse}
 use Rattle.arrow_spec.specs.Kinds.{Kind, Fields, none, field, null, binary, utf8, binary_view, utf8_view, «list», fixed_size_list, struct, map, union, extension, uses_in, values_under}
 use Rattle.arrow_spec.specs.Messages.{BatchHeader, prefix_of, batch_at, dictionary_at, version_of}
 use Rattle.arrow_spec.specs.Counts.{RecordBatch, Place, first_place, magnitude, count_at, union_buffers, after, inside}
-use Rattle.arrow_spec.specs.Columns.{has_nulls, range_of, types_buffer, is_chosen}
-use Rattle.arrow_spec.specs.Files.{Meta, FileBlock, Request, meta_of, block_message, block_body, dictionaries_read}
+use Rattle.arrow_spec.specs.Arrays.{has_nulls, range_of, types_buffer}
+use Rattle.arrow_spec.specs.Columns.{is_chosen}
+use Rattle.arrow_spec.specs.Files.{Meta, FileBlock, Request, meta_of, block_message, block_body, dictionaries_read, record_batch_of}
 
 -- a place, and how many bytes from there on
 pub record Range : Type 0 where
@@ -55,7 +55,8 @@ abbrev mutual
 -- the buffers of the columns asked for
 abbrev pub columns_looked_at : RecordBatch → Option (List ℕ) → Fields → ℕ → Place → List ℕ
 columns_looked_at m asked none c p = []
-columns_looked_at m asked (field name nullable metadata k others) c p = (if is_chosen asked c then looked_at m k p else []) ++ columns_looked_at m asked others (suc c) (after m k p)
+columns_looked_at m asked (field name nullable metadata k others) c p =
+    (if is_chosen asked c then looked_at m k p else []) ++ columns_looked_at m asked others (suc c) (after m k p)
 
 -- where buffers stand in the file
 abbrev pub ranges : RecordBatch → ℕ → List ℕ → List Range
@@ -66,10 +67,6 @@ ranges m body (i ∷ is) = record { place = body + magnitude (range_of m i).offs
 abbrev pub message_range : List ℕ → FileBlock → Reading Range
 message_range b block = prefix_of (take block.metadata (drop block.offset b)) >>= λ prefix. Ok (record { place = block.offset; length = prefix.0 + prefix.1 })
 
--- the record batch of a block
-abbrev pub record_batch_in : List ℕ → Meta → MetadataVersion → BatchHeader → FileBlock → RecordBatch
-record_batch_in b meta version tables block = record { order = meta.schema.order; version = version; nodes = tables.nodes; buffers = tables.buffers; variadic = tables.variadic; body = block_body b block }
-
 -- what a record block needs
 unfoldable pub batch_needs : List ℕ → Meta → Request → FileBlock → Reading (List Range)
 batch_needs b meta r block = do
@@ -77,7 +74,7 @@ batch_needs b meta r block = do
   tables ← batch_at m.0 m.1.header
   version ← version_of m.0 m.1
   range ← message_range b block
-  let source = record_batch_in b meta version tables block
+  let source = record_batch_of meta.schema.order version tables (block_body b block)
   Ok (range ∷ ranges source (block.offset + block.metadata) (columns_looked_at source r.columns meta.schema.fields 0 first_place))
 
 -- what a dictionary block needs
@@ -88,7 +85,7 @@ dictionary_needs b meta block = do
   version ← version_of m.0 m.1
   range ← message_range b block
   kind ← required (OutOfSpec (InvalidId x.id)) (values_under x.id (uses_in meta.schema.fields))
-  let source = record_batch_in b meta version x.values block
+  let source = record_batch_of meta.schema.order version x.values (block_body b block)
   Ok (range ∷ ranges source (block.offset + block.metadata) (looked_at source kind first_place))
 
 -- the ranges of each of some blocks

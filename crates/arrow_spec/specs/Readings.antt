@@ -1,8 +1,10 @@
 -- What a part of the input means, or why it means nothing. This is the form of every definition below; it comes from no document.
-use Rattle.std.specs.Prelude.{◌≡◌, ℕ, zero, suc, List, [], ◌∷◌, ◌⊎◌, Bool, true, false, Option, Some, None, Result, Ok, Err}
+use Rattle.std.specs.Prelude.{◌≡◌, ℕ, zero, suc, List, [], ◌∷◌, ◌⊎◌, Bool, true, false, Option, Some, None, Result, Ok, Err, ℤ, pos, negsuc}
 use Rattle.arrow_spec.specs.declared.error.IpcError.{IpcError}
 use Rattle.arrow_spec.specs.declared.error.IpcError.TheVariants.{OutOfSpec, Unsupported, Memory, ReadFault, WriteFault}
 use Rattle.arrow_spec.specs.declared.error.OutOfSpecKind.{OutOfSpecKind}
+use Rattle.arrow_spec.specs.declared.error.OutOfSpecKind.TheVariants.{UnexpectedNegativeInteger}
+use Rattle.arrow_spec.specs.declared.error.FlatError.{FlatError}
 use Rattle.arrow_spec.specs.declared.error.Feature.{Feature}
 
 -- what a first reading gave is handed on, and a fault ends it
@@ -32,9 +34,9 @@ abbrev pub unsupported : {A : Type 0} → Feature → Reading A
 unsupported feature = refuse (Unsupported feature)
 
 -- a place of the order: nothing is wrong there, or one of these refusals may be answered
-abbrev pub place : List IpcError → Reading (Unit {0})
-place [] = Ok tt
-place (e ∷ es) = Err (e ∷ es)
+abbrev pub free_of : List IpcError → Reading (Unit {0})
+free_of [] = Ok tt
+free_of (e ∷ es) = Err (e ∷ es)
 
 -- a place with one refusal
 abbrev pub unless : Bool → IpcError → Reading (Unit {0})
@@ -49,6 +51,25 @@ only_if ok kind = unless ok (OutOfSpec kind)
 abbrev pub in_terms_of : {A E F : Type 0} → (E → F) → Result A E → Result A F
 in_terms_of f (Ok x) = Ok x
 in_terms_of f (Err e) = Err (f e)
+
+-- a fault under the name of its part
+abbrev pub as_kind : {A : Type 0} → (FlatError → OutOfSpecKind) → Result A FlatError → Reading A
+as_kind kind r = in_terms_of (λ f. OutOfSpec (kind f) ∷ []) r
+
+-- nothing is there
+abbrev pub is_absent : {A : Type 0} → Option A → Bool
+is_absent None = true
+is_absent (Some x) = false
+
+-- what must be there
+abbrev pub required : {A : Type 0} → IpcError → Option A → Reading A
+required e None = refuse e
+required e (Some x) = Ok x
+
+-- a number that must not be negative
+abbrev pub natural : ℤ → Reading ℕ
+natural (pos n) = Ok n
+natural (negsuc n) = damaged UnexpectedNegativeInteger
 
 -- each of n things from number i on, up to the first fault
 abbrev pub each : {A E : Type 0} → (ℕ → Result A E) → ℕ → ℕ → Result (List A) E
@@ -70,7 +91,7 @@ abbrev pub refusals : {A : Type 0} → Reading A → List IpcError
 refusals (Ok x) = []
 refusals (Err es) = es
 
--- What a call returned, seen by view, is what the reading means; or a refusal of it, or a device's fault or want of memory.
+-- One of these refusals. A device's fault and want of memory come anywhere.
 abbrev pub Refuses : IpcError → List IpcError → Type 0
 Refuses Memory es = Unit {0}
 Refuses ReadFault es = Unit {0}

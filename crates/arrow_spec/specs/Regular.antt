@@ -23,7 +23,8 @@ abbrev mutual
 
   pub fields_from : ℕ → Fields → List Standing
   fields_from level none = []
-  fields_from level (field name nullable metadata k others) = record { level = level; metadata = metadata; kind = k } ∷ fields_below level k ++ fields_from level others
+  fields_from level (field name nullable metadata k others) =
+      record { level = level; metadata = metadata; kind = k } ∷ fields_below level k ++ fields_from level others
 
 -- the pairs that are written for an extension
 abbrev pub extension_pairs : Kind → ℕ
@@ -64,7 +65,8 @@ are_regular (f ∷ fs) = is_regular_field f && are_regular fs
 
 -- with the pairs that are written with the schema
 abbrev pub regular : Fields → Metadata → Bool
-regular fs pairs = nat_le (length (fields_from 1 fs)) 65536 && nat_le (length pairs + sum_by (λ f. pairs_of_field f) (fields_from 1 fs)) 1048576 && are_regular (fields_from 1 fs) && has_distinct_names fs
+regular fs pairs = nat_le (length (fields_from 1 fs)) 65536 && nat_le (length pairs + sum_by (λ f. pairs_of_field f) (fields_from 1 fs)) 1048576
+    && are_regular (fields_from 1 fs) && has_distinct_names fs
 
 -- ── what the tables of a schema can say ──
 

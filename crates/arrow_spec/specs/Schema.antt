@@ -8,10 +8,11 @@ use Rattle.arrow_spec.specs.declared.error.IpcError.{IpcError}
 use Rattle.arrow_spec.specs.declared.error.IpcError.TheVariants.{OutOfSpec, TooMany, TooDeep, Unsupported}
 use Rattle.arrow_spec.specs.declared.error.Counted.TheVariants as counted
 use Rattle.arrow_spec.specs.declared.error.Feature.TheVariants as features
+use Rattle.arrow_spec.specs.declared.error.OutOfSpecKind.{OutOfSpecKind}
 use Rattle.arrow_spec.specs.declared.error.OutOfSpecKind.TheVariants.{InvalidFlatbufferSchema, MissingFields, MissingType, InvalidDataType, InvalidIdDataType, UnexpectedNegativeInteger}
 use Rattle.arrow_spec.specs.declared.types.IntegerType.{IntegerType}
 use Rattle.arrow_spec.specs.declared.types.IntegerType.TheVariants.{Int8, Int16, Int32, Int64, Int128, UInt8, UInt16, UInt32, UInt64}
-use Rattle.arrow_spec.specs.Readings.{◌>>=◌, Reading, refuse, damaged, unsupported, unless, only_if, in_terms_of, each}
+use Rattle.arrow_spec.specs.Readings.{◌>>=◌, Reading, refuse, damaged, unsupported, unless, only_if, in_terms_of, each, as_kind, is_absent, required, natural}
 use Rattle.arrow_spec.specs.Flat.{Table, Vector, Order, little, big, or_default, signed_at, slot_unsigned, slot_signed, slot_bool, slot_table, slot_vector, slot_text, target, table_at}
 use Rattle.arrow_spec.specs.declared.types.TimeUnit.{TimeUnit}
 use Rattle.arrow_spec.specs.declared.types.TimeUnit.TheVariants.{Second, Millisecond, Microsecond, Nanosecond}
@@ -29,16 +30,6 @@ pub record Schema : Type 0 where
 -- a part of the schema, out of range or no text
 abbrev pub schema_part : {A : Type 0} → Result A FlatError → Reading A
 schema_part r = in_terms_of (λ f. OutOfSpec (InvalidFlatbufferSchema f) ∷ []) r
-
--- nothing is there
-abbrev pub is_absent : {A : Type 0} → Option A → Bool
-is_absent None = true
-is_absent (Some x) = false
-
--- what must be there
-abbrev pub required : {A : Type 0} → IpcError → Option A → Reading A
-required e None = refuse e
-required e (Some x) = Ok x
 
 -- a number that the format does not list
 abbrev pub not_listed : {A : Type 0} → Reading A
@@ -60,7 +51,8 @@ stands_before (a ∷ as') (b ∷ bs) = nat_lt a b || (nat_eq a b && stands_befor
 -- the map with this value under this key
 abbrev pub with_pair : List ℕ → List ℕ → Metadata → Metadata
 with_pair key value [] = (key, value) ∷ []
-with_pair key value (x ∷ xs) = if bytes_eq key x.0 then (key, value) ∷ xs else if stands_before key x.0 then (key, value) ∷ x ∷ xs else x ∷ with_pair key value xs
+with_pair key value (x ∷ xs) =
+    if bytes_eq key x.0 then (key, value) ∷ xs else if stands_before key x.0 then (key, value) ∷ x ∷ xs else x ∷ with_pair key value xs
 
 -- the map without a key
 abbrev pub without_key : List ℕ → Metadata → Metadata
@@ -78,14 +70,14 @@ with_read_pair (Some key) (Some value) m = with_pair key value m
 with_read_pair None value m = m
 with_read_pair (Some key) None m = m
 
--- n pairs, whose offsets stand from a place on (Schema.fbs, KeyValue)
-unfoldable pub pairs_from : List ℕ → ℕ → ℕ → Metadata → Reading Metadata
-pairs_from b at zero m = Ok m
-pairs_from b at (suc n) m = do
-  t ← schema_part (target b at >>= λ p. table_at b p)
-  key ← schema_part (slot_text b t 0)
-  value ← schema_part (slot_text b t 1)
-  pairs_from b (at + 4) n (with_read_pair key value m)
+-- n pairs of a part, whose offsets stand from a place on (Schema.fbs, KeyValue)
+unfoldable pub pairs_from : (FlatError → OutOfSpecKind) → List ℕ → ℕ → ℕ → Metadata → Reading Metadata
+pairs_from kind b at zero m = Ok m
+pairs_from kind b at (suc n) m = do
+  t ← as_kind kind (target b at >>= λ p. table_at b p)
+  key ← as_kind kind (slot_text b t 0)
+  value ← as_kind kind (slot_text b t 1)
+  pairs_from kind b (at + 4) n (with_read_pair key value m)
 
 -- how many fields and pairs stand before a place of the schema
 pub record Before : Type 0 where
@@ -97,7 +89,7 @@ unfoldable pub pairs_of : List ℕ → Table → ℕ → ℕ → Reading (Metada
 pairs_of b t slot before = do
   v ← schema_part (slot_vector 4 b t slot)
   room ← unless (nat_le (before + (empty_vector v).count) 1048576) (TooMany counted.Pairs)
-  m ← pairs_from b (empty_vector v).first (empty_vector v).count []
+  m ← pairs_from InvalidFlatbufferSchema b (empty_vector v).first (empty_vector v).count []
   Ok (m, before + (empty_vector v).count)
 
 -- ── types ──
@@ -111,11 +103,7 @@ choice count d b t slot = do
 
 -- a number that must not be negative
 abbrev pub natural_slot : ℕ → List ℕ → Table → ℕ → Reading ℕ
-natural_slot d b t slot = schema_part (slot_signed w32 (pos d) b t slot) >>= not_negative
-  where
-    not_negative : ℤ → Reading ℕ
-    not_negative (pos n) = Ok n
-    not_negative (negsuc n) = damaged UnexpectedNegativeInteger
+natural_slot d b t slot = schema_part (slot_signed w32 (pos d) b t slot) >>= natural
 
 -- the first of some cases whose number it is
 abbrev pub one_of : {A : Type 0} → ℕ → List (ℕ × A) → Option A
@@ -150,7 +138,11 @@ unit_of (suc (suc (suc n))) = Nanosecond
 
 -- seconds and milliseconds take 32 bits, the finer units 64 (Schema.fbs, Time)
 abbrev pub time_of : ℕ → ℕ → Reading Kind
-time_of bits unit = elim (nat_eq bits 32 && nat_lt unit 2) [ true ↦ Ok (kind.time32 (unit_of unit)) | false ↦ elim (nat_eq bits 64 && nat_le 2 unit) [ true ↦ Ok (kind.time64 (unit_of unit)) | false ↦ damaged InvalidDataType ] ]
+time_of bits unit = elim (nat_eq bits 32 && nat_lt unit 2) [
+  | true ↦ Ok (kind.time32 (unit_of unit))
+  | false ↦ elim
+      (nat_eq bits 64 && nat_le 2 unit) [ true ↦ Ok (kind.time64 (unit_of unit)) | false ↦ damaged InvalidDataType ]
+]
 
 -- a scale that is not negative
 abbrev pub natural_scale : ℤ → Reading ℕ
@@ -159,7 +151,9 @@ natural_scale (negsuc n) = unsupported features.NegativeScale
 
 -- decimals by their bits (Schema.fbs, Decimal)
 abbrev pub decimal_of : ℕ → ℕ → ℕ → Reading Kind
-decimal_of bits precision scale = required (OutOfSpec InvalidDataType) (one_of bits ((128, Ok (kind.decimal precision scale)) ∷ (256, Ok (kind.decimal256 precision scale)) ∷ (32, unsupported features.DecimalWidth) ∷ (64, unsupported features.DecimalWidth) ∷ [])) >>= λ k. k
+decimal_of bits precision scale = required (OutOfSpec InvalidDataType) (one_of bits
+    ((128, Ok (kind.decimal precision scale)) ∷ (256, Ok (kind.decimal256 precision scale)) ∷ (32, unsupported features.DecimalWidth)
+    ∷ (64, unsupported features.DecimalWidth) ∷ [])) >>= λ k. k
 
 -- floats by their number (Schema.fbs, Precision)
 abbrev pub float_of : ℕ → Kind
@@ -279,7 +273,10 @@ pub data Tag : Type 0 where
 
 -- the numbers of the type tables (Schema.fbs, Type)
 abbrev pub tags : List (ℕ × Tag)
-tags = (1, null) ∷ (2, int) ∷ (3, floating_point) ∷ (4, binary) ∷ (5, utf8) ∷ (6, bool) ∷ (7, decimal) ∷ (8, date) ∷ (9, time) ∷ (10, timestamp) ∷ (11, interval) ∷ (12, «list») ∷ (13, struct) ∷ (14, union) ∷ (15, fixed_size_binary) ∷ (16, fixed_size_list) ∷ (17, map_of) ∷ (18, duration) ∷ (19, large_binary) ∷ (20, large_utf8) ∷ (21, large_list) ∷ (22, run_end_encoded) ∷ (23, binary_view) ∷ (24, utf8_view) ∷ (25, list_view) ∷ (26, large_list_view) ∷ []
+tags = (1, null) ∷ (2, int) ∷ (3, floating_point) ∷ (4, binary) ∷ (5, utf8) ∷ (6, bool) ∷ (7, decimal) ∷ (8, date) ∷ (9, time) ∷ (10, timestamp)
+    ∷ (11, interval) ∷ (12, «list») ∷ (13, struct) ∷ (14, union) ∷ (15, fixed_size_binary) ∷ (16, fixed_size_list) ∷ (17, map_of) ∷ (18, duration)
+    ∷ (19, large_binary) ∷ (20, large_utf8) ∷ (21, large_list) ∷ (22, run_end_encoded) ∷ (23, binary_view) ∷ (24, utf8_view) ∷ (25, list_view)
+    ∷ (26, large_list_view) ∷ []
 
 -- whether a type's children are looked at
 abbrev pub is_nested : Tag → Bool
@@ -351,6 +348,10 @@ extension_name = codes "ARROW:extension:name"
 -- the key of an extension's metadata
 abbrev pub extension_metadata : List ℕ
 extension_metadata = codes "ARROW:extension:metadata"
+
+-- a reserved key
+abbrev pub is_reserved : List ℕ → Bool
+is_reserved key = bytes_eq extension_name key || bytes_eq extension_metadata key
 
 -- a field's own pairs: those of its extension belong to its type
 abbrev pub own_pairs : Metadata → Metadata

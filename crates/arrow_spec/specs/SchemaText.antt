@@ -142,7 +142,8 @@ abbrev mutual
 
   pub field_lines : ℕ → Fields → List ℕ
   field_lines level none = []
-  field_lines level (field name nullable metadata k others) = field_line level name nullable k ++ pair_lines (suc level) metadata ++ child_lines (suc level) k ++ field_lines level others
+  field_lines level (field name nullable metadata k others) =
+      field_line level name nullable k ++ pair_lines (suc level) metadata ++ child_lines (suc level) k ++ field_lines level others
 
 -- the line of a byte order
 abbrev pub order_line : Order → List ℕ

@@ -1,5 +1,5 @@
 -- The messages that a stream is written with. (Arrow Columnar Format, "IPC Streaming Format"; what a writer may choose is chosen here.)
-use Rattle.std.specs.Prelude.{ℕ, zero, suc, ◌+◌, ◌-◌, ◌*◌, ◌/◌, min, List, [], ◌∷◌, ◌++◌, length, Bool, true, false, Option, Some, None, ℤ, pos, negsuc, nat_le, nat_lt, ◌&&◌, if◌then◌else◌, sum_by}
+use Rattle.std.specs.Prelude.{ℕ, zero, suc, ◌+◌, ◌-◌, ◌*◌, ◌/◌, min, List, [], ◌∷◌, ◌++◌, length, Bool, true, false, Option, Some, None, ℤ, pos, negsuc, nat_le, nat_lt, nat_eq, ◌&&◌, if◌then◌else◌, not, sum_by}
 use Rattle.std.specs.Prelude.{map as each_of}
 use Rattle.std.specs.List.{flat_map}
 use Rattle.std.specs.Int.{Width, w8, w16, w32, w64, to_le_bytes, cast_unsigned, byte_len}
@@ -9,15 +9,16 @@ use Rattle.arrow_spec.specs.declared.types.TimeUnit.{TimeUnit}
 use Rattle.arrow_spec.specs.declared.types.TimeUnit.TheVariants.{Millisecond}
 use Rattle.arrow_spec.specs.declared.types.IntervalUnit.TheVariants.{YearMonth, DayTime, MonthDayNano}
 use Rattle.arrow_spec.specs.declared.types.UnionMode.TheVariants.{Dense, Sparse}
-use Rattle.arrow_spec.specs.Kinds.{Kind, Fields, none, field, null, boolean, integer, float, date32, date64, time32, time64, timestamp, duration, interval, decimal, decimal256, binary, utf8, binary_view, utf8_view, fixed_size_binary, «list», fixed_size_list, struct, map, union, dictionary, extension, Offsets, small, large, Metadata, unit_number, half, single, double, dictionary_count, numbered}
+use Rattle.arrow_spec.specs.Kinds.{same, Kind, Fields, none, field, null, boolean, integer, float, date32, date64, time32, time64, timestamp, duration, interval, decimal, decimal256, binary, utf8, binary_view, utf8_view, fixed_size_binary, «list», fixed_size_list, struct, map, union, dictionary, extension, Offsets, small, large, Metadata, unit_number, half, single, double, dictionary_count, numbered}
 use Rattle.arrow_spec.specs.Layout.{Node, Slots, Nodes, up_to, size}
 use Rattle.arrow_spec.specs.Layout as layout
 use Rattle.arrow_spec.specs.declared.message.FieldNode.{FieldNode}
 use Rattle.arrow_spec.specs.declared.message.IpcBuffer.{IpcBuffer}
 use Rattle.arrow_spec.specs.declared.message.MetadataVersion.TheVariants.{V5}
 use Rattle.arrow_spec.specs.Counts.{RecordBatch, Place, first_place, magnitude, count_at, union_buffers, after, inside, Written}
-use Rattle.arrow_spec.specs.Columns.{Dictionaries, HeldDictionary, held, has_nulls, valid, offset, offset_width, range_of, node_of, view_of, u32_of, integer_width, is_unsigned}
+use Rattle.arrow_spec.specs.Arrays.{Dictionaries, has_nulls, valid, offset, offset_width, range_of, node_of, view_of, u32_of, integer_width, is_unsigned}
 use Rattle.arrow_spec.specs.Schema.{extension_name, extension_metadata, own_pairs}
+use Rattle.arrow_spec.specs.Readings.{is_absent}
 
 -- ── the schema ──
 
@@ -137,7 +138,8 @@ extension_pair (Some value) ns = layout.also (pair_node extension_metadata value
 -- an extension's metadata pair and name pair stand before the field's own pairs
 abbrev pub field_pairs : Kind → Metadata → Nodes
 field_pairs (extension name metadata k) pairs = extension_pair metadata (layout.also (pair_node extension_name name) (pair_nodes (own_pairs pairs)))
-field_pairs (dictionary t ordered id (extension name metadata k)) pairs = extension_pair metadata (layout.also (pair_node extension_name name) (pair_nodes (own_pairs pairs)))
+field_pairs (dictionary t ordered id (extension name metadata k)) pairs =
+    extension_pair metadata (layout.also (pair_node extension_name name) (pair_nodes (own_pairs pairs)))
 field_pairs k pairs = pair_nodes (own_pairs pairs)
 
 -- a list of pairs is left out where it is empty
@@ -159,20 +161,29 @@ abbrev mutual
 
   pub field_nodes : Fields → Nodes
   field_nodes none = layout.none
-  field_nodes (field name nullable metadata k others) = layout.also (layout.table (layout.child (layout.text name) (flag nullable (layout.value w8 (type_tag k) (layout.child (type_node k) (encoding_slot k (layout.child (layout.tables (child_nodes k)) (pairs_slot (field_pairs k metadata) layout.no_more)))))))) (field_nodes others)
+  field_nodes (field name nullable metadata k others) = layout.also (layout.table
+      (layout.child (layout.text name) (flag nullable (layout.value w8 (type_tag k)
+      (layout.child (type_node k) (encoding_slot k (layout.child (layout.tables (child_nodes k)) (pairs_slot (field_pairs k metadata) layout.no_more))))))))
+      (field_nodes others)
 
 -- a message: its metadata, and how long its body is
 pub record SentMessage : Type 0 where
   pub node : Node
   pub body : ℕ
 
--- the slots of a message of version V5 (Message.fbs, Message)
-abbrev pub message_slots : ℕ → Node → ℕ → Slots
-message_slots tag header body = layout.value w16 (pos 4) (layout.value w8 (pos tag) (layout.child header (unless_zero w64 (pos body) layout.no_more)))
+-- the pairs of a footer or of a message are its last slot, which is left out where there are none
+abbrev pub custom_slot : Metadata → Slots
+custom_slot [] = layout.no_more
+custom_slot (x ∷ xs) = layout.child (layout.tables (pair_nodes (x ∷ xs))) layout.no_more
 
--- a message with its tag and header, and how long its body is
-abbrev pub message : ℕ → Node → ℕ → SentMessage
-message tag header body = record { node = layout.table (message_slots tag header body); body = body }
+-- the slots of a message of version V5 (Message.fbs, Message)
+abbrev pub message_slots : ℕ → Node → ℕ → Metadata → Slots
+message_slots tag header body custom =
+    layout.value w16 (pos 4) (layout.value w8 (pos tag) (layout.child header (unless_zero w64 (pos body) (custom_slot custom))))
+
+-- a message with its tag and header, how long its body is, and its pairs
+abbrev pub message : ℕ → Node → ℕ → Metadata → SentMessage
+message tag header body custom = record { node = layout.table (message_slots tag header body custom); body = body }
 
 -- a byte order is left out where it is little-endian (Schema.fbs, Endianness)
 abbrev pub order_slot : Order → Slots → Slots
@@ -187,13 +198,13 @@ schema_slots order fs pairs = order_slot order (layout.child (layout.tables (fie
 abbrev pub schema_node : Order → Fields → Metadata → Node
 schema_node order fs pairs = layout.table (schema_slots order fs pairs)
 
--- a schema message
-unfoldable pub schema_message : Order → Fields → Metadata → SentMessage
-schema_message order fs pairs = message 1 (schema_node order fs pairs) 0
+-- a schema message, and its own pairs
+unfoldable pub schema_message : Order → Fields → Metadata → Metadata → SentMessage
+schema_message order fs pairs custom = message 1 (schema_node order fs pairs) 0 custom
 
 -- the schema message of a stream that is written: little-endian, with ids that count from 0 in preorder
-abbrev pub stream_schema : Fields → Metadata → SentMessage
-stream_schema fs pairs = schema_message little (numbered fs 0) pairs
+abbrev pub stream_schema : Fields → Metadata → Metadata → SentMessage
+stream_schema fs pairs custom = schema_message little (numbered fs 0) pairs custom
 
 -- ── arrays ──
 
@@ -217,7 +228,11 @@ validity_length m p (suc read) rows = if has_nulls m p then (rows + 7) / 8 else 
 
 -- an array's own node and buffers
 abbrev pub own : RecordBatch → Place → ℕ → ℕ → ℕ → List ℕ → Written
-own m p read from rows lengths = record { nodes = record { length = pos rows; null_count = pos (null_count m p from rows) } ∷ []; lengths = validity_length m p read rows ∷ lengths; views = [] }
+own m p read from rows lengths = record {
+  nodes = record { length = pos rows; null_count = pos (null_count m p from rows) } ∷ [];
+  lengths = validity_length m p read rows ∷ lengths;
+  views = [];
+}
 
 -- the stated lengths of n buffers
 abbrev pub lengths_on : RecordBatch → ℕ → ℕ → List ℕ
@@ -231,9 +246,10 @@ with_views counts w = record { nodes = w.nodes; lengths = w.lengths; views = cou
 -- a view array as it is held: with no buffers where it was read for no rows
 abbrev pub views_written : RecordBatch → Place → ℕ → ℕ → ℕ → Written
 views_written m p zero from rows = with_views (0 ∷ []) (own m p 0 from rows (16 * rows ∷ []))
-views_written m p (suc read) from rows = with_views (count_at m p.view ∷ []) (own m p (suc read) from rows (16 * rows ∷ lengths_on m (p.buffer + 2) (count_at m p.view)))
+views_written m p (suc read) from rows =
+    with_views (count_at m p.view ∷ []) (own m p (suc read) from rows (16 * rows ∷ lengths_on m (p.buffer + 2) (count_at m p.view)))
 
--- the rows for which a list's child was read, and a Dense union's child
+-- the rows for which a list's child was read
 abbrev pub offset_read : RecordBatch → Offsets → Place → ℕ → ℕ
 offset_read m o p zero = 0
 offset_read m o p (suc n) = offset m o (p.buffer + 1) (suc n)
@@ -261,23 +277,35 @@ abbrev mutual
   written_part m (interval MonthDayNano) p read from rows = own m p read from rows (16 * rows ∷ [])
   written_part m (decimal precision scale) p read from rows = own m p read from rows (16 * rows ∷ [])
   written_part m (decimal256 precision scale) p read from rows = nothing_written
-  written_part m (binary o) p read from rows = own m p read from rows (byte_len (offset_width o) * suc rows ∷ (offset m o (p.buffer + 1) (from + rows) - offset m o (p.buffer + 1) from) ∷ [])
-  written_part m (utf8 o) p read from rows = own m p read from rows (byte_len (offset_width o) * suc rows ∷ (offset m o (p.buffer + 1) (from + rows) - offset m o (p.buffer + 1) from) ∷ [])
+  written_part m (binary o) p read from rows =
+      own m p read from rows (byte_len (offset_width o) * suc rows ∷ (offset m o (p.buffer + 1) (from + rows) - offset m o (p.buffer + 1) from) ∷ [])
+  written_part m (utf8 o) p read from rows =
+      own m p read from rows (byte_len (offset_width o) * suc rows ∷ (offset m o (p.buffer + 1) (from + rows) - offset m o (p.buffer + 1) from) ∷ [])
   written_part m binary_view p read from rows = views_written m p read from rows
   written_part m utf8_view p read from rows = views_written m p read from rows
   written_part m (fixed_size_binary n) p read from rows = own m p read from rows (n * rows ∷ [])
-  written_part m («list» o fs) p read from rows = also_written (own m p read from rows (byte_len (offset_width o) * suc rows ∷ [])) (parts_written m fs (inside 2 p) (λ q. offset_read m o p read) (offset m o (p.buffer + 1) from) (λ q. offset m o (p.buffer + 1) (from + rows) - offset m o (p.buffer + 1) from))
-  written_part m (map sorted fs) p read from rows = also_written (own m p read from rows (4 * suc rows ∷ [])) (parts_written m fs (inside 2 p) (λ q. offset_read m small p read) (offset m small (p.buffer + 1) from) (λ q. offset m small (p.buffer + 1) (from + rows) - offset m small (p.buffer + 1) from))
-  written_part m (fixed_size_list n fs) p read from rows = also_written (own m p read from rows []) (parts_written m fs (inside 1 p) (λ q. n * read) (n * from) (λ q. n * rows))
+  written_part m («list» o fs) p read from rows = also_written (own m p read from rows (byte_len (offset_width o) * suc rows ∷ []))
+      (parts_written m fs (inside 2 p) (λ q. offset_read m o p read) (offset m o (p.buffer + 1) from)
+      (λ q. offset m o (p.buffer + 1) (from + rows) - offset m o (p.buffer + 1) from))
+  written_part m (map sorted fs) p read from rows = also_written (own m p read from rows (4 * suc rows ∷ []))
+      (parts_written m fs (inside 2 p) (λ q. offset_read m small p read) (offset m small (p.buffer + 1) from)
+      (λ q. offset m small (p.buffer + 1) (from + rows) - offset m small (p.buffer + 1) from))
+  written_part m (fixed_size_list n fs) p read from rows =
+      also_written (own m p read from rows []) (parts_written m fs (inside 1 p) (λ q. n * read) (n * from) (λ q. n * rows))
   written_part m (struct fs) p read from rows = also_written (own m p read from rows []) (parts_written m fs (inside 1 p) (λ q. read) from (λ q. rows))
-  written_part m (union Sparse stated ids fs) p read from rows = also_written (record { nodes = record { length = pos rows; null_count = pos 0 } ∷ []; lengths = rows ∷ []; views = [] }) (parts_written m fs (inside (union_buffers m.version Sparse) p) (λ q. read) from (λ q. rows))
-  written_part m (union Dense stated ids fs) p read from rows = also_written (record { nodes = record { length = pos rows; null_count = pos 0 } ∷ []; lengths = rows ∷ 4 * rows ∷ []; views = [] }) (parts_written m fs (inside (union_buffers m.version Dense) p) (λ q. dense_rows m q read) 0 (λ q. dense_rows m q read))
+  written_part m (union Sparse stated ids fs) p read from rows = also_written
+      (record { nodes = record { length = pos rows; null_count = pos 0 } ∷ []; lengths = rows ∷ []; views = [] })
+      (parts_written m fs (inside (union_buffers m.version Sparse) p) (λ q. read) from (λ q. rows))
+  written_part m (union Dense stated ids fs) p read from rows = also_written
+      (record { nodes = record { length = pos rows; null_count = pos 0 } ∷ []; lengths = rows ∷ 4 * rows ∷ []; views = [] })
+      (parts_written m fs (inside (union_buffers m.version Dense) p) (λ q. dense_rows m q read) 0 (λ q. dense_rows m q read))
   written_part m (dictionary t ordered id k) p read from rows = own m p read from rows (byte_len (integer_width t) * rows ∷ [])
   written_part m (extension name metadata k) p read from rows = written_part m k p read from rows
 
   pub parts_written : RecordBatch → Fields → Place → (Place → ℕ) → ℕ → (Place → ℕ) → Written
   parts_written m none p read from rows = nothing_written
-  parts_written m (field name nullable metadata k others) p read from rows = also_written (written_part m k p (read p) from (rows p)) (parts_written m others (after m k p) read from rows)
+  parts_written m (field name nullable metadata k others) p read from rows =
+      also_written (written_part m k p (read p) from (rows p)) (parts_written m others (after m k p) read from rows)
 
 -- the part of an array that is written
 unfoldable pub written : RecordBatch → Kind → Place → ℕ → ℕ → ℕ → Written
@@ -304,8 +332,8 @@ compacted m p row begun (suc n) =
     if nat_le (view_length m p row) 12 then passed else if nat_le (begun + view_length m p row) 2147483647 then here else new
 
 -- at least min(v, 1024) bytes are unused, where v is the sum of the lengths
-abbrev pub is_compacted : RecordBatch → Place → ℕ → Bool
-is_compacted m p rows = nat_le (min (view_lengths m p rows) 1024) (sum_by (λ x. x) (lengths_on m (p.buffer + 2) (count_at m p.view)) - view_lengths m p rows)
+abbrev pub needs_compaction : RecordBatch → Place → ℕ → Bool
+needs_compaction m p rows = nat_le (min (view_lengths m p rows) 1024) (sum_by (λ x. x) (lengths_on m (p.buffer + 2) (count_at m p.view)) - view_lengths m p rows)
 
 -- a view column that is laid anew
 abbrev pub compacted_written : RecordBatch → Place → ℕ → Written
@@ -316,7 +344,7 @@ compacted_written m p rows =
 -- a top view column
 abbrev pub top_views_written : RecordBatch → Place → ℕ → Written
 top_views_written m p zero = views_written m p 0 0 0
-top_views_written m p (suc n) = if is_compacted m p (suc n) then compacted_written m p (suc n) else views_written m p (suc n) 0 (suc n)
+top_views_written m p (suc n) = if needs_compaction m p (suc n) then compacted_written m p (suc n) else views_written m p (suc n) 0 (suc n)
 
 -- a top column
 abbrev pub top_written : RecordBatch → Kind → Place → ℕ → Written
@@ -364,7 +392,8 @@ views_slot (n ∷ ns) s = layout.child (layout.numbers64 (each_of pos (n ∷ ns)
 
 -- the slots of a record batch (Message.fbs, RecordBatch)
 abbrev pub batch_slots : ℕ → Written → Slots
-batch_slots rows w = unless_zero w64 (pos rows) (layout.child (nodes_node w.nodes) (layout.child (buffers_node (placed 0 w.lengths)) (layout.absent (views_slot w.views layout.no_more))))
+batch_slots rows w = unless_zero w64 (pos rows) (layout.child (nodes_node w.nodes)
+    (layout.child (buffers_node (placed 0 w.lengths)) (layout.absent (views_slot w.views layout.no_more))))
 
 -- its table
 abbrev pub batch_node : ℕ → Written → Node
@@ -391,53 +420,121 @@ abbrev pub written_as_asked : Option (List ℕ) → List Written → Written
 written_as_asked None ws = all_written ws
 written_as_asked (Some cs) ws = all_written (each_of (λ c. written_at ws c) cs)
 
--- a batch of so many rows in the columns asked for
-unfoldable pub batch_message : RecordBatch → Option (List ℕ) → Fields → ℕ → SentMessage
-batch_message m asked fs rows =
+-- a batch of so many rows in the columns asked for, with its pairs
+unfoldable pub batch_message : RecordBatch → Option (List ℕ) → Fields → ℕ → Metadata → SentMessage
+batch_message m asked fs rows custom =
     let w = written_as_asked asked (columns_written m asked fs 0 first_place rows) in
-    message 3 (batch_node rows w) (body_of 0 w.lengths)
+    message 3 (batch_node rows w) (body_of 0 w.lengths) custom
 
 -- the rows of the first node
 abbrev pub node_rows : List FieldNode → ℕ
 node_rows [] = 0
 node_rows (x ∷ xs) = magnitude x.length
 
--- the slots of a dictionary batch (Message.fbs, DictionaryBatch)
-abbrev pub dictionary_slots : ℕ → Written → Slots
-dictionary_slots id w = unless_zero w64 (pos id) (layout.child (batch_node (node_rows w.nodes) w) layout.no_more)
+-- the slots of a dictionary batch, which is a delta or not (Message.fbs, DictionaryBatch)
+abbrev pub dictionary_slots : ℕ → Bool → Written → Slots
+dictionary_slots id is_delta w = unless_zero w64 (pos id) (layout.child (batch_node (node_rows w.nodes) w) (flag is_delta layout.no_more))
 
 -- a dictionary message (Message.fbs, DictionaryBatch)
-abbrev pub dictionary_message : ℕ → Written → SentMessage
-dictionary_message id w = message 2 (layout.table (dictionary_slots id w)) (body_of 0 w.lengths)
+abbrev pub dictionary_message : ℕ → Bool → Written → SentMessage
+dictionary_message id is_delta w = message 2 (layout.table (dictionary_slots id is_delta w)) (body_of 0 w.lengths) []
 
 -- a batch of nothing
 abbrev pub no_source : RecordBatch
 no_source = record { order = little; version = V5; nodes = []; buffers = []; variadic = []; body = [] }
 
--- a dictionary that was never read is written empty
-abbrev pub held_written : Option HeldDictionary → Kind → Written
-held_written None k = written no_source k first_place 0 0 0
-held_written (Some x) k = x.written
+-- a part of a dictionary, one a message: how many cells it has, what it is written with, and the dictionaries that it was read under
+pub record Part : Type 0 where
+  pub count : ℕ
+  pub written : Written
+  pub under : Dictionaries
 
--- the dictionaries of a kind, inner first, whose ids count from a number on
+-- the parts before a message's: none where it is no delta
+abbrev pub parts_before : Bool → List Part → List Part
+parts_before false ps = []
+parts_before true ps = ps
+
+-- the parts that were read under an id
+abbrev pub parts_read : Dictionaries → ℤ → List Part
+parts_read [] id = []
+parts_read (x ∷ xs) id = if same x.id id then parts_before x.is_delta (parts_read xs id)
+    ++ record { count = length x.cells; written = x.written; under = xs } ∷ [] else parts_read xs id
+
+-- a dictionary that was never read is one empty part
+abbrev pub or_one_empty : Kind → List Part → List Part
+or_one_empty k [] = record { count = 0; written = written no_source k first_place 0 0 0; under = [] } ∷ []
+or_one_empty k (p ∷ ps) = p ∷ ps
+
+-- the parts of a dictionary of such values
+abbrev pub parts_of : Dictionaries → ℤ → Kind → List Part
+parts_of d id k = or_one_empty k (parts_read d id)
+
+-- The parts that hold cells from a number on. What was sent of a file's dictionary ends with a part of it, since only deltas follow.
+abbrev pub parts_beyond : ℕ → List Part → List Part
+parts_beyond n [] = []
+parts_beyond n (p ∷ ps) = if nat_le p.count n then parts_beyond (n - p.count) ps else p ∷ parts_beyond 0 ps
+
+-- Where nothing was sent yet, the first part and each further one that holds cells; else those that hold cells beyond what was sent.
+abbrev pub parts_to_send : Option ℕ → List Part → List Part
+parts_to_send None [] = []
+parts_to_send None (p ∷ ps) = p ∷ parts_beyond 0 ps
+parts_to_send (Some n) ps = parts_beyond n ps
+
+-- the messages so far, and how many cells were sent under each new id, the latest first
+pub record Sending : Type 0 where
+  pub messages : List SentMessage
+  pub counts : List (ℕ × ℕ)
+
+-- how many cells were sent under an id, if any message was
+abbrev pub sent_under : List (ℕ × ℕ) → ℕ → Option ℕ
+sent_under [] id = None
+sent_under (x ∷ xs) id = if nat_eq x.0 id then Some x.1 else sent_under xs id
+
+-- one message more
+abbrev pub with_message : SentMessage → Sending → Sending
+with_message x s = record { messages = s.messages ++ x ∷ []; counts = s.counts }
+
+-- parts in order, each behind what its inner dictionaries need; all but the first are deltas, and it too where it follows others
+abbrev pub send_parts : (Dictionaries → Sending → Sending) → ℕ → Bool → List Part → Sending → Sending
+send_parts inner id is_delta [] s = s
+send_parts inner id is_delta (p ∷ ps) s = send_parts inner id true ps (with_message (dictionary_message id is_delta p.written) (inner p.under s))
+
+-- how many cells parts have
+abbrev pub cell_count : List Part → ℕ
+cell_count ps = sum_by (λ p. p.count) ps
+
+-- so many cells are sent under an id
+abbrev pub counted : ℕ → ℕ → Sending → Sending
+counted id n s = record { messages = s.messages; counts = (id, n) ∷ s.counts }
+
+-- what is to be sent of a dictionary's parts under an id
+abbrev pub send_dictionary : (Dictionaries → Sending → Sending) → ℕ → List Part → Sending → Sending
+send_dictionary inner id ps s =
+    counted id (cell_count ps) (send_parts inner id (not (is_absent (sent_under s.counts id))) (parts_to_send (sent_under s.counts id) ps) s)
+
+-- what is to be sent of the dictionaries of a kind that was read under some, inner ones first, whose ids count from a number on
 abbrev mutual
-  pub dictionaries_in : Dictionaries → Kind → ℕ → List SentMessage
-  dictionaries_in d («list» o fs) id = dictionaries_in_fields d fs id
-  dictionaries_in d (fixed_size_list n fs) id = dictionaries_in_fields d fs id
-  dictionaries_in d (struct fs) id = dictionaries_in_fields d fs id
-  dictionaries_in d (map sorted fs) id = dictionaries_in_fields d fs id
-  dictionaries_in d (union mode stated ids fs) id = dictionaries_in_fields d fs id
-  dictionaries_in d (dictionary t ordered old k) id = dictionaries_in d k (suc id) ++ dictionary_message id (held_written (held d old) k) ∷ []
-  dictionaries_in d (extension name metadata k) id = dictionaries_in d k id
-  dictionaries_in d k id = []
+  pub send_kind : Dictionaries → Kind → ℕ → Sending → Sending
+  send_kind d («list» o fs) id s = send_fields d fs id s
+  send_kind d (fixed_size_list n fs) id s = send_fields d fs id s
+  send_kind d (struct fs) id s = send_fields d fs id s
+  send_kind d (map sorted fs) id s = send_fields d fs id s
+  send_kind d (union mode stated ids fs) id s = send_fields d fs id s
+  send_kind d (dictionary t ordered old k) id s = send_dictionary (λ e u. send_kind e k (suc id) u) id (parts_of d old k) s
+  send_kind d (extension name metadata k) id s = send_kind d k id s
+  send_kind d k id s = s
 
-  pub dictionaries_in_fields : Dictionaries → Fields → ℕ → List SentMessage
-  dictionaries_in_fields d none id = []
-  dictionaries_in_fields d (field name nullable metadata k others) id = dictionaries_in d k id ++ dictionaries_in_fields d others (id + dictionary_count k)
+  pub send_fields : Dictionaries → Fields → ℕ → Sending → Sending
+  send_fields d none id s = s
+  send_fields d (field name nullable metadata k others) id s = send_fields d others (id + dictionary_count k) (send_kind d k id s)
 
--- the dictionaries of a schema, each inner one before its outer one
+-- nothing was sent yet
+abbrev pub nothing_sent : Sending
+nothing_sent = record { messages = []; counts = [] }
+
+-- the dictionaries of a schema, part by part, each inner one before the part that it stands in
 unfoldable pub dictionary_messages : Dictionaries → Fields → List SentMessage
-dictionary_messages d fs = dictionaries_in_fields d fs 0
+dictionary_messages d fs = (send_fields d fs 0 nothing_sent).messages
 
 -- a message may be written: its metadata, padded, and its body
 unfoldable pub may_be_sent : SentMessage → Bool

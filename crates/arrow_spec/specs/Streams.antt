@@ -1,14 +1,15 @@
 -- What a stream means. (Arrow Columnar Format, "IPC Streaming Format", "Dictionary Messages".)
-use Rattle.std.specs.Prelude.{◌≡◌, ℕ, zero, suc, ◌+◌, ◌-◌, List, [], ◌∷◌, ◌++◌, length, take, drop, true, false, Option, Some, None, Ok, nat_le, nat_lt, nat_eq, ◌||◌, if◌then◌else◌, MatchResult}
-use Rattle.std.specs.Int.{w32}
+use Rattle.std.specs.Prelude.{◌≡◌, ℕ, zero, suc, ◌+◌, ◌-◌, List, [], ◌∷◌, ◌++◌, length, take, drop, true, false, Option, Some, None, Ok, nat_le, nat_lt, nat_eq, ◌||◌, if◌then◌else◌, pos}
+use Rattle.std.specs.Int.{w32, w64}
 use Rattle.arrow_spec.specs.declared.error.OutOfSpecKind.TheVariants as kinds
-use Rattle.arrow_spec.specs.Readings.{◌>>=◌, Reading, damaged, only_if, meaning, place}
-use Rattle.arrow_spec.specs.Flat.{signed_at}
-use Rattle.arrow_spec.specs.Kinds.{bare, width}
+use Rattle.arrow_spec.specs.Readings.{◌>>=◌, Reading, damaged, only_if, meaning, free_of, natural, as_kind}
+use Rattle.arrow_spec.specs.Flat.{root, signed_at, slot_signed}
+use Rattle.arrow_spec.specs.Kinds.{Metadata, bare, width}
 use Rattle.arrow_spec.specs.Schema.{Schema, schema_of}
-use Rattle.arrow_spec.specs.Messages.{Message, natural, as_kind, is_mark, message_of, version_of, batch_at, dictionary_at}
+use Rattle.arrow_spec.specs.Messages.{Message, is_mark, message_of, version_of, message_pairs, batch_at, dictionary_at}
 use Rattle.arrow_spec.specs.Files.{ArrowTable, TableBatch, batch_of_tables, to_read, dictionary_of, columns_right, fields_as_asked}
-use Rattle.arrow_spec.specs.Columns.{Dictionaries, HeldDictionary, chosen_floats}
+use Rattle.arrow_spec.specs.Arrays.{Dictionaries, HeldDictionary}
+use Rattle.arrow_spec.specs.Features.{chosen_floats}
 
 -- a message of a stream: its metadata, and the bytes behind it
 pub record Framed : Type 0 where
@@ -35,12 +36,11 @@ body_in f m = only_if (nat_le m.body (length f.behind)) kinds.Truncated >>= λ w
 
 -- the next message; none at an end mark or where fewer than four bytes are left
 unfoldable pub next_message : List ℕ → Reading (Option Framed)
-next_message b = elim (nat_lt (length b) 4) [ true ↦ Ok None | false ↦ stream_prefix b >>= λ prefix. elim (nat_eq prefix.1 0) [ true ↦ Ok None | false ↦ framed b prefix >>= λ m. Ok (Some m) ] ]
-
--- what a stream has: the batches, and the bytes at which no further message begins
-pub record Read : Type 0 where
-  pub batches : List TableBatch
-  pub left : List ℕ
+next_message b = elim (nat_lt (length b) 4) [
+  | true ↦ Ok None
+  | false ↦ stream_prefix b
+      >>= λ prefix. elim (nat_eq prefix.1 0) [ true ↦ Ok None | false ↦ framed b prefix >>= λ m. Ok (Some m) ]
+]
 
 -- what a stream is read with: its schema, and the columns asked for
 pub record Reader : Type 0 where
@@ -52,8 +52,15 @@ unfoldable pub stream_batch : Reader → Dictionaries → Framed → Message →
 stream_batch s d f m = do
   tables ← batch_at f.metadata m.header
   version ← version_of f.metadata m
+  custom ← message_pairs true f.metadata
   body ← body_in f m
-  batch_of_tables to_read (record { order = s.schema.order; fields = s.schema.fields; columns = s.columns; dictionaries = d; most = length body }) version tables body None
+  batch_of_tables to_read (record {
+    order = s.schema.order;
+    fields = s.schema.fields;
+    columns = s.columns;
+    dictionaries = d;
+    most = length body;
+  }) version custom tables body None
 
 -- a dictionary message
 unfoldable pub stream_dictionary : Reader → Dictionaries → Framed → Message → Reading HeldDictionary
@@ -72,7 +79,7 @@ pub record Step : Type 0 where
 -- A message is a dictionary, which replaces the one before it under its id, or a batch. The features of chosen kinds stand at the first one.
 unfoldable pub stream_step : Reader → Dictionaries → Framed → Reading Step
 stream_step s d f = do
-  floats ← place (chosen_floats s.columns s.schema.fields 0)
+  floats ← free_of (chosen_floats s.columns s.schema.fields 0)
   m ← message_of f.metadata (λ tag. nat_eq tag 2 || nat_eq tag 3)
   elim (nat_eq m.tag 2) [
     | true ↦ stream_dictionary s d f m >>= λ x. Ok (record { dictionaries = x ∷ d; batch = []; rest = drop m.body f.behind })
@@ -80,19 +87,14 @@ stream_step s d f = do
   ]
 
 -- A message takes four bytes at least, so no stream has more messages than bytes.
-unfoldable pub stream_batches : ℕ → Reader → Dictionaries → List ℕ → Reading Read
-stream_batches zero s d b = Ok (record { batches = []; left = b })
+unfoldable pub stream_batches : ℕ → Reader → Dictionaries → List ℕ → Reading (List TableBatch)
+stream_batches zero s d b = Ok []
 stream_batches (suc most) s d b = do
   next ← next_message b
   elim next [
-    | None ↦ Ok (record { batches = []; left = b })
-    | Some f ↦ stream_step s d f >>= λ step. stream_batches most s step.dictionaries step.rest >>= λ others. Ok (record { batches = step.batch ++ others.batches; left = others.left })
+    | None ↦ Ok []
+    | Some f ↦ stream_step s d f >>= λ step. stream_batches most s step.dictionaries step.rest >>= λ others. Ok (step.batch ++ others)
   ]
-
--- a table, and the bytes behind its last message
-pub record Stream : Type 0 where
-  pub table : ArrowTable
-  pub left : List ℕ
 
 -- a stream begins with a message
 unfoldable pub first_message : Option Framed → Reading Framed
@@ -107,24 +109,55 @@ schema_message_of metadata = do
   schema ← schema_of metadata m.header
   Ok (m, schema)
 
+-- the first message of a stream: the message, its pairs, and the schema that it has
+unfoldable pub stream_head : List ℕ → Reading (Message × Metadata × Schema)
+stream_head metadata = do
+  m ← message_of metadata (λ tag. nat_eq tag 1)
+  version ← version_of metadata m
+  custom ← message_pairs true metadata
+  schema ← schema_of metadata m.header
+  Ok (m, custom, schema)
+
 -- a schema message, then dictionaries and batches
-unfoldable pub stream_reading : List ℕ → Option (List ℕ) → Reading Stream
+unfoldable pub stream_reading : List ℕ → Option (List ℕ) → Reading ArrowTable
 stream_reading b columns = do
   f ← next_message b >>= first_message
-  first ← schema_message_of f.metadata
+  first ← stream_head f.metadata
   body ← body_in f first.0
-  right ← columns_right columns (width first.1.fields)
-  read ← stream_batches (length b) (record { schema = first.1; columns = columns }) [] (drop first.0.body f.behind)
-  Ok (record { table = record { metadata = first.1.metadata; fields = bare (fields_as_asked columns first.1.fields); batches = read.batches }; left = read.left })
+  right ← columns_right columns (width first.2.fields)
+  batches ← stream_batches (length b) (record { schema = first.2; columns = columns }) [] (drop first.0.body f.behind)
+  Ok (record { metadata = first.2.metadata; custom = first.1; fields = bare (fields_as_asked columns first.2.fields); batches = batches })
 
 -- what a stream means in some of its columns
 unfoldable pub stream_table : List ℕ → Option (List ℕ) → Option ArrowTable
-stream_table b columns = meaning (stream_reading b columns >>= λ s. Ok s.table)
+stream_table b columns = meaning (stream_reading b columns)
+
+-- ── whole messages ──
+
+-- how long a message's body is, by its metadata (Message.fbs, Message: bodyLength)
+unfoldable pub body_length : List ℕ → Reading ℕ
+body_length metadata = do
+  t ← as_kind kinds.InvalidFlatbufferMessage (root metadata)
+  as_kind kinds.InvalidFlatbufferBodyLength (slot_signed w64 (pos 0) metadata t 3) >>= natural
+
+-- The bytes behind whole messages, at which no further one begins. A message is passed over by its prefix, its metadata and the length of its body: whether it can be read is not asked.
+unfoldable pub behind_messages : ℕ → List ℕ → Reading (List ℕ)
+behind_messages zero b = Ok b
+behind_messages (suc most) b = do
+  next ← next_message b
+  elim next [
+    | None ↦ Ok b
+    | Some f ↦ body_length f.metadata >>= λ n. only_if (nat_le n (length f.behind)) kinds.Truncated >>= λ whole. behind_messages most (drop n f.behind)
+  ]
 
 -- FF FF FF FF 00 00 00 00
 abbrev pub end_mark : List ℕ
 end_mark = 255 ∷ 255 ∷ 255 ∷ 255 ∷ 0 ∷ 0 ∷ 0 ∷ 0 ∷ []
 
--- after whole messages exactly the end mark is left
+-- whole messages and the end mark, and nothing behind it
 abbrev pub closed : List ℕ → Type 0
-closed b = MatchResult (stream_reading b None) (λ s. s.left ≡ end_mark) (λ es. ⊥)
+closed b = behind_messages (length b) b ≡ Ok end_mark
+
+-- whole messages, and nothing behind them
+abbrev pub unended : List ℕ → Type 0
+unended b = behind_messages (length b) b ≡ Ok []

@@ -18,6 +18,11 @@ abbrev pub Ascend : Metadata → Metadata → Type 0
 Ascend m [] = Unit {0}
 Ascend m (x ∷ xs) = (is_utf8 x.0 ≡ true) × (is_utf8 x.1 ≡ true) × IsBehind m x.0 × Ascend (m ++ x ∷ []) xs
 
+-- the pairs of a footer or of a message that may be written
+pub record CustomMayBeWritten (custom : Metadata) : Type 0 where
+  pub ascend : Ascend [] custom
+  pub few : length custom ≤ 1048576
+
 -- a field's own pairs, none of which has a reserved key
 pub record AreFieldPairs (m : Metadata) : Type 0 where
   pub ascend : Ascend [] m
@@ -66,7 +71,8 @@ abbrev mutual
   KindFits at levels (fixed_size_list n fs) = (width fs ≡ 1) × (0 < n) × (n < 2 ^ 31) × FieldsFit levels fs
   KindFits at levels (struct fs) = FieldsFit levels fs
   KindFits at levels (map sorted fs) = (width fs ≡ 1) × (first_is_struct_of_two fs ≡ true) × FieldsFit levels fs
-  KindFits at levels (union mode stated ids fs) = ((are_ids ids && nat_eq (length ids) (width fs) && nat_lt 0 (width fs)) ≡ true) × AreStated stated ids (width fs) × FieldsFit levels fs
+  KindFits at levels (union mode stated ids fs) =
+      ((are_ids ids && nat_eq (length ids) (width fs) && nat_lt 0 (width fs)) ≡ true) × AreStated stated ids (width fs) × FieldsFit levels fs
   KindFits of_field levels (dictionary t ordered id k) = KindFits of_dictionary levels k
   KindFits of_dictionary levels (dictionary t ordered id k) = ⊥
   KindFits of_extension levels (dictionary t ordered id k) = ⊥
@@ -78,7 +84,8 @@ abbrev mutual
   pub FieldsFit : ℕ → Fields → Type 0
   FieldsFit levels none = Unit {0}
   FieldsFit zero (field name nullable metadata k others) = ⊥
-  FieldsFit (suc levels) (field name nullable metadata k others) = (is_utf8 name ≡ true) × AreFieldPairs metadata × KindFits of_field levels k × FieldsFit (suc levels) others
+  FieldsFit (suc levels) (field name nullable metadata k others) =
+      (is_utf8 name ≡ true) × AreFieldPairs metadata × KindFits of_field levels k × FieldsFit (suc levels) others
 
 -- the same fields with their own pairs alone, without reserved keys
 abbrev mutual
@@ -127,7 +134,8 @@ abbrev mutual
 
   pub HaveNoReserved : Fields → Type 0
   HaveNoReserved none = Unit {0}
-  HaveNoReserved (field name nullable metadata k others) = (value_of extension_name metadata ≡ None) × (value_of extension_metadata metadata ≡ None) × KindHasNoReserved k × HaveNoReserved others
+  HaveNoReserved (field name nullable metadata k others) =
+      (value_of extension_name metadata ≡ None) × (value_of extension_metadata metadata ≡ None) × KindHasNoReserved k × HaveNoReserved others
 
 -- the sizes, precisions and scales of a kind and of fields, in preorder
 abbrev mutual
@@ -170,7 +178,8 @@ abbrev mutual
 
   pub after_fields : Fields → Before → Before
   after_fields none p = p
-  after_fields (field name nullable metadata k others) p = after_fields others (after_kind k (record { fields = suc p.fields; pairs = p.pairs + length (pairs_for k metadata) }))
+  after_fields (field name nullable metadata k others) p =
+      after_fields others (after_kind k (record { fields = suc p.fields; pairs = p.pairs + length (pairs_for k metadata) }))
 
 -- a schema that may be written, its ids aside
 pub record SchemaMayBeWritten (fs : Fields) (pairs : Metadata) : Type 0 where

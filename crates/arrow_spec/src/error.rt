@@ -158,8 +158,6 @@ pub enum Feature {
     Compression,
     #[error("UnionNulls")]
     UnionNulls,
-    #[error("DeltaDictionary")]
-    DeltaDictionary,
     #[error("BigEndianAppend")]
     BigEndianAppend,
     #[error("NotYet")]
@@ -297,7 +295,6 @@ impl Feature {
             Feature::Version => "Version",
             Feature::Compression => "Compression",
             Feature::UnionNulls => "UnionNulls",
-            Feature::DeltaDictionary => "DeltaDictionary",
             Feature::BigEndianAppend => "BigEndianAppend",
             Feature::NotYet => "NotYet",
         }

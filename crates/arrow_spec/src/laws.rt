@@ -1,15 +1,5 @@
 //! What follows from the definitions: each function's contract is a law, proved in `proofs/`.
-ghost use Rattle.arrow_spec.specs.Laws.{BatchMessageReadsBack, DependsOnNeeded, DictionaryMessageReadsBack, FramedMessageIsNext, LayoutReadsBack, NumberedMayBeWritten, ProjectsAndCuts, ReadSchemaMayBeWritten, RegularMayBeWritten, RegularReadsBack, SchemaBytesReadBack, SchemaMessageReadsBack, StreamFuelIsEnough, StreamSchemaReadsBack};
-
-/// What a whole file means gives what it means under distinct columns and a limit.
-pub fn projects_and_cuts()
-    ensures { ProjectsAndCuts }
-{}
-
-/// What a file means under a request depends on the parts that the request needs.
-pub fn depends_on_needed()
-    ensures { DependsOnNeeded }
-{}
+ghost use Rattle.arrow_spec.specs.Laws.{BatchMessageReadsBack, DictionaryMessageReadsBack, FramedMessageIsNext, LayoutReadsBack, NumberedMayBeWritten, ReadSchemaMayBeWritten, RegularMayBeWritten, RegularReadsBack, SchemaBytesReadBack, SchemaMessageReadsBack, StreamFuelIsEnough, StreamSchemaReadsBack};
 
 /// A flatbuffer that is laid out is read back, whatever stands behind it.
 pub fn layout_reads_back()

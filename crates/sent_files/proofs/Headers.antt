@@ -9,11 +9,11 @@ use Rattle.arrow_spec.specs.declared.error.FlatError.{FlatError}
 use Rattle.arrow_spec.specs.declared.error.OutOfSpecKind.{OutOfSpecKind}
 use Rattle.arrow_spec.specs.declared.message.FieldNode.{FieldNode}
 use Rattle.arrow_spec.specs.declared.message.IpcBuffer.{IpcBuffer}
-use Rattle.arrow_spec.specs.Readings.{each}
+use Rattle.arrow_spec.specs.Readings.{each, as_kind}
 use Rattle.arrow_spec.specs.Flat.{Table, Vector, fold_number, if_present, in_range, little, or_default, signed_at, slot, slot_signed, slot_vector, unsigned_at}
-use Rattle.arrow_spec.specs.Messages.{BatchHeader, RecordMessage, as_kind, batch_at, buffer_at, node_at, numbers_at, record_message}
+use Rattle.arrow_spec.specs.Messages.{BatchHeader, RecordMessage, batch_at, buffer_at, node_at, numbers_at, record_message}
 use Rattle.arrow_spec.specs.Laws.{AreBytes}
-use Rattle.arrow_spec.proofs.MessageTables.{BufferFits, NodeFits}
+use Rattle.arrow_spec.specs.Bodies.{BufferFits, NodeFits}
 use Rattle.arrow_spec.proofs.ReadPairs.{goes, same_read, through}
 use Rattle.sent_files.specs.Files.{HeaderFits}
 

@@ -8,4 +8,3 @@ pub mod Refusals
 pub mod Numbers
 pub mod Headers
 pub mod SoFar
-mod BuiltRows

@@ -4,6 +4,7 @@ use Rattle.std.specs.Prelude.{nat_le, nat_lt, slice_get, ℤ, negsuc}
 use Rattle.std.specs.Int.{w64}
 use Rattle.std.specs.List.{AllByRecursion}
 use Rattle.std.proofs.lemmas.Bool.{ltb-false}
+use Rattle.arrow_spec.specs.Flat.{little}
 use Rattle.arrow_spec.specs.declared.error.IpcError.{IpcError}
 use Rattle.arrow_spec.specs.declared.error.IpcError.TheVariants.{Unsupported}
 use Rattle.arrow_spec.specs.declared.error.Feature.TheVariants as features
@@ -11,19 +12,25 @@ use Rattle.arrow_spec.specs.declared.message.FieldNode.{FieldNode}
 use Rattle.arrow_spec.specs.declared.message.IpcBuffer.{IpcBuffer}
 use Rattle.arrow_spec.specs.declared.types.UnionMode.TheVariants.{Dense, Sparse}
 use Rattle.arrow_spec.specs.declared.types.IntervalUnit.TheVariants.{YearMonth, DayTime, MonthDayNano}
-use Rattle.arrow_spec.specs.Kinds.{Kind, Fields, none, field, null, boolean, integer, float, date32, date64, time32, time64, timestamp, duration, interval, decimal, decimal256, binary, utf8, binary_view, utf8_view, fixed_size_binary, «list», fixed_size_list, struct, map, union, dictionary, extension, Offsets, small}
+use Rattle.arrow_spec.specs.Kinds.{Metadata, Kind, Fields, none, field, null, boolean, integer, float, date32, date64, time32, time64, timestamp, duration, interval, decimal, decimal256, binary, utf8, binary_view, utf8_view, fixed_size_binary, «list», fixed_size_list, struct, map, union, dictionary, extension, Offsets, small}
 use Rattle.arrow_spec.specs.declared.message.MetadataVersion.{MetadataVersion}
-use Rattle.arrow_spec.specs.Messages.{BatchHeader, natural}
-use Rattle.arrow_spec.specs.Files.{TableBatch, batch_of_tables, record_batch_of, to_read}
-use Rattle.arrow_spec.specs.Counts.{RecordBatch, Place, after, count_at, first_place, inside, magnitude, magnitude_or_0, union_buffers, Written}
+use Rattle.arrow_spec.specs.Messages.{BatchHeader}
+use Rattle.arrow_spec.specs.Readings.{natural}
+use Rattle.arrow_spec.specs.Files.{TableBatch, batch_of_tables, record_batch_of, to_read, all_asked}
+use Rattle.arrow_spec.specs.declared.error.IpcError.TheVariants.{OutOfSpec}
+use Rattle.arrow_spec.specs.declared.error.OutOfSpecKind.TheVariants as kinds
+use Rattle.arrow_spec.specs.Counts.{RecordBatch, Place, after, count_at, first_place, inside, is_negative, magnitude, magnitude_or_0, union_buffers, Written}
 use Rattle.arrow_spec.specs.Cells.{Cell}
-use Rattle.arrow_spec.specs.Columns.{Dictionaries, array_faults, child_faults, column_faults, columns_at, cause, fixed_faults, is_big, node_causes, node_faults, node_of, numbers_faults, offset, offsets_faults, range_faults, range_of, range_or_none, valid, validity_faults, view_parts_faults, view_text_faults, views_faults}
-use Rattle.arrow_spec.specs.Sent.{all_written, columns_written, compacted, compacted_written, is_compacted, null_count, parts_written, top_views_written, top_written, view_length, views_written, written, written_part}
+use Rattle.arrow_spec.specs.Arrays.{Dictionaries, node_of, offset, range_of, range_or_none, valid}
+use Rattle.arrow_spec.specs.Faults.{array_faults, child_faults, column_faults, cause, fixed_faults, is_big, node_causes, node_faults, numbers_faults, offsets_faults, range_faults, validity_faults, view_parts_faults, view_text_faults, views_faults}
+use Rattle.arrow_spec.specs.Columns.{columns_at}
+use Rattle.arrow_spec.specs.Sent.{all_written, columns_written, compacted, compacted_written, needs_compaction, null_count, parts_written, top_views_written, top_written, view_length, views_written, written, written_part}
 use Rattle.arrow_spec.proofs.Fewer.{cause-none, none_first, none_second, offset-fewer, sound_first, sound_second}
-use Rattle.arrow_spec.proofs.MessageTables.{BufferFits, NodeFits, fits_pos}
+use Rattle.arrow_spec.proofs.MessageTables.{fits_pos}
+use Rattle.arrow_spec.specs.Bodies.{BufferFits, NodeFits}
 use Rattle.arrow_spec.proofs.Projection.{place-ok}
 use Rattle.arrow_spec.proofs.ReadPairs.{same_read, through}
-use Rattle.sent_files.specs.Files.{HeaderFits, asked_of}
+use Rattle.sent_files.specs.Files.{HeaderFits}
 
 -- ── the tables ──
 
@@ -58,7 +65,11 @@ range_small m i fit = by_range (slice_get m.buffers i) refl
 
 -- an array's rows are no more than its node says
 enough_rows : (x : FieldNode) (rows : ℕ) → node_causes (Some x) rows ≡ [] → rows ≤ magnitude x.length
-enough_rows x rows h = ltb-false (magnitude x.length) rows (cause-none _ _ (none_second _ _ h))
+enough_rows x rows h = by_sign (is_negative x.length) h
+  where
+    by_sign : (negative : Bool) → cond negative (OutOfSpec kinds.UnexpectedNegativeInteger ∷ []) (cause (nat_lt (magnitude x.length) rows) (OutOfSpec kinds.NodeLength)) ≡ [] → rows ≤ magnitude x.length
+    by_sign true g = cc
+    by_sign false g = ltb-false (magnitude x.length) rows (cause-none _ _ g)
 
 node_small : (m : RecordBatch) (p : Place) (rows : ℕ) → TablesHaveWidth m → node_faults m p rows ≡ [] → rows < 2 ^ 63
 unfolding node_faults
@@ -265,7 +276,7 @@ top_views_fit m p (suc n) fit h =
     let room : 16 * suc n ≤ magnitude (range_of m (p.buffer + 1)).length = numbers_room m (p.buffer + 1) 16 (suc n) (view_rows m p (suc n) h) in
     let few : suc n < 2 ^ 62 = omega (arith, room, range_small m (p.buffer + 1) fit) in
     let new : length (compacted m p 0 0 (suc n)) < 2 ^ 63 = omega (arith, few, compacted_few m p 0 0 (suc n)) in
-    if_fits (is_compacted m p (suc n)) (compacted_written m p (suc n)) (views_written m p (suc n) 0 (suc n)) (node_fits (suc n) (null_count m p 0 (suc n)) (length (compacted m p 0 0 (suc n)) ∷ []) (omega (arith, few)) (nulls_few m p 0 (suc n)) (new, tt)) (views_fit m p (suc n) 0 (suc n) fit (omega (arith, few)))
+    if_fits (needs_compaction m p (suc n)) (compacted_written m p (suc n)) (views_written m p (suc n) 0 (suc n)) (node_fits (suc n) (null_count m p 0 (suc n)) (length (compacted m p 0 0 (suc n)) ∷ []) (omega (arith, few)) (nulls_few m p 0 (suc n)) (new, tt)) (views_fit m p (suc n) 0 (suc n) fit (omega (arith, few)))
 
 top_fits : (m : RecordBatch) (d : Dictionaries) (k : Kind) (p : Place) (rows : ℕ) → TablesHaveWidth m → array_faults m d k p rows ≡ [] → WrittenFits (top_written m k p rows)
 unfolding written views_faults view_text_faults
@@ -311,11 +322,11 @@ natural_small (pos k) n fit h = let e : k ≡ n = cc in subst (λ j. j < 2 ^ 63)
 natural_small (negsuc k) n fit h = cc
 
 -- the rows, nodes and view counts of a batch that was read
-pub batch_fits : (fs : Fields) (most : ℕ) (v : MetadataVersion) (tables : BatchHeader) (body : List ℕ) (x : TableBatch) → HeaderFits tables → batch_of_tables to_read (asked_of fs most) v tables body None ≡ Ok x
-    → (x.rows < 2 ^ 63) × WrittenFits (all_written (columns_written (record_batch_of (asked_of fs most) v tables body) None fs 0 first_place x.rows))
+pub batch_fits : (fs : Fields) (most : ℕ) (v : MetadataVersion) (custom : Metadata) (tables : BatchHeader) (body : List ℕ) (x : TableBatch) → HeaderFits tables → batch_of_tables to_read (all_asked little fs most) v custom tables body None ≡ Ok x
+    → (x.rows < 2 ^ 63) × WrittenFits (all_written (columns_written (record_batch_of little v tables body) None fs 0 first_place x.rows))
 unfolding batch_of_tables
-batch_fits fs most v tables body x fit h =
+batch_fits fs most v custom tables body x fit h =
     through _ _ x h λ u compression h1. through _ _ x h1 λ rows rows_are h2. through _ _ x h2 λ u' negative h3. through _ _ x h3 λ u'' sum h4. through _ _ x h4 λ columns columns_are h5. through _ _ x h5 λ u''' size h6.
-    let m : RecordBatch = record_batch_of (asked_of fs most) v tables body in
+    let m : RecordBatch = record_batch_of little v tables body in
     let width : TablesHaveWidth m = record { nodes = fit.nodes; buffers = fit.buffers; views = fit.views } in
     subst (λ (y : TableBatch). (y.rows < 2 ^ 63) × WrittenFits (all_written (columns_written m None fs 0 first_place y.rows))) (same_read _ x h6) (natural_small tables.length rows fit.rows rows_are, columns_fit m [] fs 0 first_place rows columns width columns_are)

@@ -3,7 +3,7 @@ use Rattle.std.proofs.Common.{◌≡◌, ℕ, suc, List, [], None, Ok, refl, ari
 use Rattle.std.proofs.lemmas.Bool.{and_parts, and_from}
 use Rattle.arrow_spec.specs.Flat.{Order, little, big}
 use Rattle.arrow_spec.specs.Kinds.{Kind, Fields, none, field, null, boolean, integer, date32, date64, time32, time64, timestamp, duration, interval, decimal, binary, utf8, binary_view, utf8_view, fixed_size_binary, float, decimal256, «list», fixed_size_list, struct, map, union, dictionary, extension, bare, dictionary_count, dictionary_counts}
-use Rattle.arrow_spec.specs.Columns.{chosen_floats, float_faults}
+use Rattle.arrow_spec.specs.Features.{chosen_floats, float_faults}
 use Rattle.arrow_spec.specs.Schema.{is_little}
 use Rattle.arrow_spec.specs.Files.{Meta, meta_of}
 use Rattle.arrow_spec.specs.Laws.{AreBytes}

@@ -3,6 +3,7 @@ use Rattle.std.proofs.Common.{◌≡◌, ℕ, List, [], length, take, Some, refl
 use Rattle.std.specs.Prelude.{map}
 use Rattle.std.proofs.lemmas.List.{length-map}
 use Rattle.arrow_spec.specs.Readings.{meaning}
+use Rattle.arrow_spec.specs.Kinds.{Metadata}
 use Rattle.arrow_spec.specs.Built.{Built}
 use Rattle.arrow_spec.specs.Files.{Meta, «all», file_reading, to_read}
 use Rattle.written_columns.specs.Streams.{bare_table, table_batch, written_so_far}
@@ -15,17 +16,17 @@ use Rattle.sent_files.proofs.Files.{part_of_file, table_may_be_written, whole_fi
 
 -- after some blocks the bytes are a front of the stream
 pub front_of : SentBlocksAreAFront
-front_of built b meta n xs file s count =
-    let means = bare_front_means meta.schema.fields meta.schema.metadata xs (table_may_be_written built b meta (take n meta.blocks) xs file s) in
+front_of built b meta custom n xs file s count =
+    let means = bare_front_means meta.schema.fields meta.schema.metadata custom xs (table_may_be_written built b meta custom (take n meta.blocks) xs file s) in
     let blocks : length (map table_batch xs) ≡ n = length-map xs table_batch ∙ count in
-    record { not_closed = means.0; stream = means.1; file = subst (λ k. meaning (file_reading built to_read b «all» (Some k)) ≡ Some (bare_table meta.schema.fields meta.schema.metadata xs)) (sym blocks) (part_of_file built b meta n xs file s) }
+    record { not_ended = means.0; stream = means.1; file = subst (λ k. meaning (file_reading built to_read b «all» (Some k)) ≡ Some (bare_table meta.schema.fields meta.schema.metadata custom xs)) (sym blocks) (part_of_file built b meta custom n xs file s) }
 
 -- after all blocks and the end mark they are the stream
 pub stream_of : SentFileIsItsStream
-stream_of built b meta xs file s =
-    let means = bare_stream_means meta.schema.fields meta.schema.metadata xs (table_may_be_written built b meta meta.blocks xs file s) in
-    record { is_closed = means.0; stream = means.1; file = whole_file built b meta xs file s }
+stream_of built b meta custom xs file s =
+    let means = bare_stream_means meta.schema.fields meta.schema.metadata custom xs (table_may_be_written built b meta custom meta.blocks xs file s) in
+    record { is_closed = means.0; stream = means.1; file = whole_file built b meta custom xs file s }
 
 -- before the first block the schema's message is a front
-pub schema_front : (built : Built) (b : List ℕ) (meta : Meta) → IsSentFile built b meta → IsFrontOf built b (written_so_far meta.schema.fields meta.schema.metadata []) (bare_table meta.schema.fields meta.schema.metadata [])
-schema_front built b meta file = front_of built b meta 0 [] file (none_sent b meta.schema.fields) refl
+pub schema_front : (built : Built) (b : List ℕ) (meta : Meta) (custom : Metadata) → IsSentFile built b meta custom → IsFrontOf built b «all» (written_so_far meta.schema.fields meta.schema.metadata custom []) (bare_table meta.schema.fields meta.schema.metadata custom [])
+schema_front built b meta custom file = front_of built b meta custom 0 [] file (none_sent built b meta.schema.fields) refl

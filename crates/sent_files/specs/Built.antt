@@ -30,6 +30,6 @@ abbrev pub are_flat_fields : Fields → Bool
 are_flat_fields none = true
 are_flat_fields (field name nullable metadata k others) = is_flat_kind k && are_flat_fields others
 
--- little-endian files whose chosen columns are all of flat kinds
+-- little-endian files whose chosen columns are all of flat kinds, without pairs of the footer and of record messages
 abbrev pub so_far : Built
-so_far = record { chosen = λ o fs. is_little o && are_flat_fields fs; dictionaries = false; requests = false }
+so_far = record { chosen = λ o fs. is_little o && are_flat_fields fs; custom = false; dictionaries = false; requests = false }

@@ -8,16 +8,20 @@ use Rattle.std.proofs.lemmas.List.Concat.{flat_map-cons}
 use Rattle.arrow_spec.specs.declared.message.MetadataVersion.TheVariants.{V5}
 use Rattle.arrow_spec.specs.Readings.{bind}
 use Rattle.arrow_spec.specs.Flat.{little}
-use Rattle.arrow_spec.specs.Kinds.{Kind, Fields, none, field}
+use Rattle.arrow_spec.specs.Kinds.{Metadata, Kind, Fields, none, field}
 use Rattle.arrow_spec.specs.Held.{Stands}
 use Rattle.arrow_spec.specs.Counts.{RecordBatch, Place, first_place, after, nodes, buffers, views}
-use Rattle.arrow_spec.specs.Columns.{Dictionaries, column_faults, columns_at, cell, from_on}
+use Rattle.arrow_spec.specs.Arrays.{Dictionaries, from_on}
+use Rattle.arrow_spec.specs.ArrayCells.{cell}
+use Rattle.arrow_spec.specs.Faults.{column_faults}
+use Rattle.arrow_spec.specs.Columns.{columns_at}
 use Rattle.arrow_spec.specs.Sent.{placed}
 use Rattle.arrow_spec.specs.Framing.{body_bytes}
 use Rattle.arrow_spec.specs.Laws.{header_of}
 use Rattle.arrow_spec.specs.Files.{batch_of_tables, to_read, lengths_sum, none_negative}
 use Rattle.arrow_spec.proofs.MessagesFit.{length-placed}
-use Rattle.arrow_spec.proofs.Bodies.{From, AreHeld, buffers_held, length-body, placed_natural, placed_inside}
+use Rattle.arrow_spec.proofs.Bodies.{buffers_held, length-body, placed_natural, placed_inside}
+use Rattle.arrow_spec.specs.Bodies.{From, AreHeld}
 use Rattle.written_columns.specs.Columns.{WrittenColumn, StandsAt, Means}
 use Rattle.written_columns.specs.Streams.{AreOf, ColumnsStandAt, body_for, pieces_of, written_of}
 
@@ -87,10 +91,10 @@ columns_read (field name nullable metadata k others) (x ∷ cs) m d c rows p kin
 
 -- ── a batch ──
 
-pub batch_read : (fs : Fields) (cs : List WrittenColumn) (d : Dictionaries) (rows : ℕ) → AreOf fs cs → AllByRecursion (λ x. Means little d rows x) cs
-    → batch_of_tables to_read (record { order = little; fields = fs; columns = None; dictionaries = d; most = length (body_for cs) }) V5 (header_of rows (written_of cs)) (body_for cs) None ≡ Ok (record { rows = rows; columns = map (λ x. x.cells) cs })
+pub batch_read : (fs : Fields) (cs : List WrittenColumn) (d : Dictionaries) (rows : ℕ) (custom : Metadata) → AreOf fs cs → AllByRecursion (λ x. Means little d rows x) cs
+    → batch_of_tables to_read (record { order = little; fields = fs; columns = None; dictionaries = d; most = length (body_for cs) }) V5 custom (header_of rows (written_of cs)) (body_for cs) None ≡ Ok (record { rows = rows; columns = map (λ x. x.cells) cs; custom = custom })
 unfolding batch_of_tables bind
-batch_read fs cs d rows kinds good =
+batch_read fs cs d rows custom kinds good =
     let lens = map length (pieces_of cs) in
     let m : RecordBatch = record { order = little; version = V5; nodes = flat_map (λ c. c.nodes) cs; buffers = placed 0 lens; variadic = map pos (flat_map (λ c. c.views) cs); body = body_for cs } in
     let natural : none_negative (placed 0 lens) ≡ true = placed_natural lens 0 in

@@ -8,9 +8,12 @@ use Rattle.arrow_spec.specs.declared.message.FieldNode.{FieldNode}
 use Rattle.arrow_spec.specs.declared.message.MetadataVersion.TheVariants.{V5}
 use Rattle.arrow_spec.specs.Flat.{Order}
 use Rattle.arrow_spec.specs.Counts.{RecordBatch, Place, count_at, nodes, buffers, views}
-use Rattle.arrow_spec.specs.Columns.{Dictionaries, array_faults, cell, column_faults, count_faults, from_on, some_negative}
+use Rattle.arrow_spec.specs.Arrays.{Dictionaries, from_on}
+use Rattle.arrow_spec.specs.ArrayCells.{cell}
+use Rattle.arrow_spec.specs.Faults.{array_faults, column_faults, count_faults, some_negative}
 use Rattle.arrow_spec.proofs.IntegerSchemas.{is_same}
-use Rattle.arrow_spec.proofs.Bodies.{From, from_head, from_length}
+use Rattle.arrow_spec.proofs.Bodies.{from_head, from_length}
+use Rattle.arrow_spec.specs.Bodies.{From}
 use Rattle.written_columns.specs.Columns.{WrittenColumn, StandsAt, Means}
 
 none_below : (vs : List ℕ) → some_negative (map pos vs) ≡ false

@@ -6,7 +6,8 @@ use Rattle.arrow_spec.specs.Layout as layout
 use Rattle.arrow_spec.specs.Layout.{Slots, size, table_place, inline_end, end_of, end_of_children}
 use Rattle.arrow_spec.specs.Counts.{Written}
 use Rattle.arrow_spec.specs.Framing.{padded_size}
-use Rattle.arrow_spec.specs.Sent.{unless_zero, node_bytes, buffer_bytes, nodes_node, buffers_node, placed, views_slot, batch_node, batch_slots, message, message_slots}
+use Rattle.arrow_spec.specs.Sent.{unless_zero, node_bytes, buffer_bytes, nodes_node, buffers_node, placed, views_slot, batch_node, batch_slots, custom_slot, message, message_slots}
+use Rattle.arrow_spec.specs.Kinds.{Metadata}
 use Rattle.arrow_spec.proofs.Ends.{children_above}
 use Rattle.arrow_spec.proofs.MessageTables.{length-nodes, length-buffers}
 use Rattle.arrow_spec.proofs.MessagesFit.{length-placed}
@@ -30,13 +31,13 @@ batch_end rows w c =
     omega (arith, e, children_above last (end_of bs (end_of ns q)), structs_end (length w.nodes) (flat_map node_bytes w.nodes) q, structs_end (length (placed 0 w.lengths)) (flat_map buffer_bytes (placed 0 w.lengths)) (end_of ns q), length-nodes w.nodes, length-buffers (placed 0 w.lengths), length-placed w.lengths 0)
 
 -- and so is a message of one
-pub batch_counts : (tag rows body : ℕ) (w : Written) → padded_size (message tag (batch_node rows w) body).node < 2 ^ 31 → (length w.nodes < 2 ^ 32) × (length w.lengths < 2 ^ 32)
+pub batch_counts : (tag rows body : ℕ) (w : Written) (custom : Metadata) → padded_size (message tag (batch_node rows w) body custom).node < 2 ^ 31 → (length w.nodes < 2 ^ 32) × (length w.lengths < 2 ^ 32)
 unfolding size
-batch_counts tag rows body w h =
+batch_counts tag rows body w custom h =
     let n = batch_node rows w in
-    let s = message_slots tag n body in
+    let s = message_slots tag n body custom in
     let q = inline_end s (table_place s 4 + 4) in
-    let last = unless_zero w64 (pos body) layout.no_more in
-    let e : size (message tag n body).node ≡ end_of_children last (end_of n q) = refl in
-    let most : 16 * length w.nodes + 16 * length w.lengths ≤ size (message tag n body).node = omega (arith, e, children_above last (end_of n q), batch_end rows w q) in
+    let last = unless_zero w64 (pos body) (custom_slot custom) in
+    let e : size (message tag n body custom).node ≡ end_of_children last (end_of n q) = refl in
+    let most : 16 * length w.nodes + 16 * length w.lengths ≤ size (message tag n body custom).node = omega (arith, e, children_above last (end_of n q), batch_end rows w q) in
     (omega (arith, h, most), omega (arith, h, most))

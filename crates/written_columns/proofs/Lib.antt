@@ -4,4 +4,3 @@ pub mod Counts
 pub mod Streams
 pub mod SentBatches
 pub mod PlainFields
-mod WorkedRows

@@ -36,12 +36,12 @@ columns_sent (field name nullable metadata kind others) [] m c rows p h = absurd
 columns_sent (field name nullable metadata kind others) (x ∷ cs) m c rows p h = rw (h.0, columns_sent others cs m (suc c) rows (after m kind p) h.1) (sym (written_of_cons x cs))
 
 -- a message of written columns says how long its body is
-pub batch_same : (x : WrittenBatch) → message 3 (batch_node x.rows (written_of x.columns)) (body_of 0 (map length (pieces_of x.columns))) ≡ written_batch x
+pub batch_same : (x : WrittenBatch) → message 3 (batch_node x.rows (written_of x.columns)) (body_of 0 (map length (pieces_of x.columns))) x.custom ≡ written_batch x
 batch_same x =
     let same : body_of 0 (map length (pieces_of x.columns)) ≡ length (body_for x.columns) = omega (arith, length-body (pieces_of x.columns) 0) in
-    ap (λ n. message 3 (batch_node x.rows (written_of x.columns)) n) same
+    ap (λ n. message 3 (batch_node x.rows (written_of x.columns)) n x.custom) same
 
 -- what is framed is the message of which the size is asked
-pub batch_sent : (fs : Fields) (m : RecordBatch) (x : WrittenBatch) → all_written (columns_written m None fs 0 first_place x.rows) ≡ written_of x.columns → batch_message m None fs x.rows ≡ written_batch x
+pub batch_sent : (fs : Fields) (m : RecordBatch) (x : WrittenBatch) → all_written (columns_written m None fs 0 first_place x.rows) ≡ written_of x.columns → batch_message m None fs x.rows x.custom ≡ written_batch x
 unfolding batch_message
 batch_sent fs m x h = rw h (batch_same x)

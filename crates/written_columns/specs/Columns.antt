@@ -6,8 +6,10 @@ use Rattle.arrow_spec.specs.Flat.{Order}
 use Rattle.arrow_spec.specs.Kinds.{Kind}
 use Rattle.arrow_spec.specs.Cells.{Cell}
 use Rattle.arrow_spec.specs.Counts.{RecordBatch, Place, nodes, buffers, views}
-use Rattle.arrow_spec.specs.Columns.{Dictionaries, cell, column_faults, from_on}
-use Rattle.arrow_spec.proofs.Bodies.{From, AreHeld}
+use Rattle.arrow_spec.specs.Arrays.{Dictionaries, from_on}
+use Rattle.arrow_spec.specs.ArrayCells.{cell}
+use Rattle.arrow_spec.specs.Faults.{column_faults}
+use Rattle.arrow_spec.specs.Bodies.{From, AreHeld}
 
 -- a column: its kind, its nodes, the bytes of its buffers and its view counts, and what stands in its rows
 pub record WrittenColumn : Type 0 where

@@ -4,22 +4,22 @@ use Rattle.std.specs.List.{flat_map, AllByRecursion}
 use Rattle.arrow_spec.specs.Flat.{little}
 use Rattle.arrow_spec.specs.Kinds.{Fields, none, field, Metadata, bare, numbered}
 use Rattle.arrow_spec.specs.Counts.{RecordBatch, Place, after, Written}
-use Rattle.arrow_spec.specs.Columns.{chosen_floats}
+use Rattle.arrow_spec.specs.Features.{chosen_floats}
 use Rattle.arrow_spec.specs.Sent.{SentMessage, message, stream_schema, batch_node, may_be_sent, top_written}
 use Rattle.arrow_spec.specs.Framing.{message_bytes, body_bytes}
 use Rattle.arrow_spec.specs.Files.{ArrowTable, TableBatch}
 use Rattle.arrow_spec.specs.Streams.{end_mark}
-use Rattle.arrow_spec.specs.WrittenSchemas.{SchemaMayBeWritten}
-use Rattle.arrow_spec.proofs.Bodies.{From, AreHeld}
-use Rattle.arrow_spec.proofs.MessageTables.{NodeFits}
+use Rattle.arrow_spec.specs.WrittenSchemas.{CustomMayBeWritten, SchemaMayBeWritten}
+use Rattle.arrow_spec.specs.Bodies.{From, AreHeld, NodeFits}
 use Rattle.written_columns.specs.Columns.{WrittenColumn, Means}
 
 -- ── batches ──
 
--- a batch: how many rows it has, and its columns
+-- a batch: how many rows it has, its columns, and the pairs of its message
 pub record WrittenBatch : Type 0 where
   pub rows : ℕ
   pub columns : List WrittenColumn
+  pub custom : Metadata
 
 -- the buffers of columns, one column after another
 abbrev pub pieces_of : List WrittenColumn → List (List ℕ)
@@ -42,11 +42,11 @@ body_for cs = body_bytes 0 (pieces_of cs)
 
 -- the message of a batch
 abbrev pub written_batch : WrittenBatch → SentMessage
-written_batch x = message 3 (batch_node x.rows (written_of x.columns)) (length (body_for x.columns))
+written_batch x = message 3 (batch_node x.rows (written_of x.columns)) (length (body_for x.columns)) x.custom
 
 -- the batch as a table has it
 abbrev pub table_batch : WrittenBatch → TableBatch
-table_batch x = record { rows = x.rows; columns = map (λ c. c.cells) x.columns }
+table_batch x = record { rows = x.rows; columns = map (λ c. c.cells) x.columns; custom = x.custom }
 
 -- each column is of its field's kind
 abbrev pub AreOf : Fields → List WrittenColumn → Type 0
@@ -60,7 +60,8 @@ abbrev pub AreSent : RecordBatch → ℕ → Fields → List WrittenColumn → P
 AreSent m rows none [] p = Unit {0}
 AreSent m rows none (c ∷ cs) p = ⊥
 AreSent m rows (field name nullable metadata kind others) [] p = ⊥
-AreSent m rows (field name nullable metadata kind others) (c ∷ cs) p = (top_written m kind p rows ≡ written_of (c ∷ [])) × AreSent m rows others cs (after m kind p)
+AreSent m rows (field name nullable metadata kind others) (c ∷ cs) p =
+    (top_written m kind p rows ≡ written_of (c ∷ [])) × AreSent m rows others cs (after m kind p)
 
 -- a batch that may be written: columns of the fields' kinds that mean their cells, and a message of which no part is too large
 pub record MayBeWritten (fs : Fields) (x : WrittenBatch) : Type 0 where
@@ -69,43 +70,46 @@ pub record MayBeWritten (fs : Fields) (x : WrittenBatch) : Type 0 where
   pub few : x.rows < 2 ^ 63
   pub nodes : AllByRecursion NodeFits (flat_map (λ c. c.nodes) x.columns)
   pub views : AllByRecursion (λ n. n < 2 ^ 63) (flat_map (λ c. c.views) x.columns)
+  pub custom : CustomMayBeWritten x.custom
   pub size : may_be_sent (written_batch x) ≡ true
 
 -- ── the stream ──
 
 -- a table without dictionaries that may be written
-pub record TableMayBeWritten (fs : Fields) (pairs : Metadata) (xs : List WrittenBatch) : Type 0 where
+pub record TableMayBeWritten (fs : Fields) (pairs custom : Metadata) (xs : List WrittenBatch) : Type 0 where
   pub schema : SchemaMayBeWritten fs pairs
+  pub message : CustomMayBeWritten custom
   pub plain : numbered fs 0 ≡ fs
   pub no_ids : bare fs ≡ fs
   pub readable : chosen_floats None fs 0 ≡ []
-  pub size : may_be_sent (stream_schema fs pairs) ≡ true
+  pub size : may_be_sent (stream_schema fs pairs custom) ≡ true
   pub batches : AllByRecursion (λ x. MayBeWritten fs x) xs
 
 -- the same whether or not its unions state their ids
-pub record StreamMayBeWritten (fs : Fields) (pairs : Metadata) (xs : List WrittenBatch) : Type 0 where
+pub record StreamMayBeWritten (fs : Fields) (pairs custom : Metadata) (xs : List WrittenBatch) : Type 0 where
   pub schema : SchemaMayBeWritten fs pairs
+  pub message : CustomMayBeWritten custom
   pub plain : numbered fs 0 ≡ fs
   pub readable : chosen_floats None fs 0 ≡ []
-  pub size : may_be_sent (stream_schema fs pairs) ≡ true
+  pub size : may_be_sent (stream_schema fs pairs custom) ≡ true
   pub batches : AllByRecursion (λ x. MayBeWritten fs x) xs
 
 -- the bytes of a batch: its message with its body
 abbrev pub batch_bytes : WrittenBatch → List ℕ
 batch_bytes x = message_bytes (written_batch x).node (body_for x.columns)
 
--- what a writer has put after some batches
-abbrev pub written_so_far : Fields → Metadata → List WrittenBatch → List ℕ
-written_so_far fs pairs xs = message_bytes (stream_schema fs pairs).node [] ++ flat_map batch_bytes xs
+-- what a writer has put after some batches, with these pairs of the schema and of its message
+abbrev pub written_so_far : Fields → Metadata → Metadata → List WrittenBatch → List ℕ
+written_so_far fs pairs custom xs = message_bytes (stream_schema fs pairs custom).node [] ++ flat_map batch_bytes xs
 
 -- what it has put once the stream is ended
-abbrev pub written_stream : Fields → Metadata → List WrittenBatch → List ℕ
-written_stream fs pairs xs = written_so_far fs pairs xs ++ end_mark
+abbrev pub written_stream : Fields → Metadata → Metadata → List WrittenBatch → List ℕ
+written_stream fs pairs custom xs = written_so_far fs pairs custom xs ++ end_mark
 
 -- the table
-abbrev pub written_table : Fields → Metadata → List WrittenBatch → ArrowTable
-written_table fs pairs xs = record { metadata = pairs; fields = fs; batches = map table_batch xs }
+abbrev pub written_table : Fields → Metadata → Metadata → List WrittenBatch → ArrowTable
+written_table fs pairs custom xs = record { metadata = pairs; custom = custom; fields = fs; batches = map table_batch xs }
 
 -- the table whose unions all state their ids
-abbrev pub bare_table : Fields → Metadata → List WrittenBatch → ArrowTable
-bare_table fs pairs xs = written_table (bare fs) pairs xs
+abbrev pub bare_table : Fields → Metadata → Metadata → List WrittenBatch → ArrowTable
+bare_table fs pairs custom xs = written_table (bare fs) pairs custom xs

@@ -18,7 +18,7 @@ pub fn written_stream_means_its_table()
     ensures { WrittenStreamMeansItsTable }
 {}
 
-/// Before its end mark a written stream is not closed, and means the written table.
+/// Before its end mark a written stream is whole messages with nothing behind them, and means the written table.
 pub fn written_front_means_its_table()
     ensures { WrittenFrontMeansItsTable }
 {}
