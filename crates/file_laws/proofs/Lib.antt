@@ -1,0 +1,9 @@
+mod Cuts
+mod SameBuffers
+mod SameParts
+mod NeededParts
+mod TooLarge
+mod FooterTables
+mod FetchedParts
+mod TooLargeAt
+mod NoRows
