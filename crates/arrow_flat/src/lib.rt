@@ -15,6 +15,3 @@ pub use measure::size_of;
 pub use node::{Node, Slot};
 pub use table::{ChoiceWidth, Flat, Table};
 pub use vector::Vector;
-
-#[cfg(test)]
-mod tests;

@@ -227,7 +227,8 @@ abbrev mutual
 
   pub fields_to : Fields → Gv
   fields_to kind.none = gnil
-  fields_to (kind.field name nullable metadata k others) = gcons (gcons (gcons (bytes_to name) (gcons (bool_to nullable) (pairs_to metadata))) (kind_to k)) (fields_to others)
+  fields_to (kind.field name nullable metadata k others) =
+      gcons (gcons (gcons (bytes_to name) (gcons (bool_to nullable) (pairs_to metadata))) (kind_to k)) (fields_to others)
 
 -- a kind by its tag, what stands beside it, and what stands inside, read as fields and as a kind
 abbrev pub shaped : ℕ → Gv → Fields → Kind → Kind
@@ -249,7 +250,8 @@ shaped (suc (suc (suc (suc (suc (suc (suc (suc (suc (suc n)))))))))) h fs k = sh
     shaped_nested (suc (suc zero)) h' fs' k' = kind.struct fs'
     shaped_nested (suc (suc (suc zero))) h' fs' k' = kind.map (bool_from h') fs'
     shaped_nested (suc (suc (suc (suc zero)))) h' fs' k' = kind.union (mode_from (num (head h'))) (bool_from (head (tail h'))) (ids_from (tail (tail h'))) fs'
-    shaped_nested (suc (suc (suc (suc (suc zero))))) h' fs' k' = kind.dictionary (integer_type_from (num (head h'))) (bool_from (head (tail h'))) (integer_from (tail (tail h'))) k'
+    shaped_nested (suc (suc (suc (suc (suc zero))))) h' fs' k' =
+        kind.dictionary (integer_type_from (num (head h'))) (bool_from (head (tail h'))) (integer_from (tail (tail h'))) k'
     shaped_nested (suc (suc (suc (suc (suc (suc m)))))) h' fs' k' = kind.extension (bytes_from (head h')) (text_from (tail h')) k'
 
     shaped_flat : ℕ → Gv → Fields → Kind → Kind
@@ -274,7 +276,8 @@ abbrev mutual
   fields_back (gnum n) = kind.none
   fields_back (gcons gnil others) = kind.none
   fields_back (gcons (gnum n) others) = kind.none
-  fields_back (gcons (gcons h k) others) = kind.field (bytes_from (head h)) (bool_from (head (tail h))) (pairs_from (tail (tail h))) (kind_from k) (fields_back others)
+  fields_back (gcons (gcons h k) others) =
+      kind.field (bytes_from (head h)) (bool_from (head (tail h))) (pairs_from (tail (tail h))) (kind_from k) (fields_back others)
 
 mutual
   pub kind_from-kind_to : (k : Kind) → kind_from (kind_to k) ≡ k
@@ -301,12 +304,14 @@ mutual
   kind_from-kind_to (kind.struct fs) = ap kind.struct (fields_back-fields_to fs)
   kind_from-kind_to (kind.map sorted fs) = rw (bool_from-bool_to sorted, fields_back-fields_to fs) refl
   kind_from-kind_to (kind.union m stated ids fs) = rw (mode_from-mode_number m, bool_from-bool_to stated, ids_from-ids_to ids, fields_back-fields_to fs) refl
-  kind_from-kind_to (kind.dictionary i ordered id k) = rw (integer_type_from-integer_number i, bool_from-bool_to ordered, integer_from-integer_to id, kind_from-kind_to k) refl
+  kind_from-kind_to (kind.dictionary i ordered id k) =
+      rw (integer_type_from-integer_number i, bool_from-bool_to ordered, integer_from-integer_to id, kind_from-kind_to k) refl
   kind_from-kind_to (kind.extension name metadata k) = rw (bytes_from-bytes_to name, text_from-text_to metadata, kind_from-kind_to k) refl
 
   pub fields_back-fields_to : (fs : Fields) → fields_back (fields_to fs) ≡ fs
   fields_back-fields_to kind.none = refl
-  fields_back-fields_to (kind.field name nullable metadata k others) = rw (bytes_from-bytes_to name, bool_from-bool_to nullable, pairs_from-pairs_to metadata, kind_from-kind_to k, fields_back-fields_to others) refl
+  fields_back-fields_to (kind.field name nullable metadata k others) =
+      rw (bytes_from-bytes_to name, bool_from-bool_to nullable, pairs_from-pairs_to metadata, kind_from-kind_to k, fields_back-fields_to others) refl
 
 abbrev pub kind_code : Coded Kind
 kind_code = code_by Gv itself kind_to kind_from kind_from-kind_to
@@ -360,13 +365,15 @@ by_tree_sound to from back x y h = sym (back x) ∙ ap from (same_tree_sound (to
 pub by_tree_itself : {A : Type 0} (to : A → Gv) (x y : A) → x ≡ y → by_tree to x y ≡ true
 by_tree_itself to x y e = rw e (same_tree_itself (to y))
 
-pub by_tree_told : {A : Type 0} (to : A → Gv) (from : Gv → A) (back : (x : A) → from (to x) ≡ x) (r : Bool) (x y : A) → (r ≡ true → x ≡ y) × (x ≡ y → r ≡ true) → r ≡ by_tree to x y
+pub by_tree_told : {A : Type 0} (to : A → Gv) (from : Gv → A) (back : (x : A) → from (to x) ≡ x) (r : Bool) (x y : A) → (r ≡ true → x ≡ y) × (x ≡ y → r ≡ true)
+    → r ≡ by_tree to x y
 by_tree_told to from back r x y h = told r (by_tree to x y) (λ p. by_tree_itself to x y (h.0 p)) (λ p. h.1 (by_tree_sound to from back x y p))
 
 pub by_tree_equiv : {A : Type 0} (to : A → Gv) (from : Gv → A) (back : (x : A) → from (to x) ≡ x) → IsEquivalence (by_tree to)
 by_tree_equiv to from back = record {
   refl = λ x. by_tree_itself to x x refl;
-  symm = λ x y. told (by_tree to x y) (by_tree to y x) (λ p. by_tree_itself to y x (sym (by_tree_sound to from back x y p))) (λ p. by_tree_itself to x y (sym (by_tree_sound to from back y x p)));
+  symm = λ x y. told (by_tree to x y) (by_tree to y x) (λ p. by_tree_itself to y x (sym (by_tree_sound to from back x y p)))
+      (λ p. by_tree_itself to x y (sym (by_tree_sound to from back y x p)));
   congr = λ x y z p. ap (λ w. by_tree to w z) (by_tree_sound to from back x y p);
 }
 

@@ -21,7 +21,8 @@ sum-bytes n zero = refl
 sum-bytes n (suc k) =
     let last : n % (256 * 256 ^ suc k) ≡ (n / 256 ^ suc k % 256) * 256 ^ suc k + n % 256 ^ suc k = mod-mul n (omega arith) (pow-positive (suc k)) in
     let power : 256 ^ suc (suc k) ≡ 256 * 256 ^ suc k = rw (pow-suc 256 (suc k)) (omega arith) in
-    ap (λ s. s + (n / 256 ^ suc k % 256) * 256 ^ suc k) (sum-bytes n k) ∙ (let e : n % 256 ^ suc k + (n / 256 ^ suc k % 256) * 256 ^ suc k ≡ n % (256 * 256 ^ suc k) = omega arith in e) ∙ ap (λ p. n % p) (sym power)
+    ap (λ s. s + (n / 256 ^ suc k % 256) * 256 ^ suc k) (sum-bytes n k) ∙
+    (let e : n % 256 ^ suc k + (n / 256 ^ suc k % 256) * 256 ^ suc k ≡ n % (256 * 256 ^ suc k) = omega arith in e) ∙ ap (λ p. n % p) (sym power)
 
 turned_2 : (a b : ℕ) → b + a ≡ a + b
 turned_2 a b = omega arith
@@ -32,7 +33,8 @@ turned_4 a b c d = omega arith
 turned_8 : (a b c d e f g h : ℕ) → h + g + f + e + d + c + b + a ≡ a + b + c + d + e + f + g + h
 turned_8 a b c d e f g h = omega arith
 
-turned_16 : (a b c d e f g h i j k l m n o p : ℕ) → p + o + n + m + l + k + j + i + h + g + f + e + d + c + b + a ≡ a + b + c + d + e + f + g + h + i + j + k + l + m + n + o + p
+turned_16 : (a b c d e f g h i j k l m n o p : ℕ) → p + o + n + m + l + k + j + i + h + g + f + e + d + c + b + a
+    ≡ a + b + c + d + e + f + g + h + i + j + k + l + m + n + o + p
 turned_16 a b c d e f g h i j k l m n o p = omega arith
 
 abbrev lowest : ℕ → ℕ → ℕ
@@ -68,7 +70,8 @@ unsigned_width w128 big n = refl
 part-inside : (bytes : List ℕ) (at n : ℕ) → at + n ≤ length bytes → part bytes at n ≡ Some (take n (drop at bytes))
 part-inside bytes at n h = ap (λ b. cond b (Some (take n (drop at bytes))) None) (le-leb (at + n) (length bytes) h)
 
-pub unsigned_agrees : (w : Width) (bytes : List ℕ) (at : ℕ) (order : Order) → at + byte_len w ≤ length bytes → unsigned_num w bytes at order ≡ Some (unsigned_from_bytes w order (take (byte_len w) (drop at bytes)))
+pub unsigned_agrees : (w : Width) (bytes : List ℕ) (at : ℕ) (order : Order) → at + byte_len w ≤ length bytes
+    → unsigned_num w bytes at order ≡ Some (unsigned_from_bytes w order (take (byte_len w) (drop at bytes)))
 unsigned_agrees w bytes at order h = ap (fold_number order w) (part-inside bytes at (byte_len w) h)
 
 fits-pos : (w : Width) (n : ℕ) → FitsSigned w (pos n) → n < 2 ^ bits w
@@ -95,7 +98,8 @@ signed_back w order z h = ap (cast_signed w) (unsigned_back w order (cast_unsign
 pub signed_width : (w : Width) (order : Order) (z : ℤ) → length (signed_to_bytes w order z) ≡ byte_len w
 signed_width w order z = unsigned_width w order (cast_unsigned w z)
 
-pub signed_agrees : (w : Width) (bytes : List ℕ) (at : ℕ) (order : Order) → at + byte_len w ≤ length bytes → signed_num w bytes at order ≡ Some (signed_from_bytes w order (take (byte_len w) (drop at bytes)))
+pub signed_agrees : (w : Width) (bytes : List ℕ) (at : ℕ) (order : Order) → at + byte_len w ≤ length bytes
+    → signed_num w bytes at order ≡ Some (signed_from_bytes w order (take (byte_len w) (drop at bytes)))
 signed_agrees w bytes at order h = ap (option_map (cast_signed w)) (unsigned_agrees w bytes at order h)
 
 pub pos_same : (x y : ℕ) → pos x ≡ pos y → x ≡ y

@@ -2,7 +2,7 @@
 use Rattle.std.specs.Prelude.{◌≡◌, ◌<◌, Bool, true, false, ℕ, ◌+◌, ◌^◌, List, ◌++◌, take, drop, Option, Some, None, ℤ, pos, negsuc, nat_lt, if◌then◌else◌}
 use Rattle.std.specs.Option.{option_map}
 use Rattle.std.specs.Int.{Width, w32, w64, byte_len, to_le_bytes, to_be_bytes, cast_signed, cast_unsigned}
-use Rattle.arrow_spec.specs.Columns.{offset_width}
+use Rattle.arrow_spec.specs.Arrays.{offset_width}
 use Rattle.arrow_spec.specs.Kinds.{Offsets, small, large}
 use Rattle.arrow_spec.specs.Flat.{Order, little, big, num, from_bytes}
 use Rattle.arrow_types.specs.declared.numbers.interval.days_ms.{days_ms}
@@ -50,7 +50,11 @@ abbrev pub months_days_ns_to_bytes : Order → months_days_ns → List ℕ
 months_days_ns_to_bytes order x = signed_to_bytes w32 order x.months ++ signed_to_bytes w32 order x.days ++ signed_to_bytes w64 order x.ns
 
 abbrev pub months_days_ns_from_bytes : Order → List ℕ → months_days_ns
-months_days_ns_from_bytes order bytes = record { months = signed_from_bytes w32 order (take 4 bytes); days = signed_from_bytes w32 order (take 4 (drop 4 bytes)); ns = signed_from_bytes w64 order (drop 8 bytes) }
+months_days_ns_from_bytes order bytes = record {
+  months = signed_from_bytes w32 order (take 4 bytes);
+  days = signed_from_bytes w32 order (take 4 (drop 4 bytes));
+  ns = signed_from_bytes w64 order (drop 8 bytes);
+}
 
 abbrev pub months_days_ns_of : Option ℤ → Option ℤ → Option ℤ → Option months_days_ns
 months_days_ns_of (Some months) (Some days) (Some ns) = Some (record { months = months; days = days; ns = ns })
@@ -59,7 +63,8 @@ months_days_ns_of (Some months) None ns = None
 months_days_ns_of (Some months) (Some days) None = None
 
 abbrev pub months_days_ns_num : List ℕ → ℕ → Order → Option months_days_ns
-months_days_ns_num bytes at order = months_days_ns_of (signed_num w32 bytes at order) (signed_num w32 bytes (at + 4) order) (signed_num w64 bytes (at + 8) order)
+months_days_ns_num bytes at order =
+    months_days_ns_of (signed_num w32 bytes at order) (signed_num w32 bytes (at + 4) order) (signed_num w64 bytes (at + 8) order)
 
 -- the number as a `usize`, where it fits
 abbrev pub usize_of : ℤ → Option ℕ

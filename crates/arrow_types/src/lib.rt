@@ -15,6 +15,3 @@ pub use extension::get_extension;
 pub use numbers::{DictionaryKey, NativeType, Offset, days_ms, months_days_ns};
 pub use physical::{PhysicalType, PrimitiveType};
 pub use schema::{ArrowSchema, ArrowSchemaRef};
-
-#[cfg(test)]
-mod tests;

@@ -7,13 +7,13 @@ use Rattle.std.specs.Int.{w32, from_le_bytes, cast_signed}
 use Rattle.std.proofs.lemmas.Bool.{and_parts, eqb-true}
 use Rattle.arrow_spec.specs.declared.error.IpcError.{IpcError}
 use Rattle.arrow_spec.specs.declared.error.FlatError.{FlatError}
-use Rattle.arrow_spec.specs.Readings.{bind, Reading, each, only_if, Gives}
+use Rattle.arrow_spec.specs.Readings.{bind, Reading, each, only_if, Gives, is_absent}
 use Rattle.arrow_spec.specs.declared.error.OutOfSpecKind.TheVariants.{InvalidDataType}
 use Rattle.std.specs.declared.alloc.Global.{Global}
 use Rattle.std.specs.declared.vec.Vec.{Vec}
 use Rattle.arrow_spec.specs.Flat.{Table, Vector, part, signed_at, slot_vector}
 use Rattle.arrow_spec.specs.Kinds.{same}
-use Rattle.arrow_spec.specs.Schema.{schema_part, ids_at, is_absent, counted_ids, is_id_behind, is_id, are_ids}
+use Rattle.arrow_spec.specs.Schema.{schema_part, ids_at, counted_ids, is_id_behind, is_id, are_ids}
 use Rattle.arrow_flat.specs.Read.{VectorIn, item}
 use Rattle.ipc_fields.proofs.Steps.{drop_item}
 use Rattle.ipc_fields.specs.UnionIds.{numbers_in, are_right, stated_at, ids_of_vector, ids_by, ids_in}

@@ -75,5 +75,7 @@ schema_tree_from : (a b : Ids) (x y : Bool) → (a ≡ b) × (x ≡ y) → schem
 schema_tree_from a b x y h = ap (λ i. schema_tree i x) h.0 ∙ ap (schema_tree b) h.1
 
 -- two IPC schemas are the same where their IPC fields and byte orders are
-pub schema_tree_told : (r : Bool) (a b : Ids) (x y : Bool) → (r ≡ true → (a ≡ b) × (x ≡ y)) × ((a ≡ b) × (x ≡ y) → r ≡ true) → r ≡ tree_eq (schema_tree a x) (schema_tree b y)
-schema_tree_told r a b x y h = tree_eq_told r (schema_tree a x) (schema_tree b y) (λ t. schema_tree_from a b x y (h.0 t), λ e. h.1 (schema_tree_parts a b x y e))
+pub schema_tree_told : (r : Bool) (a b : Ids) (x y : Bool) → (r ≡ true → (a ≡ b) × (x ≡ y)) × ((a ≡ b) × (x ≡ y) → r ≡ true)
+    → r ≡ tree_eq (schema_tree a x) (schema_tree b y)
+schema_tree_told r a b x y h =
+    tree_eq_told r (schema_tree a x) (schema_tree b y) (λ t. schema_tree_from a b x y (h.0 t), λ e. h.1 (schema_tree_parts a b x y e))

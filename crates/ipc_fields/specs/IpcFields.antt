@@ -6,7 +6,8 @@ use Rattle.std.specs.declared.alloc.Global.{Global}
 use Rattle.arrow_spec.specs.Flat.{little, big, or_default}
 use Rattle.arrow_spec.specs.Kinds as kind
 use Rattle.arrow_spec.specs.Kinds.{Kind, Fields, Metadata}
-use Rattle.arrow_spec.specs.Schema.{Schema, is_absent}
+use Rattle.arrow_spec.specs.Schema.{Schema}
+use Rattle.arrow_spec.specs.Readings.{is_absent}
 use Rattle.arrow_types.specs.KindOf.{texts_of}
 use Rattle.arrow_types.specs.Schemas.{Keyed, fields_in}
 use Rattle.ipc_fields.specs.declared.ipc_field.IpcField.{IpcField, fold-IpcField}
@@ -99,7 +100,8 @@ metadata_in (Some m) = texts_of m.now.entries
 
 -- The schema of fields under their keys, of the ids of their IPC fields, of a byte order and of the schema's metadata.
 abbrev pub schema_with : List Keyed → Ids → Bool → Metadata → Schema
-schema_with s below is_little_endian metadata = record { order = if is_little_endian then little else big; fields = fields_with (fields_in s) below; metadata = metadata }
+schema_with s below is_little_endian metadata =
+    record { order = if is_little_endian then little else big; fields = fields_with (fields_in s) below; metadata = metadata }
 
 -- The schema that a schema, its IPC schema and optional metadata stand for.
 abbrev pub schema_view : List Keyed × IpcSchema × Option (BTreeMap (String Global) (String Global)) → Schema

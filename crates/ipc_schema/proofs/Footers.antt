@@ -1,8 +1,9 @@
 -- The blocks of a footer, and a footer by its parts.
-use Rattle.std.proofs.Common.{◌≡◌, ℕ, ◌+◌, ◌-◌, ◌*◌, ◌<◌, ◌≤◌, List, [], ◌∷◌, length, take, drop, true, false, Result, Ok, Err, inl, refl, sym, ◌∙◌, ap, subst, arith, length-drop, drop-drop}
+use Rattle.std.proofs.Common.{◌≡◌, ℕ, ◌+◌, ◌-◌, ◌*◌, ◌<◌, ◌≤◌, List, [], ◌∷◌, ◌++◌, length, take, drop, true, false, All, Result, Ok, Err, inl, refl, sym, ◌∙◌, ap, subst, arith, length-drop, drop-drop}
 use Rattle.std.specs.Prelude.{ℤ, nat_le}
 use Rattle.std.proofs.lemmas.Bool.{le-leb, lt-leb}
 use Rattle.std.proofs.lemmas.List.{take_all}
+use Rattle.std.proofs.lemmas.List.Elements.{All-nil, All-cons, All-append}
 use Rattle.std.specs.Int.{w32, w64}
 use Rattle.arrow_spec.specs.declared.error.FlatError.{FlatError}
 use Rattle.arrow_spec.specs.declared.error.IpcError.{IpcError}
@@ -12,11 +13,11 @@ use Rattle.arrow_spec.specs.Readings.{damaged, bind, each, Gives, Reading, Refus
 use Rattle.arrow_spec.specs.Flat.{signed_at}
 use Rattle.arrow_spec.specs.Files.{footer_of, FileBlock, block_of, block_at, meta_in}
 use Rattle.arrow_flat.specs.Read.{VectorIn, item}
-use Rattle.ipc_schema.specs.Footers.{footer_length_in, file_block, block_numbers_at, block_by, fault_in, block_in, blocks_in, records_part, dictionaries_part, schema_in_footer, footer_parts, footer_view}
+use Rattle.ipc_schema.specs.Footers.{IsNatural, footer_length_in, file_block, block_numbers_at, block_by, fault_in, block_in, blocks_in, records_part, dictionaries_part, schema_in_footer, footer_parts, footer_view}
 use Rattle.ipc_schema.specs.declared.footer.BlockList.{BlockList}
 use Rattle.ipc_schema.specs.declared.footer.BlockList.TheVariants.{RecordBatches, Dictionaries}
 use Rattle.ipc_schema.specs.declared.footer.Footer.{Footer}
-use Rattle.ipc_schema.proofs.Items.{signed-item, signed-front, none_read, with_front}
+use Rattle.ipc_schema.proofs.Items.{signed-item, signed-front, none_read, none_refused, with_front}
 
 block-item : (b : List ℕ) (p : ℕ) → block_numbers_at (take 24 (drop p b)) 0 ≡ block_numbers_at b p
 unfolding bind
@@ -80,6 +81,14 @@ footer_same f = simp bind_twice
 pub footer_by_parts : (f : List ℕ) (r : Result Footer IpcError) → Gives footer_view r (footer_parts f) → Gives footer_view r (meta_in f)
 footer_by_parts f r h = subst (Gives footer_view r) (sym (footer_same f)) h
 
+-- ── blocks without negative numbers ──
+
+pub none_natural : (xs : List Block) → xs ≡ [] → All IsNatural xs
+none_natural xs h = subst (All IsNatural) (sym h) (All-nil IsNatural)
+
+pub more_natural : (old new : List Block) (x : Block) → new ≡ old ++ x ∷ [] → All IsNatural old → IsNatural x → All IsNatural new
+more_natural old new x h front here = subst (All IsNatural) (sym h) (All-append IsNatural old (x ∷ []) front (All-cons IsNatural x [] here (All-nil IsNatural)))
+
 -- ── where the footer stands ──
 
 bind_ok : {A B E : Type 0} (x : A) (f : A → Result B E) → bind (Ok x) f ≡ f x
@@ -113,3 +122,20 @@ footer_by_end b long =
 pub footer_cut : (b : List ℕ) → length b < 10 → footer_of b ≡ damaged kinds.Truncated
 unfolding footer_of bind
 footer_cut b short = let test : nat_le 10 (length b) ≡ false = lt-leb _ _ short in rw test refl
+
+behind : (r : Result ℕ IpcError) (x : Reading ℕ) (f : ℕ → List ℕ) → Gives (λ n. n) r x → Gives f r (bind x (λ n. Ok (f n)))
+unfolding bind
+behind (Ok n) x f h = rw h refl
+behind (Err e) (Ok n) f h = none_refused e [] h
+behind (Err e) (Err es) f h = h
+
+-- the length that the last ten bytes tell is that of the footer
+pub footer_told : (end b : List ℕ) (size : ℕ) (r : Result ℕ IpcError) → Gives (λ n. n) r (footer_length_in end size) → length end ≡ 10 → length b ≡ size → drop (size - 10) b ≡ end
+    → Gives (λ n. take n (drop (size - 10 - n) b)) r (footer_of b)
+footer_told end b size r h ten whole is =
+    let long : 10 ≤ length b = omega (arith, ap length is, length-drop (size - 10) b) in
+    let same : take 10 (drop (length b - 10) b) ≡ end = end_whole b long ∙ ap (λ n. drop (n - 10) b) whole ∙ is in
+    let e : footer_of b ≡ bind (footer_length_in end size) (λ n. Ok (take n (drop (size - 10 - n) b))) =
+    footer_by_end b long ∙ ap (λ x. bind (footer_length_in x (length b)) (λ n. Ok (take n (drop (length b - 10 - n) b)))) same
+    ∙ ap (λ s. bind (footer_length_in end s) (λ n. Ok (take n (drop (s - 10 - n) b)))) whole in
+    subst (Gives (λ n. take n (drop (size - 10 - n) b)) r) (sym e) (behind r (footer_length_in end size) (λ n. take n (drop (size - 10 - n) b)) h)

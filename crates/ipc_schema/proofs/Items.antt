@@ -10,9 +10,9 @@ use Rattle.arrow_spec.specs.declared.error.OutOfSpecKind.{OutOfSpecKind}
 use Rattle.arrow_spec.specs.declared.error.OutOfSpecKind.TheVariants as kinds
 use Rattle.arrow_spec.specs.declared.message.FieldNode.{FieldNode}
 use Rattle.arrow_spec.specs.declared.message.IpcBuffer.{IpcBuffer}
-use Rattle.arrow_spec.specs.Readings.{bind, each, Reading, refusals, Refuses}
+use Rattle.arrow_spec.specs.Readings.{bind, each, Reading, refusals, Refuses, as_kind}
 use Rattle.arrow_spec.specs.Flat.{part, signed_at}
-use Rattle.arrow_spec.specs.Messages.{as_kind, node_at, buffer_at}
+use Rattle.arrow_spec.specs.Messages.{node_at, buffer_at}
 use Rattle.arrow_flat.specs.Read.{VectorIn, item}
 use Rattle.ipc_schema.specs.Views.{node_of, nodes_in, buffer_of, buffers_in, number_of, numbers_in}
 

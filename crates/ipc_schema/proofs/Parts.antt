@@ -4,7 +4,8 @@ use Rattle.arrow_spec.specs.Readings.{bind, Gives}
 use Rattle.arrow_spec.specs.Flat.{Table}
 use Rattle.arrow_spec.specs.Messages.{batch_at, dictionary_at, record_message, version_of}
 use Rattle.ipc_schema.specs.Views.{nodes_part, buffers_part, variadic_part, batch_parts, record_parts, message_of}
-use Rattle.ipc_schema.specs.Headers.{Header, dictionary, batch, whole_in, header_at, header_part, header_parts, dictionary_parts, message_header}
+use Rattle.arrow_spec.specs.Headers.{dictionary, batch, header_at, message_header}
+use Rattle.ipc_schema.specs.Headers.{whole_in, header_part, header_parts, dictionary_parts}
 use Rattle.ipc_schema.specs.declared.message.Message.{Message}
 use Rattle.ipc_schema.specs.declared.message.RecordMessage.{RecordMessage}
 use Rattle.arrow_spec.specs.declared.error.IpcError.{IpcError}

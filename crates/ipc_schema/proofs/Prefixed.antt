@@ -1,6 +1,6 @@
 -- The prefix of a message, by its first four bytes and the next.
 use Rattle.std.proofs.Common.{◌≡◌, ℕ, ◌<◌, ◌≤◌, List, length, take, drop, Result, Ok, Err, inl, true, false, refl, sym, ◌∙◌, ap, arith, subst, length-drop}
-use Rattle.std.specs.Prelude.{nat_le}
+use Rattle.std.specs.Prelude.{nat_le, Bool, if◌then◌else◌, ◌-◌}
 use Rattle.std.specs.Int.{w32, from_le_bytes}
 use Rattle.std.proofs.lemmas.Bool.{le-leb, lt-leb}
 use Rattle.arrow_spec.specs.declared.error.IpcError.{IpcError}
@@ -9,7 +9,7 @@ use Rattle.arrow_spec.specs.declared.error.OutOfSpecKind.TheVariants as kinds
 use Rattle.arrow_spec.specs.Readings.{bind, damaged, Gives}
 use Rattle.arrow_spec.specs.Flat.{unsigned_at, signed_at}
 use Rattle.arrow_spec.specs.Messages.{prefix_of, is_mark}
-use Rattle.ipc_schema.specs.Prefixes.{length_in}
+use Rattle.ipc_schema.specs.Prefixes.{length_in, TellsLength}
 use Rattle.ipc_schema.proofs.Items.{signed-front}
 
 prefix-short : (b : List ℕ) → length b < 4 → prefix_of b ≡ damaged kinds.MessageRange
@@ -66,3 +66,17 @@ prefix_marked b front rest four r long f k g marked h =
     let s : four ≡ take 4 (drop 4 b) = g ∙ ap (take 4) k in
     let e : length_in four 8 (length b) ≡ prefix_of b = ap (λ x. length_in x 8 (length b)) s ∙ sym (prefix-marked b long m) in
     subst (Gives (λ p. p) r) e h
+
+told_by : (m : Bool) (four b : List ℕ) (start size : ℕ) → is_mark (take 4 b) ≡ m → length b ≡ size → TellsLength four start b → length_in four start size ≡ prefix_of b
+told_by false four b start size plain whole told =
+    let s : start ≡ 4 = told.begins ∙ ap (λ m. if m then 8 else 4) plain in
+    let f : four ≡ take 4 b = told.stands ∙ ap (λ n. take 4 (drop (n - 4) b)) s in
+    ap (λ x. length_in x start size) f ∙ ap (λ n. length_in (take 4 b) n size) s ∙ ap (length_in (take 4 b) 4) (sym whole) ∙ sym (prefix-plain b told.long plain)
+told_by true four b start size marked whole told =
+    let s : start ≡ 8 = told.begins ∙ ap (λ m. if m then 8 else 4) marked in
+    let f : four ≡ take 4 (drop 4 b) = told.stands ∙ ap (λ n. take 4 (drop (n - 4) b)) s in
+    ap (λ x. length_in x start size) f ∙ ap (λ n. length_in (take 4 (drop 4 b)) n size) s ∙ ap (length_in (take 4 (drop 4 b)) 8) (sym whole) ∙ sym (prefix-marked b told.long marked)
+
+-- the length that four bytes tell is that of the prefix
+pub prefix_told : (four b : List ℕ) (start size : ℕ) (r : Result (ℕ × ℕ) IpcError) → Gives (λ p. p) r (length_in four start size) → length b ≡ size → TellsLength four start b → Prefixed r b
+prefix_told four b start size r h whole told = subst (Gives (λ p. p) r) (told_by (is_mark (take 4 b)) four b start size refl whole told) h

@@ -1,5 +1,5 @@
 -- What a footer that was read stands for, and its parts. (File.fbs, Footer.)
-use Rattle.std.specs.Prelude.{ℕ, ◌+◌, ◌*◌, List, map, drop, not, nat_le, Result, Ok}
+use Rattle.std.specs.Prelude.{◌≡◌, ℕ, ◌+◌, ◌*◌, List, map, drop, not, nat_le, Result, Ok, pos, All}
 use Rattle.std.specs.Int.{w32, w64}
 use Rattle.std.specs.Str.{bytes_eq}
 use Rattle.arrow_spec.specs.declared.error.FlatError.{FlatError}
@@ -8,12 +8,11 @@ use Rattle.arrow_spec.specs.declared.error.IpcError.TheVariants.{OutOfSpec, Unsu
 use Rattle.arrow_spec.specs.declared.error.Feature.TheVariants as features
 use Rattle.arrow_spec.specs.declared.error.OutOfSpecKind.TheVariants as kinds
 use Rattle.arrow_spec.specs.declared.message.Block.{Block}
-use Rattle.arrow_spec.specs.Readings.{Reading, ◌>>=◌, unless, only_if}
+use Rattle.arrow_spec.specs.Readings.{Reading, ◌>>=◌, unless, only_if, required, as_kind}
 use Rattle.arrow_spec.specs.Flat.{Table, root, signed_at, slot_table, slot_vector}
-use Rattle.arrow_spec.specs.Schema.{Schema, required, schema_of}
-use Rattle.arrow_spec.specs.Messages.{as_kind}
+use Rattle.arrow_spec.specs.Schema.{Schema, empty_vector, schema_of}
 use Rattle.arrow_spec.specs.Counts.{magnitude}
-use Rattle.arrow_spec.specs.Files.{FileBlock, Meta, arrow_1, block_of, block_at, blocks_at, feather_v1, footer_length, no_blocks}
+use Rattle.arrow_spec.specs.Files.{FileBlock, Meta, arrow_1, block_of, block_at, blocks_at, feather_v1, footer_length}
 use Rattle.arrow_flat.specs.Read.{VectorIn}
 use Rattle.ipc_fields.specs.IpcFields.{schema_view}
 use Rattle.ipc_schema.specs.declared.footer.BlockList.{BlockList}
@@ -24,13 +23,29 @@ use Rattle.ipc_schema.specs.declared.footer.Footer.{Footer}
 abbrev pub file_block : Block → FileBlock
 file_block x = record { offset = magnitude x.offset; metadata = magnitude x.meta_data_length; body = magnitude x.body_length }
 
+-- no number of a block is negative
+pub record IsNatural (x : Block) : Type 0 where
+  pub offset : x.offset ≡ pos (magnitude x.offset)
+  pub metadata : x.meta_data_length ≡ pos (magnitude x.meta_data_length)
+  pub body : x.body_length ≡ pos (magnitude x.body_length)
+
+-- none of a footer's blocks, in either list
+pub record HasNaturalBlocks (f : Footer) : Type 0 where
+  pub blocks : All IsNatural f.blocks.items
+  pub dictionaries : All IsNatural f.dictionaries.items
+
 -- what a footer says
 abbrev pub footer_view : Footer → Meta
-footer_view f = record { schema = schema_view (f.schema, f.ipc_schema, f.custom_metadata); blocks = map file_block f.blocks.items; dictionaries = map file_block f.dictionaries.items }
+footer_view f = record {
+  schema = schema_view (f.schema, f.ipc_schema, f.custom_metadata);
+  blocks = map file_block f.blocks.items;
+  dictionaries = map file_block f.dictionaries.items;
+}
 
 -- the numbers of a block
 abbrev pub block_numbers_at : List ℕ → ℕ → Result Block FlatError
-block_numbers_at b p = signed_at w64 b p >>= λ x. signed_at w32 b (p + 8) >>= λ y. signed_at w64 b (p + 16) >>= λ z. Ok (record { offset = x; meta_data_length = y; body_length = z })
+block_numbers_at b p = signed_at w64 b p >>= λ x. signed_at w32 b (p + 8) >>= λ y. signed_at w64 b (p + 16)
+    >>= λ z. Ok (record { offset = x; meta_data_length = y; body_length = z })
 
 -- a block whose numbers are not negative
 abbrev pub block_by : Block → Reading FileBlock
@@ -50,11 +65,13 @@ blocks_in list v = blocks_at (fault_in list) v.bytes v.vector
 
 -- the blocks of record batches, which have to be there
 unfoldable pub records_part : List ℕ → Table → Reading (List FileBlock)
-records_part f t = as_kind kinds.InvalidFlatbufferRecordBatches (slot_vector 24 f t 3) >>= required (OutOfSpec kinds.MissingRecordBatches) >>= λ v. blocks_at (λ e. OutOfSpec (kinds.InvalidFlatbufferRecordBatches e)) f v
+records_part f t = as_kind kinds.InvalidFlatbufferRecordBatches (slot_vector 24 f t 3) >>= required (OutOfSpec kinds.MissingRecordBatches)
+    >>= λ v. blocks_at (λ e. OutOfSpec (kinds.InvalidFlatbufferRecordBatches e)) f v
 
 -- the blocks of dictionaries
 unfoldable pub dictionaries_part : List ℕ → Table → Reading (List FileBlock)
-dictionaries_part f t = as_kind kinds.InvalidFlatbufferDictionaries (slot_vector 24 f t 2) >>= λ v. blocks_at (λ e. OutOfSpec (kinds.InvalidFlatbufferDictionaries e)) f (no_blocks v)
+dictionaries_part f t = as_kind kinds.InvalidFlatbufferDictionaries (slot_vector 24 f t 2)
+    >>= λ v. blocks_at (λ e. OutOfSpec (kinds.InvalidFlatbufferDictionaries e)) f (empty_vector v)
 
 -- the schema, which has to be there
 unfoldable pub schema_in_footer : List ℕ → Table → Reading Schema

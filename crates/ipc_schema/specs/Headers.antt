@@ -1,46 +1,17 @@
--- The header of a message: a schema, a dictionary or a record batch. (Message.fbs, MessageHeader.)
+-- What the header of a message that was read stands for, and the parts by which it is read. (Message.fbs, MessageHeader.)
 use Rattle.std.specs.Prelude.{ℕ, zero, suc, List, Ok, pos, nat_le}
 use Rattle.std.specs.Int.{w64}
 use Rattle.arrow_spec.specs.declared.error.IpcError.TheVariants.{OutOfSpec}
 use Rattle.arrow_spec.specs.declared.error.OutOfSpecKind.TheVariants as kinds
-use Rattle.arrow_spec.specs.declared.message.MetadataVersion.{MetadataVersion}
-use Rattle.arrow_spec.specs.Readings.{Reading, ◌>>=◌}
+use Rattle.arrow_spec.specs.Readings.{Reading, ◌>>=◌, required, as_kind}
 use Rattle.arrow_spec.specs.Flat.{Table, slot_bool, slot_signed, slot_table}
-use Rattle.arrow_spec.specs.Schema.{required}
-use Rattle.arrow_spec.specs.Messages.{BatchHeader as HeaderTables, DictionaryBatch, Message as MessageTables, as_kind, batch_at, dictionary_at, message_of, version_of}
+use Rattle.arrow_spec.specs.Headers.{Header, schema, dictionary, batch, Whole}
+use Rattle.arrow_spec.specs.Messages.{message_of}
 use Rattle.schema_reader.specs.Messages.{version_at}
 use Rattle.ipc_schema.specs.Views.{batch_parts, header_of}
 use Rattle.ipc_schema.specs.declared.message.Message.{Message}
 use Rattle.ipc_schema.specs.declared.message.MessageHeader.{MessageHeader}
 use Rattle.ipc_schema.specs.declared.message.MessageHeader.TheVariants as headers
-
--- what a header says
-pub data Header : Type 0 where
-  schema : Header
-  dictionary : DictionaryBatch → Header
-  batch : HeaderTables → Header
-
--- a message's version, the length of its body, and its header
-pub record Whole : Type 0 where
-  pub version : MetadataVersion
-  pub body_length : ℕ
-  pub header : Header
-
--- the header of a tag
-abbrev pub header_at : ℕ → List ℕ → Table → Reading Header
-header_at (suc (suc zero)) b t = dictionary_at b t >>= λ x. Ok (dictionary x)
-header_at (suc (suc (suc zero))) b t = batch_at b t >>= λ x. Ok (batch x)
-header_at tag b t = Ok schema
-
--- a message by its metadata: the tables of a schema, a dictionary or a record batch, its header, and its version
-unfoldable pub message_header : List ℕ → Reading Whole
-message_header b = do
-  m ← message_of b (λ tag. nat_le tag 3)
-  header ← header_at m.tag b m.header
-  version ← version_of b m
-  Ok (record { version = version; body_length = m.body; header = header })
-
--- ── what the code's values stand for, and the parts by which they are read ──
 
 abbrev pub header_in : MessageHeader → Header
 header_in headers.Schema = schema

@@ -4,7 +4,7 @@ use Rattle.std.specs.List.{list_any}
 use Rattle.ipc_schema.specs.declared.outside.PutError.{PutError}
 use Rattle.ipc_schema.specs.declared.outside.PutError.TheVariants as put
 use Rattle.ipc_schema.specs.declared.memory.shelf.Entry.{Entry}
-use Rattle.ipc_schema.specs.Outside.{Held}
+use Rattle.arrow_spec.specs.Words.{Held}
 
 -- the numbers of the calls that are to fail, from 0 on; the number of the next call; and how often a call has failed
 pub record Calls : Type 0 where
@@ -29,6 +29,10 @@ one_if failed = if failed then 1 else 0
 -- after a call that failed, or did not
 abbrev pub after_call : Calls → Bool → Calls
 after_call calls failed = record { failing = calls.failing; next = counted calls.next 1; faults = counted calls.faults (one_if failed) }
+
+-- after a file was closed that counted so many calls: that it failed is one fault more, and no call
+abbrev pub after_close : Calls → Calls → Calls
+after_close calls file = record calls { faults = counted calls.faults (one_if (nat_lt 0 file.faults)) }
 
 -- ── sources ──
 

@@ -1,6 +1,7 @@
 -- What the calls of the outside's objects do to the bytes that they tell, and what their refusals rest on.
 use Rattle.std.specs.Prelude.{◌≡◌, ◌⊎◌, ℕ, ◌+◌, ◌^◌, ◌-◌, ◌<◌, ◌≤◌, min, List, length, take, drop, ⊤, Option, Some, None, Result, Ok, Err, IsSome, OnErr, MatchResult}
 use Rattle.std.specs.Io.KnownBytes.{Appends, Keeps}
+use Rattle.arrow_spec.specs.Words.{Held}
 use Rattle.ipc_schema.specs.declared.outside.Failed.{Failed}
 use Rattle.ipc_schema.specs.declared.outside.Got.{Got}
 use Rattle.ipc_schema.specs.declared.outside.Got.TheVariants.{Full, Short}
@@ -61,10 +62,6 @@ pub record PutHasCause (faults faults' wants wants' : ℕ) (result : Result (Uni
   pub wants_later : wants ≤ wants'
   pub wanted : result ≡ Err put.Memory → Rose wants wants'
   pub wants_stay : (result ≡ Err put.Memory → ⊥) → wants' ≡ wants
-
--- what stands under each name
-abbrev pub Held : Type 0
-Held = List ℕ → Option (List ℕ)
 
 -- these are the bytes under a name, where that is told
 abbrev pub IsHeld : Option Held → List ℕ → Option (List ℕ) → Type 0

@@ -6,10 +6,9 @@ use Rattle.arrow_spec.specs.declared.error.OutOfSpecKind.TheVariants as kinds
 use Rattle.arrow_spec.specs.declared.message.FieldNode.{FieldNode}
 use Rattle.arrow_spec.specs.declared.message.IpcBuffer.{IpcBuffer}
 use Rattle.arrow_spec.specs.declared.message.MetadataVersion.{MetadataVersion}
-use Rattle.arrow_spec.specs.Readings.{Reading, ◌>>=◌}
+use Rattle.arrow_spec.specs.Readings.{Reading, ◌>>=◌, required, is_absent, as_kind}
 use Rattle.arrow_spec.specs.Flat.{Table, signed_at, slot_unsigned, slot_signed, slot_table, slot_vector}
-use Rattle.arrow_spec.specs.Schema.{required, is_absent}
-use Rattle.arrow_spec.specs.Messages.{as_kind, node_at, nodes_at, buffer_at, buffers_at, numbers_at, version_of_number}
+use Rattle.arrow_spec.specs.Messages.{node_at, nodes_at, buffer_at, buffers_at, numbers_at, version_of_number}
 use Rattle.arrow_flat.specs.Read.{VectorIn}
 use Rattle.arrow_spec.specs.Messages.{BatchHeader as HeaderTables, RecordMessage as MessageTables, Message as MessageParts}
 use Rattle.ipc_schema.specs.declared.message.BatchHeader.{BatchHeader}
@@ -46,11 +45,13 @@ numbers_in v = as_kind kinds.InvalidFlatbufferRecordBatches (numbers_at v.bytes 
 
 -- the nodes of a record batch
 unfoldable pub nodes_part : List ℕ → Table → Reading (List FieldNode)
-nodes_part b t = as_kind kinds.InvalidFlatbufferNodes (slot_vector 16 b t 1) >>= required (OutOfSpec kinds.MissingMessageNodes) >>= λ v. as_kind kinds.InvalidFlatbufferNodes (nodes_at b v)
+nodes_part b t = as_kind kinds.InvalidFlatbufferNodes (slot_vector 16 b t 1) >>= required (OutOfSpec kinds.MissingMessageNodes)
+    >>= λ v. as_kind kinds.InvalidFlatbufferNodes (nodes_at b v)
 
 -- the buffers of a record batch
 unfoldable pub buffers_part : List ℕ → Table → Reading (List IpcBuffer)
-buffers_part b t = as_kind kinds.InvalidFlatbufferBuffers (slot_vector 16 b t 2) >>= required (OutOfSpec kinds.MissingMessageBuffers) >>= λ v. as_kind kinds.InvalidFlatbufferBuffers (buffers_at b v)
+buffers_part b t = as_kind kinds.InvalidFlatbufferBuffers (slot_vector 16 b t 2) >>= required (OutOfSpec kinds.MissingMessageBuffers)
+    >>= λ v. as_kind kinds.InvalidFlatbufferBuffers (buffers_at b v)
 
 -- the numbers of data buffers of a record batch's view arrays
 unfoldable pub variadic_part : List ℕ → Table → Reading (List ℤ)

@@ -1,12 +1,13 @@
 //! The footer of a file (Arrow Columnar Format, "IPC File Format", File.fbs).
-ghost use Rattle.std.specs.Prelude.{◌≡◌, true, ◌+◌, ◌<◌, ◌≤◌, ◌++◌, ◌∷◌, [], map, length, IfOk, OnErr, Err, IfErr};
+ghost use Rattle.std.specs.Prelude.{◌≡◌, true, ℕ, ◌+◌, ◌-◌, ◌<◌, ◌≤◌, List, ◌++◌, ◌∷◌, [], All, take, drop, map, length, IfOk, OnErr, Err, IfErr};
 ghost use Rattle.arrow_spec.specs.declared.error.IpcError.TheVariants.{Memory};
 ghost use Rattle.arrow_spec.specs.Readings.{Gives};
-ghost use Rattle.arrow_spec.specs.Files.{meta_in};
+ghost use Rattle.arrow_spec.specs.Files.{footer_of, meta_in};
 ghost use Rattle.arrow_types.specs.Schemas.{fields_in};
 ghost use Rattle.ipc_fields.specs.IpcFields.{AreNamed, have_shapes, ids_of, schema_view};
-ghost use Rattle.ipc_schema.specs.Footers.{file_block, footer_view, block_numbers_at, block_by, fault_in, block_in, blocks_in, footer_length_in, records_part, dictionaries_part, schema_in_footer, footer_parts};
+ghost use Rattle.ipc_schema.specs.Footers.{IsNatural, HasNaturalBlocks, file_block, footer_view, block_numbers_at, block_by, fault_in, block_in, blocks_in, footer_length_in, records_part, dictionaries_part, schema_in_footer, footer_parts};
 ghost use Rattle.ipc_fields.specs.Causes.{IsOfBytes};
+ghost use Rattle.schema_reader.specs.Metadata.{HasPairsIfAny};
 
 use crate::number::{i32_at, i64_at};
 use arrow_flat::{Flat, Table, Vector};
@@ -67,6 +68,7 @@ fn block_from(item: &[u8]) -> Result<Block, FlatError>
 #[tactic(auto, unfolding(arrow_spec::specs::Readings::bind))]
 fn natural_block(block: Block) -> Result<Block, IpcError>
     ensures gives { Gives file_block result (block_by block) }
+    ensures natural { IfOk result IsNatural }
     ensures quiet { IfErr result IsOfBytes }
 {
     if block.offset < 0 || block.meta_data_length < 0 || block.body_length < 0 {
@@ -81,6 +83,7 @@ fn read_block(vector: &Vector<'_>, i: usize, list: BlockList) -> Result<Block, I
     requires width { vector.now.width ≡ 24 }
     requires within { i < vector.now.vector.count }
     ensures gives { Gives file_block result (block_in list vector.now i) }
+    ensures natural { IfOk result IsNatural }
     ensures quiet { IfErr result IsOfBytes }
 {
     let block = match block_from(vector.get(i)) {
@@ -92,6 +95,7 @@ fn read_block(vector: &Vector<'_>, i: usize, list: BlockList) -> Result<Block, I
 
 fn push_block(blocks: &mut Vec<Block>, block: Block) -> Result<(), IpcError>
     ensures ok { IfOk result (λ _. map file_block blocks.new.items ≡ map file_block blocks.old.items ++ file_block block ∷ []) }
+    ensures items { IfOk result (λ _. blocks.new.items ≡ blocks.old.items ++ block ∷ []) }
     ensures err { OnErr result (result ≡ Err Memory) }
     ensures quiet { IfErr result IsOfBytes }
 {
@@ -102,10 +106,11 @@ fn push_block(blocks: &mut Vec<Block>, block: Block) -> Result<(), IpcError>
 }
 
 /// The blocks of a vector.
-#[tactic(auto, using(crate::proofs::Footers::blocks_begun, crate::proofs::Items::more_read, crate::proofs::Items::one_refused, crate::proofs::Items::all_read))]
+#[tactic(auto, using(crate::proofs::Footers::blocks_begun, crate::proofs::Items::more_read, crate::proofs::Items::one_refused, crate::proofs::Items::all_read, crate::proofs::Footers::none_natural, crate::proofs::Footers::more_natural))]
 fn read_blocks(alloc: Global, vector: &Vector<'_>, list: BlockList) -> Result<Vec<Block>, IpcError>
     requires { vector.now.width ≡ 24 }
     ensures gives { Gives (λ v. map file_block v.items) result (blocks_in list vector.now) }
+    ensures natural { IfOk result (λ v. All IsNatural v.items) }
     ensures quiet { IfErr result IsOfBytes }
 {
     let mut blocks = Vec::new(alloc);
@@ -120,6 +125,7 @@ fn read_blocks(alloc: Global, vector: &Vector<'_>, list: BlockList) -> Result<Ve
 #[tactic(auto, unfolding(arrow_spec::specs::Readings::bind, crate::specs::Footers::records_part))]
 fn read_record_blocks(alloc: Global, table: &Table<'_>) -> Result<Vec<Block>, IpcError>
     ensures gives { Gives (λ v. map file_block v.items) result (records_part table.now.bytes table.now.table) }
+    ensures natural { IfOk result (λ v. All IsNatural v.items) }
     ensures quiet { IfErr result IsOfBytes }
 {
     let vector = table.slot_vector(3, 24).map_err(|e| IpcError::OutOfSpec(
@@ -135,6 +141,7 @@ fn read_record_blocks(alloc: Global, table: &Table<'_>) -> Result<Vec<Block>, Ip
 #[tactic(auto, unfolding(arrow_spec::specs::Readings::bind, crate::specs::Footers::dictionaries_part))]
 fn read_dictionary_blocks(alloc: Global, table: &Table<'_>) -> Result<Vec<Block>, IpcError>
     ensures gives { Gives (λ v. map file_block v.items) result (dictionaries_part table.now.bytes table.now.table) }
+    ensures natural { IfOk result (λ v. All IsNatural v.items) }
     ensures quiet { IfErr result IsOfBytes }
 {
     let vector = table.slot_vector(2, 24).map_err(|e| IpcError::OutOfSpec(
@@ -155,6 +162,7 @@ fn read_footer_schema(
     ensures gives { Gives schema_view result (schema_in_footer table.now.bytes table.now.table) }
     ensures named { IfOk result (λ s. AreNamed s.0) }
     ensures shapes { IfOk result (λ s. have_shapes (fields_in s.0) (ids_of s.1.fields.items) ≡ true) }
+    ensures no_empty_metadata { IfOk result (λ s. HasPairsIfAny s.2) }
     ensures quiet { IfErr result IsOfBytes }
 {
     let schema = table.slot_table(1).map_err(|e| IpcError::OutOfSpec(
@@ -171,6 +179,8 @@ fn read_footer_parts(alloc: Global, bytes: &[u8]) -> Result<Footer, IpcError>
     ensures gives { Gives footer_view result (footer_parts bytes.now) }
     ensures named { IfOk result (λ f. AreNamed f.schema) }
     ensures shapes { IfOk result (λ f. have_shapes (fields_in f.schema) (ids_of f.ipc_schema.fields.items) ≡ true) }
+    ensures no_empty_metadata { IfOk result (λ f. HasPairsIfAny f.custom_metadata) }
+    ensures natural { IfOk result HasNaturalBlocks }
     ensures quiet { IfErr result IsOfBytes }
 {
     let table = Flat::root(bytes).map_err(|e| IpcError::OutOfSpec(
@@ -202,6 +212,10 @@ pub fn deserialize_footer(alloc: Global, bytes: &[u8]) -> Result<Footer, IpcErro
 
     // The IPC fields are those of the schema.
     ensures shapes { IfOk result (λ f. have_shapes (fields_in f.schema) (ids_of f.ipc_schema.fields.items) ≡ true) }
+    ensures no_empty_metadata { IfOk result (λ f. HasPairsIfAny f.custom_metadata) }
+
+    // No number of a block is negative.
+    ensures natural { IfOk result HasNaturalBlocks }
     ensures quiet { IfErr result IsOfBytes }
 {
     read_footer_parts(alloc, bytes)
@@ -213,8 +227,20 @@ pub fn deserialize_footer(alloc: Global, bytes: &[u8]) -> Result<Footer, IpcErro
 ///
 /// `Unsupported(FeatherV1)` where the bytes end with `FEA1`, `OutOfSpec(InvalidFooter)` where they do not end with
 /// `ARROW1`, `OutOfSpec(NegativeFooterLength)`, and `OutOfSpec(Truncated)` where the footer begins before the file.
-#[tactic(auto, unfolding(arrow_spec::specs::Readings::bind, crate::specs::Footers::footer_length_in))]
 pub fn decode_footer_len(end: &[u8], size: u64) -> Result<usize, IpcError>
+    requires { length end.now ≡ 10 }
+    ensures gives { Gives (λ n. n) result (footer_length_in end.now size) }
+
+    // A file that ends so has a footer of that length before its last ten bytes.
+    ensures footer { (b : List ℕ) → length b ≡ size → drop (size - 10) b ≡ end.now → Gives (λ n. take n (drop (size - 10 - n) b)) result (footer_of b) }
+    ensures within { IfOk result (λ n. n + 10 ≤ size) }
+    ensures quiet { IfErr result IsOfBytes }
+{
+    length_by_end(end, size)
+}
+
+#[tactic(auto, unfolding(arrow_spec::specs::Readings::bind, crate::specs::Footers::footer_length_in))]
+fn length_by_end(end: &[u8], size: u64) -> Result<usize, IpcError>
     requires { length end.now ≡ 10 }
     ensures gives { Gives (λ n. n) result (footer_length_in end.now size) }
     ensures within { IfOk result (λ n. n + 10 ≤ size) }

@@ -4,7 +4,8 @@ ghost use Rattle.arrow_spec.specs.declared.error.IpcError.TheVariants.{Memory, R
 ghost use Rattle.arrow_spec.specs.Readings.{Gives};
 ghost use Rattle.arrow_spec.specs.Messages.{node_at, buffer_at, record_message};
 ghost use Rattle.ipc_schema.specs.Views.{node_of, buffer_of, number_of, nodes_in, buffers_in, numbers_in, nodes_part, buffers_part, variadic_part, batch_parts, record_parts, header_of, message_of};
-ghost use Rattle.ipc_schema.specs.Headers.{header_in, whole_in, batch_part, dictionary_parts, header_part, header_parts, message_header};
+ghost use Rattle.arrow_spec.specs.Headers.{message_header};
+ghost use Rattle.ipc_schema.specs.Headers.{header_in, whole_in, batch_part, dictionary_parts, header_part, header_parts};
 ghost use Rattle.ipc_fields.specs.Causes.{IsOfBytes};
 
 use crate::message::{BatchHeader, Message, MessageHeader, RecordMessage};

@@ -1,6 +1,7 @@
 //! The outside of a program as objects that it is lent, and such objects over memory; the metadata of messages, schemas and footers.
 #![tactic(auto)]
 
+mod custom;
 mod footer;
 mod header;
 mod lent;
@@ -14,6 +15,7 @@ pub use arrow_spec::{
     Block, Counted, Feature, FieldNode, FlatError, IpcBuffer, IpcError, MetadataVersion,
     OutOfSpecKind,
 };
+pub use custom::{refuse_footer_pairs, refuse_message_pairs};
 pub use footer::{Footer, decode_footer_len, deserialize_footer};
 pub use header::{read_message_header, read_record_message};
 pub use ipc_fields::{IpcField, IpcSchema};

@@ -10,6 +10,3 @@ pub use feed::MemoryFeed;
 pub use shelf::{Entry, MemoryShelf};
 pub use sink::MemorySink;
 pub use source::MemorySource;
-
-#[cfg(test)]
-mod tests;

@@ -3,7 +3,8 @@ ghost use Rattle.std.specs.Prelude.{◌≡◌, ℕ, ◌+◌, ◌^◌, ◌<◌, �
 ghost use Rattle.std.specs.Io.{ReadsAtMost};
 ghost use Rattle.std.specs.Io.KnownBytes.{ReadConsumes};
 ghost use Rattle.arrow_spec.specs.declared.error.IpcError.TheVariants.{ReadFault};
-ghost use Rattle.ipc_schema.specs.Outside.{HasCause, IsSize, Reads, Puts, PutHasCause, Held, IsHeld, Lacks, OpenHasCause, Closes};
+ghost use Rattle.ipc_schema.specs.Outside.{HasCause, IsSize, Reads, Puts, PutHasCause, IsHeld, Lacks, OpenHasCause, Closes};
+ghost use Rattle.arrow_spec.specs.Words.{Held};
 
 use arrow_spec::IpcError;
 use thiserror::Error;

@@ -1,9 +1,9 @@
 //! The prefix of a message (Arrow Columnar Format, "Encapsulated message format").
-ghost use Rattle.std.specs.Prelude.{◌≡◌, ◌≢◌, ◌+◌, ◌≤◌, IfOk, Err, IfErr};
+ghost use Rattle.std.specs.Prelude.{◌≡◌, ◌≢◌, ℕ, ◌+◌, ◌≤◌, List, length, IfOk, Err, IfErr};
 ghost use Rattle.arrow_spec.specs.declared.error.IpcError.TheVariants.{ReadFault};
 ghost use Rattle.arrow_spec.specs.Readings.{Gives};
 ghost use Rattle.arrow_spec.specs.Messages.{prefix_of, is_mark};
-ghost use Rattle.ipc_schema.specs.Prefixes.{length_in};
+ghost use Rattle.ipc_schema.specs.Prefixes.{length_in, TellsLength};
 ghost use Rattle.ipc_fields.specs.Causes.{IsOfBytes};
 
 use crate::number::i32_at;
@@ -16,10 +16,8 @@ pub fn is_continuation(front: &[u8]) -> bool
     front == [255, 255, 255, 255].as_slice()
 }
 
-/// Where the metadata begins and how long it is, by the four bytes of its length, where the metadata begins at `start`
-/// and so many bytes are there from the prefix on.
 #[tactic(auto, unfolding(arrow_spec::specs::Readings::bind, crate::specs::Prefixes::length_in))]
-pub fn metadata_length(four: &[u8], start: usize, size: usize) -> Result<(usize, usize), IpcError>
+fn length_in(four: &[u8], start: usize, size: usize) -> Result<(usize, usize), IpcError>
     requires { start ≤ 8 }
     ensures gives { Gives (λ p. p) result (length_in four.now start size) }
     ensures start { IfOk result (λ p. p.0 ≡ start) }
@@ -35,6 +33,21 @@ pub fn metadata_length(four: &[u8], start: usize, size: usize) -> Result<(usize,
         return Err(IpcError::OutOfSpec(OutOfSpecKind::MessageRange));
     }
     Ok((start, length))
+}
+
+/// Where the metadata begins and how long it is, by the four bytes of its length, where the metadata begins at `start`
+/// and so many bytes are there from the prefix on.
+pub fn metadata_length(four: &[u8], start: usize, size: usize) -> Result<(usize, usize), IpcError>
+    requires { start ≤ 8 }
+    ensures gives { Gives (λ p. p) result (length_in four.now start size) }
+
+    // It is what the prefix of such bytes says.
+    ensures prefix { (b : List ℕ) → length b ≡ size → TellsLength four.now start b → Gives (λ p. p) result (prefix_of b) }
+    ensures start { IfOk result (λ p. p.0 ≡ start) }
+    ensures within { IfOk result (λ p. p.0 + p.1 ≤ size) }
+    ensures quiet { IfErr result IsOfBytes }
+{
+    length_in(four, start, size)
 }
 
 /// Where a message's metadata begins, 4 or 8 bytes in, and its length, by bytes that begin with the message.

@@ -12,4 +12,5 @@ own_line level c id = indent level ++ quoted c.name ++ codes " " ++ type_text_wi
 
 -- a field's line, its pairs, and its children one level below it, with the first of some ids
 abbrev pub field_text : ℕ → Child → Ids → List ℕ
-field_text level c own = own_line level c (first_id own) ++ pair_lines (suc level) c.metadata ++ child_lines (suc level) (kind_with c.kind (first_id own) (first_ids own))
+field_text level c own =
+    own_line level c (first_id own) ++ pair_lines (suc level) c.metadata ++ child_lines (suc level) (kind_with c.kind (first_id own) (first_ids own))

@@ -11,8 +11,7 @@ use Rattle.arrow_flat.specs.Read.{VectorIn}
 use Rattle.arrow_types.specs.Child.{Child, fields_from}
 use Rattle.arrow_types.specs.KindOf.{kind_of}
 use Rattle.ipc_fields.proofs.Widths.{leaf_with, width_with}
-use Rattle.schema_reader.specs.Fits.{fits, fit}
-use Rattle.ipc_fields.specs.IpcFields.{Ids, Tree, no_fields, ids, has_no_fields, kind_with, fields_with}
+use Rattle.ipc_fields.specs.IpcFields.{Ids, Tree, no_fields, ids, has_no_fields, has_shape, have_shapes, is_encoded, kind_with, fields_with}
 use Rattle.schema_reader.specs.Parts.{child_by, entry_by}
 use Rattle.schema_reader.specs.ReadViews.{child_with, Takes, Named, shape_kind, extended, encoded, encoding_in, is_whole_shape}
 use Rattle.ipc_fields.specs.Leaves.{is_leaf}
@@ -28,15 +27,15 @@ leaf_whole (kind.dictionary index ordered old k) h = cc
 leaf_whole (kind.extension name metadata k) h = cc
 leaf_whole k h = refl
 
-leaf_fits : (k : Kind) (below : Ids) → is_leaf k ≡ true → has_no_fields below ≡ true → fits k None below ≡ true
-leaf_fits (kind.«list» o fs) below h none = cc
-leaf_fits (kind.fixed_size_list n fs) below h none = cc
-leaf_fits (kind.struct fs) below h none = cc
-leaf_fits (kind.map sorted fs) below h none = cc
-leaf_fits (kind.union mode stated types fs) below h none = cc
-leaf_fits (kind.dictionary index ordered old k) below h none = cc
-leaf_fits (kind.extension name metadata k) below h none = cc
-leaf_fits k below h none = none
+leaf_shape : (k : Kind) (below : Ids) → is_leaf k ≡ true → has_no_fields below ≡ true → has_shape k None below ≡ true
+leaf_shape (kind.«list» o fs) below h none = cc
+leaf_shape (kind.fixed_size_list n fs) below h none = cc
+leaf_shape (kind.struct fs) below h none = cc
+leaf_shape (kind.map sorted fs) below h none = cc
+leaf_shape (kind.union mode stated types fs) below h none = cc
+leaf_shape (kind.dictionary index ordered old k) below h none = cc
+leaf_shape (kind.extension name metadata k) below h none = cc
+leaf_shape k below h none = none
 
 -- ── what a shape makes ──
 
@@ -49,26 +48,26 @@ shape_with n (shape.Map sorted) fs below h = refl
 shape_with n shape.Struct fs below h = refl
 shape_with n (shape.Union mode stated) fs below h = refl
 
-no_child : (cs : List Child) (below : Ids) → length cs ≡ 0 → fit (fields_from cs) below ≡ true → has_no_fields below ≡ true
+no_child : (cs : List Child) (below : Ids) → length cs ≡ 0 → have_shapes (fields_from cs) below ≡ true → has_no_fields below ≡ true
 no_child [] below none h = h
 no_child (c ∷ cs) below none h = absurd (omega (arith, none))
 
-shape_fits : (s : Shape) (cs : List Child) (below : Ids) → Takes (length cs) s → fit (fields_from cs) below ≡ true → fits (shape_kind (length cs) s (fields_from cs)) None below ≡ true
-shape_fits (shape.Flat t) cs below h f = leaf_fits (kind_of t) below h.1 (no_child cs below h.0 f)
-shape_fits shape.List cs below h f = f
-shape_fits shape.LargeList cs below h f = f
-shape_fits (shape.FixedSizeList size) cs below h f = f
-shape_fits (shape.Map sorted) cs below h f = f
-shape_fits shape.Struct cs below h f = f
-shape_fits (shape.Union mode stated) cs below h f = f
+shape_has : (s : Shape) (cs : List Child) (below : Ids) → Takes (length cs) s → have_shapes (fields_from cs) below ≡ true → has_shape (shape_kind (length cs) s (fields_from cs)) None below ≡ true
+shape_has (shape.Flat t) cs below h f = leaf_shape (kind_of t) below h.1 (no_child cs below h.0 f)
+shape_has shape.List cs below h f = f
+shape_has shape.LargeList cs below h f = f
+shape_has (shape.FixedSizeList size) cs below h f = f
+shape_has (shape.Map sorted) cs below h f = f
+shape_has shape.Struct cs below h f = f
+shape_has (shape.Union mode stated) cs below h f = f
 
 extended_with : (x : Option Named) (k : Kind) (id : Option ℤ) (below : Ids) → kind_with (extended x k) id below ≡ extended x (kind_with k id below)
 extended_with None k id below = refl
 extended_with (Some x) k id below = refl
 
-extended_fits : (x : Option Named) (k : Kind) (id : Option ℤ) (below : Ids) → fits (extended x k) id below ≡ fits k id below
-extended_fits None k id below = refl
-extended_fits (Some x) k id below = refl
+extended_shape : (x : Option Named) (k : Kind) (id : Option ℤ) (below : Ids) → has_shape (extended x k) id below ≡ has_shape k id below
+extended_shape None k id below = refl
+extended_shape (Some x) k id below = refl
 
 abbrev pub id_in : Option Encoding → Option ℤ
 id_in = option_map (λ e. e.id)
@@ -77,9 +76,15 @@ encoded_with : (e : Option Encoding) (k : Kind) (below : Ids) → kind_with (enc
 encoded_with None k below = refl
 encoded_with (Some e) k below = refl
 
-encoded_fits : (e : Option Encoding) (k : Kind) (below : Ids) → fits k None below ≡ true → fits (encoded e k) (id_in e) below ≡ true
-encoded_fits None k below h = h
-encoded_fits (Some e) k below h = h
+-- without an id it is no dictionary
+plain : (k : Kind) (below : Ids) → has_shape k None below ≡ true → is_encoded k ≡ false
+plain (kind.dictionary index ordered old k) below h = cc
+plain (kind.extension name metadata k) below h = plain k below h
+plain k below h = refl
+
+encoded_shape : (e : Option Encoding) (k : Kind) (below : Ids) → has_shape k None below ≡ true → has_shape (encoded e k) (id_in e) below ≡ true
+encoded_shape None k below h = h
+encoded_shape (Some e) k below h = rw (plain k below h) h
 
 abbrev pub made_kind : Option Encoding → Option Named → ℕ → Shape → Fields → Kind
 made_kind e x n s fs = encoded e (extended x (shape_kind n s fs))
@@ -90,11 +95,11 @@ read_kind e x n s fs = with_encoding (option_map encoding_in e) (extended x (sha
 pub made_with : (e : Option Encoding) (x : Option Named) (n : ℕ) (s : Shape) (fs : Fields) (below : Ids) → Takes n s → kind_with (made_kind e x n s fs) (id_in e) below ≡ read_kind e x n s (fields_with fs below)
 made_with e x n s fs below h = encoded_with e (extended x (shape_kind n s fs)) below ∙ ap (with_encoding (option_map encoding_in e)) (extended_with x (shape_kind n s fs) None below ∙ ap (extended x) (shape_with n s fs below h))
 
-pub made_fits : (e : Option Encoding) (x : Option Named) (n : ℕ) (s : Shape) (cs : List Child) (below : Ids) → length cs ≡ n → Takes n s → fit (fields_from cs) below ≡ true → fits (made_kind e x n s (fields_from cs)) (id_in e) below ≡ true
-made_fits e x n s cs below h t f =
+pub made_shape : (e : Option Encoding) (x : Option Named) (n : ℕ) (s : Shape) (cs : List Child) (below : Ids) → length cs ≡ n → Takes n s → have_shapes (fields_from cs) below ≡ true → has_shape (made_kind e x n s (fields_from cs)) (id_in e) below ≡ true
+made_shape e x n s cs below h t f =
     let takes : Takes (length cs) s = subst (λ k. Takes k s) (sym h) t in
-    let all : fits (made_kind e x (length cs) s (fields_from cs)) (id_in e) below ≡ true = encoded_fits e (extended x (shape_kind (length cs) s (fields_from cs))) below (extended_fits x (shape_kind (length cs) s (fields_from cs)) None below ∙ shape_fits s cs below takes f) in
-    subst (λ k. fits (made_kind e x k s (fields_from cs)) (id_in e) below ≡ true) h all
+    let all : has_shape (made_kind e x (length cs) s (fields_from cs)) (id_in e) below ≡ true = encoded_shape e (extended x (shape_kind (length cs) s (fields_from cs))) below (extended_shape x (shape_kind (length cs) s (fields_from cs)) None below ∙ shape_has s cs below takes f) in
+    subst (λ k. has_shape (made_kind e x k s (fields_from cs)) (id_in e) below ≡ true) h all
 
 -- ── what is asked of children ──
 
@@ -152,8 +157,8 @@ child_as d k = record { name = d.name; kind = k; nullable = d.nullable; metadata
 pub entry_is : (c d : Child) (t : Tree) (k : Kind) (id : Option ℤ) (below : Ids) → c ≡ record { name = d.name; kind = k; nullable = d.nullable; metadata = d.metadata } → t ≡ record { id = id; children = below } → kind_with k id below ≡ d.kind → child_with c t ≡ d
 entry_is c d t k id below h g e = rw (h, g) (ap (λ z. child_as d z) e)
 
-pub entry_fits : (c : Child) (t : Tree) (k : Kind) (id : Option ℤ) (below : Ids) → c.kind ≡ k → t ≡ record { id = id; children = below } → fits k id below ≡ true → fits c.kind t.id t.children ≡ true
-entry_fits c t k id below h g e = rw (h, g) e
+pub entry_shape : (c : Child) (t : Tree) (k : Kind) (id : Option ℤ) (below : Ids) → c.kind ≡ k → t ≡ record { id = id; children = below } → has_shape k id below ≡ true → has_shape c.kind t.id t.children ≡ true
+entry_shape c t k id below h g e = rw (h, g) e
 
 pub first_part : (b : List ℕ) (o : Option VectorIn) → IfSome o (λ v. (v.bytes ≡ b) × (v.width ≡ 4)) → IfSome o (λ v. v.bytes ≡ b)
 first_part b None h = tt

@@ -8,8 +8,7 @@ use Rattle.arrow_spec.specs.Kinds as kind
 use Rattle.arrow_spec.specs.Kinds.{Kind, Fields}
 use Rattle.arrow_spec.specs.Schema.{Before, Head, head_at, field_at, fields_by}
 use Rattle.arrow_types.specs.Child.{Child, fields_from}
-use Rattle.schema_reader.specs.Fits.{fits, fit}
-use Rattle.ipc_fields.specs.IpcFields.{Tree, ids_from, kind_with, fields_with}
+use Rattle.ipc_fields.specs.IpcFields.{Tree, ids_from, has_shape, have_shapes, kind_with, fields_with}
 use Rattle.schema_reader.specs.Parts.{child_by, name_at, tagged_at, tag_part, form_at, head_by, head_from, entry_at, entries_at, entry_by}
 use Rattle.schema_reader.specs.ReadViews.{child_with}
 use Rattle.ipc_fields.proofs.Steps.{bind_twice, none_refused}
@@ -178,14 +177,14 @@ and_true : (b : Bool) → (b && true) ≡ b
 and_true true = refl
 and_true false = refl
 
-fit_one : (cs : List Child) (ts : List Tree) (c : Child) (t : Tree) → length cs ≡ length ts → fit (fields_from (cs ++ c ∷ [])) (ids_from (ts ++ t ∷ [])) ≡ (fit (fields_from cs) (ids_from ts) && fits c.kind t.id t.children)
-fit_one [] [] c t h = and_true (fits c.kind t.id t.children)
-fit_one [] (u ∷ ts) c t h = absurd (omega (arith, h))
-fit_one (d ∷ cs) [] c t h = absurd (omega (arith, h))
-fit_one (d ∷ cs) (u ∷ ts) c t h = ap (λ b. fits d.kind u.id u.children && b) (fit_one cs ts c t (omega (arith, h))) ∙ and_right (fits d.kind u.id u.children) (fit (fields_from cs) (ids_from ts)) (fits c.kind t.id t.children)
+shapes_one : (cs : List Child) (ts : List Tree) (c : Child) (t : Tree) → length cs ≡ length ts → have_shapes (fields_from (cs ++ c ∷ [])) (ids_from (ts ++ t ∷ [])) ≡ (have_shapes (fields_from cs) (ids_from ts) && has_shape c.kind t.id t.children)
+shapes_one [] [] c t h = and_true (has_shape c.kind t.id t.children)
+shapes_one [] (u ∷ ts) c t h = absurd (omega (arith, h))
+shapes_one (d ∷ cs) [] c t h = absurd (omega (arith, h))
+shapes_one (d ∷ cs) (u ∷ ts) c t h = ap (λ b. has_shape d.kind u.id u.children && b) (shapes_one cs ts c t (omega (arith, h))) ∙ and_right (has_shape d.kind u.id u.children) (have_shapes (fields_from cs) (ids_from ts)) (has_shape c.kind t.id t.children)
 
-pub fit_more : (cs all : List Child) (ts trees : List Tree) (c : Child) (t : Tree) → length cs ≡ length ts → fit (fields_from cs) (ids_from ts) ≡ true → fits c.kind t.id t.children ≡ true → all ≡ cs ++ c ∷ [] → trees ≡ ts ++ t ∷ [] → fit (fields_from all) (ids_from trees) ≡ true
-fit_more cs all ts trees c t same h one grown taller = rw (grown, taller) (fit_one cs ts c t same ∙ rw (h, one) refl)
+pub shapes_more : (cs all : List Child) (ts trees : List Tree) (c : Child) (t : Tree) → length cs ≡ length ts → have_shapes (fields_from cs) (ids_from ts) ≡ true → has_shape c.kind t.id t.children ≡ true → all ≡ cs ++ c ∷ [] → trees ≡ ts ++ t ∷ [] → have_shapes (fields_from all) (ids_from trees) ≡ true
+shapes_more cs all ts trees c t same h one grown taller = rw (grown, taller) (shapes_one cs ts c t same ∙ rw (h, one) refl)
 
 pub none_below : (levels : ℕ) (b : List ℕ) (before : Before) → entries_at levels b (rest_of 0 0) before ≡ Ok (kind.none, before)
 unfolding entries_at fields_by

@@ -11,6 +11,7 @@ use Rattle.arrow_spec.specs.declared.error.IpcError.{IpcError}
 use Rattle.arrow_spec.specs.Readings.{bind, Reading, Refuses, refusals}
 use Rattle.arrow_spec.specs.Flat.{Vector}
 use Rattle.arrow_spec.specs.Kinds.{Metadata}
+use Rattle.arrow_spec.specs.declared.error.OutOfSpecKind.TheVariants.{InvalidFlatbufferSchema}
 use Rattle.arrow_spec.specs.Schema.{pairs_from, with_pair, with_read_pair, stands_before}
 use Rattle.arrow_spec.proofs.PairOrder.{key_same}
 use Rattle.arrow_types.specs.KindOf.{texts_of}
@@ -21,45 +22,45 @@ use Rattle.ipc_fields.proofs.TextOrder.{before_same}
 
 -- ── one after another ──
 
-step-one : (b : List ℕ) (at n : ℕ) (m : Metadata) → pairs_from b at (suc n) m ≡ bind (pair_put b at m) (λ x. pairs_from b (at + 4) n x)
+step-one : (b : List ℕ) (at n : ℕ) (m : Metadata) → pairs_from InvalidFlatbufferSchema b at (suc n) m ≡ bind (pair_put b at m) (λ x. pairs_from InvalidFlatbufferSchema b (at + 4) n x)
 unfolding pairs_from pair_put
 step-one b at n m = step _ _ _ _ (λ t _. step _ _ _ _ (λ key _. step _ _ _ _ (λ value _. ok_next _ _)))
 
-pub no_pairs_at : (b : List ℕ) (m : Metadata) → pairs_from b 0 0 m ≡ Ok m
+pub no_pairs_at : (b : List ℕ) (m : Metadata) → pairs_from InvalidFlatbufferSchema b 0 0 m ≡ Ok m
 unfolding pairs_from
 no_pairs_at b m = refl
 
-pub pairs_begun : (b : List ℕ) (v : Vector) (m : Metadata) → m ≡ [] → pairs_from b (v.first + 4 * 0) (v.count - 0) m ≡ pairs_from b v.first v.count []
+pub pairs_begun : (b : List ℕ) (v : Vector) (m : Metadata) → m ≡ [] → pairs_from InvalidFlatbufferSchema b (v.first + 4 * 0) (v.count - 0) m ≡ pairs_from InvalidFlatbufferSchema b v.first v.count []
 pairs_begun b v m h =
     let at : v.first + 4 * 0 ≡ v.first = omega arith in
     let n : v.count - 0 ≡ v.count = omega arith in
     rw (at, n, h) refl
 
-pub pairs_more : (b : List ℕ) (first n i : ℕ) (m next : Metadata) (whole : Reading Metadata) → i < n → pairs_from b (first + 4 * i) (n - i) m ≡ whole → pair_put b (first + 4 * i) m ≡ Ok next → pairs_from b (first + 4 * (i + 1)) (n - (i + 1)) next ≡ whole
+pub pairs_more : (b : List ℕ) (first n i : ℕ) (m next : Metadata) (whole : Reading Metadata) → i < n → pairs_from InvalidFlatbufferSchema b (first + 4 * i) (n - i) m ≡ whole → pair_put b (first + 4 * i) m ≡ Ok next → pairs_from InvalidFlatbufferSchema b (first + 4 * (i + 1)) (n - (i + 1)) next ≡ whole
 unfolding bind
 pairs_more b first n i m next whole less h got =
     let count : n - i ≡ suc (n - (i + 1)) = omega arith in
     let at : first + 4 * (i + 1) ≡ (first + 4 * i) + 4 = omega arith in
-    let s : pairs_from b (first + 4 * i) (n - i) m ≡ bind (pair_put b (first + 4 * i) m) (λ x. pairs_from b ((first + 4 * i) + 4) (n - (i + 1)) x) = ap (λ k. pairs_from b (first + 4 * i) k m) count ∙ step-one b (first + 4 * i) (n - (i + 1)) m in
-    ap (λ a. pairs_from b a (n - (i + 1)) next) at ∙ sym (ap (λ r. bind r (λ x. pairs_from b ((first + 4 * i) + 4) (n - (i + 1)) x)) got) ∙ sym s ∙ h
+    let s : pairs_from InvalidFlatbufferSchema b (first + 4 * i) (n - i) m ≡ bind (pair_put b (first + 4 * i) m) (λ x. pairs_from InvalidFlatbufferSchema b ((first + 4 * i) + 4) (n - (i + 1)) x) = ap (λ k. pairs_from InvalidFlatbufferSchema b (first + 4 * i) k m) count ∙ step-one b (first + 4 * i) (n - (i + 1)) m in
+    ap (λ a. pairs_from InvalidFlatbufferSchema b a (n - (i + 1)) next) at ∙ sym (ap (λ r. bind r (λ x. pairs_from InvalidFlatbufferSchema b ((first + 4 * i) + 4) (n - (i + 1)) x)) got) ∙ sym s ∙ h
 
-stopped_by : (e : IpcError) (r : Reading Metadata) (b : List ℕ) (first n i : ℕ) (m : Metadata) (whole : Reading Metadata) → i < n → pairs_from b (first + 4 * i) (n - i) m ≡ whole → pair_put b (first + 4 * i) m ≡ r → Refuses e (refusals r) → Refuses e (refusals whole)
+stopped_by : (e : IpcError) (r : Reading Metadata) (b : List ℕ) (first n i : ℕ) (m : Metadata) (whole : Reading Metadata) → i < n → pairs_from InvalidFlatbufferSchema b (first + 4 * i) (n - i) m ≡ whole → pair_put b (first + 4 * i) m ≡ r → Refuses e (refusals r) → Refuses e (refusals whole)
 unfolding bind
 stopped_by e (Ok x) b first n i m whole less h same told = none_refused e (refusals whole) told
 stopped_by e (Err es) b first n i m whole less h same told =
     let count : n - i ≡ suc (n - (i + 1)) = omega arith in
-    let s : pairs_from b (first + 4 * i) (n - i) m ≡ bind (pair_put b (first + 4 * i) m) (λ x. pairs_from b ((first + 4 * i) + 4) (n - (i + 1)) x) = ap (λ k. pairs_from b (first + 4 * i) k m) count ∙ step-one b (first + 4 * i) (n - (i + 1)) m in
-    let all : whole ≡ Err es = sym h ∙ s ∙ ap (λ r. bind r (λ x. pairs_from b ((first + 4 * i) + 4) (n - (i + 1)) x)) same in
+    let s : pairs_from InvalidFlatbufferSchema b (first + 4 * i) (n - i) m ≡ bind (pair_put b (first + 4 * i) m) (λ x. pairs_from InvalidFlatbufferSchema b ((first + 4 * i) + 4) (n - (i + 1)) x) = ap (λ k. pairs_from InvalidFlatbufferSchema b (first + 4 * i) k m) count ∙ step-one b (first + 4 * i) (n - (i + 1)) m in
+    let all : whole ≡ Err es = sym h ∙ s ∙ ap (λ r. bind r (λ x. pairs_from InvalidFlatbufferSchema b ((first + 4 * i) + 4) (n - (i + 1)) x)) same in
     subst (λ r. Refuses e (refusals r)) (sym all) told
 
-pub pairs_stopped : (b : List ℕ) (first n i : ℕ) (m : Metadata) (whole : Reading Metadata) (e : IpcError) → i < n → pairs_from b (first + 4 * i) (n - i) m ≡ whole → Refuses e (refusals (pair_put b (first + 4 * i) m)) → Refuses e (refusals whole)
+pub pairs_stopped : (b : List ℕ) (first n i : ℕ) (m : Metadata) (whole : Reading Metadata) (e : IpcError) → i < n → pairs_from InvalidFlatbufferSchema b (first + 4 * i) (n - i) m ≡ whole → Refuses e (refusals (pair_put b (first + 4 * i) m)) → Refuses e (refusals whole)
 pairs_stopped b first n i m whole e less h told = stopped_by e (pair_put b (first + 4 * i) m) b first n i m whole less h refl told
 
-pub pairs_done : (b : List ℕ) (first n i : ℕ) (m : Metadata) (whole : Reading Metadata) → n ≤ i → pairs_from b (first + 4 * i) (n - i) m ≡ whole → whole ≡ Ok m
+pub pairs_done : (b : List ℕ) (first n i : ℕ) (m : Metadata) (whole : Reading Metadata) → n ≤ i → pairs_from InvalidFlatbufferSchema b (first + 4 * i) (n - i) m ≡ whole → whole ≡ Ok m
 unfolding pairs_from
 pairs_done b first n i m whole less h =
     let count : n - i ≡ 0 = omega arith in
-    let e : pairs_from b (first + 4 * i) (n - i) m ≡ Ok m = ap (λ k. pairs_from b (first + 4 * i) k m) count in
+    let e : pairs_from InvalidFlatbufferSchema b (first + 4 * i) (n - i) m ≡ Ok m = ap (λ k. pairs_from InvalidFlatbufferSchema b (first + 4 * i) k m) count in
     sym h ∙ e
 
 -- ── a map in the order of its keys ──

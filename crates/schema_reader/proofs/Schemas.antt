@@ -1,6 +1,5 @@
 -- A schema by its parts.
-use Rattle.std.proofs.Common.{◌≡◌, ℕ, ℤ, List, [], ◌∷◌, map, Option, None, Result, Ok, Err, Bool, true, false, ◌&&◌, ◌||◌, cond, refl, sym, ◌∙◌, ap, subst}
-use Rattle.std.specs.Prelude.{is_some}
+use Rattle.std.proofs.Common.{◌≡◌, ℕ, List, [], ◌∷◌, map, Result, Ok, Err, Bool, true, false, ◌||◌, cond, refl, sym, ◌∙◌, ap, subst}
 use Rattle.std.specs.Str.{bytes_eq}
 use Rattle.arrow_spec.specs.declared.error.IpcError.{IpcError}
 use Rattle.arrow_spec.specs.declared.error.IpcError.TheVariants.{Unsupported}
@@ -8,12 +7,11 @@ use Rattle.arrow_spec.specs.declared.error.Feature.TheVariants as features
 use Rattle.arrow_spec.specs.Readings.{bind, Reading, unless, Gives, Refuses, refusals}
 use Rattle.arrow_spec.specs.Flat.{Table, Order, little, big}
 use Rattle.arrow_spec.specs.Kinds as kind
-use Rattle.arrow_spec.specs.Kinds.{Kind, Fields, Use, uses_in}
-use Rattle.arrow_spec.specs.Schema.{Schema, schema_of, has_name, has_distinct_names, uses_agree, is_little, is_absent}
+use Rattle.arrow_spec.specs.Kinds.{Fields, Use, uses_in}
+use Rattle.arrow_spec.specs.Schema.{Schema, schema_of, has_name, has_distinct_names, uses_agree, is_little}
 use Rattle.arrow_types.specs.Child.{Child, fields_from}
 use Rattle.arrow_types.specs.Schemas.{Keyed, fields_in}
-use Rattle.schema_reader.specs.Fits.{fits, fit}
-use Rattle.ipc_fields.specs.IpcFields.{Ids, no_fields, ids, fields_with, has_shape, have_shapes, is_encoded, AreNamed}
+use Rattle.ipc_fields.specs.IpcFields.{Ids, no_fields, ids, fields_with, have_shapes, AreNamed}
 use Rattle.schema_reader.specs.Keyed.{keyed_by, keyed_distinct, checked, schema_by}
 use Rattle.schema_reader.specs.Parts.{order_part, fields_part, entries_at}
 use Rattle.ipc_fields.proofs.Steps.{bind_twice, none_refused}
@@ -105,31 +103,5 @@ checked_apart cs below s us e h u told =
 
 -- ── shapes ──
 
-plain : (k : Kind) (below : Ids) → fits k None below ≡ true → is_encoded k ≡ false
-plain (kind.dictionary index ordered old k) below h = cc
-plain (kind.extension name metadata k) below h = plain k below h
-plain k below h = refl
-
-both : (b c : Bool) → (b && c) ≡ true → (b ≡ true) × (c ≡ true)
-both true true h = (refl, refl)
-both true false h = cc
-both false c h = cc
-
-mutual
-  fits_shape : (k : Kind) (id : Option ℤ) (below : Ids) → fits k id below ≡ true → has_shape k id below ≡ true
-  fits_shape (kind.«list» o fs) id below h = let p = both (is_absent id) _ h in rw (p.0, fit_shapes fs below p.1) refl
-  fits_shape (kind.fixed_size_list n fs) id below h = let p = both (is_absent id) _ h in rw (p.0, fit_shapes fs below p.1) refl
-  fits_shape (kind.struct fs) id below h = let p = both (is_absent id) _ h in rw (p.0, fit_shapes fs below p.1) refl
-  fits_shape (kind.map sorted fs) id below h = let p = both (is_absent id) _ h in rw (p.0, fit_shapes fs below p.1) refl
-  fits_shape (kind.union mode stated types fs) id below h = let p = both (is_absent id) _ h in rw (p.0, fit_shapes fs below p.1) refl
-  fits_shape (kind.dictionary index ordered old k) id below h = let p = both (is_some id) _ h in rw (p.0, plain k below p.1, fits_shape k None below p.1) refl
-  fits_shape (kind.extension name metadata k) id below h = fits_shape k id below h
-  fits_shape k id below h = h
-
-  fit_shapes : (fs : Fields) (below : Ids) → fit fs below ≡ true → have_shapes fs below ≡ true
-  fit_shapes kind.none below h = h
-  fit_shapes (kind.field name nullable metadata k fs) no_fields h = cc
-  fit_shapes (kind.field name nullable metadata k fs) (ids id below others) h = let p = both (fits k id below) _ h in rw (fits_shape k id below p.0, fit_shapes fs others p.1) refl
-
-pub put_shapes : (cs : List Child) (s : List Keyed) (below : Ids) → keyed_distinct cs ≡ Ok s → fit (fields_from cs) below ≡ true → have_shapes (fields_in s) below ≡ true
-put_shapes cs s below h f = subst (λ fs. have_shapes fs below ≡ true) (sym (put_fields_in cs s h)) (fit_shapes (fields_from cs) below f)
+pub put_shapes : (cs : List Child) (s : List Keyed) (below : Ids) → keyed_distinct cs ≡ Ok s → have_shapes (fields_from cs) below ≡ true → have_shapes (fields_in s) below ≡ true
+put_shapes cs s below h f = subst (λ fs. have_shapes fs below ≡ true) (sym (put_fields_in cs s h)) f

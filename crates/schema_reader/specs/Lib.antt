@@ -1,5 +1,5 @@
 pub mod Parts
 pub mod ReadViews
-pub mod Fits
 pub mod Keyed
 pub mod Messages
+pub mod Metadata

@@ -3,10 +3,10 @@ use Rattle.std.specs.Prelude.{ℕ, List, Bool, Ok, nat_eq, nat_le}
 use Rattle.std.specs.Int.{w16}
 use Rattle.arrow_spec.specs.declared.error.OutOfSpecKind.TheVariants as kinds
 use Rattle.arrow_spec.specs.declared.message.MetadataVersion.{MetadataVersion}
-use Rattle.arrow_spec.specs.Readings.{◌>>=◌, Reading}
+use Rattle.arrow_spec.specs.Readings.{◌>>=◌, Reading, as_kind}
 use Rattle.arrow_spec.specs.Flat.{Table, slot_unsigned}
 use Rattle.arrow_spec.specs.Schema.{Schema}
-use Rattle.arrow_spec.specs.Messages.{Message as Tables, as_kind, version_of_number}
+use Rattle.arrow_spec.specs.Messages.{Message as Tables, version_of_number}
 use Rattle.arrow_spec.specs.Streams.{schema_message_of}
 use Rattle.schema_reader.specs.declared.message.Expected.{Expected}
 use Rattle.schema_reader.specs.declared.message.Expected.TheVariants as expected

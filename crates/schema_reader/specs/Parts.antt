@@ -4,12 +4,12 @@ use Rattle.std.specs.Int.{w8, w16}
 use Rattle.arrow_spec.specs.declared.error.IpcError.TheVariants.{OutOfSpec, TooMany}
 use Rattle.arrow_spec.specs.declared.error.Counted.TheVariants as counted
 use Rattle.arrow_spec.specs.declared.error.OutOfSpecKind.TheVariants.{MissingFields, MissingType, InvalidDataType}
-use Rattle.arrow_spec.specs.Readings.{◌>>=◌, Reading, unless, only_if}
+use Rattle.arrow_spec.specs.Readings.{◌>>=◌, Reading, unless, only_if, required}
 use Rattle.arrow_spec.specs.Flat.{Table, Vector, or_default, slot_unsigned, slot_bool, slot_table, slot_vector, slot_text, target, table_at}
 use Rattle.arrow_spec.specs.declared.types.IntegerType.{IntegerType}
 use Rattle.arrow_spec.specs.declared.types.IntegerType.TheVariants.{Int32}
 use Rattle.arrow_spec.specs.Kinds.{Kind, Fields, Metadata}
-use Rattle.arrow_spec.specs.Schema.{schema_part, required, Tag, tag_of, Before, Head, pairs_of, with_read_pair, encoding_at, integer_at, children_at, type_at, choice, natural_slot, positive, union_at, float_of, date_of, interval_of, unit_of, with_extension, with_encoding, without_key, extension_name, extension_metadata, field_at, fields_by, is_whole, order_of, is_little}
+use Rattle.arrow_spec.specs.Schema.{schema_part, Tag, tag_of, Before, Head, pairs_of, with_read_pair, encoding_at, integer_at, children_at, type_at, choice, natural_slot, positive, union_at, float_of, date_of, interval_of, unit_of, with_extension, with_encoding, without_key, extension_name, extension_metadata, field_at, fields_by, is_whole, order_of, is_little}
 use Rattle.arrow_types.specs.Child.{Child}
 
 -- a text of a table
@@ -76,7 +76,14 @@ head_by b t before = do
   nullable ← schema_part (slot_bool b t 1)
   tagged ← tagged_at b t
   form ← form_at b t tagged.0 tagged.1 before.pairs
-  Ok (record { name = name; nullable = nullable; metadata = form.metadata; of_children = form.of_children; children = form.children; before = record { fields = suc before.fields; pairs = form.pairs } })
+  Ok (record {
+    name = name;
+    nullable = nullable;
+    metadata = form.metadata;
+    of_children = form.of_children;
+    children = form.children;
+    before = record { fields = suc before.fields; pairs = form.pairs };
+  })
 
 -- the field to which the offset at a place leads, before its children
 unfoldable pub head_from : List ℕ → ℕ → Before → Reading Head
@@ -138,4 +145,5 @@ order_part b t = schema_part (slot_unsigned w16 0 b t 0) >>= order_of >>= λ ord
 
 -- the fields of a schema, where so many pairs stand before them
 unfoldable pub fields_part : List ℕ → Table → ℕ → Reading (Fields × Before)
-fields_part b t pairs = schema_part (slot_vector 4 b t 1) >>= required (OutOfSpec MissingFields) >>= λ v. entries_at 64 b v (record { fields = 0; pairs = pairs })
+fields_part b t pairs = schema_part (slot_vector 4 b t 1) >>= required (OutOfSpec MissingFields)
+    >>= λ v. entries_at 64 b v (record { fields = 0; pairs = pairs })

@@ -117,7 +117,14 @@ form_in f = record {
 }
 
 abbrev pub head_in : ReadHead → Head
-head_in h = record { name = string_bytes h.name; nullable = h.is_nullable; metadata = (form_in h.form).metadata; of_children = (form_in h.form).of_children; children = (form_in h.form).children; before = before_in h.before }
+head_in h = record {
+  name = string_bytes h.name;
+  nullable = h.is_nullable;
+  metadata = (form_in h.form).metadata;
+  of_children = (form_in h.form).of_children;
+  children = (form_in h.form).children;
+  before = before_in h.before;
+}
 
 abbrev pub tagged_in : Tagged → Tag × Table
 tagged_in t = (tag_in t.tag, t.table.table)

@@ -8,8 +8,7 @@ ghost use Rattle.arrow_flat.specs.Read.{vector_of};
 ghost use Rattle.arrow_types.specs.Child.{fields_from};
 ghost use Rattle.arrow_types.specs.KindOf.{kind_of, child_of, fields_of, texts_of};
 ghost use Rattle.ipc_fields.specs.Causes.{IsOfBytes};
-ghost use Rattle.schema_reader.specs.Fits.{fits, fit};
-ghost use Rattle.ipc_fields.specs.IpcFields.{tree_of, ids_of};
+ghost use Rattle.ipc_fields.specs.IpcFields.{tree_of, ids_of, has_shape, have_shapes};
 ghost use Rattle.schema_reader.specs.Parts.{entry_at, entries_at, entry_by};
 ghost use Rattle.schema_reader.specs.ReadViews.{shape_kind, Takes, extended, extension_of, encoded, is_whole_shape, kind_by, head_in, before_in, entry_in, children_in};
 
@@ -202,9 +201,9 @@ pub(crate) fn make_ipc_field(fields: Vec<IpcField>, dictionary_id: Option<i64>) 
 fn make_entry(alloc: Global, head: Head<'_>, children: Children) -> Result<Entry, IpcError>
     requires count { length children.fields.items ≡ (empty_vector (vector_of head.form.children)).count }
     requires takes { Takes (length children.fields.items) head.form.shape }
-    requires fit { fit (fields_of children.fields.items) (ids_of children.ipc_fields.items) ≡ true }
+    requires shapes { have_shapes (fields_of children.fields.items) (ids_of children.ipc_fields.items) ≡ true }
     ensures gives { Gives entry_in result (entry_by (head_in head.entry) (children_in children)) }
-    ensures fits { IfOk result (λ e. fits (child_of e.field).kind (tree_of e.ipc_field).id (tree_of e.ipc_field).children ≡ true) }
+    ensures shape { IfOk result (λ e. has_shape (child_of e.field).kind (tree_of e.ipc_field).id (tree_of e.ipc_field).children ≡ true) }
     ensures before { IfOk result (λ e. e.before ≡ children.before) }
     ensures quiet { IfErr result IsOfBytes }
 {
@@ -258,7 +257,7 @@ fn read_field(
     requires within { i < fields.now.vector.count }
     requires pairs { before.pairs ≤ 1048576 }
     ensures gives { Gives entry_in result (entry_at levels fields.now.bytes (fields.now.vector.first + 4 * i) (before_in before)) }
-    ensures fits { IfOk result (λ e. fits (child_of e.field).kind (tree_of e.ipc_field).id (tree_of e.ipc_field).children ≡ true) }
+    ensures shape { IfOk result (λ e. has_shape (child_of e.field).kind (tree_of e.ipc_field).id (tree_of e.ipc_field).children ≡ true) }
     ensures few { IfOk result (λ e. e.before.pairs ≤ 1048576) }
     ensures quiet { IfErr result IsOfBytes }
 {
@@ -282,7 +281,7 @@ fn read_below(
     requires pairs { before.pairs ≤ 1048576 }
     ensures gives { (b : List ℕ) → IfSome children.now (λ v. v.bytes ≡ b) → Gives children_in result (entries_at levels b (empty_vector (vector_of children.now)) (before_in before)) }
     ensures count { IfOk result (λ c. length c.fields.items ≡ (empty_vector (vector_of children.now)).count) }
-    ensures fit { IfOk result (λ c. fit (fields_of c.fields.items) (ids_of c.ipc_fields.items) ≡ true) }
+    ensures shapes { IfOk result (λ c. have_shapes (fields_of c.fields.items) (ids_of c.ipc_fields.items) ≡ true) }
     ensures few { IfOk result (λ c. c.before.pairs ≤ 1048576) }
     ensures quiet { IfErr result IsOfBytes }
 {
@@ -308,7 +307,7 @@ pub(crate) fn read_fields(
     requires pairs { before.pairs ≤ 1048576 }
     ensures gives { Gives children_in result (entries_at levels fields.now.bytes fields.now.vector (before_in before)) }
     ensures count { IfOk result (λ c. length c.fields.items ≡ fields.now.vector.count) }
-    ensures fit { IfOk result (λ c. fit (fields_of c.fields.items) (ids_of c.ipc_fields.items) ≡ true) }
+    ensures shapes { IfOk result (λ c. have_shapes (fields_of c.fields.items) (ids_of c.ipc_fields.items) ≡ true) }
     ensures few { IfOk result (λ c. c.before.pairs ≤ 1048576) }
     ensures quiet { IfErr result IsOfBytes }
 {

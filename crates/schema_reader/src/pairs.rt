@@ -2,6 +2,7 @@
 ghost use Rattle.std.specs.Prelude.{◌≡◌, ◌+◌, ◌*◌, ◌<◌, ◌≤◌, [], IfOk, IfErr, OnErr, Err, string_bytes};
 ghost use Rattle.std.specs.Option.{option_map};
 ghost use Rattle.arrow_spec.specs.declared.error.IpcError.TheVariants.{Memory};
+ghost use Rattle.arrow_spec.specs.declared.error.OutOfSpecKind.TheVariants.{InvalidFlatbufferSchema};
 ghost use Rattle.arrow_spec.specs.Readings.{Gives};
 ghost use Rattle.arrow_spec.specs.Schema.{pairs_from, pairs_of, with_read_pair};
 ghost use Rattle.arrow_types.specs.KindOf.{texts_of};
@@ -90,7 +91,7 @@ fn read_pair(
 #[tactic(auto, using(crate::proofs::PairSteps::pairs_begun, crate::proofs::PairSteps::pairs_more, crate::proofs::PairSteps::pairs_stopped))]
 fn read_pairs(alloc: Global, pairs: &Vector<'_>) -> Result<Metadata, IpcError>
     requires { pairs.now.width ≡ 4 }
-    ensures gives { Gives (λ m. texts_of m.entries) result (pairs_from pairs.now.bytes pairs.now.vector.first pairs.now.vector.count []) }
+    ensures gives { Gives (λ m. texts_of m.entries) result (pairs_from InvalidFlatbufferSchema pairs.now.bytes pairs.now.vector.first pairs.now.vector.count []) }
     ensures quiet { IfErr result IsOfBytes }
 {
     let mut metadata = Metadata::new(alloc);

@@ -6,12 +6,12 @@ ghost use Rattle.arrow_spec.specs.Schema.{schema_of};
 ghost use Rattle.arrow_types.specs.KindOf.{child_of, fields_of, texts_of};
 ghost use Rattle.arrow_types.specs.Schemas.{with_field, field_under, fields_in};
 ghost use Rattle.ipc_fields.specs.Causes.{IsOfBytes};
-ghost use Rattle.schema_reader.specs.Fits.{fit};
 ghost use Rattle.ipc_fields.specs.IpcFields.{ids_of, fields_with, have_shapes, metadata_of, schema_view, AreNamed};
 ghost use Rattle.schema_reader.specs.Keyed.{put_keyed, keyed_distinct, checked, schema_by, keyed_in};
 ghost use Rattle.schema_reader.specs.Parts.{order_part, fields_part};
 ghost use Rattle.schema_reader.specs.ReadViews.{before_in, children_in};
 ghost use Rattle.schema_reader.specs.Messages.{schema_in};
+ghost use Rattle.schema_reader.specs.Metadata.{HasPairsIfAny};
 
 use crate::field::{Children, read_fields};
 use crate::head::Counted;
@@ -49,7 +49,7 @@ fn read_order(table: &Table<'_>) -> Result<bool, IpcError>
 fn read_all(alloc: Global, table: &Table<'_>, pairs: usize) -> Result<Children, IpcError>
     requires { pairs ≤ 1048576 }
     ensures gives { Gives children_in result (fields_part table.now.bytes table.now.table pairs) }
-    ensures fit { IfOk result (λ c. fit (fields_of c.fields.items) (ids_of c.ipc_fields.items) ≡ true) }
+    ensures shapes { IfOk result (λ c. have_shapes (fields_of c.fields.items) (ids_of c.ipc_fields.items) ≡ true) }
     ensures quiet { IfErr result IsOfBytes }
 {
     let fields = table.slot_vector(1, 4).map_err(|e| IpcError::OutOfSpec(
@@ -122,7 +122,7 @@ fn put_fields(alloc: Global, fields: Vec<Field>) -> Result<ArrowSchema, IpcError
 
 /// The fields under their names, which have to differ, with one kind of values for each dictionary.
 fn check_fields(alloc: Global, children: Children) -> Result<KeyedFields, IpcError>
-    requires { fit (fields_of children.fields.items) (ids_of children.ipc_fields.items) ≡ true }
+    requires { have_shapes (fields_of children.fields.items) (ids_of children.ipc_fields.items) ≡ true }
     ensures gives { Gives keyed_in result (checked (fields_with (fields_of children.fields.items) (ids_of children.ipc_fields.items))) }
     ensures named { IfOk result (λ k. AreNamed k.schema) }
     ensures shapes { IfOk result (λ k. have_shapes (fields_in k.schema) (ids_of k.ipc_fields.items) ≡ true) }
@@ -140,7 +140,8 @@ fn check_fields(alloc: Global, children: Children) -> Result<KeyedFields, IpcErr
 
 /// The metadata, where there is any.
 fn if_any(metadata: Metadata) -> Option<Metadata>
-    ensures { metadata_of result ≡ texts_of metadata.entries }
+    ensures same { metadata_of result ≡ texts_of metadata.entries }
+    ensures no_empty_metadata { HasPairsIfAny result }
 {
     if metadata.is_empty() {
         None
@@ -156,6 +157,7 @@ fn read_by_parts(
 ) -> Result<(ArrowSchema, IpcSchema, Option<Metadata>), IpcError>
     ensures gives { Gives schema_view result (schema_by table.now.bytes table.now.table) }
     ensures named { IfOk result (λ s. AreNamed s.0) }
+    ensures no_empty_metadata { IfOk result (λ s. HasPairsIfAny s.2) }
     ensures shapes { IfOk result (λ s. have_shapes (fields_in s.0) (ids_of s.1.fields.items) ≡ true) }
     ensures quiet { IfErr result IsOfBytes }
 {
@@ -189,6 +191,9 @@ pub fn read_schema(
 
     // There is one IPC field for each field, with an id exactly at each dictionary.
     ensures shapes { IfOk result (λ s. have_shapes (fields_in s.0) (ids_of s.1.fields.items) ≡ true) }
+
+    // No metadata is none, never an empty map.
+    ensures no_empty_metadata { IfOk result (λ s. HasPairsIfAny s.2) }
     ensures quiet { IfErr result IsOfBytes }
 {
     read_by_parts(alloc, table)
@@ -207,6 +212,7 @@ pub fn deserialize_schema(
     ensures gives { Gives schema_view result (schema_in message.now) }
     ensures named { IfOk result (λ s. AreNamed s.0) }
     ensures shapes { IfOk result (λ s. have_shapes (fields_in s.0) (ids_of s.1.fields.items) ≡ true) }
+    ensures no_empty_metadata { IfOk result (λ s. HasPairsIfAny s.2) }
     ensures quiet { IfErr result IsOfBytes }
 {
     let found = read_message(message, Expected::Schema)?;

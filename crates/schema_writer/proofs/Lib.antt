@@ -9,4 +9,5 @@ pub mod Shaping
 pub mod SlotValues
 pub mod Tops
 pub mod WrittenPairs
+pub mod Texts
 pub mod SchemaUses

@@ -1,7 +1,7 @@
 -- No table of a schema has more than 16 slots.
 use Rattle.std.proofs.Common.{ℕ, suc, zero, ◌≤◌, List, [], ◌∷◌, Option, Some, None, arith, true, false, Bool, ℤ, pos, negsuc}
 use Rattle.std.specs.Prelude.{◌*◌, if◌then◌else◌}
-use Rattle.arrow_spec.specs.Columns.{integer_width, is_unsigned}
+use Rattle.arrow_spec.specs.Arrays.{integer_width, is_unsigned}
 use Rattle.std.specs.Int.{Width, byte_len, w8, w16, w32, w64}
 use Rattle.arrow_spec.specs.declared.types.IntegerType.{IntegerType}
 use Rattle.arrow_spec.specs.declared.types.TimeUnit.{TimeUnit}
@@ -152,10 +152,10 @@ schema_keeps order fs pairs =
     let fields : Few 2 (layout.child (layout.tables (field_nodes fs)) ps) = child_few 1 (layout.tables (field_nodes fs)) ps (fields_keep fs) last in
     few_keeps 3 (schema_slots order fs pairs) (omega arith) (order_few 2 order (layout.child (layout.tables (field_nodes fs)) ps) fields)
 
-pub message_keeps : (tag : ℕ) (header : Node) (body : ℕ) → KeepsSlotLimit header → KeepsSlotLimit (layout.table (message_slots tag header body))
+pub message_keeps : (tag : ℕ) (header : Node) (body : ℕ) → KeepsSlotLimit header → KeepsSlotLimit (layout.table (message_slots tag header body []))
 message_keeps tag header body keeps =
     let end = unless_zero w64 (pos body) layout.no_more in
     let last : Few 1 end = zero_few 0 w64 (pos body) layout.no_more none_few in
     let held : Few 2 (layout.child header end) = child_few 1 header end keeps last in
     let tagged : Few 3 (layout.value w8 (pos tag) (layout.child header end)) = value_few 2 w8 (pos tag) (layout.child header end) held in
-    few_keeps 4 (message_slots tag header body) (omega arith) (value_few 3 w16 (pos 4) (layout.value w8 (pos tag) (layout.child header end)) tagged)
+    few_keeps 4 (message_slots tag header body []) (omega arith) (value_few 3 w16 (pos 4) (layout.value w8 (pos tag) (layout.child header end)) tagged)

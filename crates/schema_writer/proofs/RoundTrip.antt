@@ -1,12 +1,15 @@
 -- What is written is read back.
 use Rattle.std.proofs.Common.{◌≡◌, ℕ, ◌<◌, ◌^◌, List, [], ◌++◌, Bool, true, false, Ok, Err, refl, sym, ap, ◌∙◌, arith, leb-true}
-use Rattle.std.specs.Prelude.{nat_le}
+use Rattle.std.specs.Prelude.{nat_le, IfOk, Result}
+use Rattle.std.specs.declared.alloc.Global.{Global}
+use Rattle.std.specs.declared.vec.Vec.{Vec}
 use Rattle.std.proofs.lemmas.Bool.{and_parts}
+use Rattle.arrow_spec.specs.declared.error.IpcError.{IpcError}
 use Rattle.arrow_spec.specs.declared.error.IpcError.TheVariants.{SchemaMismatch, NotRepresentable, TooLarge}
 use Rattle.arrow_spec.specs.Flat.{Order}
 use Rattle.arrow_spec.specs.Kinds.{Fields, Metadata, uses_in}
 use Rattle.arrow_spec.specs.Layout.{Node, layout, size}
-use Rattle.arrow_spec.specs.Readings.{Reading, bind, unless}
+use Rattle.arrow_spec.specs.Readings.{Reading, bind, unless, Gives}
 use Rattle.arrow_spec.specs.Regular.{representable}
 use Rattle.arrow_spec.specs.Schema.{uses_agree}
 use Rattle.arrow_spec.specs.Sent.{schema_node, schema_message}
@@ -15,12 +18,14 @@ use Rattle.arrow_spec.proofs.RegularSchemas.{regular_back}
 use Rattle.ipc_fields.specs.IpcFields.{Ids, fields_with, have_shapes}
 use Rattle.schema_writer.specs.Serialized.{serialized, written, belong_to, has_meaning}
 use Rattle.schema_writer.specs.Laws.{WrittenSchemaReadsBack}
+use Rattle.schema_writer.specs.Texts.{ReadsBackAs, SchemaSaysTexts}
+use Rattle.schema_writer.proofs.Texts.{texts_with}
 
 abbrev all_tests : Bool → Bool → Bool → Node → List ℕ → Reading (List ℕ)
 all_tests b c d n l = bind (bind (unless b SchemaMismatch) (λ own. bind (unless c NotRepresentable) (λ sayable. Ok n))) (λ header. bind (unless d TooLarge) (λ small. Ok l))
 
 as_tests : (order : Order) (fs : Fields) (own : Ids) (pairs : Metadata) → written order fs own pairs
-    ≡ all_tests (belong_to own fs) (representable (fields_with fs own)) (nat_le (size (schema_message order (fields_with fs own) pairs).node) 2147483647) (schema_node order (fields_with fs own) pairs) (layout (schema_message order (fields_with fs own) pairs).node)
+    ≡ all_tests (belong_to own fs) (representable (fields_with fs own)) (nat_le (size (schema_message order (fields_with fs own) pairs []).node) 2147483647) (schema_node order (fields_with fs own) pairs) (layout (schema_message order (fields_with fs own) pairs []).node)
 unfolding written serialized
 as_tests order fs own pairs = refl
 
@@ -45,8 +50,13 @@ agreed (Err es) h = cc
 pub reads_back : WrittenSchemaReadsBack
 reads_back order fs own pairs b rest h reg texts ascend =
     let all = fields_with fs own in
-    let p = passed (belong_to own fs) (representable all) (nat_le (size (schema_message order all pairs).node) 2147483647) (schema_node order all pairs) (layout (schema_message order all pairs).node) b (sym (as_tests order fs own pairs) ∙ h) in
+    let p = passed (belong_to own fs) (representable all) (nat_le (size (schema_message order all pairs []).node) 2147483647) (schema_node order all pairs) (layout (schema_message order all pairs []).node) b (sym (as_tests order fs own pairs) ∙ h) in
     let agree : uses_agree [] (uses_in all) ≡ Ok tt = agreed _ (and_parts (have_shapes fs own) (has_meaning (uses_agree [] (uses_in all))) p.own).1 in
-    let short : size (schema_message order all pairs).node < 2 ^ 31 = omega (arith, leb-true (size (schema_message order all pairs).node) 2147483647 p.small) in
-    let back = regular_back order all pairs rest reg p.sayable texts ascend agree short in
+    let short : size (schema_message order all pairs []).node < 2 ^ 31 = omega (arith, leb-true (size (schema_message order all pairs []).node) 2147483647 p.small) in
+    let back = regular_back order all pairs [] rest reg p.sayable texts ascend agree short in
     (back.0, ap (λ x. schema_message_of (x ++ rest)) (sym p.bytes) ∙ back.1)
+
+-- what a call wrote is read back
+pub given_back : (order : Order) (fs : Fields) (own : Ids) (pairs : Metadata) (r : Result (Vec ℕ Global) IpcError) → Gives (λ v. v.items) r (written order fs own pairs) → IfOk r (λ _. SchemaSaysTexts fs pairs) → IfOk r (λ v. ReadsBackAs order (fields_with fs own) pairs v.items)
+given_back order fs own pairs (Ok v) h texts = λ reg rest. reads_back order fs own pairs v.items rest h reg (texts_with fs own texts.texts) texts.ascend
+given_back order fs own pairs (Err e) h texts = tt

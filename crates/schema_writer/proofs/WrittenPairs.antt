@@ -12,13 +12,13 @@ use Rattle.arrow_spec.specs.Layout.{Node, Nodes}
 use Rattle.arrow_spec.specs.Sent.{pair_nodes, field_pairs}
 use Rattle.arrow_spec.specs.WrittenSchemas.{extension_first, pairs_for}
 use Rattle.arrow_spec.proofs.ExtensionPairs.{pairs_written}
-use Rattle.arrow_spec.specs.Schema.{extension_name, extension_metadata, own_pairs}
+use Rattle.arrow_spec.specs.Schema.{extension_name, extension_metadata, own_pairs, is_reserved}
 use Rattle.arrow_types.specs.KindOf.{texts_of}
 use Rattle.ipc_fields.proofs.TextOrder.{sorted_texts}
 use Rattle.ipc_fields.proofs.UnionSteps.{same_test}
 use Rattle.arrow_flat.specs.Nodes.{SlotValue, leads_to, nodes_of, nodes_from}
 use Rattle.arrow_flat.specs.declared.node.Node.{Node as Built}
-use Rattle.arrow_spec.proofs.OwnPairs.{is_reserved, own_filtered}
+use Rattle.arrow_spec.proofs.OwnPairs.{own_filtered}
 use Rattle.schema_writer.specs.Nodes.{pair_table, unreserved, extension_pairs, pairs_value}
 
 pub nodes_of_pairs : (ps : Metadata) → nodes_from (map pair_table ps) ≡ pair_nodes ps

@@ -24,7 +24,8 @@ abbrev mutual
   pub nodes_with : Fields → Ids → Nodes
   nodes_with kind.none own = layout.none
   nodes_with (kind.field name nullable metadata k fs) own =
-      layout.also (field_table (record { name = name; kind = k; nullable = nullable; metadata = metadata }) (first_id own) (below_nodes k (first_ids own))) (nodes_with fs (other_ids own))
+      layout.also (field_table (record { name = name; kind = k; nullable = nullable; metadata = metadata }) (first_id own) (below_nodes k (first_ids own)))
+      (nodes_with fs (other_ids own))
 
 -- all fields below a kind, and fields with those below them, can be said in a schema's tables
 abbrev mutual

@@ -4,3 +4,4 @@ pub mod Nodes
 pub mod Serialized
 pub mod SlotValues
 pub mod Laws
+pub mod Texts

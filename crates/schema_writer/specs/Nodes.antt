@@ -8,7 +8,7 @@ use Rattle.arrow_spec.specs.Layout as layout
 use Rattle.arrow_spec.specs.Layout.{Node, Nodes}
 use Rattle.arrow_spec.specs.Sent.{flag, unless_zero, int_node, pair_node, type_tag, type_node, field_pairs}
 use Rattle.arrow_spec.specs.WrittenSchemas.{pairs_for}
-use Rattle.arrow_spec.proofs.OwnPairs.{is_reserved}
+use Rattle.arrow_spec.specs.Schema.{is_reserved}
 use Rattle.arrow_flat.specs.Nodes.{SlotValue, nothing, leads_to, in_front}
 use Rattle.arrow_types.specs.Child.{Child}
 
@@ -30,9 +30,12 @@ pairs_value (layout.also n ns) = leads_to (layout.tables (layout.also n ns))
 
 -- a dictionary's index type, order flag and id (Schema.fbs, DictionaryEncoding)
 abbrev pub encoding_value : Kind → Option ℤ → SlotValue
-encoding_value (kind.dictionary t ordered old k) id = leads_to (layout.table (unless_zero w64 (or_default (pos 0) id) (layout.child (int_node t) (flag ordered layout.no_more))))
+encoding_value (kind.dictionary t ordered old k) id =
+    leads_to (layout.table (unless_zero w64 (or_default (pos 0) id) (layout.child (int_node t) (flag ordered layout.no_more))))
 encoding_value k id = nothing
 
 -- a field's table (Schema.fbs, Field)
 abbrev pub field_table : Child → Option ℤ → Nodes → Node
-field_table c id children = layout.table (layout.child (layout.text c.name) (flag c.nullable (layout.value w8 (type_tag c.kind) (layout.child (type_node c.kind) (in_front (encoding_value c.kind id) (layout.child (layout.tables children) (in_front (pairs_value (field_pairs c.kind c.metadata)) layout.no_more)))))))
+field_table c id children = layout.table (layout.child (layout.text c.name)
+    (flag c.nullable (layout.value w8 (type_tag c.kind) (layout.child (type_node c.kind)
+    (in_front (encoding_value c.kind id) (layout.child (layout.tables children) (in_front (pairs_value (field_pairs c.kind c.metadata)) layout.no_more)))))))

@@ -32,15 +32,12 @@ serialized order fs below pairs = do
 unfoldable pub written : Order → Fields → Ids → Metadata → Reading (List ℕ)
 written order fs below pairs = do
   header ← serialized order fs below pairs
-  small ← unless (nat_le (size (schema_message order (fields_with fs below) pairs).node) 2147483647) TooLarge
-  Ok (layout (schema_message order (fields_with fs below) pairs).node)
+  small ← unless (nat_le (size (schema_message order (fields_with fs below) pairs []).node) 2147483647) TooLarge
+  Ok (layout (schema_message order (fields_with fs below) pairs []).node)
 
 -- the table of a schema's message around the schema's own
 abbrev pub message_node : Node → Node
-message_node header = table (message_slots 1 header 0)
-
-abbrev pub order_by : Bool → Order
-order_by is_little_endian = if is_little_endian then little else big
+message_node header = table (message_slots 1 header 0 [])
 
 -- what a schema's table is refused as, memory aside
 abbrev pub IsOfTable : IpcError → Type 0

@@ -1,6 +1,6 @@
 //! Schemas as they are written (Arrow Columnar Format, "Schema message").
 ghost use Rattle.std.specs.Prelude.{◌≡◌, ◌<◌, ◌≤◌, ◌^◌, true, Err, IfOk, OnOk, IfErr};
-ghost use Rattle.arrow_spec.specs.Flat.{little};
+ghost use Rattle.arrow_spec.specs.Flat.{little, order_by};
 ghost use Rattle.arrow_spec.specs.Kinds.{numbered};
 ghost use Rattle.arrow_spec.specs.Layout.{layout, size};
 ghost use Rattle.arrow_spec.specs.Readings.{Gives};
@@ -8,7 +8,8 @@ ghost use Rattle.arrow_flat.specs.Nodes.{node_of, IsTable, KeepsSlotLimit};
 ghost use Rattle.arrow_types.specs.Schemas.{fields_in};
 ghost use Rattle.ipc_fields.specs.IpcFields.{ids_of, fields_with, have_shapes, metadata_in};
 ghost use Rattle.schema_writer.specs.Defaults.{are_apart};
-ghost use Rattle.schema_writer.specs.Serialized.{belong_to, message_node, serialized, written, order_by, IsOfTable, IsOfMessage};
+ghost use Rattle.schema_writer.specs.Texts.{ReadsBackAs, SchemaSaysTexts};
+ghost use Rattle.schema_writer.specs.Serialized.{belong_to, message_node, serialized, written, IsOfTable, IsOfMessage};
 
 mod defaults;
 mod fields;
@@ -48,6 +49,7 @@ fn own_table(
     requires { belong_to (ids_of ipc_fields.now) (fields_in schema.now) ≡ true }
     ensures gives { Gives node_of result (serialized (order_by is_little_endian) (fields_in schema.now) (ids_of ipc_fields.now) (metadata_in metadata.entry)) }
     ensures refusals { IfErr result IsOfTable }
+    ensures texts { IfOk result (λ _. SchemaSaysTexts (fields_in schema.now) (metadata_in metadata.entry)) }
 {
     if !is_sayable(schema, ipc_fields) {
         return Err(IpcError::NotRepresentable);
@@ -67,6 +69,7 @@ fn table(
 ) -> Result<Node, IpcError>
     ensures gives { Gives node_of result (serialized (order_by is_little_endian) (fields_in schema.now) (ids_of ipc_fields.now) (metadata_in metadata.entry)) }
     ensures refusals { IfErr result IsOfTable }
+    ensures texts { IfOk result (λ _. SchemaSaysTexts (fields_in schema.now) (metadata_in metadata.entry)) }
 {
     if !schema::have_shapes(schema, ipc_fields) {
         return Err(IpcError::SchemaMismatch);
@@ -105,6 +108,7 @@ fn bytes(
 ) -> Result<Vec<u8>, IpcError>
     ensures gives { Gives (λ v. v.items) result (written (order_by is_little_endian) (fields_in schema.now) (ids_of ipc_fields.now) (metadata_in metadata.entry)) }
     ensures refusals { IfErr result IsOfMessage }
+    ensures texts { IfOk result (λ _. SchemaSaysTexts (fields_in schema.now) (metadata_in metadata.entry)) }
 {
     let header = match table(alloc, schema, ipc_fields, is_little_endian, metadata) {
         Ok(header) => header,
@@ -146,6 +150,7 @@ pub fn serialize_schema(
 /// # Errors
 ///
 /// Those of [`serialize_schema`], else `TooLarge` where the flatbuffer passes 2^31 - 1 bytes.
+#[tactic(auto, using(crate::proofs::RoundTrip::given_back))]
 pub fn schema_to_bytes(
     alloc: Global,
     schema: &ArrowSchema,
@@ -154,6 +159,9 @@ pub fn schema_to_bytes(
 ) -> Result<Vec<u8>, IpcError>
     ensures gives { Gives (λ v. v.items) result (written little (fields_in schema.now) (ids_of ipc_fields.now) (metadata_in custom_metadata.entry)) }
     ensures refusals { IfErr result IsOfMessage }
+
+    // A regular schema is read back.
+    ensures read_back { IfOk result (λ v. ReadsBackAs little (fields_with (fields_in schema.now) (ids_of ipc_fields.now)) (metadata_in custom_metadata.entry) v.items) }
 {
     bytes(alloc, schema, ipc_fields, true, custom_metadata)
 }
@@ -163,6 +171,7 @@ pub fn schema_to_bytes(
 /// # Errors
 ///
 /// As for [`schema_to_bytes`].
+#[tactic(auto, using(crate::proofs::RoundTrip::given_back))]
 pub fn schema_message(
     alloc: Global,
     schema: &ArrowSchema,
@@ -171,6 +180,7 @@ pub fn schema_message(
 ) -> Result<Vec<u8>, IpcError>
     ensures gives { Gives (λ v. v.items) result (written (order_by ipc_schema.now.is_little_endian) (fields_in schema.now) (ids_of ipc_schema.now.fields.items) (metadata_in custom_metadata.entry)) }
     ensures refusals { IfErr result IsOfMessage }
+    ensures read_back { IfOk result (λ v. ReadsBackAs (order_by ipc_schema.now.is_little_endian) (fields_with (fields_in schema.now) (ids_of ipc_schema.now.fields.items)) (metadata_in custom_metadata.entry) v.items) }
 {
     let fields = ipc_schema.fields.as_slice();
     bytes(

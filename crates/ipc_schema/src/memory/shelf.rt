@@ -1,7 +1,7 @@
 //! A shelf over memory.
 ghost use Rattle.std.specs.Prelude.{◌≡◌, ◌↔◌, ◌<◌, ◌≤◌, ◌+◌, Some, None, IfOk, IsTrue, MatchOption, option_copied};
 ghost use Rattle.ipc_schema.specs.Outside.{IsHeld, Lacks, OpenHasCause, Closes};
-ghost use Rattle.ipc_schema.specs.Memory.{SourceState, ShelfState, SourceNeverFails, ShelfNeverFails, no_calls, is_failing, counted, one_if, entry_of, held_in, opened};
+ghost use Rattle.ipc_schema.specs.Memory.{SourceState, ShelfState, SourceNeverFails, ShelfNeverFails, no_calls, is_failing, after_call, after_close, entry_of, held_in, opened};
 
 use super::calls::FailingCalls;
 use super::source::MemorySource;
@@ -86,8 +86,7 @@ impl Shelf for MemoryShelf {
         ensures failing { (result ≡ Err ShelfError.Failed) ↔ IsTrue (is_failing self.old.calls) }
         ensures opened { IfOk result (λ f. MatchOption (entry_of self.old.entries name.now) ⊥ (λ e. f ≡ opened e)) }
         ensures entries { self.new.entries ≡ self.old.entries }
-        ensures failing_calls { self.new.calls.failing ≡ self.old.calls.failing }
-        ensures counted { self.new.calls.next ≡ counted self.old.calls.next 1 }
+        ensures calls { self.new.calls ≡ after_call self.old.calls (is_failing self.old.calls) }
         ensures never { ShelfNeverFails self.old → result ≡ Err ShelfError.Failed → ⊥ }
         ensures never_file { ShelfNeverFails self.old → IfOk result SourceNeverFails }
     {
@@ -104,8 +103,7 @@ impl Shelf for MemoryShelf {
     fn close_file(&mut self, file: MemorySource)
         ensures cause { Closes file.calls.faults self.old.calls.faults self.new.calls.faults }
         ensures entries { self.new.entries ≡ self.old.entries }
-        ensures failing_calls { self.new.calls.failing ≡ self.old.calls.failing }
-        ensures not_counted { self.new.calls.next ≡ self.old.calls.next }
+        ensures calls { self.new.calls ≡ after_close self.old.calls file.calls }
     {
         if file.has_failed() {
             self.calls.add_fault();

@@ -11,6 +11,7 @@ ghost use Rattle.arrow_types.specs.KindOf.{kind_of, child_of, fields_of};
 ghost use Rattle.ipc_fields.specs.IpcFields.{ids_of};
 ghost use Rattle.schema_writer.specs.Nodes as specs;
 ghost use Rattle.schema_writer.specs.Built.{below_nodes, nodes_with, sizes_fit, kind_sized, sized_below, all_sized};
+ghost use Rattle.schema_writer.specs.Texts.{PairsAscend, KindSaysTexts, FieldsSayTexts};
 ghost use Rattle.ipc_fields.specs.Uses.{first_ids, first_id};
 
 use super::pairs::own_pairs;
@@ -53,7 +54,8 @@ fn field_table(
     children: Vec<Node>,
 ) -> Result<Node, AllocError>
     requires { sizes_fit (child_of field.now).kind ≡ true }
-    ensures { IfOk result (λ n. node_of n ≡ specs.field_table (child_of field.now) id (nodes_of children.items)) }
+    ensures node { IfOk result (λ n. node_of n ≡ specs.field_table (child_of field.now) id (nodes_of children.items)) }
+    ensures ascend { IfOk result (λ _. PairsAscend (child_of field.now).metadata) }
 {
     let name = Slot::Child(Node::Text(field.name.clone()?));
     let nullable = flag(field.is_nullable);
@@ -75,7 +77,8 @@ pub(crate) fn field_node(
     below: &[IpcField],
 ) -> Result<Node, AllocError>
     requires { kind_sized (child_of field.now).kind ≡ true }
-    ensures { IfOk result (λ n. node_of n ≡ specs.field_table (child_of field.now) id (below_nodes (child_of field.now).kind (ids_of below.now))) }
+    ensures node { IfOk result (λ n. node_of n ≡ specs.field_table (child_of field.now) id (below_nodes (child_of field.now).kind (ids_of below.now))) }
+    ensures texts { IfOk result (λ _. FieldsSayTexts (one_field (child_of field.now))) }
 {
     let children = child_nodes(alloc, &field.dtype, below)?;
     Ok(field_table(alloc, field, id, children)?)
@@ -84,20 +87,23 @@ pub(crate) fn field_node(
 #[cycle(nodes)]
 fn only_child(alloc: Global, field: &Field, below: &[IpcField]) -> Result<Vec<Node>, AllocError>
     requires { kind_sized (child_of field.now).kind ≡ true }
-    ensures { IfOk result (λ v. nodes_of v.items ≡ nodes_with (one_field (child_of field.now)) (ids_of below.now)) }
+    ensures nodes { IfOk result (λ v. nodes_of v.items ≡ nodes_with (one_field (child_of field.now)) (ids_of below.now)) }
+    ensures texts { IfOk result (λ _. FieldsSayTexts (one_field (child_of field.now))) }
 {
     let node = field_node(alloc, field, id_at(below, 0), fields_at(below, 0))?;
     Ok(vec![in alloc; node]?)
 }
 
 #[cycle(nodes)]
+#[tactic(auto, using(crate::proofs::Texts::list_texts, crate::proofs::Texts::sized_list_texts, crate::proofs::Texts::map_texts, crate::proofs::Texts::struct_texts, crate::proofs::Texts::union_texts, crate::proofs::Texts::dictionary_texts))]
 fn child_nodes(
     alloc: Global,
     t: &ArrowDataType,
     below: &[IpcField],
 ) -> Result<Vec<Node>, AllocError>
     requires { sized_below (kind_of t.now) ≡ true }
-    ensures { IfOk result (λ v. nodes_of v.items ≡ below_nodes (kind_of t.now) (ids_of below.now)) }
+    ensures nodes { IfOk result (λ v. nodes_of v.items ≡ below_nodes (kind_of t.now) (ids_of below.now)) }
+    ensures texts { IfOk result (λ _. KindSaysTexts (kind_of t.now)) }
 {
     match t {
         ArrowDataType::List(f) => only_child(alloc, f, below),
@@ -108,6 +114,7 @@ fn child_nodes(
         ArrowDataType::Union(u) => field_nodes(alloc, u.fields.as_slice(), below),
         ArrowDataType::Dictionary(_, values, _) => child_nodes(alloc, values, below),
         ArrowDataType::Extension(e) => child_nodes(alloc, &e.inner, below),
+        ArrowDataType::Timestamp(_, _) => Ok(Vec::new(alloc)),
         _ => Ok(Vec::new(alloc)),
     }
 }
@@ -115,7 +122,8 @@ fn child_nodes(
 #[cycle(nodes)]
 fn field_nodes(alloc: Global, fields: &[Field], below: &[IpcField]) -> Result<Vec<Node>, AllocError>
     requires { all_sized (fields_of fields.now) ≡ true }
-    ensures { IfOk result (λ v. nodes_of v.items ≡ nodes_with (fields_of fields.now) (ids_of below.now)) }
+    ensures nodes { IfOk result (λ v. nodes_of v.items ≡ nodes_with (fields_of fields.now) (ids_of below.now)) }
+    ensures texts { IfOk result (λ _. FieldsSayTexts (fields_of fields.now)) }
 {
     let mut nodes = Vec::with_capacity(alloc, fields.len())?;
     for i in 0..fields.len() {

@@ -5,10 +5,10 @@ ghost use Rattle.arrow_spec.specs.Sent.{pair_node, pair_nodes, field_pairs};
 ghost use Rattle.arrow_spec.specs.WrittenSchemas.{extension_first};
 ghost use Rattle.arrow_spec.specs.Schema.{extension_name};
 ghost use Rattle.arrow_spec.specs.Schema as schemas;
-ghost use Rattle.arrow_spec.proofs.OwnPairs as own;
 ghost use Rattle.arrow_flat.specs.Nodes.{node_of, nodes_of, slot_of};
 ghost use Rattle.arrow_types.specs.KindOf.{kind_of, extension_kind_of, texts_of};
 ghost use Rattle.schema_writer.specs.Nodes.{pair_table, unreserved, extension_pairs, pairs_value};
+ghost use Rattle.schema_writer.specs.Texts.{PairsAscend};
 
 use arrow_flat::{Node, Slot};
 use arrow_types::{ArrowDataType, ExtensionType, Metadata};
@@ -65,7 +65,8 @@ fn put_extension_of(alloc: Global, out: &mut Vec<Node>, t: &ArrowDataType) -> Re
 }
 
 fn put_pairs(alloc: Global, out: &mut Vec<Node>, metadata: &Metadata) -> Result<(), AllocError>
-    ensures { OnOk result (map node_of out.new.items ≡ map node_of out.old.items ++ map pair_table (texts_of metadata.now.entries)) }
+    ensures nodes { OnOk result (map node_of out.new.items ≡ map node_of out.old.items ++ map pair_table (texts_of metadata.now.entries)) }
+    ensures ascend { OnOk result (PairsAscend (texts_of metadata.now.entries)) }
 {
     for (key, text) in metadata.iter() {
         put_text(alloc, out, key.as_str(), text)?;
@@ -75,7 +76,7 @@ fn put_pairs(alloc: Global, out: &mut Vec<Node>, metadata: &Metadata) -> Result<
 
 // Whether a key is one of the two that say a field's extension.
 fn is_reserved(key: &str) -> bool
-    ensures { result ≡ own.is_reserved key.now }
+    ensures { result ≡ schemas.is_reserved key.now }
 {
     key == "ARROW:extension:name" || key == "ARROW:extension:metadata"
 }
@@ -96,7 +97,8 @@ fn put_unreserved(
 
 // A field's own pairs: those without reserved keys.
 fn put_own_pairs(alloc: Global, out: &mut Vec<Node>, metadata: &Metadata) -> Result<(), AllocError>
-    ensures { OnOk result (map node_of out.new.items ≡ map node_of out.old.items ++ map pair_table (schemas.own_pairs (texts_of metadata.now.entries))) }
+    ensures nodes { OnOk result (map node_of out.new.items ≡ map node_of out.old.items ++ map pair_table (schemas.own_pairs (texts_of metadata.now.entries))) }
+    ensures ascend { OnOk result (PairsAscend (texts_of metadata.now.entries)) }
 {
     for (key, text) in metadata.iter() {
         put_unreserved(alloc, out, key.as_str(), text)?;
@@ -116,7 +118,8 @@ fn pairs_slot(nodes: Vec<Node>) -> Slot
 /// The pairs of a schema, by key; left out where there are none.
 #[tactic(auto, using(crate::proofs::WrittenPairs::nodes_of_pairs))]
 pub fn schema_pairs(alloc: Global, metadata: &Metadata) -> Result<Slot, AllocError>
-    ensures { IfOk result (λ s. slot_of s ≡ pairs_value (pair_nodes (texts_of metadata.now.entries))) }
+    ensures slot { IfOk result (λ s. slot_of s ≡ pairs_value (pair_nodes (texts_of metadata.now.entries))) }
+    ensures ascend { IfOk result (λ _. PairsAscend (texts_of metadata.now.entries)) }
 {
     let mut nodes = Vec::new(alloc);
     put_pairs(alloc, &mut nodes, metadata)?;
@@ -127,7 +130,8 @@ pub fn schema_pairs(alloc: Global, metadata: &Metadata) -> Result<Slot, AllocErr
 /// Columnar Format, "Extension Types"). They are left out where there are none.
 #[tactic(auto, using(crate::proofs::WrittenPairs::own_nodes))]
 pub fn own_pairs(alloc: Global, t: &ArrowDataType, metadata: &Metadata) -> Result<Slot, AllocError>
-    ensures { IfOk result (λ s. slot_of s ≡ pairs_value (field_pairs (kind_of t.now) (texts_of metadata.now.entries))) }
+    ensures slot { IfOk result (λ s. slot_of s ≡ pairs_value (field_pairs (kind_of t.now) (texts_of metadata.now.entries))) }
+    ensures ascend { IfOk result (λ _. PairsAscend (texts_of metadata.now.entries)) }
 {
     let mut nodes = Vec::new(alloc);
     put_extension_of(alloc, &mut nodes, t)?;

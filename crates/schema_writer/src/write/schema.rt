@@ -9,8 +9,9 @@ ghost use Rattle.ipc_fields.specs.IpcFields as specs;
 ghost use Rattle.ipc_fields.specs.IpcFields.{ids_of, fields_with, metadata_in};
 ghost use Rattle.schema_writer.specs.Built.{nodes_with, all_sized};
 ghost use Rattle.schema_writer.specs.Nodes.{pairs_value};
-ghost use Rattle.schema_writer.specs.Serialized.{order_by};
+ghost use Rattle.arrow_spec.specs.Flat.{order_by};
 ghost use Rattle.schema_writer.specs.SlotValues.{order_value};
+ghost use Rattle.schema_writer.specs.Texts.{PairsAscend, FieldsSayTexts, SchemaSaysTexts};
 
 use super::fields::field_node;
 use super::pairs::schema_pairs;
@@ -68,7 +69,8 @@ fn field_nodes(
     ipc_fields: &[IpcField],
 ) -> Result<Vec<Node>, AllocError>
     requires { all_sized (fields_in schema.now) ≡ true }
-    ensures { IfOk result (λ v. nodes_of v.items ≡ nodes_with (fields_in schema.now) (ids_of ipc_fields.now)) }
+    ensures nodes { IfOk result (λ v. nodes_of v.items ≡ nodes_with (fields_in schema.now) (ids_of ipc_fields.now)) }
+    ensures texts { IfOk result (λ _. FieldsSayTexts (fields_in schema.now)) }
 {
     let mut nodes = Vec::with_capacity(alloc, schema.len())?;
     for i in 0..schema.len() {
@@ -89,8 +91,10 @@ fn order_slot(is_little_endian: bool) -> Slot
     }
 }
 
+#[tactic(auto, using(crate::proofs::Texts::no_pairs_ascend))]
 fn metadata_slot(alloc: Global, metadata: Option<&Metadata>) -> Result<Slot, AllocError>
-    ensures { IfOk result (λ s. slot_of s ≡ pairs_value (sent.pair_nodes (metadata_in metadata.entry))) }
+    ensures slot { IfOk result (λ s. slot_of s ≡ pairs_value (sent.pair_nodes (metadata_in metadata.entry))) }
+    ensures ascend { IfOk result (λ _. PairsAscend (metadata_in metadata.entry)) }
 {
     match metadata {
         None => Ok(Slot::Absent),
@@ -108,7 +112,8 @@ pub fn schema_node(
     metadata: Option<&Metadata>,
 ) -> Result<Node, AllocError>
     requires { representable (fields_with (fields_in schema.now) (ids_of ipc_fields.now)) ≡ true }
-    ensures { IfOk result (λ n. node_of n ≡ sent.schema_node (order_by is_little_endian) (fields_with (fields_in schema.now) (ids_of ipc_fields.now)) (metadata_in metadata.entry)) }
+    ensures node { IfOk result (λ n. node_of n ≡ sent.schema_node (order_by is_little_endian) (fields_with (fields_in schema.now) (ids_of ipc_fields.now)) (metadata_in metadata.entry)) }
+    ensures texts { IfOk result (λ _. SchemaSaysTexts (fields_in schema.now) (metadata_in metadata.entry)) }
 {
     let fields = Slot::Child(Node::Tables(field_nodes(alloc, schema, ipc_fields)?));
     let pairs = metadata_slot(alloc, metadata)?;

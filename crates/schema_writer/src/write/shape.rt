@@ -1,6 +1,6 @@
 //! The shape of IPC fields.
 ghost use Rattle.std.specs.Prelude.{◌≡◌, ◌&&◌, if◌then◌else◌, None};
-ghost use Rattle.arrow_spec.specs.Schema.{is_absent};
+ghost use Rattle.arrow_spec.specs.Readings.{is_absent};
 ghost use Rattle.arrow_types.specs.Child.{one_field};
 ghost use Rattle.arrow_types.specs.KindOf.{kind_of, child_of, fields_of};
 ghost use Rattle.ipc_fields.specs.IpcFields as specs;

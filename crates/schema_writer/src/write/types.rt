@@ -2,7 +2,7 @@
 ghost use Rattle.std.specs.Prelude.{◌≡◌, ◌*◌, ℕ, [], ◌∷◌, true, false, if◌then◌else◌, IfOk, Option, String, pos, string_bytes};
 ghost use Rattle.std.specs.Option.{option_map};
 ghost use Rattle.std.specs.Int.{w16, w32, byte_len};
-ghost use Rattle.arrow_spec.specs.Columns.{integer_width, is_unsigned};
+ghost use Rattle.arrow_spec.specs.Arrays.{integer_width, is_unsigned};
 ghost use Rattle.arrow_spec.specs.Kinds as kind;
 ghost use Rattle.arrow_spec.specs.Kinds.{Fields, unit_number};
 ghost use Rattle.arrow_spec.specs.Layout.{table};

@@ -3,7 +3,7 @@ use Rattle.arrow_spec.specs.Readings.{Gives}
 use Rattle.arrow_types.specs.KindOf.{child_of}
 use Rattle.ipc_fields.specs.IpcFields.{tree_of}
 use Rattle.schema_reader.specs.ReadViews.{head_in, children_in, before_in, entry_in, child_with}
-use Rattle.schema_reader.proofs.Fields.{none_below, entry_deep, entry_level, head_refused, below_refused, entry_read, entries_begun, entries_more, entries_stopped, entries_done, fit_more}
+use Rattle.schema_reader.proofs.Fields.{none_below, entry_deep, entry_level, head_refused, below_refused, entry_read, entries_begun, entries_more, entries_stopped, entries_done, shapes_more}
 use Rattle.ipc_fields.proofs.Steps.{refused_with, is_err}
 use Rattle.schema_reader.proofs.Entries.{length_from, length-one, first_part}
 use Rattle.schema_reader.specs.Parts.{entry_at, entries_at, entry_by}
@@ -50,7 +50,7 @@ read_fields-loop-i-init t c = record {
   gives = entries_begun c.args.levels c.args.fields.now.bytes c.args.fields.now.vector (map child_of c.new.result.items) (map tree_of c.new-2.result.items) (before_in c.args.before) (ap (map child_of) c.new.ensures.items);
   count = ap length c.new.ensures.items;
   both = ap length c.new-2.ensures.items;
-  fits = rw (c.new.ensures.items, c.new-2.ensures.items) refl;
+  shapes = rw (c.new.ensures.items, c.new-2.ensures.items) refl;
   few = c.requires.pairs;
 }
 
@@ -74,7 +74,7 @@ read_fields-loop-i-preserved t c =
       gives = entries_more c.args.levels c.args.fields.now.bytes c.args.fields.now.vector l.i (map child_of l.read.fields.items) _ (map tree_of l.read.ipc_fields.items) _ (before_in l.read.before) (before_in c.push_entry.new.children.before) (child_of entry.field) (tree_of entry.ipc_field) _ (omega arith) same v.gives got fields trees;
       count = ap length p.fields ∙ length-one l.read.fields.items entry.field ∙ ap (λ n. n + 1) v.count;
       both = ap length p.ipc_fields ∙ length-one l.read.ipc_fields.items entry.ipc_field ∙ ap (λ n. n + 1) v.both;
-      fits = fit_more (map child_of l.read.fields.items) _ (map tree_of l.read.ipc_fields.items) _ (child_of entry.field) (tree_of entry.ipc_field) same v.fits c.in_ok-entry.ensures.fits fields trees;
+      shapes = shapes_more (map child_of l.read.fields.items) _ (map tree_of l.read.ipc_fields.items) _ (child_of entry.field) (tree_of entry.ipc_field) same v.shapes c.in_ok-entry.ensures.shape fields trees;
       few = subst (λ (b : Counted). b.pairs ≤ 1048576) (sym p.before) c.in_ok-entry.ensures.few;
     }
 

@@ -1,7 +1,6 @@
 use Rattle.std.proofs.Common.{◌≡◌, ◌≤◌, ◌+◌, ◌*◌, map, length, true}
 use Rattle.arrow_types.specs.KindOf.{child_of, fields_of}
-use Rattle.schema_reader.specs.Fits.{fit}
-use Rattle.ipc_fields.specs.IpcFields.{tree_of, ids_of}
+use Rattle.ipc_fields.specs.IpcFields.{tree_of, ids_of, have_shapes}
 use Rattle.schema_reader.specs.Parts.{entries_at}
 use Rattle.schema_reader.specs.ReadViews.{before_in}
 use Rattle.schema_reader.proofs.Fields.{entries_left}
@@ -12,7 +11,7 @@ invariant-read_fields-loop-i l = record {
   gives : entries_left l.levels l.fields.bytes l.fields.vector l.i (map child_of l.read.fields.items) (map tree_of l.read.ipc_fields.items) (before_in l.read.before) ≡ entries_at l.levels l.fields.bytes l.fields.vector (before_in l.fn.before);
   count : length l.read.fields.items ≡ l.i;
   both : length l.read.ipc_fields.items ≡ l.i;
-  fits : fit (fields_of l.read.fields.items) (ids_of l.read.ipc_fields.items) ≡ true;
+  shapes : have_shapes (fields_of l.read.fields.items) (ids_of l.read.ipc_fields.items) ≡ true;
   few : l.read.before.pairs ≤ 1048576;
 }
 

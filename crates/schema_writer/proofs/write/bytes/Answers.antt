@@ -1,7 +1,7 @@
 use Rattle.arrow_flat.specs.Nodes.{node_of}
 use Rattle.arrow_types.specs.Schemas.{fields_in}
 use Rattle.ipc_fields.specs.IpcFields.{ids_of, metadata_in}
-use Rattle.schema_writer.specs.Serialized.{order_by}
+use Rattle.arrow_spec.specs.Flat.{order_by}
 use Rattle.std.proofs.Common.{ap, Err}
 use Rattle.schema_writer.proofs.Serializing.{refused_first, made_is, made_keeps, bytes_made, bytes_large}
 use Rattle.schema_writer.proofs.write.bytes.Goals as goal

@@ -2,7 +2,7 @@ use Rattle.std.proofs.Common.{sym, ◌∙◌}
 use Rattle.arrow_flat.specs.Nodes.{node_of}
 use Rattle.arrow_types.specs.Schemas.{fields_in}
 use Rattle.ipc_fields.specs.IpcFields.{ids_of, metadata_in}
-use Rattle.schema_writer.specs.Serialized.{order_by}
+use Rattle.arrow_spec.specs.Flat.{order_by}
 use Rattle.schema_writer.proofs.Serializing.{not_said, made}
 use Rattle.schema_writer.proofs.write.own_table.Goals as goal
 
@@ -10,4 +10,4 @@ pub returns-then-not-is_sayable-clause-gives : goal.returns-then-not-is_sayable-
 returns-then-not-is_sayable-clause-gives c = not_said (order_by c.args.is_little_endian) (fields_in c.args.schema.now) (ids_of c.args.ipc_fields.now) (metadata_in c.args.metadata) c.requires (sym c.is_sayable.ensures ∙ c.if-not-is_sayable.true)
 
 pub returns-in-Ok-clause-gives : goal.returns-in-Ok-clause-gives
-returns-in-Ok-clause-gives c = made (order_by c.args.is_little_endian) (fields_in c.args.schema.now) (ids_of c.args.ipc_fields.now) (metadata_in c.args.metadata) (node_of c.in-Ok.node) c.requires (sym c.is_sayable.ensures ∙ c.if-not-is_sayable.false) c.in-Ok.ensures
+returns-in-Ok-clause-gives c = made (order_by c.args.is_little_endian) (fields_in c.args.schema.now) (ids_of c.args.ipc_fields.now) (metadata_in c.args.metadata) (node_of c.in-Ok.node) c.requires (sym c.is_sayable.ensures ∙ c.if-not-is_sayable.false) c.in-Ok.ensures.node

@@ -1,7 +1,7 @@
 use Rattle.std.proofs.Common.{sym, ◌∙◌, false}
 use Rattle.arrow_types.specs.Schemas.{fields_in}
 use Rattle.ipc_fields.specs.IpcFields.{ids_of, metadata_in}
-use Rattle.schema_writer.specs.Serialized.{order_by}
+use Rattle.arrow_spec.specs.Flat.{order_by}
 use Rattle.schema_writer.proofs.Serializing.{not_own, not_shaped, shaped}
 use Rattle.schema_writer.proofs.write.table.Goals as goal
 
