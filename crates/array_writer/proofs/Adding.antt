@@ -1,6 +1,7 @@
 -- Steps of a write, one after another.
 use Rattle.std.proofs.Common.{◌≡◌, ℕ, ◌+◌, ◌-◌, ◌<◌, List, [], ◌∷◌, ◌++◌, length, map, Result, Ok, Err, refl, sym, ap, subst, ◌∙◌, arith, append_assoc, append-nil, length-append, pos}
 use Rattle.std.specs.Prelude.{IsErr, IfOk}
+use Rattle.std.proofs.lemmas.List.{map-append}
 use Rattle.arrow_spec.specs.declared.message.IpcBuffer.{IpcBuffer}
 use Rattle.arrow_spec.specs.Layout.{up_to, zeros}
 use Rattle.arrow_spec.specs.Framing.{body_bytes}
@@ -26,11 +27,11 @@ pub adds_fail : {T E : Type 0} (r : Result T E) (b0 b1 : List IpcBuffer) (d0 d1 
 adds_fail (Ok t) b0 b1 d0 d1 pieces e h = cc
 adds_fail (Err t) b0 b1 d0 d1 pieces e h = h
 
-placed-append : (at : ℕ) (xs ys : List (List ℕ)) → placed at (map length (xs ++ ys)) ≡ placed at (map length xs) ++ placed (body_of at (map length xs)) (map length ys)
+pub placed-append : (at : ℕ) (xs ys : List ℕ) → placed at (xs ++ ys) ≡ placed at xs ++ placed (body_of at xs) ys
 placed-append at [] ys = refl
-placed-append at (x ∷ xs) ys = ap (λ l. record { offset = pos at; length = pos (length x) } ∷ l) (placed-append (up_to 64 (at + length x)) xs ys)
+placed-append at (x ∷ xs) ys = ap (λ l. record { offset = pos at; length = pos x } ∷ l) (placed-append (up_to 64 (at + x)) xs ys)
 
-body-append : (at : ℕ) (xs ys : List (List ℕ)) → body_bytes at (xs ++ ys) ≡ body_bytes at xs ++ body_bytes (body_of at (map length xs)) ys
+pub body-append : (at : ℕ) (xs ys : List (List ℕ)) → body_bytes at (xs ++ ys) ≡ body_bytes at xs ++ body_bytes (body_of at (map length xs)) ys
 body-append at [] ys = refl
 body-append at (x ∷ xs) ys =
     let next = up_to 64 (at + length x) in
@@ -46,7 +47,7 @@ puts_then {b0} {b1} {b2} {d0} {d1} {d2} {xs} {ys} p q =
     let l : length d1 ≡ body_of (length d0) (map length xs) = puts_end p in
     record {
       places = q.places ∙ ap (λ b. b ++ placed (length d1) (map length ys)) p.places ∙ append_assoc b0 (placed (length d0) (map length xs)) (placed (length d1) (map length ys))
-          ∙ ap (λ k. b0 ++ (placed (length d0) (map length xs) ++ placed k (map length ys))) l ∙ ap (λ r. b0 ++ r) (sym (placed-append (length d0) xs ys));
+          ∙ ap (λ k. b0 ++ (placed (length d0) (map length xs) ++ placed k (map length ys))) l ∙ ap (λ r. b0 ++ r) (sym (placed-append (length d0) (map length xs) (map length ys)) ∙ ap (placed (length d0)) (sym (map-append length xs ys)));
       bytes = q.bytes ∙ ap (λ d. d ++ body_bytes (length d1) ys) p.bytes ∙ append_assoc d0 (body_bytes (length d0) xs) (body_bytes (length d1) ys)
           ∙ ap (λ k. d0 ++ (body_bytes (length d0) xs ++ body_bytes k ys)) l ∙ ap (λ r. d0 ++ r) (sym (body-append (length d0) xs ys));
     }

@@ -1,5 +1,5 @@
 -- What each layout's buffers are, by its kind.
-use Rattle.std.proofs.Common.{◌≡◌, ℕ, ◌<◌, List, [], ◌∷◌, ◌++◌, Bool, true, false, Option, map, get_or, refl, sym, ap, subst, ◌∙◌}
+use Rattle.std.proofs.Common.{◌≡◌, ℕ, ◌<◌, List, [], ◌∷◌, ◌++◌, Bool, true, Option, map, get_or, refl, sym, ap, subst, ◌∙◌}
 use Rattle.std.specs.Prelude.{ℤ, None}
 use Rattle.std.specs.List.{flat_map, AllByRecursion}
 use Rattle.std.proofs.lemmas.Bool.{eqb-true}
@@ -7,6 +7,7 @@ use Rattle.arrow_spec.specs.Counts.{magnitude}
 use Rattle.arrow_spec.specs.Flat.{Order, little}
 use Rattle.arrow_spec.specs.Kinds.{Kind, Offsets}
 use Rattle.arrow_spec.specs.Framing.{validity_bytes}
+use Rattle.arrow_types.specs.Numbers.{offsets_by}
 use Rattle.arrow_types.specs.Physical.{physical_of}
 use Rattle.arrow_types.specs.declared.physical.PhysicalType.{PhysicalType}
 use Rattle.arrow_types.specs.declared.physical.PhysicalType.TheVariants as physical
@@ -14,9 +15,9 @@ use Rattle.arrow_types.specs.declared.physical.PrimitiveType.{PrimitiveType}
 use Rattle.arrow_types.specs.declared.physical.PrimitiveType.TheVariants.{Int8, Int16, Int32, Int64, Int128, Int256, UInt8, UInt16, UInt32, UInt64, Float16, Float32, Float64, DaysMs, MonthDayNano}
 use Rattle.arrow_buffers.specs.Layouts.{is_primitive, primitive_number, is_binary, is_text}
 use Rattle.arrow_buffers.specs.Variable.{Variable, binary_fault, text_fault}
-use Rattle.array_writer.specs.Pieces.{in_order, layout_in_order, offsets_of, offset_bytes, bytes_between, variable_pieces, offset_limit, OffsetsFit}
-use Rattle.array_writer.specs.Adding.{AllBelow, width_of}
-use Rattle.array_writer.proofs.RoundTripFit.{offsets_by, binary_offsets, text_offsets}
+use Rattle.array_writer.specs.Pieces.{in_order, layout_in_order, width_of_kind, offset_bytes, bytes_between, variable_pieces, offset_limit, OffsetsFit}
+use Rattle.array_writer.specs.Adding.{AllBelow}
+use Rattle.array_writer.proofs.RoundTripFit.{binary_offsets, binary_suits, text_offsets, text_suits}
 
 -- ── numbers ──
 
@@ -56,28 +57,16 @@ numbers_turned write p order k xs turned e =
 
 -- ── offsets ──
 
-by_width : (l : Bool) → offsets_by l ≡ width_of l
-by_width true = refl
-by_width false = refl
-
-binary_sound : (s : Bool) (p : Variable) → binary_fault s p ≡ None → s ≡ true
-binary_sound true p e = refl
-binary_sound false p e = cc
-
-text_sound : (s : Bool) (p : Variable) → text_fault s p ≡ None → s ≡ true
-text_sound true p e = refl
-text_sound false p e = cc
-
 -- the width of the offsets of byte strings is that of their layout
-pub binary_width : (l : Bool) (p : Variable) → binary_fault (is_binary l (physical_of p.kind)) p ≡ None → offsets_of p.kind ≡ width_of l
-binary_width l p e = binary_offsets l p.kind (binary_sound (is_binary l (physical_of p.kind)) p e) ∙ by_width l
+pub binary_width : (l : Bool) (p : Variable) → binary_fault (is_binary l (physical_of p.kind)) p ≡ None → width_of_kind p.kind ≡ offsets_by l
+binary_width l p e = binary_offsets l p.kind (binary_suits (is_binary l (physical_of p.kind)) p e)
 
 -- and so of texts
-pub text_width : (l : Bool) (p : Variable) → text_fault (is_text l (physical_of p.kind)) p ≡ None → offsets_of p.kind ≡ width_of l
-text_width l p e = text_offsets l p.kind (text_sound (is_text l (physical_of p.kind)) p e) ∙ by_width l
+pub text_width : (l : Bool) (p : Variable) → text_fault (is_text l (physical_of p.kind)) p ≡ None → width_of_kind p.kind ≡ offsets_by l
+text_width l p e = text_offsets l p.kind (text_suits (is_text l (physical_of p.kind)) p e)
 
 -- what is put is what the parts are written as
-pub variable_same : (order : Order) (o : Offsets) (p : Variable) (v : Option (List Bool)) (offsets : List ℤ) (values : List ℕ) → v ≡ p.validity → offsets ≡ p.offsets → values ≡ p.values → offsets_of p.kind ≡ o → validity_bytes v ∷ offset_bytes order o offsets ∷ bytes_between offsets values ∷ [] ≡ variable_pieces order p
+pub variable_same : (order : Order) (o : Offsets) (p : Variable) (v : Option (List Bool)) (offsets : List ℤ) (values : List ℕ) → v ≡ p.validity → offsets ≡ p.offsets → values ≡ p.values → width_of_kind p.kind ≡ o → validity_bytes v ∷ offset_bytes order o offsets ∷ bytes_between offsets values ∷ [] ≡ variable_pieces order p
 variable_same order o p v offsets values ev eo ex ew =
     ap (λ w. validity_bytes w ∷ offset_bytes order o offsets ∷ bytes_between offsets values ∷ []) ev
     ∙ ap (λ w. validity_bytes p.validity ∷ offset_bytes order o w ∷ bytes_between w values ∷ []) eo
@@ -85,7 +74,7 @@ variable_same order o p v offsets values ev eo ex ew =
     ∙ ap (λ w. validity_bytes p.validity ∷ offset_bytes order w p.offsets ∷ bytes_between p.offsets p.values ∷ []) (sym ew)
 
 -- no offset passes the width of its kind
-pub offsets_fit : (limit : ℕ) (l : Bool) (k : Kind) (xs offsets : List ℤ) → limit ≡ offset_limit (width_of l) → offsets_of k ≡ width_of l → xs ≡ offsets → AllBelow limit xs → OffsetsFit k offsets
+pub offsets_fit : (limit : ℕ) (l : Bool) (k : Kind) (xs offsets : List ℤ) → limit ≡ offset_limit (offsets_by l) → width_of_kind k ≡ offsets_by l → xs ≡ offsets → AllBelow limit xs → OffsetsFit k offsets
 offsets_fit limit l k xs offsets el ew ex h =
     subst (λ n. AllByRecursion (λ x. magnitude x < n) offsets) (el ∙ ap offset_limit (sym ew)) (subst (λ ys. AllByRecursion (λ x. magnitude x < limit) ys) ex h.each)
 

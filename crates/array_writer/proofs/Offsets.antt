@@ -2,10 +2,11 @@
 use Rattle.std.proofs.Common.{◌≡◌, ℕ, zero, suc, ◌+◌, ◌-◌, ◌<◌, List, [], ◌∷◌, ◌++◌, length, take, map, get_or, refl, sym, ap, ◌∙◌, arith, append_assoc, append-nil}
 use Rattle.std.specs.Prelude.{ℤ, pos, ◌^◌, ◌≤◌, true, Some}
 use Rattle.std.specs.List.{flat_map, AllByRecursion}
+use Rattle.std.proofs.lemmas.Grind.{flat_map-append}
 use Rattle.std.proofs.lemmas.List.{map-append, take_more, get_or_default, length-map}
 use Rattle.arrow_spec.specs.Kinds.{Offsets}
 use Rattle.arrow_spec.specs.Counts.{magnitude}
-use Rattle.arrow_spec.specs.Columns.{offset_width}
+use Rattle.arrow_spec.specs.Arrays.{offset_width}
 use Rattle.arrow_spec.specs.Flat.{Order}
 use Rattle.arrow_types.specs.Numbers.{to_bytes, usize_of}
 use Rattle.arrow_buffers.specs.Variable.{place_at, are_offsets}
@@ -15,10 +16,6 @@ use Rattle.array_writer.specs.Adding.{AllBelow}
 -- the bytes of offsets that are counted from a place on
 abbrev pub bytes_by : Order → Offsets → ℕ → List ℤ → List ℕ
 bytes_by order o first offsets = flat_map (λ n. to_bytes order (offset_width o) n) (map (λ x. magnitude x - first) offsets)
-
-flat_map-append : {A B : Type 0} (f : A → List B) (xs ys : List A) → flat_map f (xs ++ ys) ≡ flat_map f xs ++ flat_map f ys
-flat_map-append f [] ys = refl
-flat_map-append f (x ∷ xs) ys = ap (λ r. f x ++ r) (flat_map-append f xs ys) ∙ sym (append_assoc (f x) (flat_map f xs) (flat_map f ys))
 
 -- one offset more
 bytes_more : (order : Order) (o : Offsets) (first : ℕ) (xs : List ℤ) (x : ℤ) → bytes_by order o first (xs ++ x ∷ []) ≡ bytes_by order o first xs ++ to_bytes order (offset_width o) (magnitude x - first)

@@ -1,23 +1,24 @@
 -- What an array without children is written as means its cells.
 use Rattle.std.proofs.Common.{◌≡◌, Bool, true, false, None}
-use Rattle.arrow_spec.specs.Columns.{Dictionaries}
+use Rattle.arrow_spec.specs.Arrays.{Dictionaries}
 use Rattle.arrow_arrays.specs.Parts.{Parts, nulls, bits, numbers, fixed, binary, text, binary_views, text_views, rows_in, fault_in}
 use Rattle.written_columns.specs.Columns.{Means}
 use Rattle.array_writer.specs.Pieces.{Fit, column_in}
-use Rattle.array_writer.specs.Outputs.{MayHaveOrder, order_of}
+use Rattle.array_writer.specs.Outputs.{MayHaveOrder}
+use Rattle.arrow_spec.specs.Flat.{order_by}
 use Rattle.array_writer.proofs.RoundTripPlain as plain
 use Rattle.array_writer.proofs.RoundTripNumbers as sized
 use Rattle.array_writer.proofs.RoundTripOffsets as between
 use Rattle.array_writer.proofs.RoundTripViews as viewed
 
 -- any array's column, in any order that it may have, reads back as the array's cells
-pub column_means : (is_little_endian : Bool) (d : Dictionaries) (p : Parts) → fault_in p ≡ None → Fit p → MayHaveOrder p is_little_endian → Means (order_of is_little_endian) d (rows_in p) (column_in (order_of is_little_endian) p)
-column_means le d (nulls x) e fit may = plain.nulls_mean (order_of le) d x e
-column_means le d (bits f) e fit may = plain.bits_mean (order_of le) d f e
-column_means le d (numbers f) e fit may = sized.numbers_mean (order_of le) d f e
-column_means le d (fixed f) e fit may = plain.fixed_mean (order_of le) d f e
-column_means le d (binary x) e fit may = between.binary_mean (order_of le) d x e fit
-column_means le d (text x) e fit may = between.text_mean (order_of le) d x e fit
+pub column_means : (is_little_endian : Bool) (d : Dictionaries) (p : Parts) → fault_in p ≡ None → Fit p → MayHaveOrder p is_little_endian → Means (order_by is_little_endian) d (rows_in p) (column_in (order_by is_little_endian) p)
+column_means le d (nulls x) e fit may = plain.nulls_mean (order_by le) d x e
+column_means le d (bits f) e fit may = plain.bits_mean (order_by le) d f e
+column_means le d (numbers f) e fit may = sized.numbers_mean (order_by le) d f e
+column_means le d (fixed f) e fit may = plain.fixed_mean (order_by le) d f e
+column_means le d (binary x) e fit may = between.binary_mean (order_by le) d x e fit
+column_means le d (text x) e fit may = between.text_mean (order_by le) d x e fit
 column_means true d (binary_views x) e fit may = viewed.views_mean d x e
 column_means true d (text_views x) e fit may = viewed.text_views_mean d x e
 column_means false d (binary_views x) e fit may = cc

@@ -11,11 +11,14 @@ use Rattle.arrow_spec.specs.Kinds.{Kind, extension}
 use Rattle.arrow_spec.specs.Cells as cells
 use Rattle.arrow_spec.specs.Cells.{Cell}
 use Rattle.arrow_spec.specs.Counts.{RecordBatch, Place, nodes, buffers, views}
-use Rattle.arrow_spec.specs.Columns.{Dictionaries, bit, valid, if_valid, cell, from_on, some_negative, count_faults, node_faults, view_count_faults, bitmap_faults, validity_faults, array_faults, column_faults}
+use Rattle.arrow_spec.specs.Arrays.{Dictionaries, bit, valid, if_valid, from_on}
+use Rattle.arrow_spec.specs.ArrayCells.{cell}
+use Rattle.arrow_spec.specs.Faults.{some_negative, count_faults, node_faults, view_count_faults, bitmap_faults, validity_faults, array_faults, column_faults}
 use Rattle.arrow_spec.specs.Framing.{packed}
 use Rattle.arrow_spec.specs.Framing.{validity_bytes}
 use Rattle.arrow_spec.proofs.PackedBits.{packed_bit, length-packed}
-use Rattle.arrow_spec.proofs.Bodies.{From, from_head, from_length, BufferHeld, held_bytes, held_faults}
+use Rattle.arrow_spec.proofs.Bodies.{from_head, from_length, held_bytes, held_faults}
+use Rattle.arrow_spec.specs.Bodies.{From, BufferHeld}
 use Rattle.arrow_spec.proofs.CellLists.{from_on-same}
 use Rattle.arrow_buffers.specs.Rows.{has_rows, is_valid, null_rows, masked}
 use Rattle.arrow_buffers.proofs.Parts.{length-from_on}

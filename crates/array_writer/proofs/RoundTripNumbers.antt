@@ -15,7 +15,8 @@ use Rattle.arrow_spec.specs.Held.{Stands}
 use Rattle.arrow_spec.specs.Cells as cells
 use Rattle.arrow_spec.specs.Cells.{Cell}
 use Rattle.arrow_spec.specs.Counts.{RecordBatch, Place}
-use Rattle.arrow_spec.specs.Columns.{Dictionaries, buf, signed_in, unsigned_in, part_of_row, or_0, if_valid, fixed_faults}
+use Rattle.arrow_spec.specs.Arrays.{Dictionaries, buf, signed_in, unsigned_in, part_of_row, or_0, if_valid}
+use Rattle.arrow_spec.specs.Faults.{fixed_faults}
 use Rattle.arrow_spec.specs.Framing.{validity_bytes}
 use Rattle.arrow_spec.proofs.Standing.{stands_left}
 use Rattle.arrow_spec.proofs.Found.{right_at}

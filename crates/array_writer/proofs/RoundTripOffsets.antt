@@ -15,15 +15,17 @@ use Rattle.arrow_spec.specs.Held.{Stands}
 use Rattle.arrow_spec.specs.Cells as cells
 use Rattle.arrow_spec.specs.Cells.{Cell}
 use Rattle.arrow_spec.specs.Counts.{RecordBatch, Place, magnitude, is_negative}
-use Rattle.arrow_spec.specs.Columns.{Dictionaries, buf, valid, if_valid, signed_in, unsigned_in, offset, offset_width, slice, row_bytes, from_on, some_row, offsets_faults, bytes_faults, utf8_faults, if_sound, or_0}
+use Rattle.arrow_spec.specs.Arrays.{Dictionaries, buf, valid, if_valid, signed_in, unsigned_in, offset, offset_width, slice, row_bytes, from_on, or_0}
+use Rattle.arrow_spec.specs.Faults.{some_row, offsets_faults, bytes_faults, utf8_faults, if_sound}
 use Rattle.arrow_spec.specs.Framing.{validity_bytes}
-use Rattle.arrow_spec.proofs.Bodies.{BufferHeld, held_bytes, held_faults}
+use Rattle.arrow_spec.proofs.Bodies.{held_bytes, held_faults}
+use Rattle.arrow_spec.specs.Bodies.{BufferHeld}
 use Rattle.arrow_types.specs.Numbers.{to_bytes}
 use Rattle.arrow_types.specs.NumberLaws.{unsigned_back, unsigned_width}
 use Rattle.arrow_types.specs.Physical.{physical_of}
 use Rattle.arrow_buffers.specs.Rows.{is_valid, null_rows}
 use Rattle.arrow_buffers.specs.Layouts.{is_binary, is_text}
-use Rattle.arrow_buffers.specs.Variable.{Variable, place_at, are_offsets, variable_rows, has_bad_text, variable_cells, binary_cells, text_cells, binary_fault, text_fault}
+use Rattle.arrow_buffers.specs.Variable.{Variable, place_at, are_offsets, variable_rows, has_bad_text, variable_cells, binary_cells, text_cells}
 use Rattle.arrow_buffers.specs.Variable as held
 use Rattle.arrow_buffers.proofs.Parts.{length-part, part-part}
 use Rattle.arrow_buffers.proofs.Rows.{none_below, none_from}
@@ -31,7 +33,8 @@ use Rattle.arrow_buffers.proofs.Rising.{some_offset, offset_risen, offset_climbs
 use Rattle.arrow_buffers.proofs.Variable.{Spanned, binary_sound, text_sound}
 use Rattle.arrow_arrays.specs.Parts.{binary as binaries, text, fault_in}
 use Rattle.written_columns.specs.Columns.{WrittenColumn, StandsAt, Means}
-use Rattle.array_writer.specs.Pieces.{offsets_of, rebased, offset_bytes, bytes_between, offset_limit, Fit, column_in}
+use Rattle.array_writer.specs.Pieces.{width_of_kind, rebased, offset_bytes, bytes_between, offset_limit, Fit, column_in}
+use Rattle.array_writer.proofs.RoundTripFit.{binary_suits, text_suits}
 use Rattle.array_writer.proofs.RoundTripHeads.{Headed, Shape, extended, one_column, means_by, headed, second, valid_by, validity_right, cells_told}
 use Rattle.array_writer.proofs.RoundTripPlain.{numbers_right}
 use Rattle.array_writer.proofs.RoundTripTurned.{itself, part_there}
@@ -176,39 +179,31 @@ text_faults o m p n = if_sound (bytes_faults m o p n) (utf8_faults m o p n)
 abbrev told_row : (List ℕ → Cell) → Offsets → RecordBatch → Place → ℕ → Cell
 told_row told o m p row = if_valid m p row (told (row_bytes m o p row))
 
-binary_shape : (d : Dictionaries) (k : Kind) → (is_binary false (physical_of k) || is_binary true (physical_of k)) ≡ true → Shape d k 0 three_of (binary_faults (offsets_of k)) (told_row cells.bytes (offsets_of k))
+binary_shape : (d : Dictionaries) (k : Kind) → (is_binary false (physical_of k) || is_binary true (physical_of k)) ≡ true → Shape d k 0 three_of (binary_faults (width_of_kind k)) (told_row cells.bytes (width_of_kind k))
 binary_shape d (binary o) e = record { node = refl; view = refl; buffer = λ m p. refl; empty = λ m p. refl; some = λ m p n. refl; row = λ m p row. refl }
-binary_shape d (extension name metadata k) e = extended d name metadata k 0 three_of (binary_faults (offsets_of k)) (told_row cells.bytes (offsets_of k)) (binary_shape d k e)
+binary_shape d (extension name metadata k) e = extended d name metadata k 0 three_of (binary_faults (width_of_kind k)) (told_row cells.bytes (width_of_kind k)) (binary_shape d k e)
 binary_shape d (utf8 small) e = cc
 binary_shape d (utf8 large) e = cc
 binary_shape d («list» small fs) e = cc
 binary_shape d («list» large fs) e = cc
 binary_shape d k e = cc
 
-text_shape : (d : Dictionaries) (k : Kind) → (is_text false (physical_of k) || is_text true (physical_of k)) ≡ true → Shape d k 0 three_of (text_faults (offsets_of k)) (told_row cells.text (offsets_of k))
+text_shape : (d : Dictionaries) (k : Kind) → (is_text false (physical_of k) || is_text true (physical_of k)) ≡ true → Shape d k 0 three_of (text_faults (width_of_kind k)) (told_row cells.text (width_of_kind k))
 text_shape d (utf8 o) e = record { node = refl; view = refl; buffer = λ m p. refl; empty = λ m p. refl; some = λ m p n. refl; row = λ m p row. refl }
-text_shape d (extension name metadata k) e = extended d name metadata k 0 three_of (text_faults (offsets_of k)) (told_row cells.text (offsets_of k)) (text_shape d k e)
+text_shape d (extension name metadata k) e = extended d name metadata k 0 three_of (text_faults (width_of_kind k)) (told_row cells.text (width_of_kind k)) (text_shape d k e)
 text_shape d (binary small) e = cc
 text_shape d (binary large) e = cc
 text_shape d («list» small fs) e = cc
 text_shape d («list» large fs) e = cc
 text_shape d k e = cc
 
-binary_suits : (s : Bool) (x : Variable) → binary_fault s x ≡ None → s ≡ true
-binary_suits true x e = refl
-binary_suits false x e = cc
-
-text_suits : (s : Bool) (x : Variable) → text_fault s x ≡ None → s ≡ true
-text_suits true x e = refl
-text_suits false x e = cc
-
 -- what a column between offsets is written as
 abbrev variable_column : Order → (List ℕ → Cell) → Variable → WrittenColumn
-variable_column order told x = one_column x.kind (variable_rows x.offsets) (null_rows x.validity) (validity_bytes x.validity ∷ offset_bytes order (offsets_of x.kind) x.offsets ∷ bytes_between x.offsets x.values ∷ []) [] (variable_cells told x)
+variable_column order told x = one_column x.kind (variable_rows x.offsets) (null_rows x.validity) (validity_bytes x.validity ∷ offset_bytes order (width_of_kind x.kind) x.offsets ∷ bytes_between x.offsets x.values ∷ []) [] (variable_cells told x)
 
-between : (order : Order) (told : List ℕ → Cell) (x : Variable) (m : RecordBatch) (p : Place) → Spanned x → AllByRecursion (λ y. magnitude y < offset_limit (offsets_of x.kind)) x.offsets → m.order ≡ order → StandsAt m p (variable_column order told x) → Between order (offsets_of x.kind) x.offsets x.values m p
+between : (order : Order) (told : List ℕ → Cell) (x : Variable) (m : RecordBatch) (p : Place) → Spanned x → AllByRecursion (λ y. magnitude y < offset_limit (width_of_kind x.kind)) x.offsets → m.order ≡ order → StandsAt m p (variable_column order told x) → Between order (width_of_kind x.kind) x.offsets x.values m p
 between order told x m p sound fit o s =
-    let offsets = offset_bytes order (offsets_of x.kind) x.offsets in
+    let offsets = offset_bytes order (width_of_kind x.kind) x.offsets in
     let bytes = bytes_between x.offsets x.values in
     let next : suc (suc p.buffer) ≡ p.buffer + 2 = omega arith in
     record {
@@ -220,17 +215,17 @@ between order told x m p sound fit o s =
     }
 
 variable_head : (order : Order) (told : List ℕ → Cell) (x : Variable) (m : RecordBatch) (p : Place) → Spanned x → StandsAt m p (variable_column order told x) → Headed m p (variable_rows x.offsets) x.validity
-variable_head order told x m p sound s = headed m p x.kind (variable_rows x.offsets) x.validity (offset_bytes order (offsets_of x.kind) x.offsets ∷ bytes_between x.offsets x.values ∷ []) [] (variable_cells told x) sound.rows s
+variable_head order told x m p sound s = headed m p x.kind (variable_rows x.offsets) x.validity (offset_bytes order (width_of_kind x.kind) x.offsets ∷ bytes_between x.offsets x.values ∷ []) [] (variable_cells told x) sound.rows s
 
-variable_read : (order : Order) (told : List ℕ → Cell) (x : Variable) (m : RecordBatch) (p : Place) → Spanned x → AllByRecursion (λ y. magnitude y < offset_limit (offsets_of x.kind)) x.offsets → m.order ≡ order → StandsAt m p (variable_column order told x) → from_on (told_row told (offsets_of x.kind) m p) 0 (variable_rows x.offsets) ≡ variable_cells told x
+variable_read : (order : Order) (told : List ℕ → Cell) (x : Variable) (m : RecordBatch) (p : Place) → Spanned x → AllByRecursion (λ y. magnitude y < offset_limit (width_of_kind x.kind)) x.offsets → m.order ≡ order → StandsAt m p (variable_column order told x) → from_on (told_row told (width_of_kind x.kind) m p) 0 (variable_rows x.offsets) ≡ variable_cells told x
 variable_read order told x m p sound fit o s =
     let b = between order told x m p sound fit o s in
-    cells_told m p (variable_rows x.offsets) x.validity (told_row told (offsets_of x.kind) m p) (λ row. told (row_bytes m (offsets_of x.kind) p row)) (λ row. told (held.row_bytes x.offsets x.values row)) (variable_head order told x m p sound s) (λ row. refl)
-    (λ row lt v. ap told (row_read order (offsets_of x.kind) x.offsets x.values m p b row lt))
+    cells_told m p (variable_rows x.offsets) x.validity (told_row told (width_of_kind x.kind) m p) (λ row. told (row_bytes m (width_of_kind x.kind) p row)) (λ row. told (held.row_bytes x.offsets x.values row)) (variable_head order told x m p sound s) (λ row. refl)
+    (λ row lt v. ap told (row_read order (width_of_kind x.kind) x.offsets x.values m p b row lt))
 
 pub binary_mean : (order : Order) (d : Dictionaries) (x : Variable) → fault_in (binaries x) ≡ None → Fit (binaries x) → Means order d (variable_rows x.offsets) (column_in order (binaries x))
 binary_mean order d x e fit =
-    let o = offsets_of x.kind in
+    let o = width_of_kind x.kind in
     let suits = is_binary false (physical_of x.kind) || is_binary true (physical_of x.kind) in
     let sound = binary_sound suits x e in
     means_by d x.kind 0 three_of (binary_faults o) (told_row cells.bytes o) order (variable_rows x.offsets) (null_rows x.validity) (validity_bytes x.validity ∷ offset_bytes order o x.offsets ∷ bytes_between x.offsets x.values ∷ []) [] (binary_cells x) (binary_shape d x.kind (binary_suits suits x e)) refl (λ m p s. refl)
@@ -239,7 +234,7 @@ binary_mean order d x e fit =
 
 pub text_mean : (order : Order) (d : Dictionaries) (x : Variable) → fault_in (text x) ≡ None → Fit (text x) → Means order d (variable_rows x.offsets) (column_in order (text x))
 text_mean order d x e fit =
-    let o = offsets_of x.kind in
+    let o = width_of_kind x.kind in
     let suits = is_text false (physical_of x.kind) || is_text true (physical_of x.kind) in
     let both = text_sound suits x e in
     let sound : Spanned x = both.0 in

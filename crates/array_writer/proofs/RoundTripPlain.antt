@@ -8,11 +8,13 @@ use Rattle.arrow_spec.specs.Kinds.{Kind, null, boolean, binary, utf8, «list», 
 use Rattle.arrow_spec.specs.Cells as cells
 use Rattle.arrow_spec.specs.Cells.{Cell}
 use Rattle.arrow_spec.specs.Counts.{RecordBatch, Place}
-use Rattle.arrow_spec.specs.Columns.{Dictionaries, bit, buf, if_valid, from_on, bitmap_faults, validity_faults, numbers_faults, fixed_faults}
+use Rattle.arrow_spec.specs.Arrays.{Dictionaries, bit, buf, if_valid, from_on}
+use Rattle.arrow_spec.specs.Faults.{bitmap_faults, validity_faults, numbers_faults, fixed_faults}
 use Rattle.arrow_spec.specs.Framing.{packed}
 use Rattle.arrow_spec.specs.Framing.{validity_bytes}
 use Rattle.arrow_spec.proofs.PackedBits.{packed_bit, length-packed}
-use Rattle.arrow_spec.proofs.Bodies.{BufferHeld, held_bytes, held_faults}
+use Rattle.arrow_spec.proofs.Bodies.{held_bytes, held_faults}
+use Rattle.arrow_spec.specs.Bodies.{BufferHeld}
 use Rattle.arrow_types.specs.Physical.{physical_of}
 use Rattle.arrow_buffers.specs.Rows.{has_rows, null_rows, masked}
 use Rattle.arrow_buffers.specs.Layouts.{is_null, is_boolean, binary_size}

@@ -5,7 +5,7 @@ use Rattle.std.proofs.lemmas.List.{get_or-reverse, length-reverse, take-append-d
 use Rattle.arrow_spec.specs.Flat.{Order, little, big, part, num, fold_number}
 use Rattle.arrow_spec.specs.Held.{Stands}
 use Rattle.arrow_spec.specs.Counts.{RecordBatch}
-use Rattle.arrow_spec.specs.Columns.{buf, unsigned_in, or_0}
+use Rattle.arrow_spec.specs.Arrays.{buf, unsigned_in, or_0}
 use Rattle.arrow_spec.proofs.Standing.{part-stands, stands_left}
 use Rattle.arrow_spec.proofs.Found.{right_at}
 use Rattle.arrow_types.specs.declared.physical.PrimitiveType.TheVariants as primitive

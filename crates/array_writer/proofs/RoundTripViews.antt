@@ -8,9 +8,11 @@ use Rattle.arrow_spec.specs.Flat.{little}
 use Rattle.arrow_spec.specs.Kinds.{Kind, binary, utf8, binary_view, utf8_view, «list», extension, small, large}
 use Rattle.arrow_spec.specs.Cells.{Cell}
 use Rattle.arrow_spec.specs.Counts.{RecordBatch, Place, count_among, count_at, magnitude_or_0}
-use Rattle.arrow_spec.specs.Columns.{Dictionaries, buf, valid, if_valid, u32_of, all_zero, view_of, view_bytes, is_good_view, is_no_text_view, from_on, some_row, fixed_faults, view_count_faults, ranges_faults, data_faults, view_parts_faults, bad_view_faults, views_faults, view_text_faults}
+use Rattle.arrow_spec.specs.Arrays.{Dictionaries, buf, valid, if_valid, u32_of, view_of, view_bytes, from_on}
+use Rattle.arrow_spec.specs.Faults.{all_zero, is_good_view, is_no_text_view, some_row, fixed_faults, view_count_faults, ranges_faults, data_faults, view_parts_faults, bad_view_faults, views_faults, view_text_faults}
 use Rattle.arrow_spec.specs.Framing.{validity_bytes}
-use Rattle.arrow_spec.proofs.Bodies.{BufferHeld, AreHeld, held_bytes, held_faults, from_head}
+use Rattle.arrow_spec.proofs.Bodies.{held_bytes, held_faults, from_head}
+use Rattle.arrow_spec.specs.Bodies.{BufferHeld, AreHeld}
 use Rattle.arrow_types.specs.Physical.{physical_of}
 use Rattle.arrow_buffers.specs.declared.error.ArrayError.TheVariants.{DataType, Length, Utf8, View}
 use Rattle.arrow_buffers.specs.Rows.{has_rows, is_valid, null_rows}

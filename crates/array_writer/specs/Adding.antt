@@ -1,15 +1,14 @@
 -- What steps of a write have added, where they have succeeded, and that they have only added, where they have failed.
-use Rattle.std.specs.Prelude.{◌≡◌, ℕ, ◌-◌, ◌<◌, List, [], ◌∷◌, ◌++◌, length, map, Result, Ok, Err, Bool, true, false, ℤ, pos}
+use Rattle.std.specs.Prelude.{◌≡◌, ℕ, ◌-◌, ◌<◌, List, [], ◌∷◌, ◌++◌, length, map, Result, Ok, Err, Bool, ℤ, pos}
 use Rattle.std.specs.List.{AllByRecursion}
 use Rattle.arrow_spec.specs.declared.message.IpcBuffer.{IpcBuffer}
 use Rattle.arrow_spec.specs.Flat.{Order}
-use Rattle.arrow_spec.specs.Kinds.{Offsets, small, large}
 use Rattle.arrow_spec.specs.Counts.{magnitude}
-use Rattle.arrow_spec.specs.Columns.{offset_width}
+use Rattle.arrow_spec.specs.Arrays.{offset_width}
 use Rattle.arrow_spec.specs.Layout.{up_to, zeros}
 use Rattle.arrow_spec.specs.Framing.{body_bytes}
 use Rattle.arrow_spec.specs.Sent.{placed}
-use Rattle.arrow_types.specs.Numbers.{to_bytes}
+use Rattle.arrow_types.specs.Numbers.{to_bytes, offsets_by}
 use Rattle.array_writer.specs.Outputs.{Outputs}
 
 -- ── lists that grow ──
@@ -48,13 +47,9 @@ Adds (Err e) buffers body new_buffers new_body pieces = KeptBoth buffers body ne
 
 -- a buffer has been ended that begins at a place; a failure has kept both
 abbrev pub Ends : {T E : Type 0} → Result T E → ℕ → List IpcBuffer → List ℕ → List IpcBuffer → List ℕ → Type 0
-Ends (Ok x) start buffers body new_buffers new_body = (new_buffers ≡ buffers ++ record { offset = pos start; length = pos (length body - start) } ∷ []) × (new_body ≡ body ++ zeros (up_to 64 (length body) - length body))
+Ends (Ok x) start buffers body new_buffers new_body = (new_buffers ≡ buffers ++ record { offset = pos start; length = pos (length body - start) } ∷ [])
+    × (new_body ≡ body ++ zeros (up_to 64 (length body) - length body))
 Ends (Err e) start buffers body new_buffers new_body = KeptBoth buffers body new_buffers new_body
-
--- the width of offsets
-abbrev pub width_of : Bool → Offsets
-width_of false = small
-width_of true = large
 
 -- no offset reaches a limit
 pub record AllBelow (limit : ℕ) (offsets : List ℤ) : Type 0 where
@@ -62,4 +57,4 @@ pub record AllBelow (limit : ℕ) (offsets : List ℤ) : Type 0 where
 
 -- an offset's bytes are those of its number
 pub record WritesNumbers {O : Type 0} (number : O → ℤ) (limit : ℕ) (is_large : Bool) (written : Order → O → List ℕ) : Type 0 where
-  pub bytes : (order : Order) (x : O) (n : ℕ) → n < limit → number x ≡ pos n → written order x ≡ to_bytes order (offset_width (width_of is_large)) n
+  pub bytes : (order : Order) (x : O) (n : ℕ) → n < limit → number x ≡ pos n → written order x ≡ to_bytes order (offset_width (offsets_by is_large)) n

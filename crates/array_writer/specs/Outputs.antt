@@ -8,11 +8,6 @@ use Rattle.arrow_spec.specs.Sent.{placed}
 use Rattle.arrow_arrays.specs.Parts.{Parts, binary_views, text_views}
 use Rattle.array_writer.specs.Pieces.{node_in, pieces_in, counts_in}
 
--- the byte order that is asked for
-abbrev pub order_of : Bool → Order
-order_of true = little
-order_of false = big
-
 -- views are written in little-endian order alone
 abbrev pub MayHaveOrder : Parts → Bool → Type 0
 MayHaveOrder (binary_views p) is_little_endian = is_little_endian ≡ true

@@ -5,9 +5,8 @@ use Rattle.arrow_spec.specs.declared.message.FieldNode.{FieldNode}
 use Rattle.arrow_spec.specs.Flat.{Order, little, big}
 use Rattle.arrow_spec.specs.Kinds.{Kind, Offsets, small, large, binary, utf8, extension}
 use Rattle.arrow_spec.specs.Counts.{Written, magnitude}
-use Rattle.arrow_spec.specs.Columns.{offset_width, slice}
-use Rattle.arrow_spec.specs.Framing.{packed}
-use Rattle.arrow_spec.specs.Framing.{validity_bytes}
+use Rattle.arrow_spec.specs.Arrays.{offset_width, slice}
+use Rattle.arrow_spec.specs.Framing.{packed, validity_bytes}
 use Rattle.arrow_types.specs.Numbers.{to_bytes}
 use Rattle.arrow_types.specs.Physical.{physical_of}
 use Rattle.arrow_types.specs.declared.physical.PhysicalType.{PhysicalType}
@@ -40,11 +39,11 @@ layout_in_order order layout bytes = bytes
 -- ── offsets ──
 
 -- the width of a kind's offsets, extensions looked through
-abbrev pub offsets_of : Kind → Offsets
-offsets_of (binary o) = o
-offsets_of (utf8 o) = o
-offsets_of (extension name metadata k) = offsets_of k
-offsets_of k = small
+abbrev pub width_of_kind : Kind → Offsets
+width_of_kind (binary o) = o
+width_of_kind (utf8 o) = o
+width_of_kind (extension name metadata k) = width_of_kind k
+width_of_kind k = small
 
 -- offsets that begin at 0
 abbrev pub rebased : List ℤ → List ℕ
@@ -62,7 +61,7 @@ bytes_between offsets values = slice values (place_at offsets 0) (place_at offse
 
 -- a validity, offsets and bytes
 abbrev pub variable_pieces : Order → Variable → List (List ℕ)
-variable_pieces order p = validity_bytes p.validity ∷ offset_bytes order (offsets_of p.kind) p.offsets ∷ bytes_between p.offsets p.values ∷ []
+variable_pieces order p = validity_bytes p.validity ∷ offset_bytes order (width_of_kind p.kind) p.offsets ∷ bytes_between p.offsets p.values ∷ []
 
 -- a validity, views, and the buffers as held
 abbrev pub view_pieces : Views → List (List ℕ)
@@ -102,7 +101,7 @@ offset_limit large = 2 ^ 63
 
 -- each offset is one of its width
 abbrev pub OffsetsFit : Kind → List ℤ → Type 0
-OffsetsFit k offsets = AllByRecursion (λ x. magnitude x < offset_limit (offsets_of k)) offsets
+OffsetsFit k offsets = AllByRecursion (λ x. magnitude x < offset_limit (width_of_kind k)) offsets
 
 -- The numbers of an array fit the width that they are written in. The arrays' types say so: `write` tells it of each.
 abbrev pub Fit : Parts → Type 0

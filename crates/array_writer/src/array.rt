@@ -1,13 +1,14 @@
 //! Arrays to nodes and buffers (Arrow Columnar Format, "Buffer Listing for Each Layout").
 ghost use Rattle.std.specs.Prelude.{◌≡◌, ◌%◌, ◌^◌, ◌<◌, [], ◌∷◌, length, map, pos, None, IfOk, IfErr};
 ghost use Rattle.arrow_spec.specs.declared.error.IpcError.TheVariants.{Memory};
-ghost use Rattle.arrow_spec.specs.Columns.{Dictionaries};
+ghost use Rattle.arrow_spec.specs.Arrays.{Dictionaries};
 ghost use Rattle.arrow_spec.specs.Sent.{body_of};
 ghost use Rattle.arrow_arrays.specs.Parts.{rows_in, fault_in};
 ghost use Rattle.arrow_arrays.specs.PartsOf.{parts_of};
 ghost use Rattle.written_columns.specs.Columns.{Means};
 ghost use Rattle.array_writer.specs.Pieces.{Fit, column_in, node_in, pieces_in, counts_in};
-ghost use Rattle.array_writer.specs.Outputs.{MayHaveOrder, order_of, outputs, written_behind};
+ghost use Rattle.array_writer.specs.Outputs.{MayHaveOrder, outputs, written_behind};
+ghost use Rattle.arrow_spec.specs.Flat.{order_by};
 ghost use Rattle.array_writer.specs.Adding.{Appends, Adds, KeptAll};
 
 use crate::layouts::{
@@ -36,14 +37,14 @@ pub fn write(
     requires aligned { length arrow_data.old.items % 64 ≡ 0 }
     requires order { MayHaveOrder (parts_of array.now) is_little_endian }
     requires few { rows_in (parts_of array.now) < 2 ^ 63 }
-    requires short { body_of (length arrow_data.old.items) (map length (pieces_in (order_of is_little_endian) (parts_of array.now))) < 2 ^ 63 }
-    ensures ok { IfOk result (λ _. outputs nodes.new.items buffers.new.items arrow_data.new.items variadic.new.items ≡ written_behind (order_of is_little_endian) (parts_of array.now) (outputs nodes.old.items buffers.old.items arrow_data.old.items variadic.old.items)) }
+    requires short { body_of (length arrow_data.old.items) (map length (pieces_in (order_by is_little_endian) (parts_of array.now))) < 2 ^ 63 }
+    ensures ok { IfOk result (λ _. outputs nodes.new.items buffers.new.items arrow_data.new.items variadic.new.items ≡ written_behind (order_by is_little_endian) (parts_of array.now) (outputs nodes.old.items buffers.old.items arrow_data.old.items variadic.old.items)) }
     ensures offset { IfOk result (λ _. offset.new ≡ pos (length arrow_data.new.items)) }
     ensures err { IfErr result (λ e. (e ≡ Memory) × (outputs nodes.new.items buffers.new.items arrow_data.new.items variadic.new.items ≡ outputs nodes.old.items buffers.old.items arrow_data.old.items variadic.old.items)) }
     ensures err_offset { IfErr result (λ e. offset.new ≡ offset.old) }
     ensures fit { IfOk result (λ _. Fit (parts_of array.now)) }
     // What was written means the array's cells.
-    ensures means { IfOk result (λ _. (d : Dictionaries) → Means (order_of is_little_endian) d (rows_in (parts_of array.now)) (column_in (order_of is_little_endian) (parts_of array.now))) }
+    ensures means { IfOk result (λ _. (d : Dictionaries) → Means (order_by is_little_endian) d (rows_in (parts_of array.now)) (column_in (order_by is_little_endian) (parts_of array.now))) }
 {
     let (node_count, buffer_count) = (nodes.len(), buffers.len());
     let (start, view_count) = (arrow_data.len(), variadic.len());
@@ -79,8 +80,8 @@ fn add(
     is_little_endian: bool,
 ) -> Result<(), AllocError>
     requires few { rows_in (parts_of array.now) < 2 ^ 63 }
-    requires short { body_of (length arrow_data.old.items) (map length (pieces_in (order_of is_little_endian) (parts_of array.now))) < 2 ^ 63 }
-    ensures ok { IfOk result (λ _. outputs nodes.new.items buffers.new.items arrow_data.new.items variadic.new.items ≡ written_behind (order_of is_little_endian) (parts_of array.now) (outputs nodes.old.items buffers.old.items arrow_data.old.items variadic.old.items)) }
+    requires short { body_of (length arrow_data.old.items) (map length (pieces_in (order_by is_little_endian) (parts_of array.now))) < 2 ^ 63 }
+    ensures ok { IfOk result (λ _. outputs nodes.new.items buffers.new.items arrow_data.new.items variadic.new.items ≡ written_behind (order_by is_little_endian) (parts_of array.now) (outputs nodes.old.items buffers.old.items arrow_data.old.items variadic.old.items)) }
     ensures end { IfOk result (λ _. length arrow_data.new.items < 2 ^ 63) }
     ensures err { IfErr result (λ _. KeptAll (outputs nodes.old.items buffers.old.items arrow_data.old.items variadic.old.items) (outputs nodes.new.items buffers.new.items arrow_data.new.items variadic.new.items)) }
     ensures fit { IfOk result (λ _. Fit (parts_of array.now)) }
@@ -114,12 +115,10 @@ fn push_view_count(array: &Array, variadic: &mut Vec<i64>) -> Result<(), AllocEr
 }
 
 fn push_count(count: usize, variadic: &mut Vec<i64>) -> Result<(), AllocError>
+    requires { count < 2 ^ 63 }
     ensures { Appends result variadic.old.items variadic.new.items (pos count ∷ []) }
 {
-    let Ok(count) = i64::try_from(count) else {
-        return Err(AllocError);
-    };
-    variadic.push(count)?;
+    variadic.push(count as i64)?;
     Ok(())
 }
 
@@ -129,8 +128,8 @@ fn write_buffers(
     arrow_data: &mut Vec<u8>,
     is_little_endian: bool,
 ) -> Result<(), AllocError>
-    requires { body_of (length arrow_data.old.items) (map length (pieces_in (order_of is_little_endian) (parts_of array.now))) < 2 ^ 63 }
-    ensures bytes { Adds result buffers.old.items arrow_data.old.items buffers.new.items arrow_data.new.items (pieces_in (order_of is_little_endian) (parts_of array.now)) }
+    requires { body_of (length arrow_data.old.items) (map length (pieces_in (order_by is_little_endian) (parts_of array.now))) < 2 ^ 63 }
+    ensures bytes { Adds result buffers.old.items arrow_data.old.items buffers.new.items arrow_data.new.items (pieces_in (order_by is_little_endian) (parts_of array.now)) }
     ensures fit { IfOk result (λ _. Fit (parts_of array.now)) }
 {
     match array {

@@ -2,14 +2,14 @@
 ghost use Rattle.std.specs.Prelude.{◌≡◌, ◌-◌, ◌^◌, ◌<◌, ◌≤◌, [], ◌∷◌, length, map, true, IfOk};
 ghost use Rattle.std.specs.Option.{option_map};
 ghost use Rattle.std.specs.List.{flat_map};
-ghost use Rattle.arrow_spec.specs.Framing.{packed};
 ghost use Rattle.arrow_spec.specs.Layout.{up_to, zeros};
 ghost use Rattle.arrow_spec.specs.Sent.{body_of};
-ghost use Rattle.arrow_spec.specs.Framing.{validity_bytes};
+ghost use Rattle.arrow_spec.specs.Framing.{packed, validity_bytes};
+ghost use Rattle.arrow_types.specs.Numbers.{offsets_by};
 ghost use Rattle.arrow_buffers.specs.Variable.{are_offsets};
 ghost use Rattle.array_writer.specs.Pieces.{offset_bytes};
-ghost use Rattle.array_writer.specs.Outputs.{order_of};
-ghost use Rattle.array_writer.specs.Adding.{Appends, Adds, Ends, AllBelow, WritesNumbers, width_of};
+ghost use Rattle.arrow_spec.specs.Flat.{order_by};
+ghost use Rattle.array_writer.specs.Adding.{Appends, Adds, Ends, AllBelow, WritesNumbers};
 
 use crate::bytes::{push_bits, push_numbers, push_offsets, push_validity};
 use arrow_buffers::{Bitmap, Buffer};
@@ -93,8 +93,8 @@ pub(crate) fn put_numbers<T: NativeType>(
     arrow_data: &mut Vec<u8>,
     is_little_endian: bool,
 ) -> Result<(), AllocError>
-    requires { body_of (length arrow_data.old.items) (length (flat_map (T.written (order_of is_little_endian)) numbers.now) ∷ []) < 2 ^ 63 }
-    ensures { Adds result buffers.old.items arrow_data.old.items buffers.new.items arrow_data.new.items (flat_map (T.written (order_of is_little_endian)) numbers.now ∷ []) }
+    requires { body_of (length arrow_data.old.items) (length (flat_map (T.written (order_by is_little_endian)) numbers.now) ∷ []) < 2 ^ 63 }
+    ensures { Adds result buffers.old.items arrow_data.old.items buffers.new.items arrow_data.new.items (flat_map (T.written (order_by is_little_endian)) numbers.now ∷ []) }
 {
     let start = arrow_data.len();
     push_numbers(numbers, arrow_data, is_little_endian)?;
@@ -111,8 +111,8 @@ pub(crate) fn put_offsets<O: Offset>(
 ) -> Result<(), AllocError>
     requires rise { are_offsets (map O.number offsets.now) limit ≡ true }
     requires numbers { WritesNumbers O.number O.limit O.IS_LARGE O.written }
-    requires short { body_of (length arrow_data.old.items) (length (offset_bytes (order_of is_little_endian) (width_of O.IS_LARGE) (map O.number offsets.now)) ∷ []) < 2 ^ 63 }
-    ensures bytes { Adds result buffers.old.items arrow_data.old.items buffers.new.items arrow_data.new.items (offset_bytes (order_of is_little_endian) (width_of O.IS_LARGE) (map O.number offsets.now) ∷ []) }
+    requires short { body_of (length arrow_data.old.items) (length (offset_bytes (order_by is_little_endian) (offsets_by O.IS_LARGE) (map O.number offsets.now)) ∷ []) < 2 ^ 63 }
+    ensures bytes { Adds result buffers.old.items arrow_data.old.items buffers.new.items arrow_data.new.items (offset_bytes (order_by is_little_endian) (offsets_by O.IS_LARGE) (map O.number offsets.now) ∷ []) }
     ensures below { IfOk result (λ _. AllBelow O.limit (map O.number offsets.now)) }
 {
     let start = arrow_data.len();

@@ -3,14 +3,13 @@ ghost use Rattle.std.specs.Prelude.{◌≡◌, ◌-◌, ◌^◌, ◌<◌, ◌≤
 ghost use Rattle.std.specs.Option.{option_map};
 ghost use Rattle.std.specs.List.{flat_map};
 ghost use Rattle.arrow_spec.specs.Counts.{magnitude};
-ghost use Rattle.arrow_spec.specs.Columns.{offset_width};
-ghost use Rattle.arrow_spec.specs.Framing.{packed};
-ghost use Rattle.arrow_spec.specs.Framing.{validity_bytes};
-ghost use Rattle.arrow_types.specs.Numbers.{to_bytes, usize_of};
+ghost use Rattle.arrow_spec.specs.Arrays.{offset_width};
+ghost use Rattle.arrow_spec.specs.Framing.{packed, validity_bytes};
+ghost use Rattle.arrow_types.specs.Numbers.{to_bytes, usize_of, offsets_by};
 ghost use Rattle.arrow_buffers.specs.Variable.{place_at, variable_rows, are_offsets};
 ghost use Rattle.array_writer.specs.Pieces.{offset_bytes};
-ghost use Rattle.array_writer.specs.Outputs.{order_of};
-ghost use Rattle.array_writer.specs.Adding.{Appends, AllBelow, WritesNumbers, width_of};
+ghost use Rattle.arrow_spec.specs.Flat.{order_by};
+ghost use Rattle.array_writer.specs.Adding.{Appends, AllBelow, WritesNumbers};
 
 use arrow_buffers::Bitmap;
 use arrow_types::{NativeType, Offset};
@@ -62,7 +61,7 @@ fn push_number<T: NativeType>(
     out: &mut Vec<u8>,
     is_little_endian: bool,
 ) -> Result<(), AllocError>
-    ensures { Appends result out.old.items out.new.items (T.written (order_of is_little_endian) number) }
+    ensures { Appends result out.old.items out.new.items (T.written (order_by is_little_endian) number) }
 {
     if is_little_endian {
         let bytes = number.to_le_bytes();
@@ -79,7 +78,7 @@ pub(crate) fn push_numbers<T: NativeType>(
     out: &mut Vec<u8>,
     is_little_endian: bool,
 ) -> Result<(), AllocError>
-    ensures { Appends result out.old.items out.new.items (flat_map (T.written (order_of is_little_endian)) numbers.now) }
+    ensures { Appends result out.old.items out.new.items (flat_map (T.written (order_by is_little_endian)) numbers.now) }
 {
     for number in numbers {
         push_number(*number, out, is_little_endian)?;
@@ -97,7 +96,7 @@ fn push_offset<O: Offset>(
     requires place { usize_of (O.number offset) ≡ Some (magnitude (O.number offset)) }
     requires behind { first ≤ magnitude (O.number offset) }
     requires numbers { WritesNumbers O.number O.limit O.IS_LARGE O.written }
-    ensures bytes { Appends result out.old.items out.new.items (to_bytes (order_of is_little_endian) (offset_width (width_of O.IS_LARGE)) (magnitude (O.number offset) - first)) }
+    ensures bytes { Appends result out.old.items out.new.items (to_bytes (order_by is_little_endian) (offset_width (offsets_by O.IS_LARGE)) (magnitude (O.number offset) - first)) }
     ensures below { magnitude (O.number offset) < O.limit }
 {
     let place = offset.to_usize().unwrap() - first;
@@ -113,7 +112,7 @@ pub(crate) fn push_offsets<O: Offset>(
 ) -> Result<(), AllocError>
     requires rise { are_offsets (map O.number offsets.now) limit ≡ true }
     requires numbers { WritesNumbers O.number O.limit O.IS_LARGE O.written }
-    ensures bytes { Appends result out.old.items out.new.items (offset_bytes (order_of is_little_endian) (width_of O.IS_LARGE) (map O.number offsets.now)) }
+    ensures bytes { Appends result out.old.items out.new.items (offset_bytes (order_by is_little_endian) (offsets_by O.IS_LARGE) (map O.number offsets.now)) }
     ensures below { IfOk result (λ _. AllBelow O.limit (map O.number offsets.now)) }
 {
     let (first, _) = ends_of(offsets, limit);

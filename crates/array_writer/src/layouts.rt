@@ -1,14 +1,14 @@
 //! The buffers of each layout (Arrow Columnar Format, "Buffer Listing for Each Layout").
 ghost use Rattle.std.specs.Prelude.{◌≡◌, ◌-◌, ◌^◌, ◌<◌, [], ◌∷◌, length, map, true, IfOk};
 ghost use Rattle.std.specs.Option.{option_map};
-ghost use Rattle.arrow_spec.specs.Flat.{Order, little};
+ghost use Rattle.arrow_spec.specs.Flat.{Order, little, order_by};
 ghost use Rattle.arrow_spec.specs.Sent.{body_of};
 ghost use Rattle.arrow_spec.specs.Framing.{validity_bytes};
+ghost use Rattle.arrow_types.specs.Numbers.{offsets_by};
 ghost use Rattle.arrow_buffers.specs.Variable.{are_offsets};
 ghost use Rattle.arrow_arrays.specs.Parts.{bits, numbers, fixed, binary, text, as_bytes};
 ghost use Rattle.array_writer.specs.Pieces.{Fit, in_order, pieces_in, view_pieces, bytes_between, offset_bytes, offset_limit};
-ghost use Rattle.array_writer.specs.Outputs.{order_of};
-ghost use Rattle.array_writer.specs.Adding.{Adds, AllBelow, WritesNumbers, width_of};
+ghost use Rattle.array_writer.specs.Adding.{Adds, AllBelow, WritesNumbers};
 
 use crate::buffers::{put_bits, put_bytes, put_each, put_numbers, put_offsets, put_validity};
 use crate::bytes::ends_of;
@@ -27,8 +27,8 @@ pub(crate) fn write_bits(
     arrow_data: &mut Vec<u8>,
     is_little_endian: bool,
 ) -> Result<(), AllocError>
-    requires { body_of (length arrow_data.old.items) (map length (pieces_in (order_of is_little_endian) (bits array.now))) < 2 ^ 63 }
-    ensures { Adds result buffers.old.items arrow_data.old.items buffers.new.items arrow_data.new.items (pieces_in (order_of is_little_endian) (bits array.now)) }
+    requires { body_of (length arrow_data.old.items) (map length (pieces_in (order_by is_little_endian) (bits array.now))) < 2 ^ 63 }
+    ensures { Adds result buffers.old.items arrow_data.old.items buffers.new.items arrow_data.new.items (pieces_in (order_by is_little_endian) (bits array.now)) }
 {
     put_validity(array.validity(), buffers, arrow_data)?;
     put_bits(array.values(), buffers, arrow_data)
@@ -42,8 +42,8 @@ pub(crate) fn write_numbers<T: NativeType>(
     is_little_endian: bool,
 ) -> Result<(), AllocError>
     requires turned { (order : Order) (x : T) → in_order order T.PRIMITIVE (T.written little x) ≡ T.written order x }
-    requires short { body_of (length arrow_data.old.items) (map length (pieces_in (order_of is_little_endian) (numbers (as_bytes (T.written little) array.now)))) < 2 ^ 63 }
-    ensures { Adds result buffers.old.items arrow_data.old.items buffers.new.items arrow_data.new.items (pieces_in (order_of is_little_endian) (numbers (as_bytes (T.written little) array.now))) }
+    requires short { body_of (length arrow_data.old.items) (map length (pieces_in (order_by is_little_endian) (numbers (as_bytes (T.written little) array.now)))) < 2 ^ 63 }
+    ensures { Adds result buffers.old.items arrow_data.old.items buffers.new.items arrow_data.new.items (pieces_in (order_by is_little_endian) (numbers (as_bytes (T.written little) array.now))) }
 {
     arrow_data.reserve(array.len().saturating_mul(T::WIDTH))?;
     put_validity(array.validity(), buffers, arrow_data)?;
@@ -62,8 +62,8 @@ pub(crate) fn write_fixed(
     arrow_data: &mut Vec<u8>,
     is_little_endian: bool,
 ) -> Result<(), AllocError>
-    requires { body_of (length arrow_data.old.items) (map length (pieces_in (order_of is_little_endian) (fixed array.now))) < 2 ^ 63 }
-    ensures { Adds result buffers.old.items arrow_data.old.items buffers.new.items arrow_data.new.items (pieces_in (order_of is_little_endian) (fixed array.now)) }
+    requires { body_of (length arrow_data.old.items) (map length (pieces_in (order_by is_little_endian) (fixed array.now))) < 2 ^ 63 }
+    ensures { Adds result buffers.old.items arrow_data.old.items buffers.new.items arrow_data.new.items (pieces_in (order_by is_little_endian) (fixed array.now)) }
 {
     put_validity(array.validity(), buffers, arrow_data)?;
     put_bytes(array.values().as_slice(), buffers, arrow_data)
@@ -94,8 +94,8 @@ fn write_variable<O: Offset>(
 ) -> Result<(), AllocError>
     requires rise { are_offsets (map O.number offsets.now) (length values.now) ≡ true }
     requires numbers { WritesNumbers O.number O.limit O.IS_LARGE O.written }
-    requires short { body_of (length arrow_data.old.items) (map length (validity_bytes (option_map (λ b. b.now) validity) ∷ offset_bytes (order_of is_little_endian) (width_of O.IS_LARGE) (map O.number offsets.now) ∷ bytes_between (map O.number offsets.now) values.now ∷ [])) < 2 ^ 63 }
-    ensures bytes { Adds result buffers.old.items arrow_data.old.items buffers.new.items arrow_data.new.items (validity_bytes (option_map (λ b. b.now) validity.entry) ∷ offset_bytes (order_of is_little_endian) (width_of O.IS_LARGE) (map O.number offsets.now) ∷ bytes_between (map O.number offsets.now) values.now ∷ []) }
+    requires short { body_of (length arrow_data.old.items) (map length (validity_bytes (option_map (λ b. b.now) validity) ∷ offset_bytes (order_by is_little_endian) (offsets_by O.IS_LARGE) (map O.number offsets.now) ∷ bytes_between (map O.number offsets.now) values.now ∷ [])) < 2 ^ 63 }
+    ensures bytes { Adds result buffers.old.items arrow_data.old.items buffers.new.items arrow_data.new.items (validity_bytes (option_map (λ b. b.now) validity.entry) ∷ offset_bytes (order_by is_little_endian) (offsets_by O.IS_LARGE) (map O.number offsets.now) ∷ bytes_between (map O.number offsets.now) values.now ∷ []) }
     ensures below { IfOk result (λ _. AllBelow O.limit (map O.number offsets.now)) }
 {
     put_validity(validity, buffers, arrow_data)?;
@@ -112,9 +112,9 @@ pub(crate) fn write_binary<O: Offset>(
     is_little_endian: bool,
 ) -> Result<(), AllocError>
     requires numbers { WritesNumbers O.number O.limit O.IS_LARGE O.written }
-    requires limit { O.limit ≡ offset_limit (width_of O.IS_LARGE) }
-    requires short { body_of (length arrow_data.old.items) (map length (pieces_in (order_of is_little_endian) (binary array.now))) < 2 ^ 63 }
-    ensures bytes { Adds result buffers.old.items arrow_data.old.items buffers.new.items arrow_data.new.items (pieces_in (order_of is_little_endian) (binary array.now)) }
+    requires limit { O.limit ≡ offset_limit (offsets_by O.IS_LARGE) }
+    requires short { body_of (length arrow_data.old.items) (map length (pieces_in (order_by is_little_endian) (binary array.now))) < 2 ^ 63 }
+    ensures bytes { Adds result buffers.old.items arrow_data.old.items buffers.new.items arrow_data.new.items (pieces_in (order_by is_little_endian) (binary array.now)) }
     ensures fit { IfOk result (λ _. Fit (binary array.now)) }
 {
     arrow_data.reserve(array.len().saturating_mul(O::WIDTH))?;
@@ -138,9 +138,9 @@ pub(crate) fn write_text<O: Offset>(
     is_little_endian: bool,
 ) -> Result<(), AllocError>
     requires numbers { WritesNumbers O.number O.limit O.IS_LARGE O.written }
-    requires limit { O.limit ≡ offset_limit (width_of O.IS_LARGE) }
-    requires short { body_of (length arrow_data.old.items) (map length (pieces_in (order_of is_little_endian) (text array.now))) < 2 ^ 63 }
-    ensures bytes { Adds result buffers.old.items arrow_data.old.items buffers.new.items arrow_data.new.items (pieces_in (order_of is_little_endian) (text array.now)) }
+    requires limit { O.limit ≡ offset_limit (offsets_by O.IS_LARGE) }
+    requires short { body_of (length arrow_data.old.items) (map length (pieces_in (order_by is_little_endian) (text array.now))) < 2 ^ 63 }
+    ensures bytes { Adds result buffers.old.items arrow_data.old.items buffers.new.items arrow_data.new.items (pieces_in (order_by is_little_endian) (text array.now)) }
     ensures fit { IfOk result (λ _. Fit (text array.now)) }
 {
     arrow_data.reserve(array.len().saturating_mul(O::WIDTH))?;

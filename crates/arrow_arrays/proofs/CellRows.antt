@@ -4,7 +4,7 @@ use Rattle.std.proofs.lemmas.Bool.{eqb-true}
 use Rattle.std.specs.Prelude.{if◌then◌else◌}
 use Rattle.std.proofs.lemmas.List.{ext_get_or, length-map}
 use Rattle.arrow_spec.specs.Cells.{Cell, null}
-use Rattle.arrow_spec.specs.Columns.{from_on}
+use Rattle.arrow_spec.specs.Arrays.{from_on}
 use Rattle.arrow_buffers.specs.Rows.{masked, masked_by, has_rows, is_valid}
 use Rattle.arrow_buffers.specs.Flat.{Flat, flat_cells}
 use Rattle.arrow_buffers.specs.Views.{Views, view_rows, view_at, view_bytes, view_cell, view_cells}

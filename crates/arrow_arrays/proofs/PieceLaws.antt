@@ -13,7 +13,8 @@ use Rattle.std.proofs.Math.Nat.{mul-mod_right}
 use Rattle.std.proofs.Math.Seq.{take-append_seam, drop-append_seam, drop-append-add}
 use Rattle.arrow_spec.specs.Flat.{little}
 use Rattle.arrow_spec.specs.Cells.{Cell, bytes}
-use Rattle.arrow_spec.specs.Columns.{from_on, u32_of, or_0, all_zero}
+use Rattle.arrow_spec.specs.Arrays.{from_on, u32_of, or_0}
+use Rattle.arrow_spec.specs.Faults.{all_zero}
 use Rattle.arrow_types.specs.NumberLaws.{unsigned_agrees, unsigned_back}
 use Rattle.arrow_spec.specs.Kinds.{Kind, binary_view}
 use Rattle.arrow_types.specs.Physical.{physical_of}

@@ -16,7 +16,8 @@ pub record Batch : Type 0 where
 
 -- such a record is stored as its fields
 abbrev pub batch_code : Coded Batch
-batch_code = code_by (ℕ × (List Keyed × List Parts)) (coded× coded_ℕ (coded× schema_code (coded_list parts_code))) (λ b. (b.height, (b.schema, b.arrays))) (λ p. record { height = p.0; schema = p.1.0; arrays = p.1.1 }) (λ _. refl)
+batch_code = code_by (ℕ × (List Keyed × List Parts)) (coded× coded_ℕ (coded× schema_code (coded_list parts_code))) (λ b. (b.height, (b.schema, b.arrays)))
+    (λ p. record { height = p.0; schema = p.1.0; arrays = p.1.1 }) (λ _. refl)
 
 -- each array has so many rows
 abbrev pub have_rows : ℕ → List Parts → Bool

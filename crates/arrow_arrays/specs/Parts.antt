@@ -6,7 +6,7 @@ use Rattle.arrow_spec.specs.Flat.{little, num}
 use Rattle.arrow_spec.specs.Kinds.{Kind}
 use Rattle.arrow_spec.specs.Cells as cells
 use Rattle.arrow_spec.specs.Cells.{Cell}
-use Rattle.arrow_spec.specs.Columns.{or_0}
+use Rattle.arrow_spec.specs.Arrays.{or_0}
 use Rattle.arrow_types.specs.Physical.{physical_of, primitive_size}
 use Rattle.arrow_types.specs.declared.physical.PhysicalType.{PhysicalType}
 use Rattle.arrow_types.specs.declared.physical.PhysicalType.TheVariants as physical

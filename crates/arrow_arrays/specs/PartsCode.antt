@@ -12,7 +12,8 @@ abbrev pub Stored : Type 0
 Stored = Nulls ⊎ (Flat Bool ⊎ (Flat (List ℕ) ⊎ (Flat ℕ ⊎ (Variable ⊎ (Variable ⊎ (Views ⊎ Views))))))
 
 abbrev pub stored_code : Coded Stored
-stored_code = coded⊎ nulls_code (coded⊎ (flat_code coded_bool) (coded⊎ (flat_code (coded_list coded_ℕ)) (coded⊎ (flat_code coded_ℕ) (coded⊎ variable_code (coded⊎ variable_code (coded⊎ views_code views_code))))))
+stored_code = coded⊎ nulls_code (coded⊎ (flat_code coded_bool) (coded⊎ (flat_code (coded_list coded_ℕ))
+    (coded⊎ (flat_code coded_ℕ) (coded⊎ variable_code (coded⊎ variable_code (coded⊎ views_code views_code))))))
 
 abbrev pub parts_to : Parts → Stored
 parts_to (nulls n) = inl n

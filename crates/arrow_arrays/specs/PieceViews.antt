@@ -1,7 +1,7 @@
 -- Pieces of bytes, and the views and buffers of an array of them. (Arrow Columnar Format, "Variable-size Binary View Layout".)
 use Rattle.std.specs.Prelude.{ℕ, ◌+◌, ◌-◌, ◌*◌, ◌/◌, ◌%◌, List, [], ◌∷◌, ◌++◌, length, take, drop, replicate, min, nat_le, if◌then◌else◌}
 use Rattle.std.specs.Int.{w32, to_le_bytes}
-use Rattle.arrow_spec.specs.Columns.{from_on}
+use Rattle.arrow_spec.specs.Arrays.{from_on}
 use Rattle.arrow_buffers.specs.Rows.{part}
 
 -- the pieces of these lengths, one after another

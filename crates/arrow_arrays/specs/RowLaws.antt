@@ -21,7 +21,8 @@ use Rattle.arrow_types.specs.declared.physical.PrimitiveType.TheVariants.{Int8, 
 
 -- a primitive type is told by its number
 abbrev by_number : ℕ → PrimitiveType
-by_number n = get_or (Int8 ∷ Int16 ∷ Int32 ∷ Int64 ∷ Int128 ∷ Int256 ∷ UInt8 ∷ UInt16 ∷ UInt32 ∷ UInt64 ∷ Float16 ∷ Float32 ∷ Float64 ∷ DaysMs ∷ MonthDayNano ∷ []) n Int8
+by_number n = get_or (Int8 ∷ Int16 ∷ Int32 ∷ Int64 ∷ Int128 ∷ Int256 ∷ UInt8 ∷ UInt16 ∷ UInt32 ∷ UInt64 ∷ Float16 ∷ Float32 ∷ Float64 ∷ DaysMs ∷ MonthDayNano
+    ∷ []) n Int8
 
 by_number-number : (p : PrimitiveType) → by_number (primitive_number p) ≡ p
 by_number-number Int8 = refl
@@ -41,7 +42,8 @@ by_number-number DaysMs = refl
 by_number-number MonthDayNano = refl
 
 layout_is : (p : PrimitiveType) (l : PhysicalType) → is_primitive p l ≡ true → l ≡ physical.Primitive p
-layout_is p (physical.Primitive q) e = ap physical.Primitive (sym (by_number-number q) ∙ ap by_number (eqb-true (primitive_number q) (primitive_number p) e) ∙ by_number-number p)
+layout_is p (physical.Primitive q) e =
+    ap physical.Primitive (sym (by_number-number q) ∙ ap by_number (eqb-true (primitive_number q) (primitive_number p) e) ∙ by_number-number p)
 layout_is p physical.Null e = cc
 layout_is p physical.Boolean e = cc
 layout_is p physical.Binary e = cc
@@ -60,7 +62,8 @@ layout_is p physical.Map e = cc
 layout_is p (physical.Dictionary i) e = cc
 
 -- the cell in a layout of a primitive type
-cell_is : (p : PrimitiveType) (k : Kind) (bytes : List ℕ) → is_primitive p (physical_of k) ≡ true → number_cell k bytes ≡ layout_cell (physical.Primitive p) bytes
+cell_is : (p : PrimitiveType) (k : Kind) (bytes : List ℕ) → is_primitive p (physical_of k) ≡ true
+    → number_cell k bytes ≡ layout_cell (physical.Primitive p) bytes
 cell_is p k bytes e = ap (λ l. layout_cell l bytes) (layout_is p (physical_of k) e)
 
 pub int8_cell : (k : Kind) (x : ℤ) → FitsSigned w8 x → is_primitive Int8 (physical_of k) ≡ true → number_cell k (signed_to_bytes w8 little x) ≡ number x
@@ -90,14 +93,16 @@ uint32_cell k x h e = cell_is UInt32 k (unsigned_to_bytes w32 little x) e ∙ ap
 pub uint64_cell : (k : Kind) (x : ℕ) → x < 2 ^ 64 → is_primitive UInt64 (physical_of k) ≡ true → number_cell k (unsigned_to_bytes w64 little x) ≡ number (pos x)
 uint64_cell k x h e = cell_is UInt64 k (unsigned_to_bytes w64 little x) e ∙ ap (λ n. number (pos n)) (unsigned_back w64 little x h)
 
-pub days_ms_cell : (k : Kind) (x : days_ms) → FitsSigned w32 x.days × FitsSigned w32 x.milliseconds → is_primitive DaysMs (physical_of k) ≡ true → number_cell k (days_ms_to_bytes little x) ≡ interval x.days x.milliseconds (pos 0)
+pub days_ms_cell : (k : Kind) (x : days_ms) → FitsSigned w32 x.days × FitsSigned w32 x.milliseconds → is_primitive DaysMs (physical_of k) ≡ true
+    → number_cell k (days_ms_to_bytes little x) ≡ interval x.days x.milliseconds (pos 0)
 days_ms_cell k x h e =
     let bytes = days_ms_to_bytes little x in
     cell_is DaysMs k bytes e
     ∙ ap (λ z. interval z (signed_at w32 4 bytes) (pos 0)) (signed_back w32 little x.days h.0)
     ∙ ap (λ z. interval x.days z (pos 0)) (signed_back w32 little x.milliseconds h.1)
 
-pub months_days_ns_cell : (k : Kind) (x : months_days_ns) → FitsSigned w32 x.months × FitsSigned w32 x.days × FitsSigned w64 x.ns → is_primitive MonthDayNano (physical_of k) ≡ true → number_cell k (months_days_ns_to_bytes little x) ≡ interval x.months x.days x.ns
+pub months_days_ns_cell : (k : Kind) (x : months_days_ns) → FitsSigned w32 x.months × FitsSigned w32 x.days × FitsSigned w64 x.ns
+    → is_primitive MonthDayNano (physical_of k) ≡ true → number_cell k (months_days_ns_to_bytes little x) ≡ interval x.months x.days x.ns
 months_days_ns_cell k x h e =
     let bytes = months_days_ns_to_bytes little x in
     cell_is MonthDayNano k bytes e

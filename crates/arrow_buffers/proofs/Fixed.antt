@@ -4,7 +4,7 @@ use Rattle.std.proofs.lemmas.Bool.{lt-ltb, eq-eqb}
 use Rattle.std.proofs.Math.Nat.{mul-le-mul_left, mul-mod_right, mul-div_right}
 use Rattle.std.specs.Option.{option_map}
 use Rattle.arrow_spec.specs.Cells.{Cell, bytes}
-use Rattle.arrow_spec.specs.Columns.{from_on}
+use Rattle.arrow_spec.specs.Arrays.{from_on}
 use Rattle.arrow_buffers.specs.Rows.{part, masked}
 use Rattle.arrow_buffers.specs.Layouts.{binary_size}
 use Rattle.arrow_buffers.specs.Flat.{Flat, fixed_fault, fixed_rows, fixed_row, fixed_part, fixed_cells}

@@ -2,7 +2,7 @@
 use Rattle.std.proofs.Common.{◌≡◌, ℕ, ◌+◌, ◌-◌, ◌≤◌, List, true, take, drop, sym, ap, ◌∙◌, arith}
 use Rattle.std.specs.Str.{IsUtf8, is_utf8, IsCharBoundary}
 use Rattle.std.proofs.lemmas.Str.{IsUtf8-from_is_utf8, is_utf8-from_IsUtf8, IsUtf8-between}
-use Rattle.arrow_spec.specs.Columns.{slice}
+use Rattle.arrow_spec.specs.Arrays.{slice}
 use Rattle.arrow_buffers.specs.Rows.{part}
 use Rattle.arrow_buffers.proofs.Parts.{part-part}
 

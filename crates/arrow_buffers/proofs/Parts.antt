@@ -1,7 +1,7 @@
 -- Parts of lists, and of lists that are told row by row.
 use Rattle.std.proofs.Common.{◌≡◌, ℕ, zero, suc, ◌+◌, ◌-◌, ◌≤◌, ◌<◌, List, ◌∷◌, Some, length, take, drop, refl, sym, ap, ◌∙◌, arith, slice_get, length-take, length-drop, replicate, map}
 use Rattle.std.proofs.lemmas.List.{take-take, drop-drop, drop-take, take-replicate, drop-replicate, take-map, drop-map}
-use Rattle.arrow_spec.specs.Columns.{from_on}
+use Rattle.arrow_spec.specs.Arrays.{from_on}
 use Rattle.arrow_buffers.specs.Rows.{part}
 
 inside_part : {A : Type 0} (xs : List A) (s o m n : ℕ) → n ≤ m → part (s + o) n xs ≡ part o n (part s (o + m) xs)

@@ -2,7 +2,7 @@
 use Rattle.std.proofs.Common.{◌≡◌, ℕ, zero, suc, ◌+◌, ◌<◌, Bool, true, false, refl, add-one, inl, inr, arith}
 use Rattle.std.proofs.lemmas.Bool.{or_parts, or_from, or_left, or_right, cases_eq}
 use Rattle.std.specs.Prelude.{not, ◌&&◌}
-use Rattle.arrow_spec.specs.Columns.{some_row}
+use Rattle.arrow_spec.specs.Faults.{some_row}
 
 pub none_below : (bad : ℕ → Bool) (n : ℕ) → some_row bad n ≡ false → (k : ℕ) → k < n → bad k ≡ false
 none_below bad zero e k h = absurd (omega arith)

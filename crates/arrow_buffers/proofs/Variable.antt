@@ -4,7 +4,8 @@ use Rattle.std.specs.Prelude.{not, if◌then◌else◌}
 use Rattle.std.specs.Str.{is_utf8}
 use Rattle.std.specs.Option.{option_map}
 use Rattle.arrow_spec.specs.Cells.{Cell}
-use Rattle.arrow_spec.specs.Columns.{from_on, some_row}
+use Rattle.arrow_spec.specs.Arrays.{from_on}
+use Rattle.arrow_spec.specs.Faults.{some_row}
 use Rattle.arrow_buffers.specs.declared.error.ArrayError.TheVariants.{DataType, Length, Offsets, Utf8}
 use Rattle.arrow_buffers.specs.Rows.{part, has_rows, is_valid, masked}
 use Rattle.arrow_buffers.specs.Variable.{Variable, variable_rows, row_bytes, are_offsets, has_bad_text, variable_cells, variable_part, binary_fault, text_fault}

@@ -5,7 +5,8 @@ use Rattle.std.specs.Option.{option_map}
 use Rattle.std.proofs.lemmas.Bool.{and_parts, eqb-true, eq-eqb}
 use Rattle.std.proofs.Math.Nat.{mul-mod_right}
 use Rattle.arrow_spec.specs.Cells.{Cell}
-use Rattle.arrow_spec.specs.Columns.{from_on, some_row}
+use Rattle.arrow_spec.specs.Arrays.{from_on}
+use Rattle.arrow_spec.specs.Faults.{some_row}
 use Rattle.arrow_buffers.specs.declared.error.ArrayError.TheVariants.{DataType, Length, Utf8, View}
 use Rattle.arrow_buffers.specs.Rows.{part, has_rows, is_valid, masked}
 use Rattle.arrow_buffers.specs.Views.{Views, view_rows, view_at, view_bytes, is_good_view, is_no_text_view, has_bad_view, has_bad_view_text, view_cell, view_cells, view_part, view_fault}

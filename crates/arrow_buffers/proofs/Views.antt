@@ -3,7 +3,8 @@ use Rattle.std.proofs.Common.{◌≡◌, ℕ, ◌+◌, ◌≤◌, ◌<◌, ◌&&
 use Rattle.std.specs.Str.{bytes_eq}
 use Rattle.std.proofs.lemmas.Bool.{and_parts, ltb-true, leb-true, lt-ltb, le-ltb, le-leb, lt-leb}
 use Rattle.std.proofs.lemmas.List.{get_or_read}
-use Rattle.arrow_spec.specs.Columns.{u32_of, all_zero}
+use Rattle.arrow_spec.specs.Arrays.{u32_of}
+use Rattle.arrow_spec.specs.Faults.{all_zero}
 use Rattle.arrow_buffers.specs.Views.{buffer_at, short_bytes, long_bytes, view_bytes, leads_right, is_good_view}
 
 pub short_view : (buffers : List (List ℕ)) (view : List ℕ) → u32_of view 0 ≤ 12 → view_bytes buffers view ≡ short_bytes view

@@ -4,7 +4,7 @@ use Rattle.std.specs.Option.{option_map}
 use Rattle.std.specs.Coded.{Coded, code_by, coded×, coded_ℕ, coded_list, coded_option, coded_bool}
 use Rattle.arrow_spec.specs.Kinds.{Kind}
 use Rattle.arrow_spec.specs.Cells.{Cell, null, bytes}
-use Rattle.arrow_spec.specs.Columns.{from_on}
+use Rattle.arrow_spec.specs.Arrays.{from_on}
 use Rattle.arrow_types.specs.KindCode.{kind_code}
 use Rattle.arrow_buffers.specs.Layouts.{binary_size}
 use Rattle.arrow_buffers.specs.Rows.{part, has_rows, masked}
@@ -52,7 +52,11 @@ fixed_cells f = masked f.validity (from_on (λ row. bytes (fixed_row (binary_siz
 
 -- the rows from a place on, so many of them
 abbrev pub fixed_part : ℕ → ℕ → Flat ℕ → Flat ℕ
-fixed_part offset rows f = record { kind = f.kind; values = part (binary_size f.kind * offset) (binary_size f.kind * rows) f.values; validity = option_map (part offset rows) f.validity }
+fixed_part offset rows f = record {
+  kind = f.kind;
+  values = part (binary_size f.kind * offset) (binary_size f.kind * rows) f.values;
+  validity = option_map (part offset rows) f.validity;
+}
 
 -- why parts are refused: the kind has no size above 0, or the bytes are not whole rows, or the validity is not of as many
 abbrev pub fixed_fault : Flat ℕ → Option ArrayError

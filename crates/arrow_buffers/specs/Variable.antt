@@ -6,7 +6,8 @@ use Rattle.std.specs.Coded.{Coded, code_by, coded×, coded_ℕ, coded_ℤ, coded
 use Rattle.arrow_spec.specs.Kinds.{Kind}
 use Rattle.arrow_spec.specs.Cells.{Cell, bytes, text}
 use Rattle.arrow_spec.specs.Counts.{magnitude}
-use Rattle.arrow_spec.specs.Columns.{from_on, slice, some_row}
+use Rattle.arrow_spec.specs.Arrays.{from_on, slice}
+use Rattle.arrow_spec.specs.Faults.{some_row}
 use Rattle.arrow_types.specs.KindCode.{kind_code}
 use Rattle.arrow_buffers.specs.Rows.{part, has_rows, is_valid, masked}
 use Rattle.arrow_buffers.specs.declared.error.ArrayError.{ArrayError}
@@ -22,7 +23,8 @@ pub record Variable : Type 0 where
 -- such a record is stored as its fields
 abbrev pub variable_code : Coded Variable
 variable_code =
-    code_by (Kind × (List ℤ × (List ℕ × Option (List Bool)))) (coded× kind_code (coded× (coded_list coded_ℤ) (coded× (coded_list coded_ℕ) (coded_option (coded_list coded_bool)))))
+    code_by (Kind × (List ℤ × (List ℕ × Option (List Bool)))) (coded× kind_code
+    (coded× (coded_list coded_ℤ) (coded× (coded_list coded_ℕ) (coded_option (coded_list coded_bool)))))
     (λ p. (p.kind, (p.offsets, (p.values, p.validity)))) (λ p. record { kind = p.0; offsets = p.1.0; values = p.1.1.0; validity = p.1.1.1 }) (λ _. refl)
 
 -- the place that the i-th offset is
@@ -66,7 +68,8 @@ text_cells = variable_cells text
 
 -- the rows from a place on, so many of them
 abbrev pub variable_part : ℕ → ℕ → Variable → Variable
-variable_part offset rows p = record { kind = p.kind; offsets = part offset (rows + 1) p.offsets; values = p.values; validity = option_map (part offset rows) p.validity }
+variable_part offset rows p =
+    record { kind = p.kind; offsets = part offset (rows + 1) p.offsets; values = p.values; validity = option_map (part offset rows) p.validity }
 
 -- why parts are refused: the layout is another, the validity is not of as many rows, or the offsets do not rise within the bytes
 abbrev pub binary_fault : Bool → Variable → Option ArrayError

@@ -5,7 +5,8 @@ use Rattle.std.specs.Str.{is_utf8, bytes_eq}
 use Rattle.std.specs.Coded.{Coded, code_by, coded×, coded_ℕ, coded_list, coded_option, coded_bool}
 use Rattle.arrow_spec.specs.Kinds.{Kind}
 use Rattle.arrow_spec.specs.Cells.{Cell, bytes, text}
-use Rattle.arrow_spec.specs.Columns.{from_on, some_row, all_zero, u32_of}
+use Rattle.arrow_spec.specs.Arrays.{from_on, u32_of}
+use Rattle.arrow_spec.specs.Faults.{some_row, all_zero}
 use Rattle.arrow_types.specs.KindCode.{kind_code}
 use Rattle.arrow_buffers.specs.Rows.{part, has_rows, is_valid, masked}
 use Rattle.arrow_buffers.specs.Flat.{fixed_row}
@@ -22,7 +23,8 @@ pub record Views : Type 0 where
 -- such a record is stored as its fields
 abbrev pub views_code : Coded Views
 views_code =
-    code_by (Kind × (List ℕ × (List (List ℕ) × Option (List Bool)))) (coded× kind_code (coded× (coded_list coded_ℕ) (coded× (coded_list (coded_list coded_ℕ)) (coded_option (coded_list coded_bool)))))
+    code_by (Kind × (List ℕ × (List (List ℕ) × Option (List Bool)))) (coded× kind_code
+    (coded× (coded_list coded_ℕ) (coded× (coded_list (coded_list coded_ℕ)) (coded_option (coded_list coded_bool)))))
     (λ p. (p.kind, (p.views, (p.buffers, p.validity)))) (λ p. record { kind = p.0; views = p.1.0; buffers = p.1.1.0; validity = p.1.1.1 }) (λ _. refl)
 
 -- how many rows the views are
@@ -51,7 +53,8 @@ view_bytes buffers view = if nat_le (u32_of view 0) 12 then short_bytes view els
 
 -- a view's range lies in one of the buffers, and its prefix agrees
 unfoldable pub leads_right : List (List ℕ) → List ℕ → Bool
-leads_right buffers view = nat_lt (u32_of view 8) (length buffers) && nat_le (u32_of view 12 + u32_of view 0) (length (buffer_at buffers (u32_of view 8))) && bytes_eq (take 4 (drop 4 view)) (take 4 (long_bytes buffers view))
+leads_right buffers view = nat_lt (u32_of view 8) (length buffers) && nat_le (u32_of view 12 + u32_of view 0) (length (buffer_at buffers (u32_of view 8)))
+    && bytes_eq (take 4 (drop 4 view)) (take 4 (long_bytes buffers view))
 
 -- a view's padding is zero, or it leads to its bytes
 unfoldable pub is_good_view : List (List ℕ) → List ℕ → Bool
@@ -80,7 +83,8 @@ view_cells is_text p = masked p.validity (from_on (λ row. view_cell is_text (vi
 
 -- the rows from a place on, so many of them
 abbrev pub view_part : ℕ → ℕ → Views → Views
-view_part offset rows p = record { kind = p.kind; views = part (16 * offset) (16 * rows) p.views; buffers = p.buffers; validity = option_map (part offset rows) p.validity }
+view_part offset rows p =
+    record { kind = p.kind; views = part (16 * offset) (16 * rows) p.views; buffers = p.buffers; validity = option_map (part offset rows) p.validity }
 
 -- why parts are refused: the layout is another, the views are not whole rows or the validity is not of as many,
 -- or on a row that is not null a good view is not UTF-8 where it is to be text, or a view is not good

@@ -31,6 +31,3 @@ pub use offsets::rise_within;
 pub use primitive::PrimitiveArray;
 pub use utf8::Utf8Array;
 pub use validity::{clone_validity, narrow_validity, nulls_in, validity_at, validity_has};
-
-#[cfg(test)]
-mod tests;

@@ -1,7 +1,8 @@
 //! Views of byte strings (Arrow Columnar Format, "Variable-size Binary View Layout").
 ghost use Rattle.std.specs.Prelude.{◌≡◌, ◌+◌, ◌^◌, ◌≤◌, ◌<◌, length, not, true, IfOk};
 ghost use Rattle.std.specs.Str.{bytes_eq};
-ghost use Rattle.arrow_spec.specs.Columns.{u32_of, all_zero};
+ghost use Rattle.arrow_spec.specs.Arrays.{u32_of};
+ghost use Rattle.arrow_spec.specs.Faults.{all_zero};
 ghost use Rattle.arrow_buffers.specs.Rows.{has_rows};
 ghost use Rattle.arrow_buffers.specs.Views.{view_rows, view_at, view_bytes, leads_right, is_good_view, is_no_text_view, has_bad_view, has_bad_view_text};
 

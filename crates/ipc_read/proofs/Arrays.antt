@@ -6,7 +6,9 @@ use Rattle.arrow_spec.specs.declared.error.IpcError.{IpcError}
 use Rattle.arrow_spec.specs.Flat.{Order}
 use Rattle.arrow_spec.specs.Kinds.{Kind}
 use Rattle.arrow_spec.specs.Counts.{RecordBatch, Place}
-use Rattle.arrow_spec.specs.Columns.{from_on, cell, buf, count_faults, array_faults}
+use Rattle.arrow_spec.specs.Arrays.{from_on, buf}
+use Rattle.arrow_spec.specs.ArrayCells.{cell}
+use Rattle.arrow_spec.specs.Faults.{count_faults, array_faults}
 use Rattle.arrow_spec.specs.Laws.{AreBytes}
 use Rattle.read_columns.specs.Faults.{read_faults}
 use Rattle.read_columns.proofs.CellLaws.{cells_read_of}

@@ -7,14 +7,15 @@ use Rattle.arrow_spec.specs.declared.error.IpcError.TheVariants.{OutOfSpec, Unsu
 use Rattle.arrow_spec.specs.declared.error.Feature.TheVariants as features
 use Rattle.arrow_spec.specs.declared.error.OutOfSpecKind.TheVariants as kinds
 use Rattle.arrow_spec.specs.declared.message.MetadataVersion.{MetadataVersion}
-use Rattle.arrow_spec.specs.Readings.{bind, Reading, IsAmong, Refuses, Gives, refusals, damaged, place, ◌>>=◌}
-use Rattle.arrow_spec.specs.Messages.{BatchHeader, natural}
-use Rattle.arrow_spec.specs.Flat.{Order}
+use Rattle.arrow_spec.specs.Readings.{bind, Reading, IsAmong, Refuses, Gives, refusals, damaged, free_of, ◌>>=◌, natural}
+use Rattle.arrow_spec.specs.Messages.{BatchHeader}
+use Rattle.arrow_spec.specs.Flat.{Order, order_by}
 use Rattle.arrow_spec.specs.Cells.{Cell}
 use Rattle.arrow_spec.specs.Kinds.{Fields}
 use Rattle.arrow_spec.specs.Counts.{first_place, is_negative, magnitude}
-use Rattle.arrow_spec.specs.Columns.{columns_at, chosen_floats}
-use Rattle.arrow_spec.specs.Files.{batch_of_tables, to_read, none_negative, lengths_sum}
+use Rattle.arrow_spec.specs.Columns.{columns_at}
+use Rattle.arrow_spec.specs.Features.{chosen_floats}
+use Rattle.arrow_spec.specs.Files.{batch_of_tables, to_read, none_negative, lengths_sum, all_asked, record_batch_of}
 use Rattle.arrow_spec.specs.declared.error.IpcError.TheVariants.{Memory}
 use Rattle.arrow_spec.specs.declared.message.FieldNode.{FieldNode}
 use Rattle.arrow_spec.specs.declared.message.IpcBuffer.{IpcBuffer}
@@ -23,8 +24,8 @@ use Rattle.arrow_types.specs.Schemas.{Keyed}
 use Rattle.arrow_arrays.specs.Parts.{Parts}
 use Rattle.arrow_arrays.specs.Batches.{have_rows, batch_fault}
 use Rattle.ipc_read.specs.Queues.{Left, AllAt}
-use Rattle.ipc_read.specs.Batches.{AreQueuesOf, MayBeRead, all_asked, batch_in, batch_reading}
-use Rattle.ipc_read.specs.Sources.{Told, Known, bytes_in, order_of}
+use Rattle.ipc_read.specs.Batches.{AreQueuesOf, MayBeRead, batch_reading}
+use Rattle.ipc_read.specs.Sources.{Told, Known, bytes_in}
 use Rattle.ipc_read.specs.declared.body.Body.{Body}
 use Rattle.ipc_read.proofs.Passing.{refuses_more}
 
@@ -36,20 +37,20 @@ pub is_natural : (z : ℤ) → is_negative z ≡ false → z ≡ pos (magnitude 
 is_natural (pos n) h = refl
 is_natural (negsuc n) h = cc
 
-pub refuses_compressed : (order : Order) (fs : Fields) (most : ℕ) (version : MetadataVersion) (tables : BatchHeader) (bytes : List ℕ) → tables.compressed ≡ true → IsAmong (refusals (batch_of_tables to_read (all_asked order fs most) version tables bytes None)) (Unsupported features.Compression)
+pub refuses_compressed : (order : Order) (fs : Fields) (most : ℕ) (version : MetadataVersion) (tables : BatchHeader) (bytes : List ℕ) → tables.compressed ≡ true → IsAmong (refusals (batch_of_tables to_read (all_asked order fs most) version [] tables bytes None)) (Unsupported features.Compression)
 unfolding batch_of_tables bind
 refuses_compressed order fs most version tables bytes h = rw h (inl refl)
 
-pub refuses_length : (order : Order) (fs : Fields) (most : ℕ) (version : MetadataVersion) (tables : BatchHeader) (bytes : List ℕ) → tables.compressed ≡ false → is_negative tables.length ≡ true → IsAmong (refusals (batch_of_tables to_read (all_asked order fs most) version tables bytes None)) (OutOfSpec kinds.UnexpectedNegativeInteger)
+pub refuses_length : (order : Order) (fs : Fields) (most : ℕ) (version : MetadataVersion) (tables : BatchHeader) (bytes : List ℕ) → tables.compressed ≡ false → is_negative tables.length ≡ true → IsAmong (refusals (batch_of_tables to_read (all_asked order fs most) version [] tables bytes None)) (OutOfSpec kinds.UnexpectedNegativeInteger)
 unfolding batch_of_tables bind
 refuses_length order fs most version tables bytes h k = rw (h, natural_negative tables.length k) (inl refl)
 
-pub refuses_buffer : (order : Order) (fs : Fields) (most : ℕ) (version : MetadataVersion) (tables : BatchHeader) (bytes : List ℕ) → tables.compressed ≡ false → is_negative tables.length ≡ false → none_negative tables.buffers ≡ false → IsAmong (refusals (batch_of_tables to_read (all_asked order fs most) version tables bytes None)) (OutOfSpec kinds.UnexpectedNegativeInteger)
+pub refuses_buffer : (order : Order) (fs : Fields) (most : ℕ) (version : MetadataVersion) (tables : BatchHeader) (bytes : List ℕ) → tables.compressed ≡ false → is_negative tables.length ≡ false → none_negative tables.buffers ≡ false → IsAmong (refusals (batch_of_tables to_read (all_asked order fs most) version [] tables bytes None)) (OutOfSpec kinds.UnexpectedNegativeInteger)
 unfolding batch_of_tables bind
 refuses_buffer order fs most version tables bytes h k n = rw (h, is_natural tables.length k, n) (inl refl)
 
 pub refuses_sum : (order : Order) (fs : Fields) (most : ℕ) (version : MetadataVersion) (tables : BatchHeader) (bytes : List ℕ) → tables.compressed ≡ false → is_negative tables.length ≡ false → none_negative tables.buffers ≡ true → nat_le (lengths_sum tables.buffers) most ≡ false
-    → IsAmong (refusals (batch_of_tables to_read (all_asked order fs most) version tables bytes None)) (OutOfSpec (kinds.InvalidBuffersLength (lengths_sum tables.buffers) most))
+    → IsAmong (refusals (batch_of_tables to_read (all_asked order fs most) version [] tables bytes None)) (OutOfSpec (kinds.InvalidBuffersLength (lengths_sum tables.buffers) most))
 unfolding batch_of_tables bind
 refuses_sum order fs most version tables bytes h k n s = rw (h, is_natural tables.length k, n, s) (inl refl)
 
@@ -62,36 +63,36 @@ refused_first (Ok x) f e h = refuses_more [] (refusals (f x)) (λ g a. absurd a)
 refused_first (Err es) f e h = h
 
 -- a place refuses what it names
-pub refused_place : (es : List IpcError) (e : IpcError) → Refuses e es → Refuses e (refusals (place es))
+pub refused_place : (es : List IpcError) (e : IpcError) → Refuses e es → Refuses e (refusals (free_of es))
 refused_place [] e h = h
 refused_place (x ∷ es) e h = h
 
-pub place_none : {A : Type 0} → (es : List IpcError) (f : Unit {0} → Reading A) → es ≡ [] → (place es >>= f) ≡ f tt
+pub place_none : {A : Type 0} → (es : List IpcError) (f : Unit {0} → Reading A) → es ≡ [] → (free_of es >>= f) ≡ f tt
 unfolding bind
 place_none es f h = rw h refl
 
 -- where the tables let them be read, what refuses the columns refuses the batch
-pub batch_refused : (little : Bool) (fs : Fields) (most rows : ℕ) (version : MetadataVersion) (tables : BatchHeader) (bytes : List ℕ) (e : IpcError) → MayBeRead tables most rows → Refuses e (refusals (columns_at (batch_in little version tables bytes) [] None fs 0 first_place rows rows))
-    → Refuses e (refusals (batch_of_tables to_read (all_asked (order_of little) fs most) version tables bytes None))
+pub batch_refused : (is_little : Bool) (fs : Fields) (most rows : ℕ) (version : MetadataVersion) (tables : BatchHeader) (bytes : List ℕ) (e : IpcError) → MayBeRead tables most rows → Refuses e (refusals (columns_at (record_batch_of (order_by is_little) version tables bytes) [] None fs 0 first_place rows rows))
+    → Refuses e (refusals (batch_of_tables to_read (all_asked (order_by is_little) fs most) version [] tables bytes None))
 unfolding batch_of_tables bind
-batch_refused little fs most rows version tables bytes e h k =
+batch_refused is_little fs most rows version tables bytes e h k =
     let few : nat_le (lengths_sum tables.buffers) most ≡ true = le-leb _ _ h.few in
-    rw (h.plain, h.count, h.natural, few) (refused_first (columns_at (batch_in little version tables bytes) [] None fs 0 first_place rows rows) _ e k)
+    rw (h.plain, h.count, h.natural, few) (refused_first (columns_at (record_batch_of (order_by is_little) version tables bytes) [] None fs 0 first_place rows rows) _ e k)
 
 -- and they mean the batch
-pub batch_well : (little : Bool) (fs : Fields) (most rows : ℕ) (version : MetadataVersion) (tables : BatchHeader) (bytes : List ℕ) (cs : List (List Cell)) → MayBeRead tables most rows → columns_at (batch_in little version tables bytes) [] None fs 0 first_place rows rows ≡ Ok cs
-    → batch_of_tables to_read (all_asked (order_of little) fs most) version tables bytes None ≡ Ok (record { rows = rows; columns = cs })
+pub batch_well : (is_little : Bool) (fs : Fields) (most rows : ℕ) (version : MetadataVersion) (tables : BatchHeader) (bytes : List ℕ) (cs : List (List Cell)) → MayBeRead tables most rows → columns_at (record_batch_of (order_by is_little) version tables bytes) [] None fs 0 first_place rows rows ≡ Ok cs
+    → batch_of_tables to_read (all_asked (order_by is_little) fs most) version [] tables bytes None ≡ Ok (record { rows = rows; columns = cs; custom = [] })
 unfolding batch_of_tables bind
-batch_well little fs most rows version tables bytes cs h columns =
+batch_well is_little fs most rows version tables bytes cs h columns =
     let few : nat_le (lengths_sum tables.buffers) most ≡ true = le-leb _ _ h.few in
     rw (h.plain, h.count, h.natural, few, columns) refl
 
 -- the kinds that are looked at first
-pub reading_refused : (little : Bool) (fs : Fields) (most : ℕ) (version : MetadataVersion) (tables : BatchHeader) (bytes : List ℕ) (e : IpcError) → Refuses e (chosen_floats None fs 0) → Refuses e (refusals (batch_reading little fs most version tables bytes))
-reading_refused little fs most version tables bytes e h = refused_first (place (chosen_floats None fs 0)) _ e (refused_place _ e h)
+pub reading_refused : (is_little : Bool) (fs : Fields) (most : ℕ) (version : MetadataVersion) (tables : BatchHeader) (bytes : List ℕ) (e : IpcError) → Refuses e (chosen_floats None fs 0) → Refuses e (refusals (batch_reading is_little fs most version tables bytes))
+reading_refused is_little fs most version tables bytes e h = refused_first (free_of (chosen_floats None fs 0)) _ e (refused_place _ e h)
 
-pub reading_is : (little : Bool) (fs : Fields) (most : ℕ) (version : MetadataVersion) (tables : BatchHeader) (bytes : List ℕ) → chosen_floats None fs 0 ≡ [] → batch_reading little fs most version tables bytes ≡ batch_of_tables to_read (all_asked (order_of little) fs most) version tables bytes None
-reading_is little fs most version tables bytes h = place_none (chosen_floats None fs 0) _ h
+pub reading_is : (is_little : Bool) (fs : Fields) (most : ℕ) (version : MetadataVersion) (tables : BatchHeader) (bytes : List ℕ) → chosen_floats None fs 0 ≡ [] → batch_reading is_little fs most version tables bytes ≡ batch_of_tables to_read (all_asked (order_by is_little) fs most) version [] tables bytes None
+reading_is is_little fs most version tables bytes h = place_none (chosen_floats None fs 0) _ h
 
 -- ── what is told ──
 
@@ -118,11 +119,11 @@ first_left : {A : Type 0} → (all rest : List A) → rest ≡ all → Left all 
 first_left all rest h = record { is = h; within = omega arith }
 
 -- the queues of a batch's tables are all of them
-pub all_at_first : (little : Bool) (version : MetadataVersion) (tables : BatchHeader) (bytes : List ℕ) (ns : List FieldNode) (bs : List IpcBuffer) (vs : List ℤ) → AreQueuesOf tables ns bs vs → AllAt (batch_in little version tables bytes) first_place ns bs vs
-all_at_first little version tables bytes ns bs vs q = record { nodes = first_left tables.nodes ns q.nodes; buffers = first_left tables.buffers bs q.buffers; views = first_left tables.variadic vs q.variadic }
+pub all_at_first : (is_little : Bool) (version : MetadataVersion) (tables : BatchHeader) (bytes : List ℕ) (ns : List FieldNode) (bs : List IpcBuffer) (vs : List ℤ) → AreQueuesOf tables ns bs vs → AllAt (record_batch_of (order_by is_little) version tables bytes) first_place ns bs vs
+all_at_first is_little version tables bytes ns bs vs q = record { nodes = first_left tables.nodes ns q.nodes; buffers = first_left tables.buffers bs q.buffers; views = first_left tables.variadic vs q.variadic }
 
-pub known_some : (content : Option (List ℕ)) (body : Body) (little : Bool) (version : MetadataVersion) (tables : BatchHeader) (b : List ℕ) → content ≡ Some b → Known content body little (batch_in little version tables (bytes_in body b))
-known_some content body little version tables b h = record { told = told_some content body b h; order = refl }
+pub known_some : (content : Option (List ℕ)) (body : Body) (is_little : Bool) (version : MetadataVersion) (tables : BatchHeader) (b : List ℕ) → content ≡ Some b → Known content body is_little (record_batch_of (order_by is_little) version tables (bytes_in body b))
+known_some content body is_little version tables b h = record { told = told_some content body b h; order = refl }
 
 -- ── the same under an equal schema ──
 

@@ -8,7 +8,7 @@ use Rattle.arrow_spec.specs.declared.types.IntegerType.TheVariants as integers
 use Rattle.arrow_spec.specs.declared.types.IntervalUnit.TheVariants.{YearMonth, DayTime, MonthDayNano}
 use Rattle.arrow_spec.specs.Readings.{Refuses}
 use Rattle.arrow_spec.specs.Kinds.{Kind, null, boolean, integer, float, date32, date64, time32, time64, timestamp, duration, interval, decimal, decimal256, binary, utf8, binary_view, utf8_view, fixed_size_binary, «list», fixed_size_list, struct, map, union, dictionary, extension, small, large, half, single, double}
-use Rattle.arrow_spec.specs.Columns.{float_faults, chosen_floats}
+use Rattle.arrow_spec.specs.Features.{float_faults, chosen_floats}
 use Rattle.arrow_types.specs.Physical.{physical_of}
 use Rattle.arrow_types.specs.Schemas.{Keyed, fields_in}
 use Rattle.arrow_types.specs.declared.physical.PhysicalType.{PhysicalType}

@@ -1,17 +1,16 @@
 -- Columns that are read one after another: what is done, and what is left at the present place.
-use Rattle.std.proofs.Common.{◌≡◌, ℕ, zero, suc, ◌+◌, ◌≤◌, ◌<◌, List, [], ◌∷◌, ◌++◌, length, drop, Some, None, Result, Ok, Err, Bool, true, false, refl, sym, ap, ◌∙◌, arith, subst, map, append-nil, append_assoc}
-use Rattle.std.specs.Prelude.{slice_get, slice_index_or, nat_eq, not, ◌&&◌}
+use Rattle.std.proofs.Common.{◌≡◌, ℕ, zero, suc, ◌+◌, ◌≤◌, List, [], ◌∷◌, ◌++◌, length, drop, Some, None, Result, Ok, Err, Bool, true, false, refl, sym, ap, ◌∙◌, arith, subst, map, append-nil, append_assoc}
+use Rattle.std.specs.Prelude.{slice_get, nat_eq, ◌&&◌}
 use Rattle.std.specs.List.{list_all}
 use Rattle.std.proofs.lemmas.List.{map-append}
 use Rattle.arrow_spec.specs.declared.error.IpcError.{IpcError}
-use Rattle.arrow_spec.specs.Readings.{bind, Refuses, refusals, place, ◌>>=◌}
+use Rattle.arrow_spec.specs.Readings.{bind, Refuses, refusals, free_of, ◌>>=◌}
 use Rattle.arrow_spec.specs.Kinds.{Kind, Fields, none, field}
-use Rattle.arrow_spec.specs.Counts.{RecordBatch, Place, first_place, after, magnitude}
-use Rattle.arrow_spec.specs.declared.message.FieldNode.{FieldNode}
-use Rattle.arrow_spec.specs.declared.error.IpcError.TheVariants.{OutOfSpec}
-use Rattle.arrow_spec.specs.declared.error.OutOfSpecKind.TheVariants.{NodeLength}
-use Rattle.ipc_read.specs.Queues.{Left}
-use Rattle.arrow_spec.specs.Columns.{cause, cell, columns_at, column_faults, count_faults, top_node_faults, array_faults, from_on, place_in}
+use Rattle.arrow_spec.specs.Counts.{RecordBatch, Place, first_place, after}
+use Rattle.arrow_spec.specs.Arrays.{from_on}
+use Rattle.arrow_spec.specs.ArrayCells.{cell}
+use Rattle.arrow_spec.specs.Faults.{column_faults, count_faults, top_node_faults, array_faults, place_in}
+use Rattle.arrow_spec.specs.Columns.{columns_at}
 use Rattle.arrow_spec.specs.Needed.{columns_looked_at, looked_at}
 use Rattle.arrow_types.specs.KindOf.{kind_of, child_of}
 use Rattle.arrow_types.specs.declared.data_type.Field.{Field}
@@ -23,7 +22,7 @@ use Rattle.read_columns.specs.Batches.{columns_read}
 use Rattle.read_columns.specs.Faults.{read_faults, stated_of, fetched_at_most}
 use Rattle.read_columns.specs.PartsRead.{parts_read}
 use Rattle.ipc_read.specs.Batches.{IsFieldAt, are_flat_kinds, batch_fetched, columns_fetched}
-use Rattle.ipc_read.proofs.Passing.{next_of, refuses_more, among_left, among_right}
+use Rattle.ipc_read.proofs.Passing.{refuses_more, among_left, among_right}
 use Rattle.ipc_read.proofs.ColumnKinds.{drop_at, drop_all, both_first, both_second}
 use Rattle.ipc_read.proofs.BatchTables.{refused_first, refused_place, place_none}
 
@@ -91,7 +90,7 @@ pub next_refused : (m : RecordBatch) (s : List Keyed) (i rows : ℕ) (parts : Li
 unfolding columns_at
 next_refused m s i rows parts x e h d r =
     let q = place_in m (fields_in s) i first_place in
-    let left : Refuses e (refusals (columns_at m [] None (field x.1.name x.1.nullable x.1.metadata x.1.kind (fields_in (drop (i + 1) s))) i q rows rows)) = refused_first (place (column_faults m [] x.1.kind q rows rows)) _ e (refused_place _ e r) in
+    let left : Refuses e (refusals (columns_at m [] None (field x.1.name x.1.nullable x.1.metadata x.1.kind (fields_in (drop (i + 1) s))) i q rows rows)) = refused_first (free_of (column_faults m [] x.1.kind q rows rows)) _ e (refused_place _ e r) in
     let here : Refuses e (refusals (columns_at m [] None (fields_in (drop i s)) i q rows rows)) = subst (λ fs. Refuses e (refusals (columns_at m [] None fs i q rows rows))) (sym (rest_at s i x h)) left in
     subst (λ r. Refuses e (refusals r)) (sym d.cells) (refused_first (columns_at m [] None (fields_in (drop i s)) i q rows rows) _ e here)
 
@@ -175,25 +174,3 @@ field_done m s i rows parts f a h d z c e =
 
 pub field_fetched : (m : RecordBatch) (s : List Keyed) (i rows : ℕ) (f : Field) → IsFieldAt s i f → columns_fetched m (fields_in (drop i s)) (place_in m (fields_in s) i first_place) rows ≡ fetched_at_most m (kind_of f.dtype) (place_in m (fields_in s) i first_place) rows + columns_fetched m (fields_in (drop (i + 1) s)) (place_in m (fields_in s) (i + 1) first_place) rows
 field_fetched m s i rows f h = fetched_next m s i rows (h.key, child_of f) h.at ∙ ap (λ k. fetched_at_most m k (place_in m (fields_in s) i first_place) rows + columns_fetched m (fields_in (drop (i + 1) s)) (place_in m (fields_in s) (i + 1) first_place) rows) h.kind
-
--- ── the node at the front of its queue ──
-
-pub first_at : {A : Type 0} → (all : List A) (i : ℕ) (x : A) (rest : List A) → Left all i rest → 0 < length rest → x ≡ slice_index_or rest 0 x → slice_get all i ≡ Some x
-first_at all i x [] l h e = absurd (omega (arith, h))
-first_at all i x (y ∷ ys) l h e = (next_of all i y ys l.is).0 ∙ ap Some (sym e)
-
-pub first_none : {A : Type 0} → (all : List A) (i : ℕ) (rest : List A) → Left all i rest → length rest ≤ 0 → slice_get all i ≡ None
-first_none [] zero rest l h = refl
-first_none [] (suc i) rest l h = refl
-first_none (y ∷ ys) zero rest l h = let n = ap length l.is in absurd (omega (arith, n, h))
-first_none (y ∷ ys) (suc i) rest l h = first_none ys i rest (record { is = l.is; within = let w = l.within in omega (arith, w) }) h
-
-pub node_same : (m : RecordBatch) (i rows : ℕ) (node : FieldNode) → slice_get m.nodes i ≡ Some node → magnitude node.length ≡ rows → top_node_faults (slice_get m.nodes i) rows ≡ []
-node_same m i rows node h e = let f : nat_eq (magnitude node.length) rows ≡ true = grind (arith, e) in rw (h, f) refl
-
-pub node_other : (m : RecordBatch) (i rows : ℕ) (node : FieldNode) → slice_get m.nodes i ≡ Some node → (magnitude node.length ≡ rows → ⊥) → top_node_faults (slice_get m.nodes i) rows ≡ OutOfSpec NodeLength ∷ []
-node_other m i rows node h n = rw h (by (nat_eq (magnitude node.length) rows) refl)
-  where
-    by : (b : Bool) → nat_eq (magnitude node.length) rows ≡ b → cause (not (nat_eq (magnitude node.length) rows)) (OutOfSpec NodeLength) ≡ OutOfSpec NodeLength ∷ []
-    by true e = absurd (n (grind (arith, e)))
-    by false e = rw e refl

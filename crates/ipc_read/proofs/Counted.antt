@@ -12,7 +12,7 @@ use Rattle.arrow_spec.specs.Readings.{IsAmong, Refuses}
 use Rattle.arrow_spec.specs.Kinds as kind
 use Rattle.arrow_spec.specs.Kinds.{Kind, small, large}
 use Rattle.arrow_spec.specs.Counts.{RecordBatch, Place, after, nodes, buffers, views}
-use Rattle.arrow_spec.specs.Columns.{cause, count_faults, counts_faults, array_faults}
+use Rattle.arrow_spec.specs.Faults.{cause, count_faults, counts_faults, array_faults}
 use Rattle.arrow_spec.specs.Needed.{looked_at, validity_looked_at}
 use Rattle.arrow_types.specs.Physical.{physical_of}
 use Rattle.arrow_types.specs.declared.physical.PhysicalType.{PhysicalType}

@@ -9,7 +9,8 @@ use Rattle.arrow_spec.specs.declared.error.OutOfSpecKind.TheVariants as kinds
 use Rattle.arrow_spec.specs.Readings.{IsAmong, Refuses}
 use Rattle.arrow_spec.specs.Kinds.{binary_view}
 use Rattle.arrow_spec.specs.Counts.{RecordBatch, Place, magnitude_or_0, is_negative, count_at}
-use Rattle.arrow_spec.specs.Columns.{cause, buf, from_on, range_faults, ranges_faults, view_count_faults}
+use Rattle.arrow_spec.specs.Arrays.{buf, from_on}
+use Rattle.arrow_spec.specs.Faults.{cause, range_faults, ranges_faults, view_count_faults}
 use Rattle.arrow_spec.specs.Needed.{numbers_from}
 use Rattle.read_columns.specs.Faults.{stated, stated_of}
 use Rattle.ipc_read.specs.Queues.{Left}
@@ -40,7 +41,7 @@ drop_next None xs ys all n a b e f g h =
 pub count_fine : (m : RecordBatch) (p : Place) (x : ℤ) → Left m.variadic (suc p.view) (drop (suc p.view) m.variadic) → slice_get m.variadic p.view ≡ Some x → is_negative x ≡ false → view_count_faults m binary_view p ≡ []
 count_fine m p x l g n = both_none (cause (nat_lt (length m.variadic) (p.view + 1)) (OutOfSpec kinds.MissingVariadicCount)) _ (no_cause _ _ (le-ltb _ _ (omega (arith, l.within)))) (no_cause _ _ (none m.variadic p.view x g n))
   where
-    none : (xs : List ℤ) (i : ℕ) (x : ℤ) → slice_get xs i ≡ Some x → is_negative x ≡ false → Rattle.arrow_spec.specs.Columns.some_negative (Rattle.std.specs.Prelude.take 1 (drop i xs)) ≡ false
+    none : (xs : List ℤ) (i : ℕ) (x : ℤ) → slice_get xs i ≡ Some x → is_negative x ≡ false → Rattle.arrow_spec.specs.Faults.some_negative (Rattle.std.specs.Prelude.take 1 (drop i xs)) ≡ false
     none [] zero x h k = cc
     none [] (suc i) x h k = cc
     none (y ∷ ys) zero x h k = let e : y ≡ x = cc in let f : is_negative y ≡ false = ap is_negative e ∙ k in rw f refl

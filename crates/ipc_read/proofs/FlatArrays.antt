@@ -10,7 +10,8 @@ use Rattle.arrow_spec.specs.Kinds as kind
 use Rattle.arrow_spec.specs.Kinds.{Kind}
 use Rattle.arrow_spec.specs.Counts.{RecordBatch, Place, after}
 use Rattle.arrow_spec.specs.Laws.{AreBytes}
-use Rattle.arrow_spec.specs.Columns.{buf, node_faults, validity_faults, bitmap_faults, numbers_faults, array_faults}
+use Rattle.arrow_spec.specs.Arrays.{buf}
+use Rattle.arrow_spec.specs.Faults.{node_faults, validity_faults, bitmap_faults, numbers_faults, array_faults}
 use Rattle.arrow_spec.specs.Needed.{validity_looked_at}
 use Rattle.arrow_types.specs.Physical.{primitive_size, physical_of}
 use Rattle.arrow_types.specs.declared.physical.PhysicalType.{PhysicalType}

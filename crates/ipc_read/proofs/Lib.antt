@@ -11,3 +11,4 @@ pub mod ViewArrays
 pub mod BatchTables
 pub mod ColumnKinds
 pub mod Columns
+pub mod Shortened

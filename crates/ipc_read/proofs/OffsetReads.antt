@@ -4,7 +4,8 @@ use Rattle.std.specs.Int.{byte_len, cast_signed, Width}
 use Rattle.std.specs.Option.{option_map}
 use Rattle.arrow_spec.specs.Flat.{Order, num}
 use Rattle.arrow_spec.specs.Counts.{RecordBatch}
-use Rattle.arrow_spec.specs.Columns.{from_on, numbers_faults, offsets_buffer_faults, buf, or_0, signed_in, unsigned_in, offset_width}
+use Rattle.arrow_spec.specs.Arrays.{from_on, buf, or_0, signed_in, unsigned_in, offset_width}
+use Rattle.arrow_spec.specs.Faults.{numbers_faults, offsets_buffer_faults}
 use Rattle.arrow_spec.proofs.CellLists.{from_on-same}
 use Rattle.arrow_types.specs.Numbers.{signed_from_bytes, ReadsOffsets, offsets_by}
 use Rattle.arrow_types.specs.NumberLaws.{signed_agrees}
@@ -14,7 +15,7 @@ use Rattle.arrow_spec.specs.declared.error.IpcError.{IpcError}
 use Rattle.arrow_spec.specs.Readings.{Refuses}
 use Rattle.read_columns.proofs.Buffers.{numbers_held}
 use Rattle.ipc_read.specs.Queues.{short_of}
-use Rattle.ipc_read.specs.Sources.{offsets_of, faults_where}
+use Rattle.ipc_read.specs.Sources.{offsets_of_rows, faults_where}
 use Rattle.ipc_read.proofs.Refusals.{refuses_right, both_none, lacks_none}
 use Rattle.ipc_read.proofs.Parts.{item_fits}
 
@@ -48,9 +49,9 @@ offsets_err large width limit rows number read m i e h s r = refuses_right (shor
 pub offsets_fine : (large : Bool) (width limit rows : ℕ) {A : Type 0} (number : A → ℤ) (read : Order → List ℕ → A) (m : RecordBatch) (i : ℕ) → ReadsOffsets large width limit number read → 0 < rows → suc i ≤ length m.buffers → numbers_faults m i width (rows + 1) ≡ [] → short_of m.buffers i ++ faults_where rows (offsets_buffer_faults m (offsets_by large) i rows) ≡ []
 offsets_fine large width limit rows number read m i h s w r = both_none (short_of m.buffers i) _ (lacks_none m.buffers i w) (some_offsets large width limit rows number read m i h s ∙ r)
 
-told_from : (m : RecordBatch) (large : Bool) (i rows : ℕ) → 0 < rows → from_on (λ j. signed_in m (offset_width (offsets_by large)) i j) 0 (rows + 1) ≡ offsets_of m (offsets_by large) i rows
+told_from : (m : RecordBatch) (large : Bool) (i rows : ℕ) → 0 < rows → from_on (λ j. signed_in m (offset_width (offsets_by large)) i j) 0 (rows + 1) ≡ offsets_of_rows m (offsets_by large) i rows
 told_from m large i zero s = absurd (omega (arith, s))
 told_from m large i (suc n) s = let e : suc n + 1 ≡ suc (suc n) = omega arith in ap (from_on (λ j. signed_in m (offset_width (offsets_by large)) i j) 0) e
 
-pub offsets_value : (large : Bool) (width limit rows : ℕ) {A : Type 0} (number : A → ℤ) (read : Order → List ℕ → A) (m : RecordBatch) (i : ℕ) (xs : List A) → ReadsOffsets large width limit number read → 0 < rows → numbers_faults m i width (rows + 1) ≡ [] → xs ≡ items_read read width m i (rows + 1) → map number xs ≡ offsets_of m (offsets_by large) i rows
+pub offsets_value : (large : Bool) (width limit rows : ℕ) {A : Type 0} (number : A → ℤ) (read : Order → List ℕ → A) (m : RecordBatch) (i : ℕ) (xs : List A) → ReadsOffsets large width limit number read → 0 < rows → numbers_faults m i width (rows + 1) ≡ [] → xs ≡ items_read read width m i (rows + 1) → map number xs ≡ offsets_of_rows m (offsets_by large) i rows
 offsets_value large width limit rows number read m i xs h s r e = ap (map number) e ∙ offsets_read large width limit number read m i (rows + 1) h (numbers_held m i width (rows + 1) r) ∙ told_from m large i rows s

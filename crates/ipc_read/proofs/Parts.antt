@@ -12,7 +12,8 @@ use Rattle.arrow_spec.specs.declared.message.FieldNode.{FieldNode}
 use Rattle.arrow_spec.specs.declared.message.IpcBuffer.{IpcBuffer}
 use Rattle.arrow_spec.specs.Readings.{IsAmong, Refuses}
 use Rattle.arrow_spec.specs.Counts.{RecordBatch, Place, magnitude}
-use Rattle.arrow_spec.specs.Columns.{from_on, node_causes, node_faults, range_of, range_causes, range_faults, bitmap_faults, numbers_faults, validity_faults, has_nulls, buf, bit}
+use Rattle.arrow_spec.specs.Arrays.{from_on, range_of, has_nulls, buf, bit}
+use Rattle.arrow_spec.specs.Faults.{node_causes, node_faults, range_causes, range_faults, bitmap_faults, numbers_faults, validity_faults}
 use Rattle.arrow_spec.proofs.CellLists.{from_on-same}
 use Rattle.arrow_buffers.specs.Bits.{bits_from}
 use Rattle.ipc_schema.specs.Outside.{StandsAt}

@@ -8,7 +8,7 @@ use Rattle.arrow_spec.specs.declared.error.IpcError.TheVariants.{OutOfSpec, Unsu
 use Rattle.arrow_spec.specs.declared.error.OutOfSpecKind.TheVariants.{ExpectedBuffer, MissingVariadicCount, UnexpectedNegativeInteger}
 use Rattle.arrow_spec.specs.Readings.{IsAmong, Refuses}
 use Rattle.arrow_spec.specs.Counts.{RecordBatch, Place, after, magnitude, is_negative, count_at, views}
-use Rattle.arrow_spec.specs.Columns.{cause, counts_faults, count_faults, view_count_faults, some_negative}
+use Rattle.arrow_spec.specs.Faults.{cause, counts_faults, count_faults, view_count_faults, some_negative}
 use Rattle.arrow_spec.specs.Kinds.{Kind, null, boolean, integer, float, date32, date64, time32, time64, timestamp, duration, interval, decimal, decimal256, binary, utf8, binary_view, utf8_view, fixed_size_binary, «list», fixed_size_list, struct, map, union, dictionary, extension, small, large}
 use Rattle.arrow_types.specs.Physical.{physical_of}
 use Rattle.arrow_types.specs.declared.physical.PhysicalType.{PhysicalType}
@@ -16,7 +16,7 @@ use Rattle.arrow_types.specs.declared.physical.PhysicalType.TheVariants as physi
 use Rattle.arrow_spec.specs.declared.message.FieldNode.{FieldNode}
 use Rattle.arrow_spec.specs.declared.message.IpcBuffer.{IpcBuffer}
 use Rattle.ipc_read.specs.Queues.{Left, NodesAt, At, AllAt}
-use Rattle.ipc_read.specs.Skips.{moved, is_plain_kind, IsNextCount, next_count_faults}
+use Rattle.ipc_read.specs.Skips.{moved, is_plain_kind, IsNextCount}
 use Rattle.ipc_read.specs.Sources.{Answers}
 
 -- ── queues ──
@@ -282,9 +282,9 @@ node_queues (Ok x) ns ns' h e = λ m p a.
     let l = left_more m.nodes p.node 1 ns ns' a.nodes h e in
     record { nodes = l; within = record { nodes = l.within; buffers = omega (arith, a.within.buffers); views = omega (arith, a.within.views) } }
 
-pub views_refused : (m : RecordBatch) (p : Place) (e : IpcError) → IsAmong (next_count_faults m p.view) e → IsAmong (count_faults m binary_view p) e
+pub views_refused : (m : RecordBatch) (p : Place) (e : IpcError) → Refuses e (view_count_faults m binary_view p) → Refuses e (count_faults m binary_view p)
 unfolding count_faults
-views_refused m p e h = among_right (counts_faults m (after m binary_view p)) _ e h
+views_refused m p e h = refuses_more (view_count_faults m binary_view p) (counts_faults m (after m binary_view p) ++ view_count_faults m binary_view p) (among_right (counts_faults m (after m binary_view p)) (view_count_faults m binary_view p)) e h
 
 pub count_known : (m : RecordBatch) (p : Place) (n : ℕ) (rest : List ℤ) → IsNextCount m p.view n rest → counts_faults m (moved 1 (2 + n) 0 p) ≡ count_faults m binary_view p
 unfolding count_faults

@@ -8,12 +8,12 @@ use Rattle.arrow_spec.specs.declared.error.IpcError.TheVariants.{OutOfSpec, Unsu
 use Rattle.arrow_spec.specs.declared.error.OutOfSpecKind.TheVariants as kinds
 use Rattle.arrow_spec.specs.declared.message.IpcBuffer.{IpcBuffer}
 use Rattle.arrow_spec.specs.Readings.{IsAmong, Refuses}
-use Rattle.arrow_spec.specs.Columns.{cause, if_sound}
+use Rattle.arrow_spec.specs.Faults.{cause, if_sound}
 use Rattle.ipc_read.specs.Queues.{Left, short_of}
 use Rattle.arrow_spec.specs.Counts.{RecordBatch}
-use Rattle.arrow_spec.specs.Columns.{buf}
+use Rattle.arrow_spec.specs.Arrays.{buf}
 use Rattle.read_columns.specs.PartsRead.{bytes_of_rows}
-use Rattle.ipc_read.specs.Sources.{Answers, IsRefusal, ReadCause, Told, faults_where, bytes_where}
+use Rattle.ipc_read.specs.Sources.{Answers, IsRefusal, BodyReadCause, Told, faults_where, bytes_where}
 use Rattle.ipc_read.specs.declared.body.Body.{Body}
 
 -- ── queues ──
@@ -153,7 +153,7 @@ err_if (Ok x) e P Q h p k q = tt
 err_if (Err f) e P Q h p k q = subst Q (sym (k f p)) q
 
 -- a refusal of the bytes is no fault of a source
-pub refusal_cause : (e : IpcError) (n : ℕ) → IsRefusal e → ReadCause e n n
+pub refusal_cause : (e : IpcError) (n : ℕ) → IsRefusal e → BodyReadCause e n n
 refusal_cause (OutOfSpec k) n h = tt
 refusal_cause (Unsupported k) n h = tt
 refusal_cause TooDeep n h = absurd h

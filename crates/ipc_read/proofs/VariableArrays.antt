@@ -9,7 +9,8 @@ use Rattle.arrow_spec.specs.declared.message.IpcBuffer.{IpcBuffer}
 use Rattle.arrow_spec.specs.Readings.{IsAmong, Refuses}
 use Rattle.arrow_spec.specs.Kinds.{Kind, Offsets}
 use Rattle.arrow_spec.specs.Counts.{RecordBatch, Place, after, magnitude}
-use Rattle.arrow_spec.specs.Columns.{buf, range_of, cause, if_sound, node_faults, validity_faults, range_faults, offsets_buffer_faults, offsets_faults, bytes_faults, utf8_faults, array_faults}
+use Rattle.arrow_spec.specs.Arrays.{buf, range_of}
+use Rattle.arrow_spec.specs.Faults.{cause, if_sound, node_faults, validity_faults, range_faults, offsets_buffer_faults, offsets_faults, bytes_faults, utf8_faults, array_faults}
 use Rattle.arrow_spec.specs.Needed.{validity_looked_at, looked_at}
 use Rattle.arrow_types.specs.Physical.{physical_of}
 use Rattle.arrow_types.specs.declared.physical.PhysicalType.{PhysicalType}
@@ -22,7 +23,7 @@ use Rattle.read_columns.specs.LayoutFaults.{contents_of}
 use Rattle.read_columns.proofs.OffsetsRead.{offsets-read}
 use Rattle.read_columns.proofs.Sound.{utf8_faults-read}
 use Rattle.ipc_read.specs.Queues.{Left, IsWithin, At, short_of}
-use Rattle.ipc_read.specs.Sources.{faults_where, bytes_where, validity_fetched, offsets_of, values_of}
+use Rattle.ipc_read.specs.Sources.{faults_where, bytes_where, validity_fetched, offsets_of_rows, values_of}
 use Rattle.ipc_read.proofs.Refusals.{among_left, among_right, among_sound, among_cause, refuses_left, memory_refuses, both_none}
 use Rattle.ipc_read.proofs.Counted.{Counted, own_buffers, own_looked, refused_in, lacks_or, buffer_end, fine_in, at_next, stated_append}
 use Rattle.ipc_read.proofs.FlatArrays.{by_layout, counted_at}
@@ -155,7 +156,7 @@ pub record WasRead (m : RecordBatch) (p : Place) (rows : ℕ) (o : Offsets) (a :
   pub validity : validity_faults m p rows ≡ []
   pub offsets : faults_where rows (offsets_buffer_faults m o (p.buffer + 1) rows) ≡ []
   pub values : faults_where rows (range_faults m (p.buffer + 2)) ≡ []
-  pub is_offsets : a.offsets ≡ offsets_of m o (p.buffer + 1) rows
+  pub is_offsets : a.offsets ≡ offsets_of_rows m o (p.buffer + 1) rows
   pub is_values : a.values ≡ values_of m (p.buffer + 2) rows
   pub is_validity : a.validity ≡ validity_read m p rows
 

@@ -10,11 +10,12 @@ use Rattle.arrow_spec.specs.declared.message.FieldNode.{FieldNode}
 use Rattle.arrow_spec.specs.declared.message.IpcBuffer.{IpcBuffer}
 use Rattle.arrow_spec.specs.declared.message.MetadataVersion.{MetadataVersion}
 use Rattle.arrow_spec.specs.Readings.{IsAmong, Refuses}
-use Rattle.arrow_spec.specs.Flat.{Order}
+use Rattle.arrow_spec.specs.Flat.{Order, order_by}
 use Rattle.arrow_spec.specs.Kinds as kind
 use Rattle.arrow_spec.specs.Kinds.{Kind, small, large, binary_view}
 use Rattle.arrow_spec.specs.Counts.{RecordBatch, Place, after, nodes, buffers, views, count_at, count_among}
-use Rattle.arrow_spec.specs.Columns.{buf, cause, if_sound, is_big, some_negative, some_valid_row, is_no_text_view, view_of, node_faults, validity_faults, numbers_faults, fixed_faults, ranges_faults, data_faults, count_faults, counts_faults, view_count_faults, view_parts_faults, bad_view_faults, views_faults, view_text_faults, array_faults}
+use Rattle.arrow_spec.specs.Arrays.{buf, view_of}
+use Rattle.arrow_spec.specs.Faults.{cause, if_sound, is_big, some_negative, some_valid_row, is_no_text_view, node_faults, validity_faults, numbers_faults, fixed_faults, ranges_faults, data_faults, count_faults, counts_faults, view_count_faults, view_parts_faults, bad_view_faults, views_faults, view_text_faults, array_faults}
 use Rattle.arrow_spec.specs.Needed.{looked_at, validity_looked_at, numbers_from}
 use Rattle.arrow_spec.proofs.Fewer.{sound_both}
 use Rattle.arrow_types.specs.Physical.{physical_of}
@@ -30,7 +31,7 @@ use Rattle.read_columns.specs.LayoutFaults.{contents_of}
 use Rattle.read_columns.proofs.ViewsRead.{views_told, buffers_told}
 use Rattle.read_columns.proofs.Sound.{views_held, bad_view_faults-read, bad_text_faults-read, view_fault-read, view_fault-none}
 use Rattle.ipc_read.specs.Queues.{Left, AllAt, short_of}
-use Rattle.ipc_read.specs.Sources.{faults_where, bytes_where, validity_fetched, order_of}
+use Rattle.ipc_read.specs.Sources.{faults_where, bytes_where, validity_fetched}
 use Rattle.ipc_read.specs.DataBuffers.{data_causes, data_of}
 use Rattle.ipc_read.proofs.Refusals.{among_left, among_right, among_sound, among_cause, no_cause, refuses_left, refuses_right, refuses_more, memory_refuses, both_none}
 use Rattle.ipc_read.proofs.Counted.{refused_in, lacks_or, left_next, stated_append}
@@ -181,10 +182,10 @@ big_order n false h = refl
 little_order : (n : ℕ) (b : Bool) → (nat_lt 0 (suc n) && not b) ≡ false → not b ≡ false
 little_order n b h = let e = rw (some_rows n) at h in e
 
-of_order : (m : RecordBatch) (p : Place) (rows : ℕ) (b : Bool) → m.order ≡ order_of b → (nat_lt 0 rows && not b) ≡ true → IsAmong (faults_where rows (view_parts_faults m p rows)) (Unsupported features.ViewBigEndian)
+of_order : (m : RecordBatch) (p : Place) (rows : ℕ) (b : Bool) → m.order ≡ order_by b → (nat_lt 0 rows && not b) ≡ true → IsAmong (faults_where rows (view_parts_faults m p rows)) (Unsupported features.ViewBigEndian)
 unfolding view_parts_faults
 of_order m p zero b o h = absurd (no_rows b h)
-of_order m p (suc n) b o h = among_left (cause (is_big m.order) (Unsupported features.ViewBigEndian) ++ fixed_faults m p 16 (suc n)) _ _ (among_left (cause (is_big m.order) (Unsupported features.ViewBigEndian)) _ _ (among_cause (is_big m.order) _ (ap is_big (o ∙ ap order_of (big_order n b h)))))
+of_order m p (suc n) b o h = among_left (cause (is_big m.order) (Unsupported features.ViewBigEndian) ++ fixed_faults m p 16 (suc n)) _ _ (among_left (cause (is_big m.order) (Unsupported features.ViewBigEndian)) _ _ (among_cause (is_big m.order) _ (ap is_big (o ∙ ap order_by (big_order n b h)))))
 
 of_validity : (m : RecordBatch) (p : Place) (rows : ℕ) (x : IpcError) → IsAmong (validity_faults m p rows) x → IsAmong (faults_where rows (view_parts_faults m p rows)) x
 unfolding validity_faults view_parts_faults
@@ -219,7 +220,7 @@ unfolding read_faults
 data_among t m k p rows x f c true e a = lacks_data t m k p rows x f e a
 data_among t m k p rows x f c false e a = among_right (count_faults m k p) _ x (parts_among t m k p rows x f (of_ranges m p rows x c e a))
 
-pub order_refused : (t : Bool) (m : RecordBatch) (k : Kind) (p : Place) (rows : ℕ) (b : Bool) → ViewArray t m k p rows → m.order ≡ order_of b → (nat_lt 0 rows && not b) ≡ true → IsAmong (read_faults m k p rows) (Unsupported features.ViewBigEndian)
+pub order_refused : (t : Bool) (m : RecordBatch) (k : Kind) (p : Place) (rows : ℕ) (b : Bool) → ViewArray t m k p rows → m.order ≡ order_by b → (nat_lt 0 rows && not b) ≡ true → IsAmong (read_faults m k p rows) (Unsupported features.ViewBigEndian)
 unfolding read_faults
 order_refused t m k p rows b f o h = among_right (count_faults m k p) _ _ (parts_among t m k p rows _ f (of_order m p rows b o h))
 
@@ -252,7 +253,7 @@ view_fetched t m k p (suc n) count f e =
 
 -- the parts are all well, and were read
 pub record WasRead (m : RecordBatch) (p : Place) (rows count : ℕ) (is_little_endian : Bool) (a : Views) : Type 0 where
-  pub order : m.order ≡ order_of is_little_endian
+  pub order : m.order ≡ order_by is_little_endian
   pub is_little : (nat_lt 0 rows && not is_little_endian) ≡ false
   pub counts : view_count_faults m binary_view p ≡ []
   pub is_count : count ≡ count_at m p.view
@@ -263,7 +264,7 @@ pub record WasRead (m : RecordBatch) (p : Place) (rows count : ℕ) (is_little_e
   pub is_buffers : a.buffers ≡ data_of m (p.buffer + 2) rows count
   pub is_validity : a.validity ≡ validity_read m p rows
 
-not_big : (o : Order) (b : Bool) → o ≡ order_of b → not b ≡ false → is_big o ≡ false
+not_big : (o : Order) (b : Bool) → o ≡ order_by b → not b ≡ false → is_big o ≡ false
 not_big o true e h = ap is_big e
 not_big o false e h = cc
 

@@ -1,14 +1,14 @@
 -- Record batches that are read from a source: what they mean, and how many bytes are fetched for them.
 use Rattle.std.specs.Prelude.{◌≡◌, ℕ, zero, suc, ◌+◌, ◌≤◌, List, [], ◌∷◌, map, Bool, true, false, Option, Some, None, nat_lt, ◌&&◌, ℤ, pos, slice_get}
-use Rattle.arrow_spec.specs.Readings.{Reading, place, ◌>>=◌}
-use Rattle.arrow_spec.specs.Flat.{Order}
+use Rattle.arrow_spec.specs.Readings.{Reading, free_of, ◌>>=◌}
+use Rattle.arrow_spec.specs.Flat.{order_by}
 use Rattle.arrow_spec.specs.Kinds.{Kind, Fields, none, field}
 use Rattle.arrow_spec.specs.Messages.{BatchHeader}
 use Rattle.arrow_spec.specs.declared.message.MetadataVersion.{MetadataVersion}
 use Rattle.arrow_spec.specs.Counts.{RecordBatch, Place, first_place, after}
-use Rattle.arrow_spec.specs.Columns.{chosen_floats}
+use Rattle.arrow_spec.specs.Features.{chosen_floats}
 use Rattle.arrow_spec.specs.Needed.{columns_looked_at}
-use Rattle.arrow_spec.specs.Files.{Asked, TableBatch, batch_of_tables, to_read, none_negative, lengths_sum}
+use Rattle.arrow_spec.specs.Files.{TableBatch, batch_of_tables, to_read, none_negative, lengths_sum, all_asked}
 use Rattle.arrow_spec.specs.declared.message.FieldNode.{FieldNode}
 use Rattle.arrow_spec.specs.declared.message.IpcBuffer.{IpcBuffer}
 use Rattle.arrow_types.specs.Physical.{physical_of}
@@ -27,7 +27,6 @@ use Rattle.arrow_arrays.specs.Batches.{Batch}
 use Rattle.arrow_arrays.specs.FlatKinds.{is_flat_kind}
 use Rattle.read_columns.specs.Faults.{stated_of, fetched_at_most}
 use Rattle.ipc_read.specs.Skips.{is_plain_layout}
-use Rattle.ipc_read.specs.Sources.{order_of}
 
 -- ── the columns ──
 
@@ -69,21 +68,14 @@ pub record IsFieldAt (s : List Keyed) (i : ℕ) (f : Field) : Type 0 where
 
 -- ── the batch ──
 
--- the record batch of tables and a body
-abbrev pub batch_in : Bool → MetadataVersion → BatchHeader → List ℕ → RecordBatch
-batch_in is_little_endian version tables body = record { order = order_of is_little_endian; version = version; nodes = tables.nodes; buffers = tables.buffers; variadic = tables.variadic; body = body }
-
--- all columns are asked for
-abbrev pub all_asked : Order → Fields → ℕ → Asked
-all_asked order fs most = record { order = order; fields = fs; columns = None; dictionaries = []; most = most }
-
 -- what a batch means, whose kinds are looked at first
 abbrev pub batch_reading : Bool → Fields → ℕ → MetadataVersion → BatchHeader → List ℕ → Reading TableBatch
-batch_reading is_little_endian fs most version tables body = place (chosen_floats None fs 0) >>= λ readable. batch_of_tables to_read (all_asked (order_of is_little_endian) fs most) version tables body None
+batch_reading is_little_endian fs most version tables body =
+    free_of (chosen_floats None fs 0) >>= λ readable. batch_of_tables to_read (all_asked (order_by is_little_endian) fs most) version [] tables body None
 
 -- the batch as a table has it
 abbrev pub table_in : ℕ → List Parts → TableBatch
-table_in rows arrays = record { rows = rows; columns = map cells_in arrays }
+table_in rows arrays = record { rows = rows; columns = map cells_in arrays; custom = [] }
 
 abbrev pub table_of : Batch → TableBatch
 table_of b = table_in b.height b.arrays

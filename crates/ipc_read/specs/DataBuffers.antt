@@ -4,7 +4,8 @@ use Rattle.arrow_spec.specs.declared.error.IpcError.{IpcError}
 use Rattle.arrow_spec.specs.declared.error.IpcError.TheVariants.{OutOfSpec}
 use Rattle.arrow_spec.specs.declared.error.OutOfSpecKind.TheVariants.{ExpectedBuffer}
 use Rattle.arrow_spec.specs.Counts.{RecordBatch}
-use Rattle.arrow_spec.specs.Columns.{cause, if_sound, buf, from_on, ranges_faults}
+use Rattle.arrow_spec.specs.Arrays.{buf, from_on}
+use Rattle.arrow_spec.specs.Faults.{cause, if_sound, ranges_faults}
 use Rattle.ipc_read.specs.Sources.{faults_where}
 
 -- they are not all there, or where there are rows one of them leaves the body

@@ -3,10 +3,12 @@ use Rattle.std.specs.Prelude.{◌≡◌, ℕ, suc, ◌≤◌, List, length, drop
 use Rattle.arrow_spec.specs.declared.error.IpcError.{IpcError}
 use Rattle.arrow_spec.specs.declared.error.IpcError.TheVariants.{OutOfSpec}
 use Rattle.arrow_spec.specs.declared.error.OutOfSpecKind.TheVariants.{ExpectedBuffer}
-use Rattle.arrow_spec.specs.Columns.{cause}
+use Rattle.arrow_spec.specs.Faults.{cause}
 use Rattle.arrow_spec.specs.declared.message.FieldNode.{FieldNode}
 use Rattle.arrow_spec.specs.declared.message.IpcBuffer.{IpcBuffer}
-use Rattle.arrow_spec.specs.Counts.{RecordBatch, Place}
+use Rattle.arrow_spec.specs.declared.message.MetadataVersion.{MetadataVersion}
+use Rattle.arrow_spec.specs.Kinds.{Kind}
+use Rattle.arrow_spec.specs.Counts.{RecordBatch, Place, nodes, buffers, views}
 
 -- a queue is what is left of a list from place i on, which lies inside it
 pub record Left {A : Type 0} (all : List A) (i : ℕ) (rest : List A) : Type 0 where
@@ -38,6 +40,18 @@ pub record AllAt (m : RecordBatch) (p : Place) (ns : List FieldNode) (bs : List 
   pub nodes : Left m.nodes p.node ns
   pub buffers : Left m.buffers p.buffer bs
   pub views : Left m.variadic p.view vs
+
+-- a queue is shorter by its first ones, of which there are at most so many
+pub record Shortened {A : Type 0} (old : List A) (most : ℕ) (new : List A) : Type 0 where
+  pub taken : ℕ
+  pub few : taken ≤ most
+  pub rest : new ≡ drop taken old
+
+-- nodes, buffers and view counts are shorter by at most what an array of a kind takes that stands first in them
+pub record ShortenedBy (k : Kind) (version : MetadataVersion) (ns ns' : List FieldNode) (bs bs' : List IpcBuffer) (vs vs' : List ℤ) : Type 0 where
+  pub nodes : Shortened ns (nodes k) ns'
+  pub buffers : Shortened bs (buffers version vs k 0) bs'
+  pub views : Shortened vs (views k) vs'
 
 -- there is no buffer of this number
 abbrev pub short_of : List IpcBuffer → ℕ → List IpcError

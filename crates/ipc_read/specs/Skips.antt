@@ -1,9 +1,8 @@
 -- Columns that are passed over.
-use Rattle.std.specs.Prelude.{◌≡◌, ℕ, ◌+◌, List, ◌++◌, length, take, drop, Bool, true, false, ⊤, nat_lt, ℤ}
+use Rattle.std.specs.Prelude.{◌≡◌, ℕ, ◌+◌, List, take, drop, Bool, true, false, ⊤, ℤ}
 use Rattle.arrow_spec.specs.declared.error.IpcError.{IpcError}
 use Rattle.arrow_spec.specs.declared.error.IpcError.TheVariants.{OutOfSpec}
-use Rattle.arrow_spec.specs.declared.error.OutOfSpecKind.TheVariants.{MissingVariadicCount, UnexpectedNegativeInteger}
-use Rattle.arrow_spec.specs.Columns.{cause, some_negative}
+use Rattle.arrow_spec.specs.Faults.{some_negative}
 use Rattle.ipc_read.specs.Queues.{Left}
 use Rattle.arrow_spec.specs.Kinds.{Kind}
 use Rattle.arrow_spec.specs.Counts.{RecordBatch, Place, count_at}
@@ -40,7 +39,3 @@ pub record IsNextCount (m : RecordBatch) (i n : ℕ) (rest : List ℤ) : Type 0 
   pub is : n ≡ count_at m i
   pub natural : some_negative (take 1 (drop i m.variadic)) ≡ false
   pub left : Left m.variadic (i + 1) rest
-
--- the i-th view count is missing or negative
-abbrev pub next_count_faults : RecordBatch → ℕ → List IpcError
-next_count_faults m i = cause (nat_lt (length m.variadic) (i + 1)) (OutOfSpec MissingVariadicCount) ++ cause (some_negative (take 1 (drop i m.variadic))) (OutOfSpec UnexpectedNegativeInteger)

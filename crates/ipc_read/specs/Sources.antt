@@ -1,10 +1,10 @@
 -- The body of a record batch in its source, and what a reader answers.
-use Rattle.arrow_spec.specs.Columns.{buf, from_on, signed_in, offset_width}
-use Rattle.std.specs.Prelude.{◌≡◌, ℕ, zero, suc, ◌+◌, ◌≤◌, ℤ, pos, ◌∷◌, List, [], length, take, drop, ⊤, Bool, true, false, Option, Some, None, Result, IfOk, IfErr}
+use Rattle.arrow_spec.specs.Arrays.{buf, from_on, signed_in, offset_width}
+use Rattle.std.specs.Prelude.{◌≡◌, ℕ, zero, suc, ◌+◌, ◌≤◌, ℤ, pos, ◌∷◌, List, [], length, take, drop, ⊤, Bool, Option, Some, None, Result, IfOk, IfErr}
 use Rattle.arrow_spec.specs.declared.error.IpcError.{IpcError}
 use Rattle.arrow_spec.specs.declared.error.IpcError.TheVariants.{OutOfSpec, Unsupported, Memory, ReadFault}
 use Rattle.arrow_spec.specs.Readings.{Refuses}
-use Rattle.arrow_spec.specs.Flat.{Order, little, big}
+use Rattle.arrow_spec.specs.Flat.{order_by}
 use Rattle.arrow_spec.specs.Kinds.{Offsets}
 use Rattle.arrow_spec.specs.Counts.{RecordBatch, Place, magnitude}
 use Rattle.arrow_spec.specs.declared.message.IpcBuffer.{IpcBuffer}
@@ -27,15 +27,10 @@ abbrev pub Told : Option (List ℕ) → Body → List ℕ → Type 0
 Told None body bytes = ⊥
 Told (Some b) body bytes = bytes ≡ bytes_in body b
 
--- the byte order that is asked for
-abbrev pub order_of : Bool → Order
-order_of true = little
-order_of false = big
-
 -- a source tells its bytes, and a record batch has its body there, in an order
 pub record Known (content : Option (List ℕ)) (body : Body) (is_little_endian : Bool) (m : RecordBatch) : Type 0 where
   pub told : Told content body m.body
-  pub order : m.order ≡ order_of is_little_endian
+  pub order : m.order ≡ order_by is_little_endian
 
 -- a call answers a value where nothing is wrong, and else a refusal of what is wrong, want of memory or a fault of the source
 pub record Answers {X Y : Type 0} (view : X → Y) (result : Result X IpcError) (faults : List IpcError) (value : Y) : Type 0 where
@@ -43,12 +38,12 @@ pub record Answers {X Y : Type 0} (view : X → Y) (result : Result X IpcError) 
   pub err : IfErr result (λ e. Refuses e faults)
 
 -- why a read is refused: what the bytes say, want of memory, or a fault of the source, whose count rose
-abbrev pub ReadCause : IpcError → ℕ → ℕ → Type 0
-ReadCause (OutOfSpec kind) faults faults' = ⊤
-ReadCause (Unsupported feature) faults faults' = ⊤
-ReadCause ReadFault faults faults' = Rose faults faults'
-ReadCause Memory faults faults' = ⊤
-ReadCause e faults faults' = ⊥
+abbrev pub BodyReadCause : IpcError → ℕ → ℕ → Type 0
+BodyReadCause (OutOfSpec kind) faults faults' = ⊤
+BodyReadCause (Unsupported feature) faults faults' = ⊤
+BodyReadCause ReadFault faults faults' = Rose faults faults'
+BodyReadCause Memory faults faults' = ⊤
+BodyReadCause e faults faults' = ⊥
 
 -- the bytes are damaged or not supported
 abbrev pub IsRefusal : IpcError → Type 0
@@ -75,9 +70,9 @@ bytes_where zero bytes = 0
 bytes_where (suc n) bytes = bytes
 
 -- the offsets of so many rows, 0 alone where there are none
-abbrev pub offsets_of : RecordBatch → Offsets → ℕ → ℕ → List ℤ
-offsets_of m o i zero = pos 0 ∷ []
-offsets_of m o i (suc n) = from_on (λ j. signed_in m (offset_width o) i j) 0 (suc (suc n))
+abbrev pub offsets_of_rows : RecordBatch → Offsets → ℕ → ℕ → List ℤ
+offsets_of_rows m o i zero = pos 0 ∷ []
+offsets_of_rows m o i (suc n) = from_on (λ j. signed_in m (offset_width o) i j) 0 (suc (suc n))
 
 -- the bytes that they lead to, none where there are no rows
 abbrev pub values_of : RecordBatch → ℕ → ℕ → List ℕ

@@ -3,10 +3,14 @@ ghost use Rattle.std.specs.Prelude.{◌≡◌, ℕ, ◌+◌, ◌^◌, ◌<◌, �
 ghost use Rattle.std.specs.Rc.{rc_value};
 ghost use Rattle.arrow_spec.specs.Readings.{Gives};
 ghost use Rattle.arrow_spec.specs.Counts.{RecordBatch as Batch, Place, first_place, after, magnitude};
-ghost use Rattle.arrow_spec.specs.Columns.{cell, columns_at, column_faults, from_on};
+ghost use Rattle.arrow_spec.specs.Arrays.{from_on};
+ghost use Rattle.arrow_spec.specs.ArrayCells.{cell};
+ghost use Rattle.arrow_spec.specs.Faults.{column_faults};
+ghost use Rattle.arrow_spec.specs.Columns.{columns_at};
 ghost use Rattle.arrow_types.specs.KindOf.{kind_of};
 ghost use Rattle.arrow_types.specs.Schemas.{fields_in};
 ghost use Rattle.arrow_arrays.specs.Batches.{have_rows};
+ghost use Rattle.arrow_spec.specs.Flat.{order_by};
 ghost use Rattle.arrow_arrays.specs.FlatKinds.{is_flat_kind};
 ghost use Rattle.arrow_arrays.specs.Parts.{kind_in, rows_in, cells_in};
 ghost use Rattle.arrow_arrays.specs.PartsOf.{parts_of, all_parts_of};
@@ -14,9 +18,10 @@ ghost use Rattle.read_columns.specs.Batches.{columns_read};
 ghost use Rattle.read_columns.specs.Faults.{fetched_at_most};
 ghost use Rattle.read_columns.specs.PartsRead.{parts_read};
 ghost use Rattle.ipc_schema.specs.Views.{header_of};
-ghost use Rattle.ipc_read.specs.Batches.{table_in, are_column_kinds, are_flat_kinds, batch_in, batch_reading, table_of, batch_fetched, columns_fetched};
+ghost use Rattle.ipc_read.specs.Batches.{table_in, are_column_kinds, are_flat_kinds, batch_reading, table_of, batch_fetched, columns_fetched};
+ghost use Rattle.arrow_spec.specs.Files.{record_batch_of};
 ghost use Rattle.ipc_read.specs.Queues.{AllAt};
-ghost use Rattle.ipc_read.specs.Sources.{Answers, Inside, Known, ReadCause, bytes_in};
+ghost use Rattle.ipc_read.specs.Sources.{Answers, Inside, Known, BodyReadCause, bytes_in};
 
 use crate::Body;
 use crate::reading::{Dictionaries, read};
@@ -52,7 +57,7 @@ fn read_column<S: Source>(
     ensures parts { (m : Batch) (p : Place) → AllAt m p nodes.old.items buffers.old.items variadic.old.items → Known (S.content source.old) body is_little_endian m → Answers (λ a. parts_of a) result (column_faults m [] (kind_of field.now.dtype) p rows rows) (parts_read m (kind_of field.now.dtype) p rows) }
     ensures cells { (m : Batch) (p : Place) → AllAt m p nodes.old.items buffers.old.items variadic.old.items → Known (S.content source.old) body is_little_endian m → Answers (λ a. cells_in (parts_of a)) result (column_faults m [] (kind_of field.now.dtype) p rows rows) (from_on (cell m [] (kind_of field.now.dtype) p) 0 rows) }
     ensures shape { IfOk result (λ a. (kind_in (parts_of a) ≡ (kind_of field.now.dtype)) × (rows_in (parts_of a) ≡ rows)) }
-    ensures cause { IfErr result (λ e. ReadCause e (S.faults source.old) (S.faults source.new)) }
+    ensures cause { IfErr result (λ e. BodyReadCause e (S.faults source.old) (S.faults source.new)) }
     ensures content { S.content source.new ≡ S.content source.old }
     ensures faults { S.faults source.old ≤ S.faults source.new }
     ensures fetched { (m : Batch) (p : Place) → AllAt m p nodes.old.items buffers.old.items variadic.old.items → S.fetched source.new ≤ S.fetched source.old + fetched_at_most m (kind_of field.now.dtype) p rows }
@@ -99,7 +104,7 @@ fn read_columns<S: Source>(
     ensures parts { IfOk result (λ v. (m : Batch) → AllAt m first_place nodes.old.items buffers.old.items variadic.old.items → Known (S.content source.old) body ipc_schema.now.is_little_endian m → all_parts_of v.items ≡ columns_read m (fields_in schema.now) first_place rows) }
     ensures shape { IfOk result (λ v. have_rows rows (all_parts_of v.items) ≡ true) }
     ensures count { IfOk result (λ v. length v.items ≡ length schema.now) }
-    ensures cause { IfErr result (λ e. ReadCause e (S.faults source.old) (S.faults source.new)) }
+    ensures cause { IfErr result (λ e. BodyReadCause e (S.faults source.old) (S.faults source.new)) }
     ensures content { S.content source.new ≡ S.content source.old }
     ensures faults { S.faults source.old ≤ S.faults source.new }
     ensures fetched { (m : Batch) → AllAt m first_place nodes.old.items buffers.old.items variadic.old.items → S.fetched source.new ≤ S.fetched source.old + columns_fetched m (fields_in schema.now) first_place rows }
@@ -149,14 +154,14 @@ fn read_arrays<S: Source>(
     requires room { body.offset + body.length < 2 ^ 63 }
     requires inside { Inside (S.content source.old) body }
     ensures gives { IfSome (S.content source.old) (λ b. Gives (λ r. table_in r.0 (all_parts_of r.1.items)) result (batch_reading ipc_schema.now.is_little_endian (fields_in schema.now) size version (header_of header.now) (bytes_in body b))) }
-    ensures parts { IfOk result (λ r. IfSome (S.content source.old) (λ b. all_parts_of r.1.items ≡ columns_read (batch_in ipc_schema.now.is_little_endian version (header_of header.now) (bytes_in body b)) (fields_in schema.now) first_place r.0)) }
+    ensures parts { IfOk result (λ r. IfSome (S.content source.old) (λ b. all_parts_of r.1.items ≡ columns_read (record_batch_of (order_by ipc_schema.now.is_little_endian) version (header_of header.now) (bytes_in body b)) (fields_in schema.now) first_place r.0)) }
     ensures shape { IfOk result (λ r. have_rows r.0 (all_parts_of r.1.items) ≡ true) }
     ensures count { IfOk result (λ r. length r.1.items ≡ length schema.now) }
     ensures height { IfOk result (λ r. r.0 ≡ magnitude header.now.length) }
-    ensures cause { IfErr result (λ e. ReadCause e (S.faults source.old) (S.faults source.new)) }
+    ensures cause { IfErr result (λ e. BodyReadCause e (S.faults source.old) (S.faults source.new)) }
     ensures content { S.content source.new ≡ S.content source.old }
     ensures faults { S.faults source.old ≤ S.faults source.new }
-    ensures fetched { (bytes : List ℕ) → S.fetched source.new ≤ S.fetched source.old + batch_fetched (batch_in ipc_schema.now.is_little_endian version (header_of header.now) bytes) (fields_in schema.now) (magnitude header.now.length) }
+    ensures fetched { (bytes : List ℕ) → S.fetched source.new ≤ S.fetched source.old + batch_fetched (record_batch_of (order_by ipc_schema.now.is_little_endian) version (header_of header.now) bytes) (fields_in schema.now) (magnitude header.now.length) }
     ensures same_source { S.references source.new ≡ S.references source.old }
 {
     check_kinds(schema)?;
@@ -213,15 +218,15 @@ pub fn read_record_batch<S: Source>(
     ensures gives { IfSome (S.content source.old) (λ b. Gives table_of result (batch_reading ipc_schema.now.is_little_endian (fields_in (rc_value schema.now)) size version (header_of header.now) (bytes_in body b))) }
 
     // Also under null rows each column has the values of its buffers.
-    ensures parts { IfOk result (λ x. IfSome (S.content source.old) (λ b. x.arrays ≡ columns_read (batch_in ipc_schema.now.is_little_endian version (header_of header.now) (bytes_in body b)) (fields_in (rc_value schema.now)) first_place x.height)) }
+    ensures parts { IfOk result (λ x. IfSome (S.content source.old) (λ b. x.arrays ≡ columns_read (record_batch_of (order_by ipc_schema.now.is_little_endian) version (header_of header.now) (bytes_in body b)) (fields_in (rc_value schema.now)) first_place x.height)) }
     ensures schema { IfOk result (λ x. x.schema ≡ rc_value schema.now) }
     ensures height { IfOk result (λ x. x.height ≡ magnitude header.now.length) }
-    ensures cause { IfErr result (λ e. ReadCause e (S.faults source.old) (S.faults source.new)) }
+    ensures cause { IfErr result (λ e. BodyReadCause e (S.faults source.old) (S.faults source.new)) }
     ensures content { S.content source.new ≡ S.content source.old }
     ensures faults { S.faults source.old ≤ S.faults source.new }
 
     // A validity is fetched only where there are rows and nulls, and other buffers only where there are rows.
-    ensures fetched { (bytes : List ℕ) → S.fetched source.new ≤ S.fetched source.old + batch_fetched (batch_in ipc_schema.now.is_little_endian version (header_of header.now) bytes) (fields_in (rc_value schema.now)) (magnitude header.now.length) }
+    ensures fetched { (bytes : List ℕ) → S.fetched source.new ≤ S.fetched source.old + batch_fetched (record_batch_of (order_by ipc_schema.now.is_little_endian) version (header_of header.now) bytes) (fields_in (rc_value schema.now)) (magnitude header.now.length) }
     ensures same_source { S.references source.new ≡ S.references source.old }
 {
     let columns = read_arrays(

@@ -1,13 +1,15 @@
 //! One buffer of a body (Arrow Columnar Format, Message.fbs, Buffer).
 ghost use Rattle.std.specs.Prelude.{◌≡◌, ◌⊎◌, ℕ, suc, ◌+◌, ◌*◌, ◌/◌, ◌^◌, ◌<◌, ◌≤◌, ◌++◌, ◌&&◌, Bool, Some, None, length, take, nat_lt, true, slice_get, drop, List, IfOk, IfErr};
 ghost use Rattle.arrow_spec.specs.Counts.{RecordBatch as Batch, Place, magnitude};
-ghost use Rattle.arrow_spec.specs.Columns.{buf, from_on, range_of, range_causes, range_faults, bitmap_faults, numbers_faults, validity_faults};
+ghost use Rattle.arrow_spec.specs.Arrays.{buf, from_on, range_of};
+ghost use Rattle.arrow_spec.specs.Faults.{range_causes, range_faults, bitmap_faults, numbers_faults, validity_faults};
 ghost use Rattle.arrow_spec.specs.Laws.{AreBytes};
 ghost use Rattle.arrow_spec.specs.declared.error.IpcError.TheVariants.{Memory, ReadFault};
 ghost use Rattle.arrow_buffers.specs.Rows.{has_rows};
 ghost use Rattle.ipc_schema.specs.Outside.{StandsAt};
-ghost use Rattle.ipc_read.specs.Queues.{Left, Takes, short_of};
-ghost use Rattle.ipc_read.specs.Sources.{Answers, Inside, Known, ReadCause, IsRefusal, order_of, part_of, validity_fetched};
+ghost use Rattle.ipc_read.specs.Queues.{Left, Takes, short_of, Shortened};
+ghost use Rattle.ipc_read.specs.Sources.{Answers, Inside, Known, BodyReadCause, IsRefusal, part_of, validity_fetched};
+ghost use Rattle.arrow_spec.specs.Flat.{order_by};
 ghost use Rattle.read_columns.specs.PartsRead.{bits_read, items_read, validity_read};
 ghost use Rattle.read_columns.specs.Faults.{stated};
 
@@ -23,6 +25,7 @@ use std::collections::VecDeque;
 /// Takes the first of a queue.
 pub(crate) fn take_one<T: Drop>(queue: &mut VecDeque<T>) -> Result<T, IpcError>
     ensures takes { (all : List T) (i : ℕ) → Left all i queue.old.items → Takes all i result queue.new.items }
+    ensures shortened { Shortened queue.old.items 1 queue.new.items }
     ensures refusal { IfErr result IsRefusal }
 {
     match queue.pop_front() {
@@ -35,6 +38,7 @@ pub(crate) fn take_one<T: Drop>(queue: &mut VecDeque<T>) -> Result<T, IpcError>
 pub(crate) fn pass_buffer(buffers: &mut VecDeque<IpcBuffer>) -> Result<(), IpcError>
     ensures queue { IfOk result (λ _. (m : Batch) (i : ℕ) → Left m.buffers i buffers.old.items → Left m.buffers (suc i) buffers.new.items) }
     ensures gives { (m : Batch) (i : ℕ) → Left m.buffers i buffers.old.items → Answers (λ u. u) result (short_of m.buffers i) tt }
+    ensures shortened { Shortened buffers.old.items 1 buffers.new.items }
     ensures refusal { IfErr result IsRefusal }
 {
     take_one(buffers)?;
@@ -66,6 +70,7 @@ pub(crate) fn next_part(buffers: &mut VecDeque<IpcBuffer>, body: Body) -> Result
     requires room { body.offset + body.length < 2 ^ 63 }
     ensures queue { IfOk result (λ _. (m : Batch) (i : ℕ) → Left m.buffers i buffers.old.items → Left m.buffers (suc i) buffers.new.items) }
     ensures gives { (m : Batch) (i : ℕ) → Left m.buffers i buffers.old.items → length m.body ≡ body.length → Answers (λ part. part) result (range_faults m i) (part_of body (range_of m i)) }
+    ensures shortened { Shortened buffers.old.items 1 buffers.new.items }
     ensures place { IfOk result (λ part. (m : Batch) (i : ℕ) → Left m.buffers i buffers.old.items → part ≡ part_of body (range_of m i)) }
     ensures within { IfOk result (λ part. part.offset + part.length ≤ body.offset + body.length) }
     ensures refusal { IfErr result IsRefusal }
@@ -82,7 +87,7 @@ fn fetch_into<S: Source>(source: &mut S, part: Body, bytes: &mut Vec<u8>) -> Res
     ensures bytes { IfOk result (λ _. StandsAt (S.content source.old) part.offset bytes.new.items) }
     ensures count { IfOk result (λ _. length bytes.new.items ≡ part.length) }
     ensures err { IfErr result (λ e. ((e ≡ Memory) ⊎ (e ≡ ReadFault)) ⊎ (S.content source.old ≡ None)) }
-    ensures cause { IfErr result (λ e. ReadCause e (S.faults source.old) (S.faults source.new)) }
+    ensures cause { IfErr result (λ e. BodyReadCause e (S.faults source.old) (S.faults source.new)) }
     ensures content { S.content source.new ≡ S.content source.old }
     ensures faults { S.faults source.old ≤ S.faults source.new }
     ensures fetched { S.fetched source.new ≤ S.fetched source.old + part.length }
@@ -105,7 +110,7 @@ fn fetch<S: Source>(alloc: Global, source: &mut S, part: Body) -> Result<Vec<u8>
     ensures bytes { IfOk result (λ v. StandsAt (S.content source.old) part.offset v.items) }
     ensures count { IfOk result (λ v. length v.items ≡ part.length) }
     ensures err { IfErr result (λ e. ((e ≡ Memory) ⊎ (e ≡ ReadFault)) ⊎ (S.content source.old ≡ None)) }
-    ensures cause { IfErr result (λ e. ReadCause e (S.faults source.old) (S.faults source.new)) }
+    ensures cause { IfErr result (λ e. BodyReadCause e (S.faults source.old) (S.faults source.new)) }
     ensures content { S.content source.new ≡ S.content source.old }
     ensures faults { S.faults source.old ≤ S.faults source.new }
     ensures fetched { S.fetched source.new ≤ S.fetched source.old + part.length }
@@ -132,7 +137,8 @@ pub fn read_bytes<S: Source>(
     requires inside { Inside (S.content source.old) body }
     ensures queue { IfOk result (λ _. (m : Batch) (i : ℕ) → Left m.buffers i buffers.old.items → Left m.buffers (suc i) buffers.new.items) }
     ensures gives { (m : Batch) (i : ℕ) (is_little_endian : Bool) → Left m.buffers i buffers.old.items → Known (S.content source.old) body is_little_endian m → Answers (λ b. b) result (range_faults m i) (buf m i) }
-    ensures cause { IfErr result (λ e. ReadCause e (S.faults source.old) (S.faults source.new)) }
+    ensures shortened { Shortened buffers.old.items 1 buffers.new.items }
+    ensures cause { IfErr result (λ e. BodyReadCause e (S.faults source.old) (S.faults source.new)) }
     ensures content { S.content source.new ≡ S.content source.old }
     ensures faults { S.faults source.old ≤ S.faults source.new }
     ensures fetched { (m : Batch) (i : ℕ) → Left m.buffers i buffers.old.items → S.fetched source.new ≤ S.fetched source.old + stated m i }
@@ -170,7 +176,8 @@ pub fn read_bitmap<S: Source>(
     requires inside { Inside (S.content source.old) body }
     ensures queue { IfOk result (λ _. (m : Batch) (i : ℕ) → Left m.buffers i buffers.old.items → Left m.buffers (suc i) buffers.new.items) }
     ensures gives { (m : Batch) (i : ℕ) (is_little_endian : Bool) → Left m.buffers i buffers.old.items → Known (S.content source.old) body is_little_endian m → Answers (λ b. b) result (bitmap_faults m i rows) (bits_read m i rows) }
-    ensures cause { IfErr result (λ e. ReadCause e (S.faults source.old) (S.faults source.new)) }
+    ensures shortened { Shortened buffers.old.items 1 buffers.new.items }
+    ensures cause { IfErr result (λ e. BodyReadCause e (S.faults source.old) (S.faults source.new)) }
     ensures content { S.content source.new ≡ S.content source.old }
     ensures faults { S.faults source.old ≤ S.faults source.new }
     ensures fetched { (m : Batch) (i : ℕ) → Left m.buffers i buffers.old.items → S.fetched source.new ≤ S.fetched source.old + stated m i }
@@ -199,7 +206,7 @@ pub fn read_bitmap<S: Source>(
 /// The number in the bytes of an item.
 fn number_at<T: NativeType>(bytes: &[u8], at: usize, is_little_endian: bool) -> T
     requires { at + T.WIDTH ≤ length bytes.now }
-    ensures { result ≡ T.read (order_of is_little_endian) (take T.WIDTH (drop at bytes.now)) }
+    ensures { result ≡ T.read (order_by is_little_endian) (take T.WIDTH (drop at bytes.now)) }
 {
     let item = &bytes[at..at + T::WIDTH];
     if is_little_endian {
@@ -217,7 +224,7 @@ fn numbers_of<T: NativeType>(
     is_little_endian: bool,
 ) -> Result<Vec<T>, IpcError>
     requires { T.WIDTH * rows ≤ length bytes.now }
-    ensures numbers { IfOk result (λ v. v.items ≡ from_on (λ j. T.read (order_of is_little_endian) (take T.WIDTH (drop (T.WIDTH * j) bytes.now))) 0 rows) }
+    ensures numbers { IfOk result (λ v. v.items ≡ from_on (λ j. T.read (order_by is_little_endian) (take T.WIDTH (drop (T.WIDTH * j) bytes.now))) 0 rows) }
     ensures bytes { IfOk result (λ _. AreBytes bytes.now) }
     ensures memory { IfErr result (λ e. e ≡ Memory) }
 {
@@ -249,8 +256,9 @@ pub fn read_buffer<T: NativeType, S: Source>(
     requires inside { Inside (S.content source.old) body }
     ensures queue { IfOk result (λ _. (m : Batch) (i : ℕ) → Left m.buffers i buffers.old.items → Left m.buffers (suc i) buffers.new.items) }
     ensures gives { (m : Batch) (i : ℕ) → Left m.buffers i buffers.old.items → Known (S.content source.old) body is_little_endian m → Answers (λ b. b) result (numbers_faults m i T.WIDTH rows) (items_read T.read T.WIDTH m i rows) }
+    ensures shortened { Shortened buffers.old.items 1 buffers.new.items }
     ensures bytes { IfOk result (λ _. (m : Batch) (i : ℕ) → Left m.buffers i buffers.old.items → Known (S.content source.old) body is_little_endian m → AreBytes (take (T.WIDTH * rows) (buf m i))) }
-    ensures cause { IfErr result (λ e. ReadCause e (S.faults source.old) (S.faults source.new)) }
+    ensures cause { IfErr result (λ e. BodyReadCause e (S.faults source.old) (S.faults source.new)) }
     ensures content { S.content source.new ≡ S.content source.old }
     ensures faults { S.faults source.old ≤ S.faults source.new }
     ensures fetched { (m : Batch) (i : ℕ) → Left m.buffers i buffers.old.items → S.fetched source.new ≤ S.fetched source.old + stated m i }
@@ -292,8 +300,9 @@ pub(crate) fn read_first<S: Source>(
     requires inside { Inside (S.content source.old) body }
     ensures queue { IfOk result (λ _. (m : Batch) (i : ℕ) → Left m.buffers i buffers.old.items → Left m.buffers (suc i) buffers.new.items) }
     ensures gives { (m : Batch) (i : ℕ) (is_little_endian : Bool) → Left m.buffers i buffers.old.items → Known (S.content source.old) body is_little_endian m → Answers (λ b. b) result (numbers_faults m i size rows) (take (size * rows) (buf m i)) }
+    ensures shortened { Shortened buffers.old.items 1 buffers.new.items }
     ensures rows { IfOk result (λ b. length b ≡ size * rows) }
-    ensures cause { IfErr result (λ e. ReadCause e (S.faults source.old) (S.faults source.new)) }
+    ensures cause { IfErr result (λ e. BodyReadCause e (S.faults source.old) (S.faults source.new)) }
     ensures content { S.content source.new ≡ S.content source.old }
     ensures faults { S.faults source.old ≤ S.faults source.new }
     ensures fetched { (m : Batch) (i : ℕ) → Left m.buffers i buffers.old.items → S.fetched source.new ≤ S.fetched source.old + stated m i }
@@ -345,7 +354,8 @@ pub fn read_validity<S: Source>(
     requires inside { Inside (S.content source.old) body }
     ensures queue { IfOk result (λ _. (m : Batch) (i : ℕ) → Left m.buffers i buffers.old.items → Left m.buffers (suc i) buffers.new.items) }
     ensures gives { (m : Batch) (p : Place) (is_little_endian : Bool) → Left m.buffers p.buffer buffers.old.items → slice_get m.nodes p.node ≡ Some node → Known (S.content source.old) body is_little_endian m → Answers (λ v. v) result (short_of m.buffers p.buffer ++ validity_faults m p rows) (validity_read m p rows) }
-    ensures cause { IfErr result (λ e. ReadCause e (S.faults source.old) (S.faults source.new)) }
+    ensures shortened { Shortened buffers.old.items 1 buffers.new.items }
+    ensures cause { IfErr result (λ e. BodyReadCause e (S.faults source.old) (S.faults source.new)) }
     ensures content { S.content source.new ≡ S.content source.old }
     ensures faults { S.faults source.old ≤ S.faults source.new }
     ensures fetched { (m : Batch) (p : Place) → Left m.buffers p.buffer buffers.old.items → slice_get m.nodes p.node ≡ Some node → S.fetched source.new ≤ S.fetched source.old + validity_fetched m p rows }

@@ -1,16 +1,18 @@
 //! Arrays of values of one width (Arrow Columnar Format, "Fixed-size Primitive Layout", "Null Layout").
-ghost use Rattle.std.specs.Prelude.{◌≡◌, ◌⊎◌, length, ℕ, ◌+◌, ◌^◌, ◌<◌, ◌≤◌, true, IfOk, IfErr};
+ghost use Rattle.std.specs.Prelude.{◌≡◌, ◌⊎◌, length, ℕ, ◌+◌, ◌^◌, ◌<◌, ◌≤◌, true, IfOk, IfErr, List, ℤ};
 ghost use Rattle.arrow_spec.specs.Counts.{RecordBatch as Batch, Place, after};
 ghost use Rattle.arrow_types.specs.KindOf.{kind_of};
 ghost use Rattle.arrow_types.specs.Physical.{physical_of};
-ghost use Rattle.ipc_read.specs.Queues.{NodesAt, At};
-ghost use Rattle.ipc_read.specs.Sources.{Answers, Inside, Known, ReadCause, IsRefusal};
+ghost use Rattle.ipc_read.specs.Queues.{NodesAt, At, ShortenedBy};
+ghost use Rattle.ipc_read.specs.Sources.{Answers, Inside, Known, BodyReadCause, IsRefusal};
 ghost use Rattle.read_columns.specs.Faults.{read_faults, fetched_at_most};
 ghost use Rattle.arrow_buffers.specs.Layouts.{is_null, is_boolean, is_primitive, binary_size};
 ghost use Rattle.read_columns.specs.PartsRead.{boolean_read, primitive_read, fixed_read, numbers_bytes};
 ghost use Rattle.arrow_spec.specs.Laws.{AreBytes};
 ghost use Rattle.arrow_buffers.specs.Flat.{fixed_rows};
 ghost use Rattle.arrow_spec.specs.declared.error.IpcError.TheVariants.{Memory};
+ghost use Rattle.arrow_spec.specs.declared.message.MetadataVersion.{MetadataVersion};
+ghost use Rattle.arrow_spec.specs.declared.message.IpcBuffer.{IpcBuffer};
 
 use crate::Body;
 use crate::buffers::read_validity;
@@ -38,8 +40,9 @@ pub fn read_null(
     ensures queue { IfOk result (λ _. (m : Batch) (p : Place) → NodesAt m p nodes.old.items → NodesAt m (after m (kind_of dtype.now) p) nodes.new.items) }
     ensures shape { IfOk result (λ a. (a.kind ≡ kind_of dtype.now) × (a.rows ≡ rows)) }
     ensures gives { (m : Batch) (p : Place) → NodesAt m p nodes.old.items → Answers (λ a. a) result (read_faults m (kind_of dtype.now) p rows) (record { kind = kind_of dtype.now; rows = rows }) }
+    ensures shortened { (version : MetadataVersion) (bs : List IpcBuffer) (vs : List ℤ) → ShortenedBy (kind_of dtype.now) version nodes.old.items nodes.new.items bs bs vs vs }
     ensures refusal { IfErr result (λ e. IsRefusal e ⊎ (e ≡ Memory)) }
-    ensures cause { (n : ℕ) → IfErr result (λ e. ReadCause e n n) }
+    ensures cause { (n : ℕ) → IfErr result (λ e. BodyReadCause e n n) }
 {
     take_node(nodes, rows)?;
     let array = make_null(alloc, dtype, rows)?;
@@ -68,7 +71,8 @@ pub fn read_boolean<S: Source>(
     ensures queues { IfOk result (λ _. (m : Batch) (p : Place) → At m p nodes.old.items buffers.old.items → At m (after m (kind_of dtype.now) p) nodes.new.items buffers.new.items) }
     ensures shape { IfOk result (λ a. (a.kind ≡ kind_of dtype.now) × (length a.values ≡ rows)) }
     ensures gives { (m : Batch) (p : Place) → At m p nodes.old.items buffers.old.items → Known (S.content source.old) body is_little_endian m → Answers (λ a. a) result (read_faults m (kind_of dtype.now) p rows) (boolean_read m (kind_of dtype.now) p rows) }
-    ensures cause { IfErr result (λ e. ReadCause e (S.faults source.old) (S.faults source.new)) }
+    ensures shortened { (version : MetadataVersion) (vs : List ℤ) → ShortenedBy (kind_of dtype.now) version nodes.old.items nodes.new.items buffers.old.items buffers.new.items vs vs }
+    ensures cause { IfErr result (λ e. BodyReadCause e (S.faults source.old) (S.faults source.new)) }
     ensures content { S.content source.new ≡ S.content source.old }
     ensures faults { S.faults source.old ≤ S.faults source.new }
     ensures fetched { (m : Batch) (p : Place) → At m p nodes.old.items buffers.old.items → S.fetched source.new ≤ S.fetched source.old + fetched_at_most m (kind_of dtype.now) p rows }
@@ -103,8 +107,9 @@ pub fn read_primitive<T: NativeType, S: Source>(
     ensures queues { IfOk result (λ _. (m : Batch) (p : Place) → At m p nodes.old.items buffers.old.items → At m (after m (kind_of dtype.now) p) nodes.new.items buffers.new.items) }
     ensures shape { IfOk result (λ a. (a.kind ≡ kind_of dtype.now) × (length a.values ≡ rows)) }
     ensures gives { (m : Batch) (p : Place) → At m p nodes.old.items buffers.old.items → Known (S.content source.old) body is_little_endian m → Answers (λ a. a) result (read_faults m (kind_of dtype.now) p rows) (primitive_read T.read T.WIDTH m (kind_of dtype.now) p rows) }
+    ensures shortened { (version : MetadataVersion) (vs : List ℤ) → ShortenedBy (kind_of dtype.now) version nodes.old.items nodes.new.items buffers.old.items buffers.new.items vs vs }
     ensures bytes { IfOk result (λ _. (m : Batch) (p : Place) → At m p nodes.old.items buffers.old.items → Known (S.content source.old) body is_little_endian m → AreBytes (numbers_bytes m (kind_of dtype.now) p rows)) }
-    ensures cause { IfErr result (λ e. ReadCause e (S.faults source.old) (S.faults source.new)) }
+    ensures cause { IfErr result (λ e. BodyReadCause e (S.faults source.old) (S.faults source.new)) }
     ensures content { S.content source.new ≡ S.content source.old }
     ensures faults { S.faults source.old ≤ S.faults source.new }
     ensures fetched { (m : Batch) (p : Place) → At m p nodes.old.items buffers.old.items → S.fetched source.new ≤ S.fetched source.old + fetched_at_most m (kind_of dtype.now) p rows }
@@ -147,7 +152,8 @@ pub fn read_fixed_size_binary<S: Source>(
     ensures queues { IfOk result (λ _. (m : Batch) (p : Place) → At m p nodes.old.items buffers.old.items → At m (after m (kind_of dtype.now) p) nodes.new.items buffers.new.items) }
     ensures shape { IfOk result (λ a. (a.kind ≡ kind_of dtype.now) × (fixed_rows a ≡ rows)) }
     ensures gives { (m : Batch) (p : Place) → At m p nodes.old.items buffers.old.items → Known (S.content source.old) body is_little_endian m → Answers (λ a. a) result (read_faults m (kind_of dtype.now) p rows) (fixed_read m (kind_of dtype.now) p rows) }
-    ensures cause { IfErr result (λ e. ReadCause e (S.faults source.old) (S.faults source.new)) }
+    ensures shortened { (version : MetadataVersion) (vs : List ℤ) → ShortenedBy (kind_of dtype.now) version nodes.old.items nodes.new.items buffers.old.items buffers.new.items vs vs }
+    ensures cause { IfErr result (λ e. BodyReadCause e (S.faults source.old) (S.faults source.new)) }
     ensures content { S.content source.new ≡ S.content source.old }
     ensures faults { S.faults source.old ≤ S.faults source.new }
     ensures fetched { (m : Batch) (p : Place) → At m p nodes.old.items buffers.old.items → S.fetched source.new ≤ S.fetched source.old + fetched_at_most m (kind_of dtype.now) p rows }

@@ -9,7 +9,7 @@ pub(crate) fn is_negative(x: i64) -> bool
 }
 
 /// A number, 0 where it is negative.
-pub(crate) fn magnitude(x: i64) -> u64
+pub fn magnitude(x: i64) -> u64
     ensures value { result ≡ magnitude x }
     ensures small { result < 2 ^ 63 }
 {

@@ -19,6 +19,7 @@ pub use batch::read_record_batch;
 pub use body::Body;
 pub use buffers::{read_bitmap, read_buffer, read_bytes, read_validity};
 pub use flat::{read_boolean, read_fixed_size_binary, read_null, read_primitive};
+pub use integers::magnitude;
 pub use reading::{Dictionaries, read};
 pub use skips::{
     skip, skip_binary, skip_binview, skip_boolean, skip_fixed_size_binary, skip_null,

@@ -1,5 +1,5 @@
 //! The array of a column of any kind without children (Arrow Columnar Format, "Physical Memory Layout").
-ghost use Rattle.std.specs.Prelude.{◌≡◌, ℕ, ◌+◌, ◌^◌, ◌<◌, ◌≤◌, [], true, IfOk, IfErr};
+ghost use Rattle.std.specs.Prelude.{◌≡◌, ℕ, ◌+◌, ◌^◌, ◌<◌, ◌≤◌, [], true, IfOk, IfErr, List, ℤ};
 ghost use Rattle.arrow_spec.specs.Counts.{RecordBatch as Batch, Place, after};
 ghost use Rattle.arrow_types.specs.KindOf.{kind_of};
 ghost use Rattle.arrow_types.specs.Physical.{physical_of};
@@ -10,10 +10,13 @@ ghost use Rattle.arrow_arrays.specs.PartsOf.{parts_of};
 ghost use Rattle.read_columns.specs.Faults.{read_faults, fetched_at_most};
 ghost use Rattle.read_columns.specs.PartsRead.{parts_read, numbers_bytes};
 ghost use Rattle.arrow_spec.specs.Laws.{AreBytes};
-ghost use Rattle.arrow_spec.specs.Columns.{cell, from_on};
-ghost use Rattle.ipc_read.specs.Queues.{NodesAt, At, AllAt};
+ghost use Rattle.arrow_spec.specs.Arrays.{from_on};
+ghost use Rattle.arrow_spec.specs.ArrayCells.{cell};
+ghost use Rattle.ipc_read.specs.Queues.{NodesAt, At, AllAt, ShortenedBy};
 ghost use Rattle.ipc_read.specs.Readings.{is_of_values, is_of_views};
-ghost use Rattle.ipc_read.specs.Sources.{Answers, Inside, Known, ReadCause};
+ghost use Rattle.ipc_read.specs.Sources.{Answers, Inside, Known, BodyReadCause};
+ghost use Rattle.arrow_spec.specs.declared.message.MetadataVersion.{MetadataVersion};
+ghost use Rattle.arrow_spec.specs.declared.message.IpcBuffer.{IpcBuffer};
 
 use crate::Body;
 use crate::flat::{read_boolean, read_fixed_size_binary, read_null, read_primitive};
@@ -41,8 +44,9 @@ fn read_nulls(
     requires kind { physical_of (kind_of dtype.now) ≡ Null }
     ensures queue { IfOk result (λ _. (m : Batch) (p : Place) → NodesAt m p nodes.old.items → NodesAt m (after m (kind_of dtype.now) p) nodes.new.items) }
     ensures parts { (m : Batch) (p : Place) → NodesAt m p nodes.old.items → Answers (λ a. parts_of a) result (read_faults m (kind_of dtype.now) p rows) (parts_read m (kind_of dtype.now) p rows) }
+    ensures shortened { (version : MetadataVersion) (bs : List IpcBuffer) (vs : List ℤ) → ShortenedBy (kind_of dtype.now) version nodes.old.items nodes.new.items bs bs vs vs }
     ensures shape { IfOk result (λ a. (kind_in (parts_of a) ≡ (kind_of dtype.now)) × (rows_in (parts_of a) ≡ rows)) }
-    ensures cause { (n : ℕ) → IfErr result (λ e. ReadCause e n n) }
+    ensures cause { (n : ℕ) → IfErr result (λ e. BodyReadCause e n n) }
 {
     let array = read_null(alloc, nodes, dtype, rows)?;
     Ok(Array::Null(array))
@@ -67,8 +71,9 @@ fn read_numbers<S: Source>(
     requires inside { Inside (S.content source.old) body }
     ensures queues { IfOk result (λ _. (m : Batch) (p : Place) → At m p nodes.old.items buffers.old.items → At m (after m (kind_of dtype.now) p) nodes.new.items buffers.new.items) }
     ensures parts { (m : Batch) (p : Place) → At m p nodes.old.items buffers.old.items → Known (S.content source.old) body is_little_endian m → Answers (λ a. parts_of a) result (read_faults m (kind_of dtype.now) p rows) (parts_read m (kind_of dtype.now) p rows) }
+    ensures shortened { (version : MetadataVersion) (vs : List ℤ) → ShortenedBy (kind_of dtype.now) version nodes.old.items nodes.new.items buffers.old.items buffers.new.items vs vs }
     ensures shape { IfOk result (λ a. (kind_in (parts_of a) ≡ (kind_of dtype.now)) × (rows_in (parts_of a) ≡ rows)) }
-    ensures cause { IfErr result (λ e. ReadCause e (S.faults source.old) (S.faults source.new)) }
+    ensures cause { IfErr result (λ e. BodyReadCause e (S.faults source.old) (S.faults source.new)) }
     ensures content { S.content source.new ≡ S.content source.old }
     ensures faults { S.faults source.old ≤ S.faults source.new }
     ensures fetched { (m : Batch) (p : Place) → At m p nodes.old.items buffers.old.items → S.fetched source.new ≤ S.fetched source.old + fetched_at_most m (kind_of dtype.now) p rows }
@@ -127,8 +132,9 @@ fn read_values<S: Source>(
     requires inside { Inside (S.content source.old) body }
     ensures queues { IfOk result (λ _. (m : Batch) (p : Place) → At m p nodes.old.items buffers.old.items → At m (after m (kind_of dtype.now) p) nodes.new.items buffers.new.items) }
     ensures parts { (m : Batch) (p : Place) → At m p nodes.old.items buffers.old.items → Known (S.content source.old) body is_little_endian m → Answers (λ a. parts_of a) result (read_faults m (kind_of dtype.now) p rows) (parts_read m (kind_of dtype.now) p rows) }
+    ensures shortened { (version : MetadataVersion) (vs : List ℤ) → ShortenedBy (kind_of dtype.now) version nodes.old.items nodes.new.items buffers.old.items buffers.new.items vs vs }
     ensures shape { IfOk result (λ a. (kind_in (parts_of a) ≡ (kind_of dtype.now)) × (rows_in (parts_of a) ≡ rows)) }
-    ensures cause { IfErr result (λ e. ReadCause e (S.faults source.old) (S.faults source.new)) }
+    ensures cause { IfErr result (λ e. BodyReadCause e (S.faults source.old) (S.faults source.new)) }
     ensures content { S.content source.new ≡ S.content source.old }
     ensures faults { S.faults source.old ≤ S.faults source.new }
     ensures fetched { (m : Batch) (p : Place) → At m p nodes.old.items buffers.old.items → S.fetched source.new ≤ S.fetched source.old + fetched_at_most m (kind_of dtype.now) p rows }
@@ -181,8 +187,9 @@ fn read_views<S: Source>(
     requires inside { Inside (S.content source.old) body }
     ensures queues { IfOk result (λ _. (m : Batch) (p : Place) → AllAt m p nodes.old.items buffers.old.items variadic.old.items → AllAt m (after m (kind_of dtype.now) p) nodes.new.items buffers.new.items variadic.new.items) }
     ensures parts { (m : Batch) (p : Place) → AllAt m p nodes.old.items buffers.old.items variadic.old.items → Known (S.content source.old) body is_little_endian m → Answers (λ a. parts_of a) result (read_faults m (kind_of dtype.now) p rows) (parts_read m (kind_of dtype.now) p rows) }
+    ensures shortened { (version : MetadataVersion) → ShortenedBy (kind_of dtype.now) version nodes.old.items nodes.new.items buffers.old.items buffers.new.items variadic.old.items variadic.new.items }
     ensures shape { IfOk result (λ a. (kind_in (parts_of a) ≡ (kind_of dtype.now)) × (rows_in (parts_of a) ≡ rows)) }
-    ensures cause { IfErr result (λ e. ReadCause e (S.faults source.old) (S.faults source.new)) }
+    ensures cause { IfErr result (λ e. BodyReadCause e (S.faults source.old) (S.faults source.new)) }
     ensures content { S.content source.new ≡ S.content source.old }
     ensures faults { S.faults source.old ≤ S.faults source.new }
     ensures fetched { (m : Batch) (p : Place) → AllAt m p nodes.old.items buffers.old.items variadic.old.items → S.fetched source.new ≤ S.fetched source.old + fetched_at_most m (kind_of dtype.now) p rows }
@@ -250,8 +257,9 @@ pub fn read<S: Source>(
     requires inside { Inside (S.content source.old) body }
     ensures queues { IfOk result (λ _. (m : Batch) (p : Place) → AllAt m p nodes.old.items buffers.old.items variadic.old.items → AllAt m (after m (kind_of field.now.dtype) p) nodes.new.items buffers.new.items variadic.new.items) }
     ensures parts { (m : Batch) (p : Place) → AllAt m p nodes.old.items buffers.old.items variadic.old.items → Known (S.content source.old) body is_little_endian m → Answers (λ a. parts_of a) result (read_faults m (kind_of field.now.dtype) p rows) (parts_read m (kind_of field.now.dtype) p rows) }
+    ensures shortened { (version : MetadataVersion) → ShortenedBy (kind_of field.now.dtype) version nodes.old.items nodes.new.items buffers.old.items buffers.new.items variadic.old.items variadic.new.items }
     ensures shape { IfOk result (λ a. (kind_in (parts_of a) ≡ (kind_of field.now.dtype)) × (rows_in (parts_of a) ≡ rows)) }
-    ensures cause { IfErr result (λ e. ReadCause e (S.faults source.old) (S.faults source.new)) }
+    ensures cause { IfErr result (λ e. BodyReadCause e (S.faults source.old) (S.faults source.new)) }
     ensures content { S.content source.new ≡ S.content source.old }
     ensures faults { S.faults source.old ≤ S.faults source.new }
     ensures fetched { (m : Batch) (p : Place) → AllAt m p nodes.old.items buffers.old.items variadic.old.items → S.fetched source.new ≤ S.fetched source.old + fetched_at_most m (kind_of field.now.dtype) p rows }

@@ -1,11 +1,12 @@
 //! Values as far as an array's rows go. Where there are none no buffer is looked at (Arrow Columnar Format, "Buffer Listing for Each Layout").
 ghost use Rattle.std.specs.Prelude.{◌≡◌, ℕ, suc, ◌+◌, ◌*◌, ◌^◌, ◌<◌, ◌≤◌, ◌++◌, [], Bool, Some, slice_get, take, length, IfOk, IfErr};
 ghost use Rattle.arrow_spec.specs.Counts.{RecordBatch as Batch, Place};
-ghost use Rattle.arrow_spec.specs.Columns.{buf, bitmap_faults, numbers_faults, node_causes, node_faults};
+ghost use Rattle.arrow_spec.specs.Arrays.{buf};
+ghost use Rattle.arrow_spec.specs.Faults.{bitmap_faults, numbers_faults, node_causes, node_faults};
 ghost use Rattle.arrow_spec.specs.Laws.{AreBytes};
 ghost use Rattle.arrow_spec.specs.Readings.{Refuses};
-ghost use Rattle.ipc_read.specs.Queues.{Left, short_of};
-ghost use Rattle.ipc_read.specs.Sources.{Answers, Inside, Known, ReadCause, IsRefusal, faults_where, bytes_where};
+ghost use Rattle.ipc_read.specs.Queues.{Left, short_of, Shortened};
+ghost use Rattle.ipc_read.specs.Sources.{Answers, Inside, Known, BodyReadCause, IsRefusal, faults_where, bytes_where};
 ghost use Rattle.read_columns.specs.PartsRead.{bits_read, items_read, bytes_of_rows};
 ghost use Rattle.read_columns.specs.Faults.{stated};
 
@@ -38,6 +39,7 @@ fn check_node(node: FieldNode, rows: usize) -> Result<(), IpcError>
 /// Takes the node of an array, which has rows enough.
 pub(crate) fn take_node(nodes: &mut VecDeque<FieldNode>, rows: usize) -> Result<FieldNode, IpcError>
     ensures queue { IfOk result (λ node. (m : Batch) (p : Place) → Left m.nodes p.node nodes.old.items → (slice_get m.nodes p.node ≡ Some node) × Left m.nodes (suc p.node) nodes.new.items) }
+    ensures shortened { Shortened nodes.old.items 1 nodes.new.items }
     ensures fine { IfOk result (λ _. (m : Batch) (p : Place) → Left m.nodes p.node nodes.old.items → node_faults m p rows ≡ []) }
     ensures err { IfErr result (λ e. (m : Batch) (p : Place) → Left m.nodes p.node nodes.old.items → Refuses e (node_faults m p rows)) }
     ensures few { IfOk result (λ _. rows < 2 ^ 63) }
@@ -61,8 +63,9 @@ pub(crate) fn read_bits<S: Source>(
     requires inside { Inside (S.content source.old) body }
     ensures queue { IfOk result (λ _. (m : Batch) (i : ℕ) → Left m.buffers i buffers.old.items → Left m.buffers (suc i) buffers.new.items) }
     ensures gives { (m : Batch) (i : ℕ) (is_little_endian : Bool) → Left m.buffers i buffers.old.items → Known (S.content source.old) body is_little_endian m → Answers (λ b. b) result (short_of m.buffers i ++ faults_where rows (bitmap_faults m i rows)) (bits_read m i rows) }
+    ensures shortened { Shortened buffers.old.items 1 buffers.new.items }
     ensures rows { IfOk result (λ b. length b ≡ rows) }
-    ensures cause { IfErr result (λ e. ReadCause e (S.faults source.old) (S.faults source.new)) }
+    ensures cause { IfErr result (λ e. BodyReadCause e (S.faults source.old) (S.faults source.new)) }
     ensures content { S.content source.new ≡ S.content source.old }
     ensures faults { S.faults source.old ≤ S.faults source.new }
     ensures fetched { (m : Batch) (i : ℕ) → Left m.buffers i buffers.old.items → S.fetched source.new ≤ S.fetched source.old + bytes_where rows (stated m i) }
@@ -92,9 +95,10 @@ pub(crate) fn read_items<T: NativeType, S: Source>(
     requires inside { Inside (S.content source.old) body }
     ensures queue { IfOk result (λ _. (m : Batch) (i : ℕ) → Left m.buffers i buffers.old.items → Left m.buffers (suc i) buffers.new.items) }
     ensures gives { (m : Batch) (i : ℕ) → Left m.buffers i buffers.old.items → Known (S.content source.old) body is_little_endian m → Answers (λ b. b) result (short_of m.buffers i ++ faults_where rows (numbers_faults m i T.WIDTH rows)) (items_read T.read T.WIDTH m i rows) }
+    ensures shortened { Shortened buffers.old.items 1 buffers.new.items }
     ensures bytes { IfOk result (λ _. (m : Batch) (i : ℕ) → Left m.buffers i buffers.old.items → Known (S.content source.old) body is_little_endian m → AreBytes (take (T.WIDTH * rows) (buf m i))) }
     ensures rows { IfOk result (λ b. length b ≡ rows) }
-    ensures cause { IfErr result (λ e. ReadCause e (S.faults source.old) (S.faults source.new)) }
+    ensures cause { IfErr result (λ e. BodyReadCause e (S.faults source.old) (S.faults source.new)) }
     ensures content { S.content source.new ≡ S.content source.old }
     ensures faults { S.faults source.old ≤ S.faults source.new }
     ensures fetched { (m : Batch) (i : ℕ) → Left m.buffers i buffers.old.items → S.fetched source.new ≤ S.fetched source.old + bytes_where rows (stated m i) }
@@ -131,8 +135,9 @@ pub(crate) fn read_rows<S: Source>(
     requires inside { Inside (S.content source.old) body }
     ensures queue { IfOk result (λ _. (m : Batch) (i : ℕ) → Left m.buffers i buffers.old.items → Left m.buffers (suc i) buffers.new.items) }
     ensures gives { (m : Batch) (i : ℕ) (is_little_endian : Bool) → Left m.buffers i buffers.old.items → Known (S.content source.old) body is_little_endian m → Answers (λ b. b) result (short_of m.buffers i ++ faults_where rows (numbers_faults m i size rows)) (bytes_of_rows m size i rows) }
+    ensures shortened { Shortened buffers.old.items 1 buffers.new.items }
     ensures rows { IfOk result (λ b. length b ≡ size * rows) }
-    ensures cause { IfErr result (λ e. ReadCause e (S.faults source.old) (S.faults source.new)) }
+    ensures cause { IfErr result (λ e. BodyReadCause e (S.faults source.old) (S.faults source.new)) }
     ensures content { S.content source.new ≡ S.content source.old }
     ensures faults { S.faults source.old ≤ S.faults source.new }
     ensures fetched { (m : Batch) (i : ℕ) → Left m.buffers i buffers.old.items → S.fetched source.new ≤ S.fetched source.old + bytes_where rows (stated m i) }

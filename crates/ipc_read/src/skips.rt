@@ -1,14 +1,15 @@
 //! Arrays that are passed over: what they take of the queues is taken, and nothing is read (Arrow Columnar Format, "RecordBatch message", "Variadic buffers").
 ghost use Rattle.std.specs.Prelude.{◌≡◌, ◌+◌, ◌<◌, ◌≤◌, length, drop, true, IfOk, IfErr};
-ghost use Rattle.arrow_spec.specs.Counts.{RecordBatch as Batch, Place, after, count_at};
-ghost use Rattle.arrow_spec.specs.Columns.{count_faults, counts_faults};
+ghost use Rattle.arrow_spec.specs.Counts.{RecordBatch as Batch, Place, after, count_at, count_among};
+ghost use Rattle.arrow_spec.specs.Faults.{count_faults, counts_faults};
 ghost use Rattle.arrow_spec.specs.Kinds.{binary_view};
 ghost use Rattle.arrow_spec.specs.declared.error.IpcError.TheVariants.{OutOfSpec};
 ghost use Rattle.arrow_spec.specs.declared.error.OutOfSpecKind.TheVariants.{ExpectedBuffer};
 ghost use Rattle.arrow_types.specs.KindOf.{kind_of};
-ghost use Rattle.ipc_read.specs.Queues.{NodesAt, At, AllAt};
+ghost use Rattle.ipc_read.specs.Queues.{NodesAt, At, AllAt, Shortened, ShortenedBy};
 ghost use Rattle.ipc_read.specs.Skips.{moved, is_plain_kind, IsDamage};
 ghost use Rattle.ipc_read.specs.Sources.{Answers};
+ghost use Rattle.arrow_spec.specs.declared.message.MetadataVersion.{MetadataVersion};
 
 use crate::counts::take_count;
 use arrow_spec::{FieldNode, IpcBuffer, IpcError, MetadataVersion, OutOfSpecKind};
@@ -21,6 +22,7 @@ fn pass<T: Drop>(queue: &mut VecDeque<T>, count: usize) -> Result<(), IpcError>
     ensures rest { IfOk result (λ _. queue.new.items ≡ drop count queue.old.items) }
     ensures err { IfErr result (λ e. e ≡ OutOfSpec ExpectedBuffer) }
     ensures short { IfErr result (λ e. length queue.old.items < count) }
+    ensures shortened { Shortened queue.old.items count queue.new.items }
 {
     if queue.len() < count {
         return Err(IpcError::OutOfSpec(OutOfSpecKind::ExpectedBuffer));
@@ -39,6 +41,8 @@ fn skip_parts(
 ) -> Result<(), IpcError>
     ensures queues { IfOk result (λ _. (m : Batch) (p : Place) → At m p nodes.old.items buffers.old.items → At m (moved 1 count 0 p) nodes.new.items buffers.new.items) }
     ensures exact { (m : Batch) (p : Place) → At m p nodes.old.items buffers.old.items → Answers (λ u. u) result (counts_faults m (moved 1 count 0 p)) tt }
+    ensures nodes { Shortened nodes.old.items 1 nodes.new.items }
+    ensures buffers { Shortened buffers.old.items count buffers.new.items }
     ensures damage { IfErr result IsDamage }
 {
     pass(nodes, 1)?;
@@ -53,6 +57,7 @@ fn skip_parts(
 pub fn skip_null(nodes: &mut VecDeque<FieldNode>) -> Result<(), IpcError>
     ensures queues { IfOk result (λ _. (m : Batch) (p : Place) → NodesAt m p nodes.old.items → NodesAt m (moved 1 0 0 p) nodes.new.items) }
     ensures exact { (m : Batch) (p : Place) → NodesAt m p nodes.old.items → Answers (λ u. u) result (counts_faults m (moved 1 0 0 p)) tt }
+    ensures nodes { Shortened nodes.old.items 1 nodes.new.items }
     ensures damage { IfErr result IsDamage }
 {
     pass(nodes, 1)
@@ -69,6 +74,8 @@ pub fn skip_boolean(
 ) -> Result<(), IpcError>
     ensures queues { IfOk result (λ _. (m : Batch) (p : Place) → At m p nodes.old.items buffers.old.items → At m (moved 1 2 0 p) nodes.new.items buffers.new.items) }
     ensures exact { (m : Batch) (p : Place) → At m p nodes.old.items buffers.old.items → Answers (λ u. u) result (counts_faults m (moved 1 2 0 p)) tt }
+    ensures nodes { Shortened nodes.old.items 1 nodes.new.items }
+    ensures buffers { Shortened buffers.old.items 2 buffers.new.items }
     ensures damage { IfErr result IsDamage }
 {
     skip_parts(nodes, buffers, 2)
@@ -85,6 +92,8 @@ pub fn skip_primitive(
 ) -> Result<(), IpcError>
     ensures queues { IfOk result (λ _. (m : Batch) (p : Place) → At m p nodes.old.items buffers.old.items → At m (moved 1 2 0 p) nodes.new.items buffers.new.items) }
     ensures exact { (m : Batch) (p : Place) → At m p nodes.old.items buffers.old.items → Answers (λ u. u) result (counts_faults m (moved 1 2 0 p)) tt }
+    ensures nodes { Shortened nodes.old.items 1 nodes.new.items }
+    ensures buffers { Shortened buffers.old.items 2 buffers.new.items }
     ensures damage { IfErr result IsDamage }
 {
     skip_parts(nodes, buffers, 2)
@@ -101,6 +110,8 @@ pub fn skip_binary(
 ) -> Result<(), IpcError>
     ensures queues { IfOk result (λ _. (m : Batch) (p : Place) → At m p nodes.old.items buffers.old.items → At m (moved 1 3 0 p) nodes.new.items buffers.new.items) }
     ensures exact { (m : Batch) (p : Place) → At m p nodes.old.items buffers.old.items → Answers (λ u. u) result (counts_faults m (moved 1 3 0 p)) tt }
+    ensures nodes { Shortened nodes.old.items 1 nodes.new.items }
+    ensures buffers { Shortened buffers.old.items 3 buffers.new.items }
     ensures damage { IfErr result IsDamage }
 {
     skip_parts(nodes, buffers, 3)
@@ -117,6 +128,8 @@ pub fn skip_utf8(
 ) -> Result<(), IpcError>
     ensures queues { IfOk result (λ _. (m : Batch) (p : Place) → At m p nodes.old.items buffers.old.items → At m (moved 1 3 0 p) nodes.new.items buffers.new.items) }
     ensures exact { (m : Batch) (p : Place) → At m p nodes.old.items buffers.old.items → Answers (λ u. u) result (counts_faults m (moved 1 3 0 p)) tt }
+    ensures nodes { Shortened nodes.old.items 1 nodes.new.items }
+    ensures buffers { Shortened buffers.old.items 3 buffers.new.items }
     ensures damage { IfErr result IsDamage }
 {
     skip_parts(nodes, buffers, 3)
@@ -133,6 +146,8 @@ pub fn skip_fixed_size_binary(
 ) -> Result<(), IpcError>
     ensures queues { IfOk result (λ _. (m : Batch) (p : Place) → At m p nodes.old.items buffers.old.items → At m (moved 1 2 0 p) nodes.new.items buffers.new.items) }
     ensures exact { (m : Batch) (p : Place) → At m p nodes.old.items buffers.old.items → Answers (λ u. u) result (counts_faults m (moved 1 2 0 p)) tt }
+    ensures nodes { Shortened nodes.old.items 1 nodes.new.items }
+    ensures buffers { Shortened buffers.old.items 2 buffers.new.items }
     ensures damage { IfErr result IsDamage }
 {
     skip_parts(nodes, buffers, 2)
@@ -151,6 +166,9 @@ pub fn skip_binview(
 ) -> Result<(), IpcError>
     ensures queues { IfOk result (λ _. (m : Batch) (p : Place) → AllAt m p nodes.old.items buffers.old.items variadic.old.items → AllAt m (moved 1 (2 + count_at m p.view) 1 p) nodes.new.items buffers.new.items variadic.new.items) }
     ensures exact { (m : Batch) (p : Place) → AllAt m p nodes.old.items buffers.old.items variadic.old.items → Answers (λ u. u) result (count_faults m binary_view p) tt }
+    ensures nodes { Shortened nodes.old.items 1 nodes.new.items }
+    ensures buffers { Shortened buffers.old.items (2 + count_among variadic.old.items 0) buffers.new.items }
+    ensures views { Shortened variadic.old.items 1 variadic.new.items }
     ensures damage { IfErr result IsDamage }
 {
     let count = take_count(variadic)?;
@@ -173,6 +191,7 @@ pub fn skip(
     requires plain { is_plain_kind (kind_of dtype.now) ≡ true }
     ensures queues { IfOk result (λ _. (m : Batch) (p : Place) → AllAt m p nodes.old.items buffers.old.items variadic.old.items → AllAt m (after m (kind_of dtype.now) p) nodes.new.items buffers.new.items variadic.new.items) }
     ensures exact { (m : Batch) (p : Place) → AllAt m p nodes.old.items buffers.old.items variadic.old.items → Answers (λ u. u) result (count_faults m (kind_of dtype.now) p) tt }
+    ensures shortened { (version : MetadataVersion) → ShortenedBy (kind_of dtype.now) version nodes.old.items nodes.new.items buffers.old.items buffers.new.items variadic.old.items variadic.new.items }
     ensures damage { IfErr result IsDamage }
 {
     match dtype.to_physical_type() {

@@ -1,18 +1,19 @@
 //! The tables of a record batch, before its body is looked at (Arrow Columnar Format, Message.fbs, RecordBatch).
-ghost use Rattle.std.specs.Prelude.{◌≡◌, ◌*◌, ◌^◌, ◌<◌, ℕ, List, length, IfOk, IfErr, None, not, true, slice_get};
+ghost use Rattle.std.specs.Prelude.{◌≡◌, ◌*◌, ◌^◌, ◌<◌, ℕ, List, [], length, IfOk, IfErr, None, not, true, slice_get};
 ghost use Rattle.arrow_spec.specs.Readings.{Refuses, refusals};
 ghost use Rattle.arrow_spec.specs.Flat.{Order};
 ghost use Rattle.arrow_spec.specs.Kinds.{Fields};
 ghost use Rattle.arrow_spec.specs.declared.message.MetadataVersion.{MetadataVersion};
 ghost use Rattle.arrow_spec.specs.declared.error.IpcError.TheVariants.{Memory};
 ghost use Rattle.arrow_spec.specs.Counts.{RecordBatch as Batch};
-ghost use Rattle.arrow_spec.specs.Columns.{float_faults, chosen_floats, top_node_faults};
-ghost use Rattle.arrow_spec.specs.Files.{none_negative, lengths_sum, batch_of_tables, to_read};
+ghost use Rattle.arrow_spec.specs.Faults.{top_node_faults};
+ghost use Rattle.arrow_spec.specs.Features.{float_faults, chosen_floats};
+ghost use Rattle.arrow_spec.specs.Files.{none_negative, lengths_sum, batch_of_tables, to_read, all_asked};
 ghost use Rattle.arrow_types.specs.KindOf.{kind_of};
 ghost use Rattle.arrow_types.specs.Physical.{physical_of};
 ghost use Rattle.arrow_types.specs.Schemas.{fields_in};
 ghost use Rattle.ipc_schema.specs.Views.{header_of};
-ghost use Rattle.ipc_read.specs.Batches.{AreQueuesOf, MayBeRead, IsFieldAt, all_asked, are_column_kinds, are_flat_kinds, unread_feature, unread_number};
+ghost use Rattle.ipc_read.specs.Batches.{AreQueuesOf, MayBeRead, IsFieldAt, are_column_kinds, are_flat_kinds, unread_feature, unread_number};
 ghost use Rattle.ipc_read.specs.Queues.{Left};
 ghost use Rattle.ipc_read.specs.Skips.{IsDamage, is_plain_kind};
 ghost use Rattle.ipc_read.specs.Sources.{Answers, IsRefusal};
@@ -49,7 +50,7 @@ fn lengths_sum(buffers: &[IpcBuffer]) -> u128
 /// The rows of a batch, of which the buffers' lengths are together at most `most`.
 pub(crate) fn row_count(header: &BatchHeader, most: u64) -> Result<usize, IpcError>
     ensures rows { IfOk result (MayBeRead (header_of header.now) most) }
-    ensures err { IfErr result (λ e. (order : Order) (fs : Fields) (version : MetadataVersion) (bytes : List ℕ) → Refuses e (refusals (batch_of_tables to_read (all_asked order fs most) version (header_of header.now) bytes None))) }
+    ensures err { IfErr result (λ e. (order : Order) (fs : Fields) (version : MetadataVersion) (bytes : List ℕ) → Refuses e (refusals (batch_of_tables to_read (all_asked order fs most) version [] (header_of header.now) bytes None))) }
     ensures cause { IfErr result IsRefusal }
     ensures small { IfOk result (λ n. n < 2 ^ 63) }
 {
@@ -69,14 +70,14 @@ pub(crate) fn row_count(header: &BatchHeader, most: u64) -> Result<usize, IpcErr
     Ok(magnitude(header.length) as usize)
 }
 
-/// A column's node has exactly the batch's rows.
+/// A column's node has exactly the batch's rows. A length below 0 is no row count, and is left to the array's reader, which refuses it.
 pub(crate) fn check_node(nodes: &VecDeque<FieldNode>, rows: usize) -> Result<(), IpcError>
     ensures exact { (m : Batch) (i : ℕ) → Left m.nodes i nodes.now.items → Answers (λ u. u) result (top_node_faults (slice_get m.nodes i) rows) tt }
     ensures damage { IfErr result IsDamage }
 {
     match nodes.front() {
         Some(node) => {
-            if magnitude(node.length) as usize != rows {
+            if !is_negative(node.length) && magnitude(node.length) as usize != rows {
                 return Err(IpcError::OutOfSpec(OutOfSpecKind::NodeLength));
             }
             Ok(())

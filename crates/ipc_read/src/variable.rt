@@ -1,19 +1,20 @@
 //! Arrays of byte strings and texts between offsets (Arrow Columnar Format, "Variable-size Binary Layout").
-ghost use Rattle.std.specs.Prelude.{◌≡◌, ◌⊎◌, ◌∷◌, [], ◌++◌, ◌-◌, Bool, false, length, map, pos, ℕ, suc, ◌+◌, ◌^◌, ◌<◌, ◌≤◌, true, IfOk, IfErr};
+ghost use Rattle.std.specs.Prelude.{◌≡◌, ◌⊎◌, ◌∷◌, [], ◌++◌, ◌-◌, Bool, false, length, map, pos, ℕ, suc, ◌+◌, ◌^◌, ◌<◌, ◌≤◌, true, IfOk, IfErr, List, ℤ};
 ghost use Rattle.arrow_spec.specs.Counts.{RecordBatch as Batch, Place, after};
 ghost use Rattle.arrow_types.specs.KindOf.{kind_of};
 ghost use Rattle.arrow_types.specs.Numbers.{offsets_by};
 ghost use Rattle.arrow_types.specs.Physical.{physical_of};
-ghost use Rattle.ipc_read.specs.Queues.{Left, At, short_of};
-ghost use Rattle.ipc_read.specs.Sources.{Answers, Inside, Known, ReadCause, offsets_of, values_of, faults_where, bytes_where};
+ghost use Rattle.ipc_read.specs.Queues.{Left, At, short_of, Shortened, ShortenedBy};
+ghost use Rattle.ipc_read.specs.Sources.{Answers, Inside, Known, BodyReadCause, offsets_of_rows, values_of, faults_where, bytes_where};
 ghost use Rattle.read_columns.specs.Faults.{read_faults, fetched_at_most, stated};
 ghost use Rattle.arrow_buffers.specs.Layouts.{is_binary, is_text};
 ghost use Rattle.arrow_buffers.specs.Rows.{has_rows};
 ghost use Rattle.arrow_buffers.specs.Variable.{variable_rows, are_offsets, has_bad_text};
-ghost use Rattle.arrow_spec.specs.Columns.{offsets_buffer_faults, range_faults};
+ghost use Rattle.arrow_spec.specs.Faults.{offsets_buffer_faults, range_faults};
 ghost use Rattle.arrow_spec.specs.declared.error.IpcError.TheVariants.{Memory, OutOfSpec};
 ghost use Rattle.arrow_spec.specs.declared.error.OutOfSpecKind.TheVariants.{InvalidOffsets, InvalidUtf8};
 ghost use Rattle.read_columns.specs.PartsRead.{variable_read};
+ghost use Rattle.arrow_spec.specs.declared.message.MetadataVersion.{MetadataVersion};
 
 use crate::Body;
 use crate::buffers::{pass_buffer, read_buffer, read_bytes, read_validity};
@@ -59,9 +60,10 @@ fn read_offsets<O: Offset, S: Source>(
     requires room { body.offset + body.length < 2 ^ 63 }
     requires inside { Inside (S.content source.old) body }
     ensures queue { IfOk result (λ _. (m : Batch) (i : ℕ) → Left m.buffers i buffers.old.items → Left m.buffers (suc i) buffers.new.items) }
-    ensures gives { (m : Batch) (i : ℕ) → Left m.buffers i buffers.old.items → Known (S.content source.old) body is_little_endian m → Answers (λ b. map O.number b) result (short_of m.buffers i ++ faults_where rows (offsets_buffer_faults m (offsets_by O.IS_LARGE) i rows)) (offsets_of m (offsets_by O.IS_LARGE) i rows) }
+    ensures gives { (m : Batch) (i : ℕ) → Left m.buffers i buffers.old.items → Known (S.content source.old) body is_little_endian m → Answers (λ b. map O.number b) result (short_of m.buffers i ++ faults_where rows (offsets_buffer_faults m (offsets_by O.IS_LARGE) i rows)) (offsets_of_rows m (offsets_by O.IS_LARGE) i rows) }
+    ensures shortened { Shortened buffers.old.items 1 buffers.new.items }
     ensures rows { IfOk result (λ b. length b ≡ rows + 1) }
-    ensures cause { IfErr result (λ e. ReadCause e (S.faults source.old) (S.faults source.new)) }
+    ensures cause { IfErr result (λ e. BodyReadCause e (S.faults source.old) (S.faults source.new)) }
     ensures content { S.content source.new ≡ S.content source.old }
     ensures faults { S.faults source.old ≤ S.faults source.new }
     ensures fetched { (m : Batch) (i : ℕ) → Left m.buffers i buffers.old.items → S.fetched source.new ≤ S.fetched source.old + bytes_where rows (stated m i) }
@@ -97,7 +99,8 @@ fn read_values<S: Source>(
     requires inside { Inside (S.content source.old) body }
     ensures queue { IfOk result (λ _. (m : Batch) (i : ℕ) → Left m.buffers i buffers.old.items → Left m.buffers (suc i) buffers.new.items) }
     ensures gives { (m : Batch) (i : ℕ) (is_little_endian : Bool) → Left m.buffers i buffers.old.items → Known (S.content source.old) body is_little_endian m → Answers (λ b. b) result (short_of m.buffers i ++ faults_where rows (range_faults m i)) (values_of m i rows) }
-    ensures cause { IfErr result (λ e. ReadCause e (S.faults source.old) (S.faults source.new)) }
+    ensures shortened { Shortened buffers.old.items 1 buffers.new.items }
+    ensures cause { IfErr result (λ e. BodyReadCause e (S.faults source.old) (S.faults source.new)) }
     ensures content { S.content source.new ≡ S.content source.old }
     ensures faults { S.faults source.old ≤ S.faults source.new }
     ensures fetched { (m : Batch) (i : ℕ) → Left m.buffers i buffers.old.items → S.fetched source.new ≤ S.fetched source.old + bytes_where rows (stated m i) }
@@ -183,7 +186,8 @@ pub fn read_binary<O: Offset, S: Source>(
     ensures shape { IfOk result (λ a. (a.kind ≡ kind_of dtype.now) × (variable_rows a.offsets ≡ rows)) }
     ensures queues { IfOk result (λ _. (m : Batch) (p : Place) → At m p nodes.old.items buffers.old.items → At m (after m (kind_of dtype.now) p) nodes.new.items buffers.new.items) }
     ensures gives { (m : Batch) (p : Place) → At m p nodes.old.items buffers.old.items → Known (S.content source.old) body is_little_endian m → Answers (λ a. a) result (read_faults m (kind_of dtype.now) p rows) (variable_read m (kind_of dtype.now) (offsets_by O.IS_LARGE) p rows) }
-    ensures cause { IfErr result (λ e. ReadCause e (S.faults source.old) (S.faults source.new)) }
+    ensures shortened { (version : MetadataVersion) (vs : List ℤ) → ShortenedBy (kind_of dtype.now) version nodes.old.items nodes.new.items buffers.old.items buffers.new.items vs vs }
+    ensures cause { IfErr result (λ e. BodyReadCause e (S.faults source.old) (S.faults source.new)) }
     ensures content { S.content source.new ≡ S.content source.old }
     ensures faults { S.faults source.old ≤ S.faults source.new }
     ensures fetched { (m : Batch) (p : Place) → At m p nodes.old.items buffers.old.items → S.fetched source.new ≤ S.fetched source.old + fetched_at_most m (kind_of dtype.now) p rows }
@@ -227,7 +231,8 @@ pub fn read_utf8<O: Offset, S: Source>(
     ensures shape { IfOk result (λ a. (a.kind ≡ kind_of dtype.now) × (variable_rows a.offsets ≡ rows)) }
     ensures queues { IfOk result (λ _. (m : Batch) (p : Place) → At m p nodes.old.items buffers.old.items → At m (after m (kind_of dtype.now) p) nodes.new.items buffers.new.items) }
     ensures gives { (m : Batch) (p : Place) → At m p nodes.old.items buffers.old.items → Known (S.content source.old) body is_little_endian m → Answers (λ a. a) result (read_faults m (kind_of dtype.now) p rows) (variable_read m (kind_of dtype.now) (offsets_by O.IS_LARGE) p rows) }
-    ensures cause { IfErr result (λ e. ReadCause e (S.faults source.old) (S.faults source.new)) }
+    ensures shortened { (version : MetadataVersion) (vs : List ℤ) → ShortenedBy (kind_of dtype.now) version nodes.old.items nodes.new.items buffers.old.items buffers.new.items vs vs }
+    ensures cause { IfErr result (λ e. BodyReadCause e (S.faults source.old) (S.faults source.new)) }
     ensures content { S.content source.new ≡ S.content source.old }
     ensures faults { S.faults source.old ≤ S.faults source.new }
     ensures fetched { (m : Batch) (p : Place) → At m p nodes.old.items buffers.old.items → S.fetched source.new ≤ S.fetched source.old + fetched_at_most m (kind_of dtype.now) p rows }

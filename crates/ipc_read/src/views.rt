@@ -1,14 +1,15 @@
 //! Arrays of views of byte strings and texts (Arrow Columnar Format, "Variable-size Binary View Layout").
 ghost use Rattle.std.specs.Prelude.{◌≡◌, ◌⊎◌, ℕ, ◌+◌, ◌*◌, ◌^◌, ◌<◌, ◌≤◌, Bool, Some, length, drop, nat_lt, not, ◌&&◌, true, IfOk, IfErr};
 ghost use Rattle.arrow_spec.specs.Counts.{RecordBatch as Batch, Place, after};
-ghost use Rattle.arrow_spec.specs.Columns.{buf, from_on, ranges_faults};
+ghost use Rattle.arrow_spec.specs.Arrays.{buf, from_on};
+ghost use Rattle.arrow_spec.specs.Faults.{ranges_faults};
 ghost use Rattle.arrow_spec.specs.Needed.{numbers_from};
 ghost use Rattle.arrow_spec.specs.declared.error.IpcError.TheVariants.{Memory, OutOfSpec};
 ghost use Rattle.arrow_spec.specs.declared.error.OutOfSpecKind.TheVariants.{InvalidUtf8, InvalidView};
 ghost use Rattle.arrow_types.specs.KindOf.{kind_of};
 ghost use Rattle.arrow_types.specs.Physical.{physical_of};
-ghost use Rattle.ipc_read.specs.Queues.{Left, AllAt};
-ghost use Rattle.ipc_read.specs.Sources.{Answers, Inside, Known, ReadCause, bytes_where};
+ghost use Rattle.ipc_read.specs.Queues.{Left, AllAt, Shortened, ShortenedBy};
+ghost use Rattle.ipc_read.specs.Sources.{Answers, Inside, Known, BodyReadCause, bytes_where};
 ghost use Rattle.ipc_read.specs.DataBuffers.{data_causes, data_of};
 ghost use Rattle.read_columns.specs.Faults.{read_faults, fetched_at_most, stated_of};
 ghost use Rattle.arrow_buffers.specs.declared.error.ArrayError.TheVariants.{Utf8, View};
@@ -16,6 +17,7 @@ ghost use Rattle.arrow_buffers.specs.Layouts.{is_view};
 ghost use Rattle.arrow_buffers.specs.Rows.{has_rows};
 ghost use Rattle.arrow_buffers.specs.Views.{view_rows, view_fault};
 ghost use Rattle.read_columns.specs.PartsRead.{views_read};
+ghost use Rattle.arrow_spec.specs.declared.message.MetadataVersion.{MetadataVersion};
 
 use crate::Body;
 use crate::buffers::{read_bytes, read_validity};
@@ -50,7 +52,8 @@ fn read_all<S: Source>(
     requires inside { Inside (S.content source.old) body }
     ensures queue { IfOk result (λ _. (m : Batch) (i : ℕ) → Left m.buffers i buffers.old.items → Left m.buffers (i + count) buffers.new.items) }
     ensures gives { (m : Batch) (i : ℕ) (is_little_endian : Bool) → Left m.buffers i buffers.old.items → Known (S.content source.old) body is_little_endian m → Answers (λ v. v.items) result (ranges_faults m i count) (from_on (buf m) i count) }
-    ensures cause { IfErr result (λ e. ReadCause e (S.faults source.old) (S.faults source.new)) }
+    ensures shortened { Shortened buffers.old.items count buffers.new.items }
+    ensures cause { IfErr result (λ e. BodyReadCause e (S.faults source.old) (S.faults source.new)) }
     ensures content { S.content source.new ≡ S.content source.old }
     ensures faults { S.faults source.old ≤ S.faults source.new }
     ensures fetched { (m : Batch) (i : ℕ) → Left m.buffers i buffers.old.items → S.fetched source.new ≤ S.fetched source.old + stated_of m (numbers_from i count) }
@@ -80,7 +83,8 @@ fn read_data<S: Source>(
     requires inside { Inside (S.content source.old) body }
     ensures queue { IfOk result (λ _. (m : Batch) (i : ℕ) → Left m.buffers i buffers.old.items → Left m.buffers (i + count) buffers.new.items) }
     ensures gives { (m : Batch) (i : ℕ) (is_little_endian : Bool) → Left m.buffers i buffers.old.items → Known (S.content source.old) body is_little_endian m → Answers (λ v. v.items) result (data_causes m i rows count) (data_of m i rows count) }
-    ensures cause { IfErr result (λ e. ReadCause e (S.faults source.old) (S.faults source.new)) }
+    ensures shortened { Shortened buffers.old.items count buffers.new.items }
+    ensures cause { IfErr result (λ e. BodyReadCause e (S.faults source.old) (S.faults source.new)) }
     ensures content { S.content source.new ≡ S.content source.old }
     ensures faults { S.faults source.old ≤ S.faults source.new }
     ensures fetched { (m : Batch) (i : ℕ) → Left m.buffers i buffers.old.items → S.fetched source.new ≤ S.fetched source.old + bytes_where rows (stated_of m (numbers_from i count)) }
@@ -153,7 +157,8 @@ pub fn read_binview<V: ViewType, S: Source>(
     ensures shape { IfOk result (λ a. (a.kind ≡ kind_of dtype.now) × (view_rows a.views ≡ rows)) }
     ensures queues { IfOk result (λ _. (m : Batch) (p : Place) → AllAt m p nodes.old.items buffers.old.items variadic.old.items → AllAt m (after m (kind_of dtype.now) p) nodes.new.items buffers.new.items variadic.new.items) }
     ensures gives { (m : Batch) (p : Place) → AllAt m p nodes.old.items buffers.old.items variadic.old.items → Known (S.content source.old) body is_little_endian m → Answers (λ a. a) result (read_faults m (kind_of dtype.now) p rows) (views_read m (kind_of dtype.now) p rows) }
-    ensures cause { IfErr result (λ e. ReadCause e (S.faults source.old) (S.faults source.new)) }
+    ensures shortened { (version : MetadataVersion) → ShortenedBy (kind_of dtype.now) version nodes.old.items nodes.new.items buffers.old.items buffers.new.items variadic.old.items variadic.new.items }
+    ensures cause { IfErr result (λ e. BodyReadCause e (S.faults source.old) (S.faults source.new)) }
     ensures content { S.content source.new ≡ S.content source.old }
     ensures faults { S.faults source.old ≤ S.faults source.new }
     ensures fetched { (m : Batch) (p : Place) → AllAt m p nodes.old.items buffers.old.items variadic.old.items → S.fetched source.new ≤ S.fetched source.old + fetched_at_most m (kind_of dtype.now) p rows }

@@ -1,7 +1,7 @@
 -- Columns one behind another come to the columns as a whole.
 use Rattle.std.proofs.Common.{◌≡◌, ℕ, zero, suc, ◌+◌, ◌-◌, ◌%◌, ◌^◌, ◌<◌, ◌≤◌, List, [], ◌∷◌, ◌++◌, Bool, true, false, length, drop, get_or, map, refl, sym, ap, ◌∙◌, arith, length-append, append_assoc, append-nil, subst, Result, Ok, Err, IsErrAnd, pos, ℤ, true≢false}
 use Rattle.std.specs.Prelude.{◌&&◌}
-use Rattle.std.proofs.lemmas.List.{drop_more, drop_all}
+use Rattle.std.proofs.lemmas.List.{drop_more, drop_all, map-append}
 use Rattle.std.proofs.lemmas.Bool.{eqb-true}
 use Rattle.arrow_spec.specs.declared.error.IpcError.{IpcError}
 use Rattle.arrow_spec.specs.declared.error.IpcError.TheVariants as errors
@@ -9,7 +9,7 @@ use Rattle.arrow_spec.specs.declared.message.IpcBuffer.{IpcBuffer}
 use Rattle.arrow_spec.specs.declared.message.FieldNode.{FieldNode}
 use Rattle.ipc_write.specs.declared.columns.Columns.{Columns}
 use Rattle.arrow_spec.specs.Flat.{little}
-use Rattle.arrow_spec.specs.Layout.{up_to, zeros}
+use Rattle.arrow_spec.specs.Layout.{up_to}
 use Rattle.arrow_spec.specs.Framing.{body_bytes}
 use Rattle.arrow_spec.specs.Sent.{placed, body_of}
 use Rattle.arrow_spec.proofs.Bodies.{length-body}
@@ -19,6 +19,7 @@ use Rattle.arrow_arrays.specs.PartsOf.{parts_of, all_parts_of}
 use Rattle.arrow_arrays.specs.declared.array.Array.{Array}
 use Rattle.array_writer.specs.Outputs.{Outputs, outputs, written_behind, MayHaveOrder}
 use Rattle.array_writer.specs.Pieces.{node_in, pieces_in, counts_in}
+use Rattle.array_writer.proofs.Adding.{placed-append, body-append}
 use Rattle.ipc_write.specs.Batches.{columns_written, columns_pieces}
 use Rattle.ipc_write.specs.Compaction.{top}
 use Rattle.ipc_write.specs.Ends.{end_of_array}
@@ -28,23 +29,6 @@ pub may_be_little : (p : Parts) → MayHaveOrder p true
 may_be_little (binary_views p) = refl
 may_be_little (text_views p) = refl
 may_be_little p = tt
-
--- ── lists of buffers behind others ──
-
-placed_behind : (xs ys : List ℕ) (at : ℕ) → placed at (xs ++ ys) ≡ placed at xs ++ placed (body_of at xs) ys
-placed_behind [] ys at = refl
-placed_behind (x ∷ xs) ys at = ap (λ t. record { offset = pos at; length = pos x } ∷ t) (placed_behind xs ys (up_to 64 (at + x)))
-
-body_behind : (xs ys : List (List ℕ)) (at : ℕ) → body_bytes at (xs ++ ys) ≡ body_bytes at xs ++ body_bytes (body_of at (map length xs)) ys
-body_behind [] ys at = refl
-body_behind (x ∷ xs) ys at =
-    let next = up_to 64 (at + length x) in
-    let front = x ++ zeros (next - (at + length x)) in
-    ap (λ t. front ++ t) (body_behind xs ys next) ∙ sym (append_assoc front (body_bytes next xs) (body_bytes (body_of next (map length xs)) ys))
-
-map_behind : {A B : Type 0} (f : A → B) (xs ys : List A) → map f (xs ++ ys) ≡ map f xs ++ map f ys
-map_behind f [] ys = refl
-map_behind f (x ∷ xs) ys = ap (λ t. f x ∷ t) (map_behind f xs ys)
 
 pub aligned_end : (ns : List ℕ) (at : ℕ) → at % 64 ≡ 0 → body_of at ns % 64 ≡ 0
 aligned_end [] at h = h
@@ -69,11 +53,11 @@ all_added (p ∷ ps) o =
     let at = length o.body in
     let nodes : w.nodes ++ (columns_written ps).nodes ≡ o.nodes ++ (columns_written (p ∷ ps)).nodes = append_assoc o.nodes (node_in t ∷ []) (columns_written ps).nodes in
     let buffers : w.buffers ++ placed (length w.body) (columns_written ps).lengths ≡ o.buffers ++ placed at (columns_written (p ∷ ps)).lengths =
-    ap (λ n. w.buffers ++ placed n (columns_written ps).lengths) end ∙ append_assoc o.buffers (placed at lens) (placed (body_of at lens) (columns_written ps).lengths) ∙ ap (λ l. o.buffers ++ l) (sym (placed_behind lens (columns_written ps).lengths at)) in
+    ap (λ n. w.buffers ++ placed n (columns_written ps).lengths) end ∙ append_assoc o.buffers (placed at lens) (placed (body_of at lens) (columns_written ps).lengths) ∙ ap (λ l. o.buffers ++ l) (sym (placed-append at lens (columns_written ps).lengths)) in
     let body : w.body ++ body_bytes (length w.body) (columns_pieces ps) ≡ o.body ++ body_bytes at (columns_pieces (p ∷ ps)) =
-    ap (λ n. w.body ++ body_bytes n (columns_pieces ps)) end ∙ append_assoc o.body (body_bytes at (pieces_in little t)) (body_bytes (body_of at lens) (columns_pieces ps)) ∙ ap (λ l. o.body ++ l) (sym (body_behind (pieces_in little t) (columns_pieces ps) at)) in
+    ap (λ n. w.body ++ body_bytes n (columns_pieces ps)) end ∙ append_assoc o.body (body_bytes at (pieces_in little t)) (body_bytes (body_of at lens) (columns_pieces ps)) ∙ ap (λ l. o.body ++ l) (sym (body-append at (pieces_in little t) (columns_pieces ps))) in
     let views : w.views ++ map pos (columns_written ps).views ≡ o.views ++ map pos (columns_written (p ∷ ps)).views =
-    append_assoc o.views (map pos (counts_in t)) (map pos (columns_written ps).views) ∙ ap (λ l. o.views ++ l) (sym (map_behind pos (counts_in t) (columns_written ps).views)) in
+    append_assoc o.views (map pos (counts_in t)) (map pos (columns_written ps).views) ∙ ap (λ l. o.views ++ l) (sym (map-append pos (counts_in t) (columns_written ps).views)) in
     all_added ps w ∙ four nodes buffers body views
   where
     four : {a b : List FieldNode} {c d : List IpcBuffer} {e f : List ℕ} {g h : List ℤ} → a ≡ b → c ≡ d → e ≡ f → g ≡ h → outputs a c e g ≡ outputs b d f h

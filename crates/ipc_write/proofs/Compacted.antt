@@ -6,7 +6,8 @@ use Rattle.std.proofs.lemmas.Bool.{and_left, eq-eqb, cases_Bool}
 use Rattle.std.proofs.Math.Nat.{mul-mod_right}
 use Rattle.arrow_spec.specs.Kinds.{Kind}
 use Rattle.arrow_spec.specs.Cells.{Cell, null}
-use Rattle.arrow_spec.specs.Columns.{from_on, some_row, u32_of}
+use Rattle.arrow_spec.specs.Arrays.{from_on, u32_of}
+use Rattle.arrow_spec.specs.Faults.{some_row}
 use Rattle.arrow_types.specs.Physical.{physical_of}
 use Rattle.arrow_buffers.specs.declared.error.ArrayError.{ArrayError}
 use Rattle.arrow_buffers.specs.declared.error.ArrayError.TheVariants.{DataType, Length, Utf8, View}
@@ -19,7 +20,7 @@ use Rattle.arrow_buffers.proofs.Rows.{none_below, none_from, fine_here, null_her
 use Rattle.arrow_buffers.proofs.ViewParts.{Seen, view_sound, good_row}
 use Rattle.arrow_arrays.specs.Parts.{Parts, nulls, bits, numbers, fixed, binary, text, binary_views, text_views, rows_in, cells_in, fault_in}
 use Rattle.arrow_arrays.proofs.PieceLaws.{Viewed}
-use Rattle.ipc_write.specs.Compaction.{laid_from, laid_anew, compacted, is_compacted, top, top_views, value_at, value_length}
+use Rattle.ipc_write.specs.Compaction.{laid_from, laid_anew, compacted, views_need_compaction, top, top_views, value_at, value_length}
 use Rattle.ipc_write.specs.Laying.{LaidFits, ColumnFits}
 use Rattle.ipc_write.proofs.CompactedRows.{LongValue, RowViewed, length-laid, laid_rows}
 use Rattle.ipc_write.proofs.Laying.{value_size}
@@ -79,7 +80,7 @@ anew is_text s p e fits =
     let seen = view_sound is_text s p e in
     let values = long_value is_text s p e fits in
     let all = view_rows p.views in
-    let size : length (laid_from p 0 0 [] all).views ≡ 16 * all = length-laid p seen values all 0 0 [] (omega arith) in
+    let size : length (laid_from p 0 0 [] all).views ≡ 16 * all = length-laid p (λ row lt v long. (values row lt v long).long) all 0 0 [] (omega arith) in
     let few : 0 + length (laid_from p 0 0 [] all).buffers ≤ 2 ^ 32 = omega (arith, fits.buffers) in
     record {
       size = size;
@@ -153,23 +154,23 @@ never_refused is_text p k views buffers validity e sound lengths laid few kinds 
 
 -- ── columns ──
 
-top_views_cells : (is_text suits : Bool) (p : Views) → view_fault is_text suits p ≡ None → (is_compacted p ≡ true → LaidFits p) → view_cells is_text (top_views p) ≡ view_cells is_text p
+top_views_cells : (is_text suits : Bool) (p : Views) → view_fault is_text suits p ≡ None → (views_need_compaction p ≡ true → LaidFits p) → view_cells is_text (top_views p) ≡ view_cells is_text p
 top_views_cells is_text suits p e fits =
-    elim (cases_Bool (is_compacted p)) [
+    elim (cases_Bool (views_need_compaction p)) [
       | inl c ↦ rw c (compacted_cells is_text suits p e (fits c))
       | inr c ↦ rw c refl
     ]
 
-top_views_sound : (is_text suits : Bool) (p : Views) → view_fault is_text suits p ≡ None → (is_compacted p ≡ true → LaidFits p) → view_fault is_text suits (top_views p) ≡ None
+top_views_sound : (is_text suits : Bool) (p : Views) → view_fault is_text suits p ≡ None → (views_need_compaction p ≡ true → LaidFits p) → view_fault is_text suits (top_views p) ≡ None
 top_views_sound is_text suits p e fits =
-    elim (cases_Bool (is_compacted p)) [
+    elim (cases_Bool (views_need_compaction p)) [
       | inl c ↦ rw c (compacted_sound is_text suits p e (fits c))
       | inr c ↦ rw c e
     ]
 
 kind_kept : (p : Views) → (top_views p).kind ≡ p.kind
 kind_kept p =
-    elim (cases_Bool (is_compacted p)) [
+    elim (cases_Bool (views_need_compaction p)) [
       | inl c ↦ rw c refl
       | inr c ↦ rw c refl
     ]
@@ -196,9 +197,9 @@ top_sound (fixed f) e fits = e
 top_sound (binary p) e fits = e
 top_sound (text p) e fits = e
 
-top_views_rows : (is_text suits : Bool) (p : Views) → view_fault is_text suits p ≡ None → (is_compacted p ≡ true → LaidFits p) → view_rows (top_views p).views ≡ view_rows p.views
+top_views_rows : (is_text suits : Bool) (p : Views) → view_fault is_text suits p ≡ None → (views_need_compaction p ≡ true → LaidFits p) → view_rows (top_views p).views ≡ view_rows p.views
 top_views_rows is_text suits p e fits =
-    elim (cases_Bool (is_compacted p)) [
+    elim (cases_Bool (views_need_compaction p)) [
       | inl c ↦ rw c (anew is_text suits p e (fits c)).rows
       | inr c ↦ rw c refl
     ]

@@ -2,7 +2,7 @@
 use Rattle.std.proofs.Common.{◌≡◌, ℕ, zero, suc, ◌+◌, ◌*◌, ◌^◌, ◌≤◌, ◌<◌, List, [], ◌∷◌, ◌++◌, true, false, length, nat_le, refl, sym, ap, subst, ◌∙◌, arith, inl, inr, append-nil, append_assoc, length-append}
 use Rattle.std.proofs.lemmas.Bool.{le-leb, lt-leb, cases_lt, cases_Bool}
 use Rattle.arrow_spec.specs.Layout.{zeros}
-use Rattle.arrow_spec.specs.Columns.{u32_of}
+use Rattle.arrow_spec.specs.Arrays.{u32_of}
 use Rattle.arrow_buffers.specs.Rows.{is_valid}
 use Rattle.arrow_buffers.specs.Views.{Views, view_rows, view_at}
 use Rattle.arrow_buffers.proofs.ViewParts.{Seen, good_row}
@@ -11,11 +11,11 @@ use Rattle.ipc_write.specs.Compaction.{Laid, view_before, buffer_before, laid_fr
 use Rattle.ipc_write.proofs.CompactedViews.{short_viewed, value_viewed, length-long_view, length-view, first_view, next_view}
 
 -- what holds of each way to lay a row holds of the row that is laid
-by_row : (P : Laid → Type 0) (p : Views) (row number : ℕ) (begun : List ℕ) (n : ℕ)
+pub by_row : (P : Laid → Type 0) (p : Views) (row number : ℕ) (begun : List ℕ) (n : ℕ)
     → (is_valid p.validity row ≡ false → P (view_before (zeros 16) (laid_from p (suc row) number begun n)))
     → (is_valid p.validity row ≡ true → u32_of (view_at p.views row) 0 ≤ 12 → P (view_before (view_at p.views row) (laid_from p (suc row) number begun n)))
     → (is_valid p.validity row ≡ true → 12 < u32_of (view_at p.views row) 0 → length begun + u32_of (view_at p.views row) 0 ≤ buffer_limit → P (view_before (long_view (value_at p row) number (length begun)) (laid_from p (suc row) number (begun ++ value_at p row) n)))
-    → (is_valid p.validity row ≡ true → 12 < u32_of (view_at p.views row) 0 → P (buffer_before begun (view_before (long_view (value_at p row) (suc number) 0) (laid_from p (suc row) (suc number) (value_at p row) n))))
+    → (is_valid p.validity row ≡ true → 12 < u32_of (view_at p.views row) 0 → buffer_limit < length begun + u32_of (view_at p.views row) 0 → P (buffer_before begun (view_before (long_view (value_at p row) (suc number) 0) (laid_from p (suc row) (suc number) (value_at p row) n))))
     → P (laid_from p row number begun (suc n))
 by_row P p row number begun n null short here new =
     let size = u32_of (view_at p.views row) 0 in
@@ -34,7 +34,7 @@ by_row P p row number begun n null short here new =
                       rw (v, t, f) (here v long fits)
                   | inl over ↦
                       let f : nat_le (length begun + size) buffer_limit ≡ false = lt-leb _ _ over in
-                      rw (v, t, f) (new v long)
+                      rw (v, t, f) (new v long over)
                 ]
           ]
     ]
@@ -65,7 +65,7 @@ begins p (suc n) row number begun h =
     (λ v. begins p n (suc row) number begun h)
     (λ v few. begins p n (suc row) number begun h)
     (λ v long fits. begins_less begun (value_at p row) _ (begins p n (suc row) number (begun ++ value_at p row) (omega (arith, length-append begun (value_at p row)))))
-    (λ v long. record { more = []; others = (laid_from p (suc row) (suc number) (value_at p row) n).buffers; whole = ap (λ b. b ∷ (laid_from p (suc row) (suc number) (value_at p row) n).buffers) (sym (append-nil begun)) })
+    (λ v long over. record { more = []; others = (laid_from p (suc row) (suc number) (value_at p row) n).buffers; whole = ap (λ b. b ∷ (laid_from p (suc row) (suc number) (value_at p row) n).buffers) (sym (append-nil begun)) })
 
 -- ── the views ──
 
@@ -86,7 +86,7 @@ rows_before p buffers view rest row n e first others (suc k) h =
     subst (λ r. RowViewed p buffers (view_at (view ++ rest) (suc k)) r) same (subst (λ w. RowViewed p buffers w (suc row + k)) (sym (next_view view rest k e)) (others k (omega arith)))
 
 -- premises
-module _ (p : Views) (seen : Seen p) (values : (row : ℕ) → row < view_rows p.views → is_valid p.validity row ≡ true → 12 < u32_of (view_at p.views row) 0 → LongValue p row) where
+module _ (p : Views) (are_long : (row : ℕ) → row < view_rows p.views → is_valid p.validity row ≡ true → 12 < u32_of (view_at p.views row) 0 → 12 < length (value_at p row)) where
   -- as many views as rows
   pub length-laid : (n row number : ℕ) (begun : List ℕ) → row + n ≤ view_rows p.views → length (laid_from p row number begun n).views ≡ 16 * n
   length-laid zero row number begun h = omega arith
@@ -94,9 +94,11 @@ module _ (p : Views) (seen : Seen p) (values : (row : ℕ) → row < view_rows p
       by_row (λ l. length l.views ≡ 16 * suc n) p row number begun n
       (λ v. length-before (zeros 16) (laid_from p (suc row) number begun n).views n refl (length-laid n (suc row) number begun (omega arith)))
       (λ v few. length-before (view_at p.views row) (laid_from p (suc row) number begun n).views n (length-view p row (omega arith)) (length-laid n (suc row) number begun (omega arith)))
-      (λ v long fits. length-before (long_view (value_at p row) number (length begun)) (laid_from p (suc row) number (begun ++ value_at p row) n).views n (length-long_view (value_at p row) number (length begun) (values row (omega arith) v long).long) (length-laid n (suc row) number (begun ++ value_at p row) (omega arith)))
-      (λ v long. length-before (long_view (value_at p row) (suc number) 0) (laid_from p (suc row) (suc number) (value_at p row) n).views n (length-long_view (value_at p row) (suc number) 0 (values row (omega arith) v long).long) (length-laid n (suc row) (suc number) (value_at p row) (omega arith)))
+      (λ v long fits. length-before (long_view (value_at p row) number (length begun)) (laid_from p (suc row) number (begun ++ value_at p row) n).views n (length-long_view (value_at p row) number (length begun) (are_long row (omega arith) v long)) (length-laid n (suc row) number (begun ++ value_at p row) (omega arith)))
+      (λ v long over. length-before (long_view (value_at p row) (suc number) 0) (laid_from p (suc row) (suc number) (value_at p row) n).views n (length-long_view (value_at p row) (suc number) 0 (are_long row (omega arith) v long)) (length-laid n (suc row) (suc number) (value_at p row) (omega arith)))
 
+-- premises
+module _ (p : Views) (seen : Seen p) (values : (row : ℕ) → row < view_rows p.views → is_valid p.validity row ≡ true → 12 < u32_of (view_at p.views row) 0 → LongValue p row) where
   -- the value that is laid behind what was begun
   here_viewed : (front buffers : List (List ℕ)) (begun : List ℕ) (row number : ℕ) → length front ≡ number → LongValue p row → length begun < 2 ^ 32 → number + length buffers ≤ 2 ^ 32 → Begins (begun ++ value_at p row) buffers
       → Viewed (front ++ buffers) (long_view (value_at p row) number (length begun)) (value_at p row)
@@ -128,7 +130,7 @@ module _ (p : Views) (seen : Seen p) (values : (row : ℕ) → row < view_rows p
       rows_before p (front ++ rest.buffers) (long_view value number (length begun)) rest.views row n (length-long_view value number (length begun) l.long)
       (λ w. here_viewed front rest.buffers begun row number e l (omega arith) few first)
       (laid_rows n (suc row) number (begun ++ value) front e (omega arith) few))
-      (λ v long few.
+      (λ v long over few.
       let value = value_at p row in
       let rest = laid_from p (suc row) (suc number) value n in
       let l = values row (omega arith) v long in

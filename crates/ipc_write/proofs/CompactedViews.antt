@@ -5,7 +5,7 @@ use Rattle.std.specs.Str.{bytes_eq}
 use Rattle.std.proofs.lemmas.Slice.Eq.{bytes_eq-Decides}
 use Rattle.std.proofs.Math.Seq.{take-append_seam, drop-append-add}
 use Rattle.arrow_spec.specs.Flat.{little}
-use Rattle.arrow_spec.specs.Columns.{u32_of, or_0}
+use Rattle.arrow_spec.specs.Arrays.{u32_of, or_0}
 use Rattle.arrow_types.specs.NumberLaws.{unsigned_agrees, unsigned_back}
 use Rattle.arrow_buffers.specs.Rows.{part}
 use Rattle.arrow_buffers.specs.Views.{Views, view_rows, view_at, view_bytes, buffer_at, long_bytes, is_good_view}

@@ -44,15 +44,15 @@ keeps_header rows nodes buffers counts =
     let few : slot_count rest ≤ 4 = omega (arith, count_counts counts) in
     (omega (arith, count_zero w64 (pos rows) rest, few), keeps_zero w64 (pos rows) rest (tt, (tt, keeps_counts counts)))
 
-pub keeps_metadata : (n h : Node) (rows body : ℕ) (nodes : List FieldNode) (buffers : List IpcBuffer) (counts : List ℤ) → h ≡ header_node rows nodes buffers counts → n ≡ table (message_slots 3 h body) → KeepsSlotLimit n
+pub keeps_metadata : (n h : Node) (rows body : ℕ) (nodes : List FieldNode) (buffers : List IpcBuffer) (counts : List ℤ) → h ≡ header_node rows nodes buffers counts → n ≡ table (message_slots 3 h body []) → KeepsSlotLimit n
 keeps_metadata n h rows body nodes buffers counts hh hn =
     let header : KeepsSlotLimit h = subst KeepsSlotLimit (sym hh) (keeps_header rows nodes buffers counts) in
     let last = unless_zero w64 (pos body) no_more in
     let few : slot_count last ≤ 2 = count_zero w64 (pos body) no_more in
     subst KeepsSlotLimit (sym hn) (omega (arith, few), (header, keeps_zero w64 (pos body) no_more tt))
 
-pub same_metadata : (n h : Node) (rows body : ℕ) (nodes : List FieldNode) (buffers : List IpcBuffer) (counts : List ℤ) → h ≡ header_node rows nodes buffers counts → n ≡ table (message_slots 3 h body) → n ≡ metadata_node rows nodes buffers counts body
-same_metadata n h rows body nodes buffers counts hh hn = hn ∙ ap (λ k. table (message_slots 3 k body)) hh
+pub same_metadata : (n h : Node) (rows body : ℕ) (nodes : List FieldNode) (buffers : List IpcBuffer) (counts : List ℤ) → h ≡ header_node rows nodes buffers counts → n ≡ table (message_slots 3 h body []) → n ≡ metadata_node rows nodes buffers counts body
+same_metadata n h rows body nodes buffers counts hh hn = hn ∙ ap (λ k. table (message_slots 3 k body [])) hh
 
 -- ── many nodes or buffers ──
 
@@ -87,10 +87,10 @@ header_end rows nodes buffers counts c =
     let second : length (flat_map buffer_bytes buffers) ≤ two = omega arith in
     (omega (arith, whole, last, later, first, length-nodes nodes), omega (arith, whole, last, second, length-buffers buffers))
 
-message_end : (body : ℕ) (h : Node) → (c : ℕ) × (end_of h c ≤ size (table (message_slots 3 h body)))
+message_end : (body : ℕ) (h : Node) → (c : ℕ) × (end_of h c ≤ size (table (message_slots 3 h body [])))
 unfolding size
 message_end body h =
-    let s = message_slots 3 h body in
+    let s = message_slots 3 h body [] in
     let e = inline_end s (table_place s 4 + 4) in
     let whole : end_of (table s) 4 ≡ end_of h e = children_zero w64 (pos body) no_more (end_of h e) in
     (e, omega (arith, whole))

@@ -1,29 +1,29 @@
 -- How many bytes the buffers of arrays take.
-use Rattle.std.proofs.Common.{◌≡◌, ℕ, ◌+◌, ◌-◌, ◌*◌, ◌^◌, ◌≤◌, ◌<◌, List, [], ◌∷◌, Bool, true, false, Option, Some, None, length, drop, map, refl, sym, ap, ◌∙◌, arith, length-append, length-take, length-drop, ℤ, true≢false, subst, get_or}
+use Rattle.std.proofs.Common.{◌≡◌, ℕ, ◌+◌, ◌-◌, ◌*◌, ◌^◌, ◌≤◌, ◌<◌, List, [], ◌∷◌, Bool, true, false, Option, Some, None, length, drop, map, refl, sym, ap, ◌∙◌, arith, length-append, length-take, length-drop, ℤ, subst, get_or}
 use Rattle.std.specs.Prelude.{if◌then◌else◌}
 use Rattle.std.specs.List.{flat_map}
 use Rattle.std.specs.Int.{byte_len, div_ceil}
 use Rattle.std.proofs.lemmas.List.{length-map, drop_more, drop_all}
 use Rattle.arrow_spec.specs.Flat.{little}
-use Rattle.arrow_spec.specs.Kinds.{Kind, binary, utf8, small, large, extension, «list», Offsets}
+use Rattle.arrow_spec.specs.Kinds.{Kind, Offsets}
 use Rattle.arrow_spec.specs.Counts.{magnitude}
-use Rattle.arrow_spec.specs.Columns.{offset_width}
-use Rattle.arrow_spec.specs.Framing.{validity_bytes}
-use Rattle.arrow_spec.specs.Framing.{packed}
+use Rattle.arrow_spec.specs.Arrays.{offset_width}
+use Rattle.arrow_spec.specs.Framing.{packed, validity_bytes}
 use Rattle.arrow_spec.proofs.PackedBits.{length-packed}
 use Rattle.arrow_spec.proofs.Bodies.{body_above}
 use Rattle.arrow_spec.specs.Sent.{body_of}
-use Rattle.arrow_types.specs.Numbers.{to_bytes}
+use Rattle.arrow_types.specs.Numbers.{to_bytes, offsets_by}
 use Rattle.arrow_types.specs.NumberLaws.{unsigned_width}
 use Rattle.arrow_types.specs.Physical.{physical_of}
 use Rattle.arrow_types.specs.declared.physical.PhysicalType.{PhysicalType}
 use Rattle.arrow_types.specs.declared.physical.PhysicalType.TheVariants as physical
 use Rattle.arrow_buffers.specs.Layouts.{is_binary, is_text}
-use Rattle.arrow_buffers.specs.Variable.{Variable, place_at, variable_rows, are_offsets, binary_fault, text_fault}
+use Rattle.arrow_buffers.specs.Variable.{Variable, place_at, variable_rows, are_offsets}
 use Rattle.arrow_buffers.proofs.Rising.{some_offset, offset_risen}
 use Rattle.arrow_spec.specs.Layout.{up_to}
 use Rattle.ipc_write.specs.Ends.{IsPlace}
-use Rattle.array_writer.specs.Pieces.{layout_in_order, offsets_of, rebased, offset_bytes, bytes_between, variable_pieces}
+use Rattle.array_writer.specs.Pieces.{layout_in_order, width_of_kind, rebased, offset_bytes, bytes_between, variable_pieces}
+use Rattle.array_writer.proofs.RoundTripFit.{binary_offsets, text_offsets}
 
 pub length_of_bits : (v : Option (List Bool)) (bits : List Bool) (n : ℕ) → v ≡ Some bits → n ≡ div_ceil (length bits) 8 → n ≡ length (validity_bytes v)
 length_of_bits v bits n hv hn = hn ∙ rw hv (omega (arith, length-packed bits))
@@ -45,57 +45,15 @@ length-numbers l write n (x ∷ xs) h =
 
 -- ── offsets ──
 
-binary_small : (k : Kind) → is_binary false (physical_of k) ≡ true → offsets_of k ≡ small
-binary_small (binary small) e = refl
-binary_small (binary large) e = absurd (true≢false (sym e))
-binary_small (utf8 small) e = refl
-binary_small (utf8 large) e = absurd (true≢false (sym e))
-binary_small (extension name metadata k) e = binary_small k e
-binary_small k e = refl
+wide : (is_large : Bool) (o : Offsets) → o ≡ offsets_by is_large → byte_len (offset_width o) ≡ (if is_large then 8 else 4)
+wide true o e = ap (λ w. byte_len (offset_width w)) e
+wide false o e = ap (λ w. byte_len (offset_width w)) e
 
-binary_large : (k : Kind) → is_binary true (physical_of k) ≡ true → offsets_of k ≡ large
-binary_large (binary small) e = absurd (true≢false (sym e))
-binary_large (binary large) e = refl
-binary_large (utf8 small) e = absurd (true≢false (sym e))
-binary_large (utf8 large) e = absurd (true≢false (sym e))
-binary_large («list» small fs) e = absurd (true≢false (sym e))
-binary_large («list» large fs) e = absurd (true≢false (sym e))
-binary_large (extension name metadata k) e = binary_large k e
-binary_large k e = absurd (true≢false (sym e))
+pub binary_width : (is_large : Bool) (k : Kind) → is_binary is_large (physical_of k) ≡ true → byte_len (offset_width (width_of_kind k)) ≡ (if is_large then 8 else 4)
+binary_width is_large k e = wide is_large (width_of_kind k) (binary_offsets is_large k e)
 
-text_small : (k : Kind) → is_text false (physical_of k) ≡ true → offsets_of k ≡ small
-text_small (binary small) e = refl
-text_small (binary large) e = absurd (true≢false (sym e))
-text_small (utf8 small) e = refl
-text_small (utf8 large) e = absurd (true≢false (sym e))
-text_small (extension name metadata k) e = text_small k e
-text_small k e = refl
-
-text_large : (k : Kind) → is_text true (physical_of k) ≡ true → offsets_of k ≡ large
-text_large (binary small) e = absurd (true≢false (sym e))
-text_large (binary large) e = absurd (true≢false (sym e))
-text_large (utf8 small) e = absurd (true≢false (sym e))
-text_large (utf8 large) e = refl
-text_large («list» small fs) e = absurd (true≢false (sym e))
-text_large («list» large fs) e = absurd (true≢false (sym e))
-text_large (extension name metadata k) e = text_large k e
-text_large k e = absurd (true≢false (sym e))
-
-pub binary_width : (wide : Bool) (k : Kind) → is_binary wide (physical_of k) ≡ true → byte_len (offset_width (offsets_of k)) ≡ (if wide then 8 else 4)
-binary_width true k e = ap (λ o. byte_len (offset_width o)) (binary_large k e)
-binary_width false k e = ap (λ o. byte_len (offset_width o)) (binary_small k e)
-
-pub text_width : (wide : Bool) (k : Kind) → is_text wide (physical_of k) ≡ true → byte_len (offset_width (offsets_of k)) ≡ (if wide then 8 else 4)
-text_width true k e = ap (λ o. byte_len (offset_width o)) (text_large k e)
-text_width false k e = ap (λ o. byte_len (offset_width o)) (text_small k e)
-
-pub binary_suits : (s : Bool) (p : Variable) → binary_fault s p ≡ None → s ≡ true
-binary_suits true p e = refl
-binary_suits false p e = cc
-
-pub text_suits : (s : Bool) (p : Variable) → text_fault s p ≡ None → s ≡ true
-text_suits true p e = refl
-text_suits false p e = cc
+pub text_width : (is_large : Bool) (k : Kind) → is_text is_large (physical_of k) ≡ true → byte_len (offset_width (width_of_kind k)) ≡ (if is_large then 8 else 4)
+text_width is_large k e = wide is_large (width_of_kind k) (text_offsets is_large k e)
 
 length-written : (o : Offsets) (ns : List ℕ) → length (flat_map (λ n. to_bytes little (offset_width o) n) ns) ≡ byte_len (offset_width o) * length ns
 length-written o [] = omega arith
@@ -123,14 +81,14 @@ offsets_same offsets p limit ho hl h = ap (λ os. are_offsets os limit) ho ∙ a
 pub two_same : (r : Option ℕ) (at a b : ℕ) (v w : Option (List Bool)) (xs : List ℕ) → a ≡ length (validity_bytes v) → v ≡ w → b ≡ length xs → IsPlace r (body_of at (a ∷ b ∷ [])) → IsPlace r (body_of at (length (validity_bytes w) ∷ length xs ∷ []))
 two_same r at a b v w xs ha hv hb h = subst (λ ns. IsPlace r (body_of at ns)) (ap (λ x. x ∷ b ∷ []) (ha ∙ ap (λ u. length (validity_bytes u)) hv) ∙ ap (λ y. length (validity_bytes w) ∷ y ∷ []) hb) h
 
-pub variable_same : (r : Option ℕ) (at width wide : ℕ) (v : Option (List Bool)) (offsets : List ℤ) (count : ℕ) (p : Variable) → v ≡ p.validity → offsets ≡ p.offsets → length offsets ≡ count → width ≡ wide → byte_len (offset_width (offsets_of p.kind)) ≡ wide → are_offsets p.offsets (length p.values) ≡ true
+pub variable_same : (r : Option ℕ) (at width wide : ℕ) (v : Option (List Bool)) (offsets : List ℤ) (count : ℕ) (p : Variable) → v ≡ p.validity → offsets ≡ p.offsets → length offsets ≡ count → width ≡ wide → byte_len (offset_width (width_of_kind p.kind)) ≡ wide → are_offsets p.offsets (length p.values) ≡ true
     → IsPlace r (body_of at (length (validity_bytes v) ∷ width * count ∷ (place_at offsets (variable_rows offsets) - place_at offsets 0) ∷ []))
     → IsPlace r (body_of at (map length (variable_pieces little p)))
 variable_same r at width wide v offsets count p hv ho hn hw hk rise h =
-    let middle : width * count ≡ length (offset_bytes little (offsets_of p.kind) p.offsets) = ap (λ w. w * count) (hw ∙ sym hk) ∙ ap (λ n. byte_len (offset_width (offsets_of p.kind)) * n) (sym hn ∙ ap length ho) ∙ sym (length-offsets (offsets_of p.kind) p.offsets) in
+    let middle : width * count ≡ length (offset_bytes little (width_of_kind p.kind) p.offsets) = ap (λ w. w * count) (hw ∙ sym hk) ∙ ap (λ n. byte_len (offset_width (width_of_kind p.kind)) * n) (sym hn ∙ ap length ho) ∙ sym (length-offsets (width_of_kind p.kind) p.offsets) in
     let last : place_at offsets (variable_rows offsets) - place_at offsets 0 ≡ length (bytes_between p.offsets p.values) = ap (λ os. place_at os (variable_rows os) - place_at os 0) ho ∙ sym (length-between p.offsets p.values rise) in
     subst (λ ns. IsPlace r (body_of at ns)) (ap (λ x. length (validity_bytes x) ∷ width * count ∷ (place_at offsets (variable_rows offsets) - place_at offsets 0) ∷ []) hv ∙ ap (λ x. length (validity_bytes p.validity) ∷ x ∷ (place_at offsets (variable_rows offsets) - place_at offsets 0) ∷ []) middle
-    ∙ ap (λ x. length (validity_bytes p.validity) ∷ length (offset_bytes little (offsets_of p.kind) p.offsets) ∷ x ∷ []) last) h
+    ∙ ap (λ x. length (validity_bytes p.validity) ∷ length (offset_bytes little (width_of_kind p.kind) p.offsets) ∷ x ∷ []) last) h
 
 pub no_place : (r : Option ℕ) (n : ℕ) → r ≡ None → 2 ^ 63 ≤ n → IsPlace r n
 no_place r n e h = subst (λ x. IsPlace x n) (sym e) h

@@ -1,4 +1,4 @@
-mod Laying
+pub mod Laying
 pub mod Lengths
 mod Putting
 mod Headers

@@ -4,7 +4,7 @@ use Rattle.std.specs.Prelude.{IfOk}
 use Rattle.std.specs.List.{AllByRecursion}
 use Rattle.std.proofs.lemmas.List.{drop_all}
 use Rattle.arrow_spec.specs.Flat.{little}
-use Rattle.arrow_spec.specs.Columns.{Dictionaries}
+use Rattle.arrow_spec.specs.Arrays.{Dictionaries}
 use Rattle.arrow_arrays.specs.Batches.{Batch, have_rows}
 use Rattle.arrow_arrays.specs.Parts.{Parts, rows_in, cells_in, fault_in}
 use Rattle.arrow_arrays.specs.PartsOf.{parts_of, all_parts_of}

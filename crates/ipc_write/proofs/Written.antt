@@ -40,7 +40,7 @@ same_body b = ap (body_bytes 0) (same_pieces b.arrays)
 pub same_message : (b : Batch) → batch_message b ≡ written_batch (written_batch_of b)
 unfolding batch_message
 same_message b =
-    ap (λ w. message 3 (batch_node b.height w) (length (batch_body b))) (same_written b.arrays) ∙ ap (λ xs. message 3 (batch_node b.height (written_of (written_batch_of b).columns)) (length xs)) (same_body b)
+    ap (λ w. message 3 (batch_node b.height w) (length (batch_body b)) []) (same_written b.arrays) ∙ ap (λ xs. message 3 (batch_node b.height (written_of (written_batch_of b).columns)) (length xs) []) (same_body b)
 
 aligned_body : (b : Batch) → length (batch_body b) % 64 ≡ 0
 aligned_body b =
@@ -48,7 +48,7 @@ aligned_body b =
     ap (λ n. n % 64) (sym counted ∙ length-body (columns_pieces b.arrays) 0) ∙ aligned_end (map length (columns_pieces b.arrays)) 0 refl
 
 -- a body that ends at a multiple of 64 is followed by no zeros
-framed_whole : (n : Node) (body : List ℕ) → length body % 64 ≡ 0 → message_frame (layout n) body ≡ message_bytes n body
+pub framed_whole : (n : Node) (body : List ℕ) → length body % 64 ≡ 0 → message_frame (layout n) body ≡ message_bytes n body
 unfolding message_frame message_bytes
 framed_whole n body h =
     let none : up_to 64 (length body) - length body ≡ 0 = omega arith in
@@ -56,8 +56,8 @@ framed_whole n body h =
     ap (λ k. prefixed (up_to 8 k) (layout n ++ zeros (up_to 8 k - k)) ++ body ++ zeros (up_to 64 (length body) - length body)) (length-layout n) ∙ ap (λ k. front ++ body ++ zeros k) none ∙ append-nil (front ++ body)
 
 -- what is framed of a batch is the batch as it is written
-pub framed_is_batch : (b : Batch) → is_within 2147483647 b ≡ true → message_frame (layout (batch_message b).node) (batch_body b) ≡ batch_bytes (written_batch_of b)
-framed_is_batch b h = framed_whole (batch_message b).node (batch_body b) (aligned_body b) ∙ ap (λ x. message_bytes x.node (batch_body b)) (same_message b) ∙ ap (message_bytes (written_batch (written_batch_of b)).node) (same_body b)
+pub framed_is_batch : (b : Batch) → message_frame (layout (batch_message b).node) (batch_body b) ≡ batch_bytes (written_batch_of b)
+framed_is_batch b = framed_whole (batch_message b).node (batch_body b) (aligned_body b) ∙ ap (λ x. message_bytes x.node (batch_body b)) (same_message b) ∙ ap (message_bytes (written_batch (written_batch_of b)).node) (same_body b)
 
 -- ── the limits ──
 

@@ -1,5 +1,5 @@
 -- The message of a record batch. (Arrow Columnar Format, "RecordBatch message".)
-use Rattle.std.specs.Prelude.{ℕ, List, map, min, length, Bool, nat_le, ◌&&◌}
+use Rattle.std.specs.Prelude.{ℕ, List, [], map, min, length, Bool, nat_le, ◌&&◌}
 use Rattle.std.specs.List.{flat_map}
 use Rattle.arrow_spec.specs.Flat.{little}
 use Rattle.arrow_spec.specs.Layout.{up_to, size}
@@ -27,15 +27,16 @@ batch_body b = body_bytes 0 (columns_pieces b.arrays)
 
 -- the message of a batch
 unfoldable pub batch_message : Batch → SentMessage
-batch_message b = message 3 (batch_node b.height (columns_written b.arrays)) (length (batch_body b))
+batch_message b = message 3 (batch_node b.height (columns_written b.arrays)) (length (batch_body b)) []
 
 -- its padded metadata is within a limit, and its rows and its body are below 2^63
 unfoldable pub is_within : ℕ → Batch → Bool
-is_within limit b = nat_le (up_to 8 (size (batch_message b).node)) (min limit 2147483647) && nat_le (batch_message b).body 9223372036854775807 && nat_le b.height 9223372036854775807
+is_within limit b = nat_le (up_to 8 (size (batch_message b).node)) (min limit 2147483647) && nat_le (batch_message b).body 9223372036854775807
+    && nat_le b.height 9223372036854775807
 
 -- a top column as it is written, and a batch of them
 abbrev pub top_column : Parts → WrittenColumn
 top_column p = column_in little (top p)
 
 abbrev pub written_batch_of : Batch → WrittenBatch
-written_batch_of b = record { rows = b.height; columns = map top_column b.arrays }
+written_batch_of b = record { rows = b.height; columns = map top_column b.arrays; custom = [] }

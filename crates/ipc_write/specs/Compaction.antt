@@ -1,7 +1,7 @@
 -- A top view column is laid anew where much of its buffers is unused. (Arrow Columnar Format, "Variable-size Binary View Layout"; what a writer may choose is chosen here.)
 use Rattle.std.specs.Prelude.{ℕ, zero, suc, ◌+◌, ◌-◌, min, List, [], ◌∷◌, ◌++◌, length, take, Bool, nat_le, not, if◌then◌else◌, sum_by}
 use Rattle.arrow_spec.specs.Layout.{u32, zeros}
-use Rattle.arrow_spec.specs.Columns.{u32_of}
+use Rattle.arrow_spec.specs.Arrays.{u32_of}
 use Rattle.arrow_buffers.specs.Rows.{is_valid}
 use Rattle.arrow_buffers.specs.Views.{Views, view_rows, view_at, view_bytes}
 use Rattle.arrow_arrays.specs.Parts.{Parts, binary_views, text_views}
@@ -18,8 +18,8 @@ value_lengths p zero = 0
 value_lengths p (suc n) = value_lengths p n + value_length p n
 
 -- at least min(v, 1024) bytes of the buffers are unused, where v is the sum of the lengths
-unfoldable pub is_compacted : Views → Bool
-is_compacted p = nat_le (min (value_lengths p (view_rows p.views)) 1024) (sum_by length p.buffers - value_lengths p (view_rows p.views))
+unfoldable pub views_need_compaction : Views → Bool
+views_need_compaction p = nat_le (min (value_lengths p (view_rows p.views)) 1024) (sum_by length p.buffers - value_lengths p (view_rows p.views))
 
 -- ── how ──
 
@@ -76,7 +76,7 @@ compacted p = record { kind = p.kind; views = (laid_anew p).views; buffers = (la
 
 -- where that is asked for
 abbrev pub top_views : Views → Views
-top_views p = if is_compacted p then compacted p else p
+top_views p = if views_need_compaction p then compacted p else p
 
 -- a top column
 abbrev pub top : Parts → Parts

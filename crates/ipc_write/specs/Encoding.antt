@@ -32,7 +32,8 @@ added (p ∷ ps) before = added ps (written_behind little (top p) before)
 
 -- columns alone
 abbrev pub all_outputs : List Parts → Outputs
-all_outputs ps = outputs (columns_written ps).nodes (placed 0 (columns_written ps).lengths) (body_bytes 0 (columns_pieces ps)) (map pos (columns_written ps).views)
+all_outputs ps = outputs (columns_written ps).nodes (placed 0 (columns_written ps).lengths) (body_bytes 0 (columns_pieces ps))
+    (map pos (columns_written ps).views)
 
 -- an array has been added, or its end passes 2^63 - 1, or memory was wanted
 abbrev pub Adds : Result (Unit {0}) IpcError → Parts → Outputs → Outputs → Type 0

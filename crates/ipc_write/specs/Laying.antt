@@ -2,7 +2,7 @@
 use Rattle.std.specs.Prelude.{◌≡◌, ℕ, ◌<◌, ◌≤◌, ◌^◌, List, ◌++◌, length, true, false, Option, Some, None}
 use Rattle.arrow_buffers.specs.Views.{Views, view_rows}
 use Rattle.arrow_arrays.specs.Parts.{Parts, binary_views, text_views}
-use Rattle.ipc_write.specs.Compaction.{Laid, laid_from, laid_anew, value_length, is_compacted, compacted}
+use Rattle.ipc_write.specs.Compaction.{Laid, laid_from, laid_anew, value_length, views_need_compaction, compacted}
 
 -- views, buffers and a buffer that is begun, and behind them n rows from one on
 abbrev pub all_laid : Views → ℕ → ℕ → List ℕ → List (List ℕ) → List ℕ → Laid
@@ -12,8 +12,8 @@ all_laid p row n views buffers begun =
 
 -- there is an array that is laid anew exactly where that is asked for
 abbrev pub IsCompact : Views → Option Views → Type 0
-IsCompact p None = is_compacted p ≡ false
-IsCompact p (Some q) = (is_compacted p ≡ true) × (q ≡ compacted p)
+IsCompact p None = views_need_compaction p ≡ false
+IsCompact p (Some q) = (views_need_compaction p ≡ true) × (q ≡ compacted p)
 
 -- the lengths of the values and the numbers of the buffers that are laid are numbers of 32 bits
 pub record LaidFits (p : Views) : Type 0 where
@@ -22,6 +22,6 @@ pub record LaidFits (p : Views) : Type 0 where
 
 -- the same of the views of a column that are laid anew
 abbrev pub ColumnFits : Parts → Type 0
-ColumnFits (binary_views p) = is_compacted p ≡ true → LaidFits p
-ColumnFits (text_views p) = is_compacted p ≡ true → LaidFits p
+ColumnFits (binary_views p) = views_need_compaction p ≡ true → LaidFits p
+ColumnFits (text_views p) = views_need_compaction p ≡ true → LaidFits p
 ColumnFits p = Unit

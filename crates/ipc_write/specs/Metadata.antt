@@ -19,11 +19,12 @@ counts_slot (z ∷ zs) = child (numbers64 (z ∷ zs)) no_more
 
 -- the table of a record batch
 abbrev pub header_node : ℕ → List FieldNode → List IpcBuffer → List ℤ → Node
-header_node rows nodes buffers counts = table (unless_zero w64 (pos rows) (child (nodes_node nodes) (child (buffers_node buffers) (absent (counts_slot counts)))))
+header_node rows nodes buffers counts =
+    table (unless_zero w64 (pos rows) (child (nodes_node nodes) (child (buffers_node buffers) (absent (counts_slot counts)))))
 
 -- its message
 abbrev pub metadata_node : ℕ → List FieldNode → List IpcBuffer → List ℤ → ℕ → Node
-metadata_node rows nodes buffers counts body = table (message_slots 3 (header_node rows nodes buffers counts) body)
+metadata_node rows nodes buffers counts body = table (message_slots 3 (header_node rows nodes buffers counts) body [])
 
 -- the flatbuffer of a node, or it passes 2^31 - 1 bytes
 abbrev pub Builds : Result (Vec ℕ Global) BuildError → Node → Type 0

@@ -13,7 +13,8 @@ use Rattle.ipc_write.specs.declared.options.WriteOptions.{WriteOptions}
 
 -- the bytes of a message: mark and length, the metadata with zeros up to a multiple of 8, and the body with zeros up to a multiple of 64
 unfoldable pub message_frame : List ℕ → List ℕ → List ℕ
-message_frame metadata body = prefixed (up_to 8 (length metadata)) (metadata ++ zeros (up_to 8 (length metadata) - length metadata)) ++ body ++ zeros (up_to 64 (length body) - length body)
+message_frame metadata body = prefixed (up_to 8 (length metadata)) (metadata ++ zeros (up_to 8 (length metadata) - length metadata)) ++ body
+    ++ zeros (up_to 64 (length body) - length body)
 
 -- the mark and a length
 abbrev pub continuation : ℤ → List ℕ
@@ -26,7 +27,8 @@ pub record Same (old new : EncodedData) : Type 0 where
 
 -- a batch has been encoded, or is refused, and then what was there is left
 abbrev pub Encodes : Result (Unit {0}) IpcError → WriteOptions → Batch → EncodedData → EncodedData → Type 0
-Encodes (Ok done) options b old new = (options.compression ≡ None) × (is_within options.metadata_limit b ≡ true) × (new.ipc_message.items ≡ layout (batch_message b).node) × (new.arrow_data.items ≡ batch_body b)
+Encodes (Ok done) options b old new = (options.compression ≡ None) × (is_within options.metadata_limit b ≡ true)
+    × (new.ipc_message.items ≡ layout (batch_message b).node) × (new.arrow_data.items ≡ batch_body b)
 Encodes (Err (errors.Unsupported features.Compression)) options b old new = IsSome options.compression × Same old new
 Encodes (Err errors.TooLarge) options b old new = (options.compression ≡ None) × (is_within options.metadata_limit b ≡ false) × Same old new
 Encodes (Err errors.Memory) options b old new = (options.compression ≡ None) × Same old new

@@ -16,7 +16,8 @@ pub record Moved : Type 0 where
 
 -- these
 abbrev pub moved : Option (List ℕ) → Option (List ℕ) → ℕ → ℕ → ℕ → ℕ → Moved
-moved old new faults faults_now wants wants_now = record { old = old; new = new; faults = faults; faults_now = faults_now; wants = wants; wants_now = wants_now }
+moved old new faults faults_now wants wants_now =
+    record { old = old; new = new; faults = faults; faults_now = faults_now; wants = wants; wants_now = wants_now }
 
 -- no count falls
 pub record NoneFalls (m : Moved) : Type 0 where

@@ -47,7 +47,12 @@ abbrev pub whole_to : Whole → Gv
 whole_to w = gcons (gcons (gnum w.rows) (keyed_to w.schema)) (gcons (contents_to w.columns) (optional_to w.fields))
 
 abbrev pub whole_from : Gv → Whole
-whole_from g = record { rows = num (head (head g)); schema = keyed_from (tail (head g)); columns = contents_from (head (tail g)); fields = optional_from (tail (tail g)) }
+whole_from g = record {
+  rows = num (head (head g));
+  schema = keyed_from (tail (head g));
+  columns = contents_from (head (tail g));
+  fields = optional_from (tail (tail g));
+}
 
 pub whole_from-whole_to : (w : Whole) → whole_from (whole_to w) ≡ w
 whole_from-whole_to w = rw (keyed_from-keyed_to w.schema, contents_from-contents_to w.columns, optional_from-optional_to w.fields) refl

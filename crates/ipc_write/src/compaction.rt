@@ -1,11 +1,11 @@
 //! View arrays of which much of the buffers is unused (Arrow Columnar Format, "Variable-size Binary View Layout").
 ghost use Rattle.std.specs.Prelude.{◌≡◌, ◌+◌, ◌^◌, ◌<◌, ◌≤◌, ◌++◌, ◌∷◌, [], ℕ, suc, length, true, None, OnOk, IfOk, sum_by, nat_le, if◌then◌else◌};
 ghost use Rattle.std.specs.Option.{option_map};
-ghost use Rattle.arrow_spec.specs.Columns.{u32_of};
+ghost use Rattle.arrow_spec.specs.Arrays.{u32_of};
 ghost use Rattle.arrow_types.specs.Physical.{physical_of};
 ghost use Rattle.arrow_buffers.specs.Layouts.{is_view};
 ghost use Rattle.arrow_buffers.specs.Views.{view_rows, view_at, view_fault};
-ghost use Rattle.ipc_write.specs.Compaction.{value_length, value_lengths, is_compacted, buffer_limit, long_view, begun_buffer, laid_anew, compacted};
+ghost use Rattle.ipc_write.specs.Compaction.{value_length, value_lengths, views_need_compaction, buffer_limit, long_view, begun_buffer, laid_anew, compacted};
 ghost use Rattle.ipc_write.specs.Laying.{all_laid, IsCompact, LaidFits};
 
 use arrow_buffers::{BinaryViewArrayGeneric, Bitmap, Buffer, ViewType};
@@ -79,9 +79,9 @@ fn buffer_lengths(buffers: &[Buffer<u8>]) -> u128
 }
 
 /// Whether at least min(v, 1024) bytes of the buffers are unused, where v is the sum of the lengths.
-#[tactic(auto, unfolding(crate::specs::Compaction::is_compacted))]
-fn is_compacted<V: ViewType>(array: &BinaryViewArrayGeneric<V>) -> bool
-    ensures compacted { result ≡ is_compacted array.now }
+#[tactic(auto, unfolding(crate::specs::Compaction::views_need_compaction))]
+fn needs_compaction<V: ViewType>(array: &BinaryViewArrayGeneric<V>) -> bool
+    ensures compacted { result ≡ views_need_compaction array.now }
     ensures small { (row : ℕ) → row < view_rows array.now.views → value_length array.now row < 2 ^ 32 }
 {
     let used = value_lengths(array);
@@ -220,9 +220,9 @@ pub(crate) fn compact<V: ViewType>(
     array: &BinaryViewArrayGeneric<V>,
 ) -> Result<Option<BinaryViewArrayGeneric<V>>, AllocError>
     ensures compact { IfOk result (λ o. IsCompact array.now o) }
-    ensures fits { IfOk result (λ _. is_compacted array.now ≡ true → LaidFits array.now) }
+    ensures fits { IfOk result (λ _. views_need_compaction array.now ≡ true → LaidFits array.now) }
 {
-    if !is_compacted(array) {
+    if !needs_compaction(array) {
         return Ok(None);
     }
     let dtype = array.dtype().try_clone(alloc)?;

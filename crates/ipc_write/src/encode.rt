@@ -9,6 +9,7 @@ ghost use Rattle.ipc_write.specs.Encoding.{AllMean, Makes};
 ghost use Rattle.ipc_write.specs.Outcomes.{Encodes};
 
 use crate::columns::{Columns, write_columns};
+use crate::frame::MOST_METADATA;
 use crate::metadata::batch_metadata;
 use crate::{EncodedData, WriteOptions};
 use arrow_arrays::RecordBatch;
@@ -17,9 +18,6 @@ use std::alloc::Global;
 
 /// The most rows of a batch.
 const MOST_ROWS: usize = 0x7fff_ffff_ffff_ffff;
-
-/// The most bytes of a message's padded metadata.
-const MOST_METADATA: usize = 0x7fff_ffff;
 
 /// The message of a batch whose padded metadata is within a limit.
 fn batch_message(alloc: Global, batch: &RecordBatch, limit: usize) -> Result<EncodedData, IpcError>

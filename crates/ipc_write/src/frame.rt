@@ -1,16 +1,18 @@
-//! Messages with their prefix and padding, put into a sink (Arrow Columnar Format, "Encapsulated message format").
-ghost use Rattle.std.specs.Prelude.{◌≡◌, ◌↔◌, ◌+◌, ◌-◌, ◌^◌, ◌<◌, ◌≤◌, ◌++◌, length, IfOk, Err};
-ghost use Rattle.arrow_spec.specs.Layout.{up_to, zeros};
-ghost use Rattle.arrow_spec.specs.declared.error.IpcError.TheVariants.{TooLarge};
+//! Messages with their prefix and padding, put into a sink or in one piece (Arrow Columnar Format, "Encapsulated message format").
+ghost use Rattle.std.specs.Prelude.{◌≡◌, ◌↔◌, ◌⊎◌, ◌+◌, ◌-◌, ◌%◌, ◌^◌, ◌<◌, ◌≤◌, ◌++◌, length, IfOk, OnOk, IfErr, Err};
+ghost use Rattle.arrow_spec.specs.Layout.{Node, layout, up_to, zeros};
+ghost use Rattle.arrow_spec.specs.Framing.{message_bytes};
+ghost use Rattle.arrow_spec.specs.declared.error.IpcError.TheVariants.{Memory, TooLarge};
 ghost use Rattle.ipc_write.specs.Outcomes.{continuation, message_frame};
 ghost use Rattle.ipc_write.specs.Puts.{moved, PutsText, PutsMessage};
 
 use crate::EncodedData;
 use arrow_spec::IpcError;
 use ipc_schema::{PutError, Sink};
+use std::alloc::{AllocError, Global};
 
 /// The most bytes of a message's padded metadata.
-const MOST_METADATA: usize = 0x7fff_ffff;
+pub(crate) const MOST_METADATA: usize = 0x7fff_ffff;
 
 /// How many bytes are needed up to the next multiple of 64.
 pub fn pad_to_64(length: usize) -> usize
@@ -101,4 +103,54 @@ pub fn write_message<W: Sink>(
     put_message(sink, encoded, padded)?;
     let body = encoded.arrow_data.len();
     Ok((8 + padded, body + pad_to_64(body)))
+}
+
+fn push_zeros(out: &mut Vec<u8>, count: usize) -> Result<(), AllocError>
+    ensures { OnOk result (out.new.items ≡ out.old.items ++ zeros count) }
+{
+    for _ in 0..count {
+        out.push(0)?;
+    }
+    Ok(())
+}
+
+/// The prefix, metadata with zeros up to a length, and a body with zeros up to a multiple of 64.
+#[tactic(auto, unfolding(crate::specs::Outcomes::message_frame))]
+fn joined(alloc: Global, metadata: &[u8], padded: usize, body: &[u8]) -> Result<Vec<u8>, AllocError>
+    requires padded { padded ≡ up_to 8 (length metadata.now) }
+    requires small { padded < 2 ^ 31 }
+    ensures { IfOk result (λ v. v.items ≡ message_frame metadata.now body.now) }
+{
+    let padding = pad_to_64(body.len());
+    let mut out = Vec::with_capacity(alloc, 8 + padded + body.len() + padding)?;
+    out.extend_from_slice(&[255; 4])?;
+    out.extend_from_slice(&(padded as u32).to_le_bytes())?;
+    out.extend_from_slice(metadata)?;
+    push_zeros(&mut out, padded - metadata.len())?;
+    out.extend_from_slice(body)?;
+    push_zeros(&mut out, padding)?;
+    Ok(out)
+}
+
+/// A message in one piece, by its metadata and its body: the bytes that `write_message` puts. It takes memory once.
+///
+/// # Errors
+///
+/// `TooLarge` where the padded metadata passes 2^31 - 1 bytes; `Memory`.
+pub fn message_to_bytes(alloc: Global, metadata: &[u8], body: &[u8]) -> Result<Vec<u8>, IpcError>
+    ensures bytes { IfOk result (λ v. v.items ≡ message_frame metadata.now body.now) }
+    ensures small { OnOk result (up_to 8 (length metadata.now) < 2 ^ 31) }
+    ensures err { IfErr result (λ e. (e ≡ Memory) ⊎ ((e ≡ TooLarge) × (2 ^ 31 ≤ up_to 8 (length metadata.now)))) }
+    ensures too_large { (result ≡ Err TooLarge) ↔ (2 ^ 31 ≤ up_to 8 (length metadata.now)) }
+    // Metadata of a node, and a body that ends at a multiple of 64, are the message of the two.
+    ensures message { IfOk result (λ v. (n : Node) → metadata.now ≡ layout n → length body.now % 64 ≡ 0 → v.items ≡ message_bytes n body.now) }
+{
+    let padded = metadata.len().next_multiple_of(8);
+    if padded > MOST_METADATA {
+        return Err(IpcError::TooLarge);
+    }
+    match joined(alloc, metadata, padded, body) {
+        Ok(bytes) => Ok(bytes),
+        Err(AllocError) => Err(IpcError::Memory),
+    }
 }

@@ -14,6 +14,6 @@ mod record;
 pub use array_writer::write;
 pub use encode::encode_record_batch;
 pub use encoded::EncodedData;
-pub use frame::{pad_to_64, write_continuation, write_message};
+pub use frame::{message_to_bytes, pad_to_64, write_continuation, write_message};
 pub use options::{Compression, WriteOptions};
 pub use record::Record;

@@ -1,5 +1,5 @@
 //! The metadata of a record batch's message (Arrow Columnar Format, "RecordBatch message").
-ghost use Rattle.std.specs.Prelude.{◌≡◌, ◌^◌, ◌<◌, ◌++◌, length, OnOk, IfOk};
+ghost use Rattle.std.specs.Prelude.{◌≡◌, ◌^◌, ◌<◌, ◌++◌, [], length, OnOk, IfOk};
 ghost use Rattle.std.specs.List.{flat_map};
 ghost use Rattle.arrow_spec.specs.Layout.{table, no_more};
 ghost use Rattle.arrow_spec.specs.Sent.{i64_bytes, node_bytes, buffer_bytes, message_slots};
@@ -93,7 +93,7 @@ fn header_node(
 /// A message of version V5, with its tag and header, and how long its body is.
 fn message_node(alloc: Global, header: Node, body: usize) -> Result<Node, AllocError>
     requires { body < 2 ^ 63 }
-    ensures { IfOk result (λ n. node_of n ≡ table (message_slots 3 (node_of header) body)) }
+    ensures { IfOk result (λ n. node_of n ≡ table (message_slots 3 (node_of header) body [])) }
 {
     let length = Slot::i64(body as i64, 0);
     let tag = Slot::U8(RECORD_BATCH);

@@ -5,7 +5,8 @@ use Rattle.std.specs.List.{list_all}
 use Rattle.std.proofs.lemmas.Bool.{ltb-false}
 use Rattle.arrow_spec.specs.declared.message.IpcBuffer.{IpcBuffer}
 use Rattle.arrow_spec.specs.Counts.{RecordBatch, magnitude}
-use Rattle.arrow_spec.specs.Columns.{buf, range_of, range_or_none, range_causes, range_faults, numbers_faults, from_on, some_row}
+use Rattle.arrow_spec.specs.Arrays.{buf, range_of, range_or_none, from_on}
+use Rattle.arrow_spec.specs.Faults.{range_causes, range_faults, numbers_faults, some_row}
 use Rattle.arrow_spec.specs.Laws.{AreBytes}
 use Rattle.arrow_spec.proofs.Fewer.{cause-none, none_second, sound_first, sound_second}
 

@@ -7,8 +7,11 @@ use Rattle.arrow_spec.specs.Kinds.{Kind, Offsets, small, large}
 use Rattle.arrow_spec.specs.Cells as cells
 use Rattle.arrow_spec.specs.Cells.{Cell}
 use Rattle.arrow_spec.specs.Counts.{RecordBatch, Place}
-use Rattle.arrow_spec.specs.Columns as spec
-use Rattle.arrow_spec.specs.Columns.{Dictionaries, buf, bit, valid, if_valid, cell, from_on, node_faults, validity_faults, fixed_faults, view_parts_faults, bad_view_faults, views_faults, view_text_faults, view_of, array_faults}
+use Rattle.arrow_spec.specs.Arrays as spec
+use Rattle.arrow_spec.specs.Faults as refused
+use Rattle.arrow_spec.specs.Arrays.{Dictionaries, buf, bit, valid, if_valid, from_on, view_of}
+use Rattle.arrow_spec.specs.ArrayCells.{cell}
+use Rattle.arrow_spec.specs.Faults.{node_faults, validity_faults, fixed_faults, view_parts_faults, bad_view_faults, views_faults, view_text_faults, array_faults}
 use Rattle.arrow_spec.specs.Laws.{AreBytes}
 use Rattle.arrow_spec.proofs.Fewer.{cause-none, none_first, none_second, sound_first, sound_second, some_row-none}
 use Rattle.arrow_types.specs.Physical.{primitive_size, physical_of}
@@ -102,8 +105,8 @@ good_of true false e f = cc
 good_of false g e f = cc
 
 -- a view of a row that is not null is good
-good_at : (m : RecordBatch) (p : Place) (rows row : ℕ) → bad_view_faults m p rows ≡ [] → row < rows → valid m p row ≡ true → spec.is_good_view m p (view_of m p row) ≡ true
-good_at m p rows row h lt v = good_of (valid m p row) (spec.is_good_view m p (view_of m p row)) (some_row-none (λ j. valid m p j && not (spec.is_good_view m p (view_of m p j))) rows row (cause-none _ _ h) lt) v
+good_at : (m : RecordBatch) (p : Place) (rows row : ℕ) → bad_view_faults m p rows ≡ [] → row < rows → valid m p row ≡ true → refused.is_good_view m p (view_of m p row) ≡ true
+good_at m p rows row h lt v = good_of (valid m p row) (refused.is_good_view m p (view_of m p row)) (some_row-none (λ j. valid m p j && not (refused.is_good_view m p (view_of m p j))) rows row (cause-none _ _ h) lt) v
 
 cells_led : (is_text : Bool) (m : RecordBatch) (l : Kind) (p : Place) (n : ℕ) → view_parts_faults m p (suc n) ≡ [] → bad_view_faults m p (suc n) ≡ [] → view_cells is_text (views_read m l p (suc n)) ≡ from_on (λ row. if_valid m p row (view_cell is_text (spec.view_bytes m p (view_of m p row)))) 0 (suc n)
 cells_led is_text m l p n parts good =

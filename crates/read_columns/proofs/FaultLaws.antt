@@ -7,7 +7,8 @@ use Rattle.arrow_spec.specs.declared.error.OutOfSpecKind.TheVariants as out
 use Rattle.arrow_spec.specs.Kinds as kinds
 use Rattle.arrow_spec.specs.Kinds.{Kind, Offsets, small, large}
 use Rattle.arrow_spec.specs.Counts.{RecordBatch, Place}
-use Rattle.arrow_spec.specs.Columns.{Dictionaries, buf, cause, if_sound, node_faults, validity_faults, utf8_faults, fixed_faults, view_parts_faults, bad_view_faults, views_faults, view_text_faults, array_faults}
+use Rattle.arrow_spec.specs.Arrays.{Dictionaries, buf}
+use Rattle.arrow_spec.specs.Faults.{cause, if_sound, node_faults, validity_faults, utf8_faults, fixed_faults, view_parts_faults, bad_view_faults, views_faults, view_text_faults, array_faults}
 use Rattle.arrow_spec.proofs.Fewer.{none_first, none_second}
 use Rattle.arrow_types.specs.Physical.{physical_of}
 use Rattle.arrow_types.specs.declared.physical.PhysicalType.TheVariants as physical

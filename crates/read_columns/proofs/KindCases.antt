@@ -9,7 +9,9 @@ use Rattle.arrow_spec.specs.Kinds.{Kind, Offsets, half, single, double, small, l
 use Rattle.arrow_spec.specs.Cells as cells
 use Rattle.arrow_spec.specs.Cells.{Cell}
 use Rattle.arrow_spec.specs.Counts.{RecordBatch, Place}
-use Rattle.arrow_spec.specs.Columns.{Dictionaries, signed_in, unsigned_in, part_of_row, if_valid, cell, node_faults, fixed_faults, array_faults}
+use Rattle.arrow_spec.specs.Arrays.{Dictionaries, signed_in, unsigned_in, part_of_row, if_valid}
+use Rattle.arrow_spec.specs.ArrayCells.{cell}
+use Rattle.arrow_spec.specs.Faults.{node_faults, fixed_faults, array_faults}
 use Rattle.arrow_spec.specs.Sent.{own, written_part}
 use Rattle.arrow_types.specs.Physical.{primitive_size, physical_of}
 use Rattle.arrow_types.specs.declared.physical.PhysicalType.TheVariants as physical

@@ -7,7 +7,8 @@ use Rattle.arrow_spec.specs.Readings.{IsAmong}
 use Rattle.arrow_spec.specs.Kinds as kinds
 use Rattle.arrow_spec.specs.Kinds.{Kind, Offsets, small, large}
 use Rattle.arrow_spec.specs.Counts.{RecordBatch, Place, magnitude}
-use Rattle.arrow_spec.specs.Columns.{Dictionaries, if_sound, cause, range_of, some_valid_row, is_no_text_view, view_of, node_faults, offsets_faults, bytes_faults, utf8_faults, view_parts_faults, bad_view_faults, views_faults, view_text_faults, array_faults}
+use Rattle.arrow_spec.specs.Arrays.{Dictionaries, range_of, view_of}
+use Rattle.arrow_spec.specs.Faults.{if_sound, cause, some_valid_row, is_no_text_view, node_faults, offsets_faults, bytes_faults, utf8_faults, view_parts_faults, bad_view_faults, views_faults, view_text_faults, array_faults}
 use Rattle.arrow_types.specs.declared.physical.PrimitiveType.{PrimitiveType}
 use Rattle.arrow_buffers.specs.Layouts.{binary_size}
 use Rattle.arrow_arrays.specs.FlatKinds.{is_flat_kind}

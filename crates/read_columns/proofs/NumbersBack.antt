@@ -9,7 +9,7 @@ use Rattle.arrow_spec.specs.Flat.{Order, little, big, num, from_bytes}
 use Rattle.arrow_spec.specs.Kinds.{Kind}
 use Rattle.arrow_spec.specs.Cells.{number, interval}
 use Rattle.arrow_spec.specs.Counts.{RecordBatch, Place}
-use Rattle.arrow_spec.specs.Columns.{buf, or_0, signed_in, unsigned_in, part_of_row}
+use Rattle.arrow_spec.specs.Arrays.{buf, or_0, signed_in, unsigned_in, part_of_row}
 use Rattle.arrow_spec.specs.Laws.{AreBytes}
 use Rattle.arrow_types.specs.Numbers.{signed_to_bytes, signed_from_bytes, unsigned_to_bytes, unsigned_from_bytes}
 use Rattle.arrow_types.specs.NumberLaws.{unsigned_back, unsigned_agrees}

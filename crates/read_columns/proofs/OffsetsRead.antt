@@ -6,8 +6,9 @@ use Rattle.arrow_spec.specs.declared.error.IpcError.TheVariants.{OutOfSpec}
 use Rattle.arrow_spec.specs.declared.error.OutOfSpecKind.TheVariants as kinds
 use Rattle.arrow_spec.specs.Kinds.{Offsets}
 use Rattle.arrow_spec.specs.Counts.{RecordBatch, Place, magnitude, is_negative}
-use Rattle.arrow_spec.specs.Columns as spec
-use Rattle.arrow_spec.specs.Columns.{buf, range_of, range_faults, signed_in, offset_width, offset, offsets_faults, some_row, some_valid_row, valid, cause, from_on}
+use Rattle.arrow_spec.specs.Arrays as spec
+use Rattle.arrow_spec.specs.Arrays.{buf, range_of, signed_in, offset_width, offset, valid, from_on}
+use Rattle.arrow_spec.specs.Faults.{range_faults, offsets_faults, some_row, some_valid_row, cause}
 use Rattle.arrow_spec.proofs.Fewer.{cause-false, some_row-none, some_row-all, offset-fewer}
 use Rattle.arrow_buffers.specs.Rows.{is_valid}
 use Rattle.arrow_buffers.specs.Variable.{place_at, rise_from, are_offsets, variable_rows, row_bytes, has_bad_text}

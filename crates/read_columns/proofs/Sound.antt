@@ -7,8 +7,9 @@ use Rattle.arrow_spec.specs.declared.error.IpcError.TheVariants.{OutOfSpec}
 use Rattle.arrow_spec.specs.declared.error.OutOfSpecKind.TheVariants as kinds
 use Rattle.arrow_spec.specs.Kinds.{Kind, Offsets, binary_view}
 use Rattle.arrow_spec.specs.Counts.{RecordBatch, Place, count_at}
-use Rattle.arrow_spec.specs.Columns.{buf, cause, is_big, validity_faults, fixed_faults, offsets_buffer_faults, range_faults, bytes_faults, utf8_faults, view_parts_faults, view_count_faults, data_faults, bad_view_faults, some_valid_row, view_of}
-use Rattle.arrow_spec.specs.Columns as spec
+use Rattle.arrow_spec.specs.Arrays.{buf, view_of}
+use Rattle.arrow_spec.specs.Faults.{cause, is_big, validity_faults, fixed_faults, offsets_buffer_faults, range_faults, bytes_faults, utf8_faults, view_parts_faults, view_count_faults, data_faults, bad_view_faults, some_valid_row}
+use Rattle.arrow_spec.specs.Faults as refused
 use Rattle.arrow_spec.proofs.Fewer.{none_first, none_second, sound_second}
 use Rattle.arrow_types.specs.Physical.{primitive_size, physical_of}
 use Rattle.arrow_types.specs.declared.physical.PhysicalType.TheVariants as physical
@@ -96,7 +97,7 @@ buffers_held m p rows h = sound_second (view_count_faults m binary_view p) _ (no
 pub bad_view_faults-read : (m : RecordBatch) (p : Place) (rows : ℕ) → 16 * rows ≤ length (buf m (p.buffer + 1)) → bad_view_faults m p rows ≡ cause (has_bad_view (views_told m p rows) (buffers_told m p) (validity_read m p rows)) (OutOfSpec kinds.InvalidView)
 bad_view_faults-read m p rows h = ap (λ b. cause b (OutOfSpec kinds.InvalidView)) (sym (bad_views-read m p rows h))
 
-pub bad_text_faults-read : (m : RecordBatch) (p : Place) (rows : ℕ) → 16 * rows ≤ length (buf m (p.buffer + 1)) → cause (some_valid_row m p (λ row. spec.is_no_text_view m p (view_of m p row)) rows) (OutOfSpec kinds.InvalidUtf8) ≡ cause (has_bad_view_text (views_told m p rows) (buffers_told m p) (validity_read m p rows)) (OutOfSpec kinds.InvalidUtf8)
+pub bad_text_faults-read : (m : RecordBatch) (p : Place) (rows : ℕ) → 16 * rows ≤ length (buf m (p.buffer + 1)) → cause (some_valid_row m p (λ row. refused.is_no_text_view m p (view_of m p row)) rows) (OutOfSpec kinds.InvalidUtf8) ≡ cause (has_bad_view_text (views_told m p rows) (buffers_told m p) (validity_read m p rows)) (OutOfSpec kinds.InvalidUtf8)
 bad_text_faults-read m p rows h = ap (λ b. cause b (OutOfSpec kinds.InvalidUtf8)) (sym (view_texts-read m p rows h))
 
 -- what is found in the parts

@@ -8,7 +8,8 @@ use Rattle.arrow_spec.specs.Kinds.{Kind, Offsets, small, large}
 use Rattle.arrow_spec.specs.declared.error.IpcError.TheVariants.{OutOfSpec}
 use Rattle.arrow_spec.specs.declared.error.OutOfSpecKind.TheVariants as out
 use Rattle.arrow_spec.specs.Counts.{RecordBatch, Place, magnitude}
-use Rattle.arrow_spec.specs.Columns.{Dictionaries, if_sound, node_faults, bytes_faults, offsets_faults, utf8_faults, view_parts_faults, bad_view_faults, views_faults, view_text_faults, array_faults, range_of, cause, some_valid_row, is_no_text_view, view_of}
+use Rattle.arrow_spec.specs.Arrays.{Dictionaries, range_of, view_of}
+use Rattle.arrow_spec.specs.Faults.{if_sound, node_faults, bytes_faults, offsets_faults, utf8_faults, view_parts_faults, bad_view_faults, views_faults, view_text_faults, array_faults, cause, some_valid_row, is_no_text_view}
 use Rattle.arrow_spec.proofs.Fewer.{none_first, none_second, none_both, sound_first}
 use Rattle.arrow_types.specs.Physical.{physical_of}
 use Rattle.arrow_types.specs.declared.physical.PhysicalType.{PhysicalType}

@@ -6,7 +6,7 @@ use Rattle.std.proofs.lemmas.Bool.{eq-eqb}
 use Rattle.std.proofs.lemmas.List.Sums.{sum_by-cons}
 use Rattle.arrow_spec.specs.Cells.{Cell, null}
 use Rattle.arrow_spec.specs.Counts.{RecordBatch, Place}
-use Rattle.arrow_spec.specs.Columns.{buf, bit, has_nulls, valid, if_valid, from_on}
+use Rattle.arrow_spec.specs.Arrays.{buf, bit, has_nulls, valid, if_valid, from_on}
 use Rattle.arrow_spec.specs.Sent.{null_count}
 use Rattle.arrow_buffers.specs.Rows.{has_rows, is_valid, null_rows, masked, masked_by}
 use Rattle.arrow_buffers.proofs.Parts.{length-from_on, shift-from_on}

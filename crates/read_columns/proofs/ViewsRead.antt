@@ -3,8 +3,10 @@ use Rattle.std.proofs.Common.{◌≡◌, ℕ, zero, suc, ◌+◌, ◌*◌, ◌<�
 use Rattle.std.specs.Str.{is_utf8, bytes_eq}
 use Rattle.std.proofs.lemmas.Bool.{le-ltb, ltb-true, cases_lt, and_parts}
 use Rattle.arrow_spec.specs.Counts.{RecordBatch, Place, count_at}
-use Rattle.arrow_spec.specs.Columns as spec
-use Rattle.arrow_spec.specs.Columns.{buf, range_faults, ranges_faults, data_faults, some_row, some_valid_row, valid, from_on, view_of, u32_of, all_zero}
+use Rattle.arrow_spec.specs.Arrays as spec
+use Rattle.arrow_spec.specs.Faults as refused
+use Rattle.arrow_spec.specs.Arrays.{buf, valid, from_on, view_of, u32_of}
+use Rattle.arrow_spec.specs.Faults.{range_faults, ranges_faults, data_faults, some_row, some_valid_row, all_zero}
 use Rattle.arrow_spec.specs.Sent.{lengths_on}
 use Rattle.arrow_spec.proofs.Fewer.{none_first, none_second}
 use Rattle.arrow_buffers.specs.Rows.{is_valid}
@@ -68,8 +70,8 @@ unfolding view_bytes
 bytes-known m p view h = rw (buffer-told m p (u32_of view 8) h) refl
 
 -- a view is good, in what was read as in the record batch
-pub good-view : (m : RecordBatch) (p : Place) (view : List ℕ) → is_good_view (buffers_told m p) view ≡ spec.is_good_view m p view
-unfolding is_good_view leads_right spec.is_good_view
+pub good-view : (m : RecordBatch) (p : Place) (view : List ℕ) → is_good_view (buffers_told m p) view ≡ refused.is_good_view m p view
+unfolding is_good_view leads_right refused.is_good_view
 good-view m p view =
     elim (cases_lt (u32_of view 8) (count_at m p.view)) [
       | inl known ↦ by_length (nat_le (u32_of view 0) 12) known
@@ -83,8 +85,8 @@ good-view m p view =
     by_length false known = rw (count-buffers m p, buffer-told m p (u32_of view 8) known) refl
 
 -- the bytes of a good view
-pub bytes-view : (m : RecordBatch) (p : Place) (view : List ℕ) → spec.is_good_view m p view ≡ true → view_bytes (buffers_told m p) view ≡ spec.view_bytes m p view
-unfolding view_bytes spec.is_good_view
+pub bytes-view : (m : RecordBatch) (p : Place) (view : List ℕ) → refused.is_good_view m p view ≡ true → view_bytes (buffers_told m p) view ≡ spec.view_bytes m p view
+unfolding view_bytes refused.is_good_view
 bytes-view m p view good = by_length (nat_le (u32_of view 0) 12) good
   where
     by_length : (short : Bool)
@@ -101,10 +103,10 @@ no_text_if true u v h = ap not (h refl)
 no_text_if false u v h = refl
 
 -- a view is good and no text, in what was read as in the record batch
-pub no_text-view : (m : RecordBatch) (p : Place) (view : List ℕ) → is_no_text_view (buffers_told m p) view ≡ spec.is_no_text_view m p view
+pub no_text-view : (m : RecordBatch) (p : Place) (view : List ℕ) → is_no_text_view (buffers_told m p) view ≡ refused.is_no_text_view m p view
 no_text-view m p view =
     ap (λ g. g && not (is_utf8 (view_bytes (buffers_told m p) view))) (good-view m p view)
-    ∙ no_text_if (spec.is_good_view m p view) (is_utf8 (view_bytes (buffers_told m p) view)) (is_utf8 (spec.view_bytes m p view)) (λ g. ap is_utf8 (bytes-view m p view g))
+    ∙ no_text_if (refused.is_good_view m p view) (is_utf8 (view_bytes (buffers_told m p) view)) (is_utf8 (spec.view_bytes m p view)) (λ g. ap is_utf8 (bytes-view m p view g))
 
 -- ── rows of views ──
 
@@ -115,19 +117,19 @@ views_told m p rows = bytes_of_rows m 16 (p.buffer + 1) rows
 pub view-told : (m : RecordBatch) (p : Place) (rows row : ℕ) → row < rows → view_at (views_told m p rows) row ≡ view_of m p row
 view-told m p rows row h = row-of_rows m 16 (p.buffer + 1) rows row h
 
-pub bad_views-read : (m : RecordBatch) (p : Place) (rows : ℕ) → 16 * rows ≤ length (buf m (p.buffer + 1)) → has_bad_view (views_told m p rows) (buffers_told m p) (validity_read m p rows) ≡ some_valid_row m p (λ row. not (spec.is_good_view m p (view_of m p row))) rows
+pub bad_views-read : (m : RecordBatch) (p : Place) (rows : ℕ) → 16 * rows ≤ length (buf m (p.buffer + 1)) → has_bad_view (views_told m p rows) (buffers_told m p) (validity_read m p rows) ≡ some_valid_row m p (λ row. not (refused.is_good_view m p (view_of m p row))) rows
 unfolding has_bad_view
 bad_views-read m p rows h =
     let mine : ℕ → Bool = λ row. is_valid (validity_read m p rows) row && not (is_good_view (buffers_told m p) (view_at (views_told m p rows) row)) in
-    let told : ℕ → Bool = λ row. valid m p row && not (spec.is_good_view m p (view_of m p row)) in
+    let told : ℕ → Bool = λ row. valid m p row && not (refused.is_good_view m p (view_of m p row)) in
     ap (some_row mine) (count-rows m 16 (p.buffer + 1) rows (omega arith) h)
     ∙ some_row-same mine told rows (λ row l. rw (valid-read m p rows row l, view-told m p rows row l, good-view m p (view_of m p row)) refl)
 
-pub view_texts-read : (m : RecordBatch) (p : Place) (rows : ℕ) → 16 * rows ≤ length (buf m (p.buffer + 1)) → has_bad_view_text (views_told m p rows) (buffers_told m p) (validity_read m p rows) ≡ some_valid_row m p (λ row. spec.is_no_text_view m p (view_of m p row)) rows
+pub view_texts-read : (m : RecordBatch) (p : Place) (rows : ℕ) → 16 * rows ≤ length (buf m (p.buffer + 1)) → has_bad_view_text (views_told m p rows) (buffers_told m p) (validity_read m p rows) ≡ some_valid_row m p (λ row. refused.is_no_text_view m p (view_of m p row)) rows
 unfolding has_bad_view_text
 view_texts-read m p rows h =
     let mine : ℕ → Bool = λ row. is_valid (validity_read m p rows) row && is_no_text_view (buffers_told m p) (view_at (views_told m p rows) row) in
-    let told : ℕ → Bool = λ row. valid m p row && spec.is_no_text_view m p (view_of m p row) in
+    let told : ℕ → Bool = λ row. valid m p row && refused.is_no_text_view m p (view_of m p row) in
     ap (some_row mine) (count-rows m 16 (p.buffer + 1) rows (omega arith) h)
     ∙ some_row-same mine told rows (λ row l. both _ _ _ _ (valid-read m p rows row l) (ap (is_no_text_view (buffers_told m p)) (view-told m p rows row l) ∙ no_text-view m p (view_of m p row)))
   where

@@ -5,7 +5,8 @@ use Rattle.std.proofs.lemmas.Bool.{ltb-true}
 use Rattle.arrow_spec.specs.Kinds as kinds
 use Rattle.arrow_spec.specs.Kinds.{Kind, Offsets, small, large}
 use Rattle.arrow_spec.specs.Counts.{RecordBatch, Place, Written, count_at}
-use Rattle.arrow_spec.specs.Columns.{Dictionaries, buf, bit, has_nulls, signed_in, offset, offset_width, node_faults, view_parts_faults, views_faults, view_text_faults, array_faults}
+use Rattle.arrow_spec.specs.Arrays.{Dictionaries, buf, bit, has_nulls, signed_in, offset, offset_width}
+use Rattle.arrow_spec.specs.Faults.{node_faults, view_parts_faults, views_faults, view_text_faults, array_faults}
 use Rattle.arrow_spec.specs.Sent.{own, with_views, lengths_on, validity_length, written_part, written}
 use Rattle.arrow_spec.proofs.Fewer.{none_second, sound_first}
 use Rattle.arrow_types.specs.Physical.{primitive_size, physical_of}

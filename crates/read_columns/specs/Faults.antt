@@ -3,7 +3,8 @@ use Rattle.std.specs.Prelude.{ℕ, zero, suc, ◌+◌, List, [], ◌∷◌, ◌+
 use Rattle.arrow_spec.specs.declared.error.IpcError.{IpcError}
 use Rattle.arrow_spec.specs.Kinds.{Kind}
 use Rattle.arrow_spec.specs.Counts.{RecordBatch, Place, magnitude}
-use Rattle.arrow_spec.specs.Columns.{count_faults, array_faults, range_of}
+use Rattle.arrow_spec.specs.Arrays.{range_of}
+use Rattle.arrow_spec.specs.Faults.{count_faults, array_faults}
 use Rattle.arrow_spec.specs.Needed.{looked_at}
 
 -- its nodes, buffers or view counts are not all there, or the array is damaged

@@ -4,7 +4,9 @@ use Rattle.arrow_spec.specs.declared.error.IpcError.{IpcError}
 use Rattle.arrow_spec.specs.Readings.{IsAmong}
 use Rattle.arrow_spec.specs.Kinds.{Kind}
 use Rattle.arrow_spec.specs.Counts.{RecordBatch, Place}
-use Rattle.arrow_spec.specs.Columns.{Dictionaries, cell, from_on, array_faults}
+use Rattle.arrow_spec.specs.Arrays.{Dictionaries, from_on}
+use Rattle.arrow_spec.specs.ArrayCells.{cell}
+use Rattle.arrow_spec.specs.Faults.{array_faults}
 use Rattle.arrow_spec.specs.Laws.{AreBytes}
 use Rattle.arrow_spec.specs.Sent.{written}
 use Rattle.arrow_arrays.specs.Parts.{kind_in, rows_in, cells_in, fault_in}
@@ -16,7 +18,8 @@ use Rattle.read_columns.specs.WrittenParts.{written_in}
 
 -- Where nothing is wrong with an array's node and buffers, what is wrong with the array is found in its parts.
 abbrev pub FaultsAreFound : Type 0
-FaultsAreFound = (m : RecordBatch) (d : Dictionaries) (k : Kind) (p : Place) (rows : ℕ) → is_flat_kind k ≡ true → buffers_faults m k p rows ≡ [] → IsLeft (fault_in (parts_read m k p rows)) (array_faults m d k p rows)
+FaultsAreFound = (m : RecordBatch) (d : Dictionaries) (k : Kind) (p : Place) (rows : ℕ) → is_flat_kind k ≡ true → buffers_faults m k p rows ≡ []
+    → IsLeft (fault_in (parts_read m k p rows)) (array_faults m d k p rows)
 
 -- What is wrong with an array is told by its layout, and what is wrong with its buffers is wrong with it.
 pub record ToldByLayout (m : RecordBatch) (d : Dictionaries) (k : Kind) (p : Place) (rows : ℕ) : Type 0 where
@@ -34,12 +37,15 @@ pub record AreSound (m : RecordBatch) (k : Kind) (p : Place) (rows : ℕ) : Type
 
 -- The parts of an array that is not refused are sound.
 abbrev pub PartsAreSound : Type 0
-PartsAreSound = (m : RecordBatch) (d : Dictionaries) (k : Kind) (p : Place) (rows : ℕ) → is_flat_kind k ≡ true → array_faults m d k p rows ≡ [] → AreSound m k p rows
+PartsAreSound = (m : RecordBatch) (d : Dictionaries) (k : Kind) (p : Place) (rows : ℕ) → is_flat_kind k ≡ true → array_faults m d k p rows ≡ []
+    → AreSound m k p rows
 
 -- Their cells are the record batch's, where the numbers are of bytes.
 abbrev pub CellsAreRead : Type 0
-CellsAreRead = (m : RecordBatch) (d : Dictionaries) (k : Kind) (p : Place) (rows : ℕ) → is_flat_kind k ≡ true → AreBytes (numbers_bytes m k p rows) → array_faults m d k p rows ≡ [] → cells_in (parts_read m k p rows) ≡ from_on (cell m d k p) 0 rows
+CellsAreRead = (m : RecordBatch) (d : Dictionaries) (k : Kind) (p : Place) (rows : ℕ) → is_flat_kind k ≡ true → AreBytes (numbers_bytes m k p rows)
+    → array_faults m d k p rows ≡ [] → cells_in (parts_read m k p rows) ≡ from_on (cell m d k p) 0 rows
 
 -- What is written of them is what is written of the record batch.
 abbrev pub WrittenAsSent : Type 0
-WrittenAsSent = (m : RecordBatch) (d : Dictionaries) (k : Kind) (p : Place) (rows : ℕ) → is_flat_kind k ≡ true → array_faults m d k p rows ≡ [] → written m k p rows 0 rows ≡ written_in (parts_read m k p rows)
+WrittenAsSent = (m : RecordBatch) (d : Dictionaries) (k : Kind) (p : Place) (rows : ℕ) → is_flat_kind k ≡ true → array_faults m d k p rows ≡ []
+    → written m k p rows 0 rows ≡ written_in (parts_read m k p rows)

@@ -3,7 +3,7 @@ use Rattle.std.specs.Prelude.{ℕ, zero, suc, ◌+◌, List, [], ◌++◌}
 use Rattle.arrow_spec.specs.declared.error.IpcError.{IpcError}
 use Rattle.arrow_spec.specs.Kinds.{Kind, Offsets, small, large}
 use Rattle.arrow_spec.specs.Counts.{RecordBatch, Place}
-use Rattle.arrow_spec.specs.Columns.{if_sound, node_faults, validity_faults, bitmap_faults, fixed_faults, offsets_buffer_faults, range_faults, bytes_faults, utf8_faults, view_parts_faults, views_faults, view_text_faults}
+use Rattle.arrow_spec.specs.Faults.{if_sound, node_faults, validity_faults, bitmap_faults, fixed_faults, offsets_buffer_faults, range_faults, bytes_faults, utf8_faults, view_parts_faults, views_faults, view_text_faults}
 use Rattle.arrow_types.specs.Physical.{primitive_size, physical_of}
 use Rattle.arrow_types.specs.declared.physical.PhysicalType.{PhysicalType}
 use Rattle.arrow_types.specs.declared.physical.PhysicalType.TheVariants.{Boolean, Primitive, Binary, LargeBinary, FixedSizeBinary, Utf8, LargeUtf8, BinaryView, Utf8View}

@@ -4,7 +4,7 @@ use Rattle.std.specs.Int.{w8, w16, w32, w64, w128}
 use Rattle.arrow_spec.specs.Flat.{Order, little}
 use Rattle.arrow_spec.specs.Kinds.{Kind, Offsets, small, large}
 use Rattle.arrow_spec.specs.Counts.{RecordBatch, Place, count_at}
-use Rattle.arrow_spec.specs.Columns.{buf, has_nulls, from_on, signed_in, offset_width}
+use Rattle.arrow_spec.specs.Arrays.{buf, has_nulls, from_on, signed_in, offset_width}
 use Rattle.arrow_types.specs.Numbers.{signed_to_bytes, signed_from_bytes, unsigned_to_bytes, unsigned_from_bytes, days_ms_to_bytes, days_ms_from_bytes, months_days_ns_to_bytes, months_days_ns_from_bytes}
 use Rattle.arrow_types.specs.Physical.{primitive_size, physical_of}
 use Rattle.arrow_types.specs.declared.physical.PhysicalType.{PhysicalType}
@@ -63,12 +63,22 @@ fixed_read m k p rows = flat_read (λ i n. bytes_of_rows m (binary_size k) i n) 
 -- offsets, bytes and a validity; where there are no rows no buffer is looked at
 abbrev pub variable_read : RecordBatch → Kind → Offsets → Place → ℕ → Variable
 variable_read m k o p zero = record { kind = k; offsets = pos 0 ∷ []; values = []; validity = None }
-variable_read m k o p (suc n) = record { kind = k; offsets = from_on (λ j. signed_in m (offset_width o) (p.buffer + 1) j) 0 (suc (suc n)); values = buf m (p.buffer + 2); validity = validity_read m p (suc n) }
+variable_read m k o p (suc n) = record {
+  kind = k;
+  offsets = from_on (λ j. signed_in m (offset_width o) (p.buffer + 1) j) 0 (suc (suc n));
+  values = buf m (p.buffer + 2);
+  validity = validity_read m p (suc n);
+}
 
 -- views, the buffers that their count says, and a validity; where there are no rows no buffer is looked at
 abbrev pub views_read : RecordBatch → Kind → Place → ℕ → Views
 views_read m k p zero = record { kind = k; views = []; buffers = []; validity = None }
-views_read m k p (suc n) = record { kind = k; views = bytes_of_rows m 16 (p.buffer + 1) (suc n); buffers = from_on (buf m) (p.buffer + 2) (count_at m p.view); validity = validity_read m p (suc n) }
+views_read m k p (suc n) = record {
+  kind = k;
+  views = bytes_of_rows m 16 (p.buffer + 1) (suc n);
+  buffers = from_on (buf m) (p.buffer + 2) (count_at m p.view);
+  validity = validity_read m p (suc n);
+}
 
 -- ── any array without children ──
 

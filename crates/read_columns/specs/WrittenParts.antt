@@ -25,8 +25,10 @@ lengths_in (nulls n) = []
 lengths_in (bits f) = validity_bytes f.validity ∷ bits_length (length f.values) ∷ []
 lengths_in (numbers f) = validity_bytes f.validity ∷ (number_size (physical_of f.kind) * length f.values) ∷ []
 lengths_in (fixed f) = validity_bytes f.validity ∷ length f.values ∷ []
-lengths_in (binary p) = validity_bytes p.validity ∷ (offset_bytes (is_binary true (physical_of p.kind)) * length p.offsets) ∷ (place_at p.offsets (variable_rows p.offsets) - place_at p.offsets 0) ∷ []
-lengths_in (text p) = validity_bytes p.validity ∷ (offset_bytes (is_text true (physical_of p.kind)) * length p.offsets) ∷ (place_at p.offsets (variable_rows p.offsets) - place_at p.offsets 0) ∷ []
+lengths_in (binary p) = validity_bytes p.validity ∷ (offset_bytes (is_binary true (physical_of p.kind)) * length p.offsets)
+    ∷ (place_at p.offsets (variable_rows p.offsets) - place_at p.offsets 0) ∷ []
+lengths_in (text p) = validity_bytes p.validity ∷ (offset_bytes (is_text true (physical_of p.kind)) * length p.offsets)
+    ∷ (place_at p.offsets (variable_rows p.offsets) - place_at p.offsets 0) ∷ []
 lengths_in (binary_views p) = validity_bytes p.validity ∷ length p.views ∷ map length p.buffers
 lengths_in (text_views p) = validity_bytes p.validity ∷ length p.views ∷ map length p.buffers
 
@@ -38,4 +40,8 @@ views_in parts = []
 
 -- an array without children as it is written
 abbrev pub written_in : Parts → Written
-written_in parts = record { nodes = record { length = pos (rows_in parts); null_count = pos (null_rows_in parts) } ∷ []; lengths = lengths_in parts; views = views_in parts }
+written_in parts = record {
+  nodes = record { length = pos (rows_in parts); null_count = pos (null_rows_in parts) } ∷ [];
+  lengths = lengths_in parts;
+  views = views_in parts;
+}

@@ -1,14 +1,17 @@
 -- A batch of the columns that were read is one that was read to be sent.
-use Rattle.std.proofs.Common.{◌≡◌, ℕ, suc, List, [], Bool, true, false, None, Ok, map, cond, refl, sym, ap, subst, ◌∙◌}
+use Rattle.std.proofs.Common.{◌≡◌, ℕ, suc, List, [], Bool, true, false, None, Ok, map, cond, refl, sym, ap, arith, subst, ◌∙◌}
 use Rattle.std.proofs.lemmas.Bool.{and_parts}
+use Rattle.arrow_spec.specs.Flat.{little}
 use Rattle.arrow_spec.specs.declared.message.MetadataVersion.{MetadataVersion}
 use Rattle.arrow_spec.specs.Readings.{Reading, ◌>>=◌}
 use Rattle.arrow_spec.specs.Kinds.{Fields, none, field}
 use Rattle.arrow_spec.specs.Cells.{Cell}
 use Rattle.arrow_spec.specs.Counts.{RecordBatch, Place, after, first_place}
-use Rattle.arrow_spec.specs.Columns.{Dictionaries, column_faults, columns_at}
+use Rattle.arrow_spec.specs.Arrays.{Dictionaries}
+use Rattle.arrow_spec.specs.Faults.{column_faults}
+use Rattle.arrow_spec.specs.Columns.{columns_at}
 use Rattle.arrow_spec.specs.Messages.{BatchHeader}
-use Rattle.arrow_spec.specs.Files.{TableBatch, batch_of_tables, if_sent, record_batch_of, to_read, to_send}
+use Rattle.arrow_spec.specs.Files.{TableBatch, batch_of_tables, if_sent, record_batch_of, to_read, to_send, all_asked}
 use Rattle.arrow_spec.specs.Sent.{all_written, columns_written, may_be_sent}
 use Rattle.arrow_spec.proofs.Fewer.{none_second}
 use Rattle.arrow_spec.proofs.Projection.{place-ok}
@@ -23,9 +26,9 @@ use Rattle.written_columns.proofs.SentBatches.{batch_sent, columns_sent}
 use Rattle.read_columns.specs.Batches.{columns_read}
 use Rattle.read_columns.specs.PartsRead.{parts_read}
 use Rattle.read_columns.proofs.SoundLaws.{kind_read}
-use Rattle.ipc_write.specs.Compaction.{compacted, is_compacted, top}
+use Rattle.ipc_write.specs.Compaction.{compacted, views_need_compaction, top}
 use Rattle.ipc_write.specs.Batches.{top_column, written_batch_of}
-use Rattle.sent_files.specs.Files.{IsReadBatch, asked_of}
+use Rattle.sent_files.specs.Files.{IsReadBatch}
 use Rattle.sent_files.proofs.Batches.{batch_sendable}
 use Rattle.sent_columns.specs.FlatFields.{are_flat}
 use Rattle.sent_columns.specs.Laws.{ReadBatchIsSendable, ReadBatchIsSent}
@@ -45,8 +48,8 @@ kind_kept (numbers f) = refl
 kind_kept (fixed f) = refl
 kind_kept (binary q) = refl
 kind_kept (text q) = refl
-kind_kept (binary_views q) = kind_if (is_compacted q) q
-kind_kept (text_views q) = kind_if (is_compacted q) q
+kind_kept (binary_views q) = kind_if (views_need_compaction q) q
+kind_kept (text_views q) = kind_if (views_need_compaction q) q
 
 -- columns that were read are of the fields' kinds
 columns_are_of : (m : RecordBatch) (fs : Fields) (p : Place) (rows : ℕ) → AreOf fs (map top_column (columns_read m fs p rows))
@@ -69,11 +72,11 @@ record ColumnsAreRead (fs : Fields) (m : RecordBatch) (rows : ℕ) : Type 0 wher
   cells : List (List Cell)
   are : columns_at m [] None fs 0 first_place rows rows ≡ Ok cells
 
-columns_of : (fs : Fields) (most : ℕ) (v : MetadataVersion) (tables : BatchHeader) (body : List ℕ) (x : TableBatch) → batch_of_tables to_read (asked_of fs most) v tables body None ≡ Ok x → ColumnsAreRead fs (record_batch_of (asked_of fs most) v tables body) x.rows
+columns_of : (fs : Fields) (most : ℕ) (v : MetadataVersion) (tables : BatchHeader) (body : List ℕ) (x : TableBatch) → batch_of_tables to_read (all_asked little fs most) v [] tables body None ≡ Ok x → ColumnsAreRead fs (record_batch_of little v tables body) x.rows
 unfolding batch_of_tables
 columns_of fs most v tables body x h =
     through _ _ x h λ u compression h1. through _ _ x h1 λ rows rows_are h2. through _ _ x h2 λ u' negative h3. through _ _ x h3 λ u'' sum h4. through _ _ x h4 λ columns columns_are h5. through _ _ x h5 λ u''' size h6.
-    let m : RecordBatch = record_batch_of (asked_of fs most) v tables body in
+    let m : RecordBatch = record_batch_of little v tables body in
     subst (λ (y : TableBatch). ColumnsAreRead fs m y.rows) (same_read _ x h6) (record { cells = columns; are = columns_are })
 
 -- what is to be written of a batch's columns is what they are written with
@@ -85,21 +88,21 @@ columns_written_are fs m b cells flat are arrays =
 
 pub read_batch_sent : ReadBatchIsSent
 read_batch_sent fs most v tables body b flat h arrays =
-    let m : RecordBatch = record_batch_of (asked_of fs most) v tables body in
+    let m : RecordBatch = record_batch_of little v tables body in
     let x : WrittenBatch = written_batch_of b in
-    let t : TableBatch = record { rows = b.height; columns = map cells_in b.arrays } in
+    let t : TableBatch = record { rows = b.height; columns = map cells_in b.arrays; custom = [] } in
     let columns : ColumnsAreRead fs m b.height = columns_of fs most v tables body t h in
     let written = columns_written_are fs m b columns.cells flat columns.are arrays in
-    tables_sent (asked_of fs most) v tables body t h ∙ ap (λ s. if_sent to_send (may_be_sent s) >>= λ size. Ok t) (batch_sent fs m x written)
+    tables_sent (all_asked little fs most) v [] tables body t h ∙ ap (λ s. if_sent to_send (may_be_sent s) >>= λ size. Ok t) (batch_sent fs m x written)
 
 pub read_batch_sendable : ReadBatchIsSendable
 read_batch_sendable fs most v tables body b fit flat h arrays good cells =
-    let m : RecordBatch = record_batch_of (asked_of fs most) v tables body in
+    let m : RecordBatch = record_batch_of little v tables body in
     let x : WrittenBatch = written_batch_of b in
     let columns : ColumnsAreRead fs m b.height = columns_of fs most v tables body _ h in
     let kinds : AreOf fs x.columns = subst (λ ps. AreOf fs (map top_column ps)) (sym arrays) (columns_are_of m fs first_place b.height) in
     let is : IsReadBatch fs m x = record { kinds = kinds; good = good; written = columns_written_are fs m b columns.cells flat columns.are arrays } in
-    let whole : List (List Cell) → Reading TableBatch = λ cs. Ok (record { rows = b.height; columns = cs }) in
-    let read : batch_of_tables to_read (asked_of fs most) v tables body None ≡ Ok (table_batch x) = h ∙ ap whole (sym cells) in
-    let both = batch_sendable fs most v tables body x fit is read in
+    let whole : List (List Cell) → Reading TableBatch = λ cs. Ok (record { rows = b.height; columns = cs; custom = [] }) in
+    let read : batch_of_tables to_read (all_asked little fs most) v [] tables body None ≡ Ok (table_batch x) = h ∙ ap whole (sym cells) in
+    let both = batch_sendable fs most v tables body x fit (record { ascend = tt; few = omega arith }) is read in
     (is, read, both.0, both.1)

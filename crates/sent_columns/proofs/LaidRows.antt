@@ -1,35 +1,25 @@
 -- Views that are laid anew: the buffers have the lengths that the record batch says.
-use Rattle.std.proofs.Common.{◌≡◌, ℕ, zero, suc, ◌+◌, ◌-◌, ◌*◌, ◌≤◌, ◌<◌, List, [], ◌∷◌, ◌++◌, Bool, true, false, None, length, drop, map, min, nat_le, refl, sym, ap, ◌∙◌, arith, inl, inr, length-append, length-take, length-drop}
+use Rattle.std.proofs.Common.{◌≡◌, ℕ, zero, suc, ◌+◌, ◌-◌, ◌*◌, ◌≤◌, ◌<◌, List, [], ◌∷◌, ◌++◌, Bool, true, false, None, length, map, min, nat_le, refl, sym, ap, ◌∙◌, arith, length-append}
 use Rattle.std.specs.Prelude.{nat_lt, sum_by, if◌then◌else◌}
-use Rattle.std.proofs.lemmas.Bool.{le-leb, lt-leb, lt-ltb, cases_lt, cases_Bool}
+use Rattle.std.proofs.lemmas.Bool.{le-leb, lt-leb, lt-ltb}
 use Rattle.std.proofs.lemmas.List.Sums.{sum-map}
-use Rattle.arrow_spec.specs.Layout.{zeros}
 use Rattle.arrow_spec.specs.Kinds.{Kind}
 use Rattle.arrow_spec.specs.Counts.{RecordBatch, Place, count_at}
-use Rattle.arrow_spec.specs.Columns.{u32_of, view_parts_faults}
+use Rattle.arrow_spec.specs.Arrays.{u32_of}
+use Rattle.arrow_spec.specs.Faults.{view_parts_faults}
 use Rattle.arrow_spec.specs.Sent as sent
 use Rattle.arrow_spec.specs.Sent.{lengths_on, view_length, view_lengths}
 use Rattle.arrow_buffers.specs.Rows.{is_valid}
-use Rattle.arrow_buffers.specs.Views.{Views, view_rows, view_at, view_fault, buffer_at}
-use Rattle.arrow_buffers.proofs.ViewParts.{view_sound, good_row}
-use Rattle.arrow_buffers.proofs.Views.{leads, long_view as long_is}
+use Rattle.arrow_buffers.specs.Views.{Views, view_rows, view_at, view_fault}
 use Rattle.read_columns.specs.PartsRead.{views_read}
 use Rattle.read_columns.proofs.Validities.{valid-read}
 use Rattle.read_columns.proofs.ViewsRead.{count-rows, view-told, lengths-buffers}
 use Rattle.read_columns.proofs.Sound.{views_held, buffers_held}
-use Rattle.ipc_write.specs.Compaction.{Laid, view_before, buffer_before, begun_buffer, buffer_limit, laid_from, laid_anew, long_view, value_at, value_length, value_lengths, is_compacted}
-use Rattle.ipc_write.proofs.CompactedViews.{length-long_view, length-view}
+use Rattle.ipc_write.specs.Compaction.{begun_buffer, laid_from, laid_anew, value_at, value_length, value_lengths, views_need_compaction}
+use Rattle.ipc_write.proofs.CompactedRows.{by_row, length-laid}
+use Rattle.ipc_write.proofs.Laying.{value_size}
 
 -- ── what is read ──
-
--- a long value is as long as its view says
-value_size : (is_text s : Bool) (q : Views) (row : ℕ) → view_fault is_text s q ≡ None → row < view_rows q.views → is_valid q.validity row ≡ true → 12 < u32_of (view_at q.views row) 0 → length (value_at q row) ≡ u32_of (view_at q.views row) 0
-value_size is_text s q row e h v k =
-    let view = view_at q.views row in
-    let good = good_row q row (view_sound is_text s q e) h v in
-    let led = leads q.buffers view good k in
-    let buffer = buffer_at q.buffers (u32_of view 8) in
-    rw (long_is q.buffers view k) (omega (arith, length-take (u32_of view 0) (drop (u32_of view 12) buffer), length-drop (u32_of view 12) buffer, led.inside))
 
 -- views are what a record batch has at a place: as many rows, values of the same lengths, and buffers of the stated lengths
 pub record AreRead (m : RecordBatch) (p : Place) (rows : ℕ) (q : Views) : Type 0 where
@@ -59,8 +49,8 @@ lengths_same m p rows q is zero h = refl
 lengths_same m p rows q is (suc n) h = rw (lengths_same m p rows q is n (omega arith), is.lengths n (omega arith)) refl
 
 -- they are laid anew exactly where the record batch says so
-pub compacted_same : (m : RecordBatch) (p : Place) (rows : ℕ) (q : Views) → AreRead m p rows q → sent.is_compacted m p rows ≡ is_compacted q
-unfolding is_compacted
+pub compacted_same : (m : RecordBatch) (p : Place) (rows : ℕ) (q : Views) → AreRead m p rows q → sent.needs_compaction m p rows ≡ views_need_compaction q
+unfolding views_need_compaction
 compacted_same m p rows q is =
     let values : value_lengths q (view_rows q.views) ≡ view_lengths m p rows = ap (value_lengths q) is.rows_same ∙ lengths_same m p rows q is rows (omega arith) in
     let held : sum_by length q.buffers ≡ sum_by (λ x. x) (lengths_on m (p.buffer + 2) (count_at m p.view)) = sym (sum-map length q.buffers) ∙ ap (λ xs. sum_by (λ x. x) xs) is.buffers in
@@ -68,35 +58,6 @@ compacted_same m p rows q is =
     sym (ap (λ v. test v (sum_by length q.buffers)) values ∙ ap (test (view_lengths m p rows)) held)
 
 -- ── how ──
-
--- what holds of each way to lay a row holds of the row that is laid
-by_row : (P : Laid → Type 0) (q : Views) (row number : ℕ) (begun : List ℕ) (n : ℕ)
-    → (is_valid q.validity row ≡ false → P (view_before (zeros 16) (laid_from q (suc row) number begun n)))
-    → (is_valid q.validity row ≡ true → u32_of (view_at q.views row) 0 ≤ 12 → P (view_before (view_at q.views row) (laid_from q (suc row) number begun n)))
-    → (is_valid q.validity row ≡ true → 12 < u32_of (view_at q.views row) 0 → length begun + u32_of (view_at q.views row) 0 ≤ buffer_limit → P (view_before (long_view (value_at q row) number (length begun)) (laid_from q (suc row) number (begun ++ value_at q row) n)))
-    → (is_valid q.validity row ≡ true → 12 < u32_of (view_at q.views row) 0 → buffer_limit < length begun + u32_of (view_at q.views row) 0 → P (buffer_before begun (view_before (long_view (value_at q row) (suc number) 0) (laid_from q (suc row) (suc number) (value_at q row) n))))
-    → P (laid_from q row number begun (suc n))
-by_row P q row number begun n null short here new =
-    let size = u32_of (view_at q.views row) 0 in
-    elim (cases_Bool (is_valid q.validity row)) [
-      | inr v ↦ rw v (null v)
-      | inl v ↦
-          elim (cases_lt 12 size) [
-            | inr few ↦
-                let t : nat_le size 12 ≡ true = le-leb _ 12 few in
-                rw (v, t) (short v few)
-            | inl long ↦
-                let t : nat_le size 12 ≡ false = lt-leb _ 12 long in
-                elim (cases_lt buffer_limit (length begun + size)) [
-                  | inr fits ↦
-                      let f : nat_le (length begun + size) buffer_limit ≡ true = le-leb _ _ fits in
-                      rw (v, t, f) (here v long fits)
-                  | inl over ↦
-                      let f : nat_le (length begun + size) buffer_limit ≡ false = lt-leb _ _ over in
-                      rw (v, t, f) (new v long over)
-                ]
-          ]
-    ]
 
 begun_length : (begun : List ℕ) → map length (begun_buffer begun) ≡ (if nat_lt 0 (length begun) then length begun ∷ [] else [])
 begun_length [] = refl
@@ -154,23 +115,8 @@ module _ (m : RecordBatch) (p : Place) (rows : ℕ) (q : Views) (is : AreRead m 
       let one : length value ≡ view_length m p row = is.values row lt v long ∙ sym size in
       ap (λ ns. length begun ∷ ns) (laid_lengths n (suc row) (suc number) value (omega arith) ∙ ap (λ b. sent.compacted m p (suc row) b n) one) ∙ sym (new_row m p row (length begun) n (rw size long) (rw size over)))
 
-  length_before : (view rest : List ℕ) (n : ℕ) → length view ≡ 16 → length rest ≡ 16 * n → length (view ++ rest) ≡ 16 * suc n
-  length_before view rest n e f = omega (arith, length-append view rest)
-
-  long_value : (row : ℕ) → row < rows → is_valid q.validity row ≡ true → 12 < u32_of (view_at q.views row) 0 → 12 < length (value_at q row)
-  long_value row lt v long = rw (is.values row lt v long) long
-
-  -- and as many views as rows
-  pub laid_views : (n row number : ℕ) (begun : List ℕ) → row + n ≤ rows → length (laid_from q row number begun n).views ≡ 16 * n
-  laid_views zero row number begun h = omega arith
-  laid_views (suc n) row number begun h =
-      let lt : row < rows = omega arith in
-      let in_it : row < view_rows q.views = rw (is.rows_same) lt in
-      by_row (λ l. length l.views ≡ 16 * suc n) q row number begun n
-      (λ v. length_before (zeros 16) (laid_from q (suc row) number begun n).views n refl (laid_views n (suc row) number begun (omega arith)))
-      (λ v few. length_before (view_at q.views row) (laid_from q (suc row) number begun n).views n (length-view q row in_it) (laid_views n (suc row) number begun (omega arith)))
-      (λ v long fits. length_before (long_view (value_at q row) number (length begun)) (laid_from q (suc row) number (begun ++ value_at q row) n).views n (length-long_view (value_at q row) number (length begun) (long_value row lt v long)) (laid_views n (suc row) number (begun ++ value_at q row) (omega arith)))
-      (λ v long over. length_before (long_view (value_at q row) (suc number) 0) (laid_from q (suc row) (suc number) (value_at q row) n).views n (length-long_view (value_at q row) (suc number) 0 (long_value row lt v long)) (laid_views n (suc row) (suc number) (value_at q row) (omega arith)))
+  long_value : (row : ℕ) → row < view_rows q.views → is_valid q.validity row ≡ true → 12 < u32_of (view_at q.views row) 0 → 12 < length (value_at q row)
+  long_value row lt v long = rw (is.values row (omega (arith, lt, is.rows_same)) v long) long
 
   -- all of them
   pub anew_lengths : map length (laid_anew q).buffers ≡ sent.compacted m p 0 0 rows
@@ -179,8 +125,7 @@ module _ (m : RecordBatch) (p : Place) (rows : ℕ) (q : Views) (is : AreRead m 
       let few : 0 + view_rows q.views ≤ rows = omega (arith, is.rows_same) in
       laid_lengths (view_rows q.views) 0 0 [] few ∙ ap (sent.compacted m p 0 0) is.rows_same
 
+  -- and as many views as rows
   pub anew_views : length (laid_anew q).views ≡ 16 * rows
   unfolding laid_anew
-  anew_views =
-      let few : 0 + view_rows q.views ≤ rows = omega (arith, is.rows_same) in
-      laid_views (view_rows q.views) 0 0 [] few ∙ ap (λ n. 16 * n) is.rows_same
+  anew_views = length-laid q long_value (view_rows q.views) 0 0 [] (omega arith) ∙ ap (λ n. 16 * n) is.rows_same

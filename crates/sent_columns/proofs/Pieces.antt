@@ -8,9 +8,10 @@ use Rattle.std.proofs.lemmas.List.Concat.{flat_map-cons}
 use Rattle.arrow_spec.specs.Flat.{little}
 use Rattle.arrow_spec.specs.Kinds.{Kind}
 use Rattle.arrow_spec.specs.Counts.{Written}
-use Rattle.arrow_spec.specs.Columns.{offset_width}
+use Rattle.arrow_spec.specs.Arrays.{offset_width}
 use Rattle.arrow_spec.specs.Framing as framing
 use Rattle.arrow_spec.proofs.PackedBits.{length-packed}
+use Rattle.arrow_types.specs.Numbers.{offsets_by}
 use Rattle.arrow_types.specs.Physical.{physical_of}
 use Rattle.arrow_types.specs.declared.physical.PhysicalType.{PhysicalType}
 use Rattle.arrow_buffers.specs.Layouts.{is_binary, is_text}
@@ -22,9 +23,9 @@ use Rattle.written_columns.specs.Streams.{written_of}
 use Rattle.written_columns.proofs.SentBatches.{written_of_one}
 use Rattle.read_columns.specs.WrittenParts.{validity_bytes, offset_bytes, lengths_in, views_in, written_in}
 use Rattle.array_writer.specs.Pieces as pieces
-use Rattle.array_writer.specs.Pieces.{layout_in_order, offsets_of, pieces_in, counts_in, column_in, node_in}
-use Rattle.array_writer.proofs.RoundTripFit.{offsets_by, binary_offsets, text_offsets}
-use Rattle.ipc_write.proofs.Lengths.{in_little, length-offsets, length-between, binary_suits, text_suits}
+use Rattle.array_writer.specs.Pieces.{layout_in_order, width_of_kind, pieces_in, counts_in, column_in, node_in}
+use Rattle.array_writer.proofs.RoundTripFit.{binary_offsets, binary_suits, text_offsets, text_suits}
+use Rattle.ipc_write.proofs.Lengths.{in_little, length-offsets, length-between}
 use Rattle.sent_columns.specs.Laws.{LengthsAreOfPieces, WrittenAsColumn}
 
 -- ── buffer by buffer ──
@@ -57,14 +58,14 @@ one_of true b h e = refl
 one_of false true h e = cc
 one_of false false h e = cc
 
-binary_wide : (k : Kind) → (is_binary false (physical_of k) || is_binary true (physical_of k)) ≡ true → offset_bytes (is_binary true (physical_of k)) ≡ byte_len (offset_width (offsets_of k))
+binary_wide : (k : Kind) → (is_binary false (physical_of k) || is_binary true (physical_of k)) ≡ true → offset_bytes (is_binary true (physical_of k)) ≡ byte_len (offset_width (width_of_kind k))
 binary_wide k h =
     elim (cases_Bool (is_binary true (physical_of k))) [
       | inl e ↦ ap offset_bytes e ∙ wide true ∙ ap (λ o. byte_len (offset_width o)) (sym (binary_offsets true k e))
       | inr e ↦ ap offset_bytes e ∙ wide false ∙ ap (λ o. byte_len (offset_width o)) (sym (binary_offsets false k (one_of _ _ h e)))
     ]
 
-text_wide : (k : Kind) → (is_text false (physical_of k) || is_text true (physical_of k)) ≡ true → offset_bytes (is_text true (physical_of k)) ≡ byte_len (offset_width (offsets_of k))
+text_wide : (k : Kind) → (is_text false (physical_of k) || is_text true (physical_of k)) ≡ true → offset_bytes (is_text true (physical_of k)) ≡ byte_len (offset_width (width_of_kind k))
 text_wide k h =
     elim (cases_Bool (is_text true (physical_of k))) [
       | inl e ↦ ap offset_bytes e ∙ wide true ∙ ap (λ o. byte_len (offset_width o)) (sym (text_offsets true k e))
@@ -79,10 +80,10 @@ two_same a b c d e f = rw (e, f) refl
 three_same : (a b c d x y : ℕ) → a ≡ b → c ≡ d → x ≡ y → a ∷ c ∷ x ∷ [] ≡ b ∷ d ∷ y ∷ []
 three_same a b c d x y e f g = rw (e, f, g) refl
 
-variable_lengths : (p : Variable) (bytes : ℕ) → bytes ≡ byte_len (offset_width (offsets_of p.kind)) → are_offsets p.offsets (length p.values) ≡ true
+variable_lengths : (p : Variable) (bytes : ℕ) → bytes ≡ byte_len (offset_width (width_of_kind p.kind)) → are_offsets p.offsets (length p.values) ≡ true
     → validity_bytes p.validity ∷ (bytes * length p.offsets) ∷ (place_at p.offsets (variable_rows p.offsets) - place_at p.offsets 0) ∷ [] ≡ map length (pieces.variable_pieces little p)
 variable_lengths p bytes e rise =
-    three_same _ _ _ _ _ _ (length-validity p.validity) (ap (λ w. w * length p.offsets) e ∙ sym (length-offsets (offsets_of p.kind) p.offsets)) (sym (length-between p.offsets p.values rise))
+    three_same _ _ _ _ _ _ (length-validity p.validity) (ap (λ w. w * length p.offsets) e ∙ sym (length-offsets (width_of_kind p.kind) p.offsets)) (sym (length-between p.offsets p.values rise))
 
 pub lengths_are : LengthsAreOfPieces
 lengths_are (nulls n) h = refl

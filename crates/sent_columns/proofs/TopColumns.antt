@@ -4,7 +4,8 @@ use Rattle.std.proofs.lemmas.List.{length-map}
 use Rattle.arrow_spec.specs.Kinds as kinds
 use Rattle.arrow_spec.specs.Kinds.{Kind, small, large}
 use Rattle.arrow_spec.specs.Counts.{RecordBatch, Place, Written, count_at}
-use Rattle.arrow_spec.specs.Columns.{Dictionaries, array_faults, node_faults, view_parts_faults, view_text_faults, views_faults}
+use Rattle.arrow_spec.specs.Arrays.{Dictionaries}
+use Rattle.arrow_spec.specs.Faults.{array_faults, node_faults, view_parts_faults, view_text_faults, views_faults}
 use Rattle.arrow_spec.specs.Sent as sent
 use Rattle.arrow_spec.specs.Sent.{compacted_written, lengths_on, own, top_views_written, top_written, views_written, with_views, written}
 use Rattle.arrow_spec.proofs.Fewer.{none_second, sound_first}
@@ -27,7 +28,7 @@ use Rattle.read_columns.proofs.Validities.{nulls-read}
 use Rattle.read_columns.proofs.ViewsRead.{length-rows}
 use Rattle.read_columns.proofs.Sound.{views_held}
 use Rattle.read_columns.proofs.WrittenLaws.{validity_bytes-read, written_read}
-use Rattle.ipc_write.specs.Compaction.{compacted, is_compacted, laid_anew, top, top_views}
+use Rattle.ipc_write.specs.Compaction.{compacted, views_need_compaction, laid_anew, top, top_views}
 use Rattle.ipc_write.specs.Batches.{top_column}
 use Rattle.sent_columns.specs.Laws.{TopIsSent}
 use Rattle.sent_columns.proofs.Pieces.{by_lengths, column_written, length-validity}
@@ -67,12 +68,12 @@ views_sent is_text s m k p n parts fine =
     let q = views_read m k p (suc n) in
     let is : AreRead m p (suc n) q = are_read is_text s m k p n parts fine in
     let new = sent.compacted m p 0 0 (suc n) in
-    either_way (sent.is_compacted m p (suc n)) (is_compacted q) (compacted_written m p (suc n)) (views_written m p (suc n) 0 (suc n)) (λ v. written_in (binary_views v)) (compacted q) q (compacted_same m p (suc n) q is)
+    either_way (sent.needs_compaction m p (suc n)) (views_need_compaction q) (compacted_written m p (suc n)) (views_written m p (suc n) 0 (suc n)) (λ v. written_in (binary_views v)) (compacted q) q (compacted_same m p (suc n) q is)
     (views_as m p (suc n) (length new) (compacted q) new refl (anew_views m p (suc n) q is) (anew_lengths m p (suc n) q is) refl)
     (views_as m p (suc n) (count_at m p.view) q (lengths_on m (p.buffer + 2) (count_at m p.view)) refl (length-rows m 16 (p.buffer + 1) (suc n) (views_held m p (suc n) parts)) is.buffers (count_on m (p.buffer + 2) (count_at m p.view)))
 
 no_views_sent : (m : RecordBatch) (k : Kind) (p : Place) → top_views_written m p 0 ≡ written_in (binary_views (top_views (views_read m k p 0)))
-unfolding is_compacted laid_anew
+unfolding views_need_compaction laid_anew
 no_views_sent m k p = refl
 
 -- ── by the layout ──

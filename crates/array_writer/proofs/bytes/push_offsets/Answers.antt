@@ -1,6 +1,7 @@
 use Rattle.std.proofs.Common.{◌≡◌, ◌+◌, ◌∷◌, ◌++◌, [], map, take, sym, subst, arith}
-use Rattle.array_writer.specs.Outputs.{order_of}
-use Rattle.array_writer.specs.Adding.{AllBelow, width_of}
+use Rattle.arrow_spec.specs.Flat.{order_by}
+use Rattle.arrow_types.specs.Numbers.{offsets_by}
+use Rattle.array_writer.specs.Adding.{AllBelow}
 use Rattle.array_writer.proofs.Adding.{kept_then, kept_behind, appends_fail}
 use Rattle.array_writer.proofs.Offsets.{bytes_next, below_more, is_placed, takes_more}
 use Rattle.array_writer.proofs.bytes.push_offsets.Goals as goal
@@ -21,8 +22,8 @@ returns-in_err-push_offset-clause-bytes g c =
 pub loop-offset-preserved : goal.loop-offset-preserved
 loop-offset-preserved g c =
     let xs = map g.O.Offset.number c.args.offsets.now in
-    let order = order_of c.args.is_little_endian in
-    let o = width_of g.O.Offset.IS_LARGE in
+    let order = order_by c.args.is_little_endian in
+    let o = offsets_by g.O.Offset.IS_LARGE in
     let first = c.ends_of-first.result.0 in
     let i = c.loop-offset.offset-index in
     let x = g.O.Offset.number c.offset-item.result in

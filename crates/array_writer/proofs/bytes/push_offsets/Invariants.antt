@@ -1,11 +1,12 @@
 use Rattle.std.proofs.Common.{◌≡◌, ◌++◌, take, map}
-use Rattle.array_writer.specs.Adding.{AllBelow, width_of}
-use Rattle.array_writer.specs.Outputs.{order_of}
+use Rattle.arrow_types.specs.Numbers.{offsets_by}
+use Rattle.array_writer.specs.Adding.{AllBelow}
+use Rattle.arrow_spec.specs.Flat.{order_by}
 use Rattle.array_writer.proofs.Offsets.{bytes_by}
 use Rattle.array_writer.proofs.bytes.push_offsets.Given as goal
 
 abbrev pub invariant-loop-offset : goal.invariant-loop-offset
 invariant-loop-offset g l = record {
-  bytes : l.out.items ≡ l.initial.out.items ++ bytes_by (order_of l.is_little_endian) (width_of g.O.Offset.IS_LARGE) l.first (take l.offset-index (map g.O.Offset.number l.offsets));
+  bytes : l.out.items ≡ l.initial.out.items ++ bytes_by (order_by l.is_little_endian) (offsets_by g.O.Offset.IS_LARGE) l.first (take l.offset-index (map g.O.Offset.number l.offsets));
   below : AllBelow g.O.Offset.limit (take l.offset-index (map g.O.Offset.number l.offsets));
 }

@@ -3,7 +3,7 @@ use Rattle.std.specs.List.{flat_map}
 use Rattle.arrow_types.specs.Physical.{physical_of}
 use Rattle.arrow_buffers.specs.Layouts.{is_primitive}
 use Rattle.arrow_arrays.proofs.NumberParts.{flat_suits}
-use Rattle.array_writer.specs.Outputs.{order_of}
+use Rattle.arrow_spec.specs.Flat.{order_by}
 use Rattle.array_writer.proofs.Adding.{adds_as, adds_then, short_as, short_next}
 use Rattle.array_writer.proofs.LayoutKinds.{numbers_turned, flat_same}
 use Rattle.array_writer.proofs.layouts.write_numbers.Goals as goal
@@ -11,7 +11,7 @@ use Rattle.array_writer.proofs.layouts.write_numbers.Goals as goal
 pub put_numbers-requires : goal.put_numbers-requires
 put_numbers-requires g c =
     let a = c.args.array.now in
-    let order = order_of c.args.is_little_endian in
+    let order = order_by c.args.is_little_endian in
     let write = g.T.NativeType.written in
     let p = g.T.NativeType.PRIMITIVE in
     let turned = numbers_turned write p order a.kind a.values c.requires.turned (flat_suits (is_primitive p (physical_of a.kind)) (length a.values) a.validity c.len.ensures.sound) in
@@ -22,7 +22,7 @@ put_numbers-requires g c =
 pub returns : goal.returns
 returns g c =
     let a = c.args.array.now in
-    let order = order_of c.args.is_little_endian in
+    let order = order_by c.args.is_little_endian in
     let write = g.T.NativeType.written in
     let p = g.T.NativeType.PRIMITIVE in
     let turned = numbers_turned write p order a.kind a.values c.requires.turned (flat_suits (is_primitive p (physical_of a.kind)) (length a.values) a.validity c.len.ensures.sound) in

@@ -1,5 +1,5 @@
 use Rattle.std.proofs.Common.{◌∷◌, [], ap, ◌∙◌, refl, map}
-use Rattle.arrow_spec.specs.Columns.{slice}
+use Rattle.arrow_spec.specs.Arrays.{slice}
 use Rattle.arrow_buffers.specs.Variable.{place_at}
 use Rattle.array_writer.proofs.Adding.{adds_as, adds_then, puts_then}
 use Rattle.array_writer.proofs.layouts.write_variable.Goals as goal

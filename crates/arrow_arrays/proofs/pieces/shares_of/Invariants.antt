@@ -1,5 +1,5 @@
 use Rattle.std.proofs.Common.{◌≡◌}
-use Rattle.arrow_spec.specs.Columns.{from_on}
+use Rattle.arrow_spec.specs.Arrays.{from_on}
 use Rattle.arrow_arrays.specs.PieceViews.{share}
 use Rattle.arrow_arrays.proofs.pieces.shares_of.Given as goal
 

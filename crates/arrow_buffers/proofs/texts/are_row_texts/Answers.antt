@@ -2,7 +2,7 @@ use Rattle.std.proofs.Common.{◌≡◌, ℕ, ◌&&◌, Bool, map, sym, ap, ◌�
 use Rattle.std.specs.Prelude.{not}
 use Rattle.std.specs.Str.{is_utf8}
 use Rattle.std.proofs.lemmas.List.{length-map}
-use Rattle.arrow_spec.specs.Columns.{some_row}
+use Rattle.arrow_spec.specs.Faults.{some_row}
 use Rattle.arrow_buffers.specs.Rows.{is_valid}
 use Rattle.arrow_buffers.specs.Variable.{row_bytes, has_bad_text, variable_rows}
 use Rattle.arrow_buffers.proofs.Rows.{some_at, none_more, bad_here, fine_here, null_here}

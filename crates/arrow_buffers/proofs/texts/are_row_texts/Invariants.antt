@@ -1,7 +1,7 @@
 use Rattle.std.proofs.Common.{◌≡◌, ◌&&◌, false, map}
 use Rattle.std.specs.Prelude.{not}
 use Rattle.std.specs.Str.{is_utf8}
-use Rattle.arrow_spec.specs.Columns.{some_row}
+use Rattle.arrow_spec.specs.Faults.{some_row}
 use Rattle.arrow_buffers.specs.Rows.{is_valid}
 use Rattle.arrow_buffers.specs.Variable.{row_bytes}
 use Rattle.arrow_buffers.proofs.texts.are_row_texts.Given as goal

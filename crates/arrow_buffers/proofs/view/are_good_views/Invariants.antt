@@ -1,6 +1,6 @@
 use Rattle.std.proofs.Common.{◌≡◌, ◌&&◌, false}
 use Rattle.std.specs.Prelude.{not}
-use Rattle.arrow_spec.specs.Columns.{some_row}
+use Rattle.arrow_spec.specs.Faults.{some_row}
 use Rattle.arrow_buffers.specs.Rows.{is_valid}
 use Rattle.arrow_buffers.specs.Views.{is_good_view, view_at}
 use Rattle.arrow_buffers.proofs.view.are_good_views.Given as goal

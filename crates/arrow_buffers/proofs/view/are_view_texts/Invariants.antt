@@ -1,5 +1,5 @@
 use Rattle.std.proofs.Common.{◌≡◌, ◌&&◌, false}
-use Rattle.arrow_spec.specs.Columns.{some_row}
+use Rattle.arrow_spec.specs.Faults.{some_row}
 use Rattle.arrow_buffers.specs.Rows.{is_valid}
 use Rattle.arrow_buffers.specs.Views.{is_no_text_view, view_at}
 use Rattle.arrow_buffers.proofs.view.are_view_texts.Given as goal

@@ -1,5 +1,5 @@
 use Rattle.std.proofs.Common.{◌≡◌, drop}
-use Rattle.arrow_spec.specs.Columns.{all_zero}
+use Rattle.arrow_spec.specs.Faults.{all_zero}
 use Rattle.arrow_buffers.proofs.view.are_zeros.Given as goal
 
 abbrev pub invariant-loop-byte : goal.invariant-loop-byte

@@ -1,5 +1,5 @@
 use Rattle.std.proofs.Common.{◌≡◌, ◌≤◌, ◌<◌, length, refl, sym, ap, ◌∙◌, arith}
-use Rattle.arrow_spec.specs.Columns.{u32_of}
+use Rattle.arrow_spec.specs.Arrays.{u32_of}
 use Rattle.arrow_buffers.specs.Views.{buffer_at}
 use Rattle.arrow_buffers.proofs.Views.{short_view, long_view, leads, buffer_read, range_bytes}
 use Rattle.arrow_buffers.proofs.view.bytes_in.Goals as goal

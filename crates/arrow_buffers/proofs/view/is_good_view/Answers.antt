@@ -1,6 +1,7 @@
 use Rattle.std.proofs.Common.{◌≤◌, ◌<◌, sym, ap, ◌∙◌, arith, ◌+◌, drop}
 use Rattle.std.proofs.lemmas.List.{take_rest}
-use Rattle.arrow_spec.specs.Columns.{u32_of, all_zero}
+use Rattle.arrow_spec.specs.Arrays.{u32_of}
+use Rattle.arrow_spec.specs.Faults.{all_zero}
 use Rattle.arrow_buffers.proofs.Views.{short_good, long_good}
 use Rattle.arrow_buffers.proofs.view.is_good_view.Goals as goal
 

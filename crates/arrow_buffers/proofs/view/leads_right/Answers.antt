@@ -1,6 +1,6 @@
 use Rattle.std.proofs.Common.{◌≡◌, ◌+◌, ◌≤◌, ◌<◌, length, take, drop, sym, ap, ◌∙◌, arith}
 use Rattle.std.specs.Str.{bytes_eq}
-use Rattle.arrow_spec.specs.Columns.{u32_of}
+use Rattle.arrow_spec.specs.Arrays.{u32_of}
 use Rattle.arrow_buffers.specs.Views.{buffer_at, long_bytes}
 use Rattle.arrow_buffers.proofs.Views.{no_buffer, past_buffer, by_prefix, buffer_read, range_bytes}
 use Rattle.arrow_buffers.proofs.view.leads_right.Goals as goal

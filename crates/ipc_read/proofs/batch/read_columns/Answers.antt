@@ -1,7 +1,7 @@
 use Rattle.std.proofs.Common.{◌≡◌, ◌+◌, ◌++◌, ◌∷◌, [], length, rules, true, Err, sym, ap, ◌∙◌, arith, subst, refl}
 use Rattle.std.proofs.lemmas.List.{map-append}
 use Rattle.arrow_spec.specs.Counts.{first_place}
-use Rattle.arrow_spec.specs.Columns.{place_in}
+use Rattle.arrow_spec.specs.Faults.{place_in}
 use Rattle.arrow_types.specs.Schemas.{fields_in}
 use Rattle.arrow_arrays.specs.PartsOf.{parts_of, all_parts_of}
 use Rattle.arrow_arrays.specs.Batches.{have_rows}

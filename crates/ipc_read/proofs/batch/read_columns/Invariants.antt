@@ -1,6 +1,6 @@
 use Rattle.std.proofs.Common.{◌≡◌, ◌+◌, ◌≤◌, length, drop, true}
 use Rattle.arrow_spec.specs.Counts.{RecordBatch, first_place}
-use Rattle.arrow_spec.specs.Columns.{place_in}
+use Rattle.arrow_spec.specs.Faults.{place_in}
 use Rattle.arrow_types.specs.Schemas.{fields_in}
 use Rattle.arrow_arrays.specs.PartsOf.{all_parts_of}
 use Rattle.arrow_arrays.specs.Batches.{have_rows}

@@ -6,7 +6,9 @@ use Rattle.arrow_types.specs.Schemas.{fields_in}
 use Rattle.arrow_arrays.specs.PartsOf.{parts_of, all_parts_of}
 use Rattle.read_columns.specs.Batches.{columns_read}
 use Rattle.ipc_schema.specs.Views.{header_of}
-use Rattle.ipc_read.specs.Batches.{batch_in, batch_reading, batch_fetched, table_of}
+use Rattle.ipc_read.specs.Batches.{batch_reading, batch_fetched, table_of}
+use Rattle.arrow_spec.specs.Flat.{order_by}
+use Rattle.arrow_spec.specs.Files.{record_batch_of}
 use Rattle.ipc_read.specs.Sources.{bytes_in}
 use Rattle.ipc_read.proofs.Passing.{is_err}
 use Rattle.ipc_read.proofs.BatchTables.{some_refused, some_given, some_same, batch_fine}
@@ -20,7 +22,7 @@ returns-in_err-columns-clause-gives g c =
 pub returns-in_err-columns-clause-fetched : goal.returns-in_err-columns-clause-fetched
 returns-in_err-columns-clause-fetched g c = λ bytes.
     let k = c.read_arrays.ensures.fetched bytes in
-    let n = ap (λ s. batch_fetched (batch_in c.args.ipc_schema.now.is_little_endian c.args.version (header_of c.args.header.now) bytes) (fields_in s) (magnitude c.args.header.now.length)) c.deref.ensures in
+    let n = ap (λ s. batch_fetched (record_batch_of (order_by c.args.ipc_schema.now.is_little_endian) c.args.version (header_of c.args.header.now) bytes) (fields_in s) (magnitude c.args.header.now.length)) c.deref.ensures in
     omega (arith, k, n)
 
 pub new-requires : goal.new-requires
@@ -32,10 +34,10 @@ pub returns-clause-gives : goal.returns-clause-gives
 returns-clause-gives g c = some_given _ (λ s b. batch_reading c.args.ipc_schema.now.is_little_endian (fields_in s) c.args.size c.args.version (header_of c.args.header.now) (bytes_in c.args.body b)) c.deref.result.now (rc_value c.args.schema.now) _ _ c.deref.ensures (sym (ap table_of c.new.ensures)) c.in_ok-columns.ensures.gives
 
 pub returns-clause-parts : goal.returns-clause-parts
-returns-clause-parts g c = some_same _ (λ n s b. columns_read (batch_in c.args.ipc_schema.now.is_little_endian c.args.version (header_of c.args.header.now) (bytes_in c.args.body b)) (fields_in s) first_place n) c.deref.result.now (rc_value c.args.schema.now) _ _ _ _ c.deref.ensures (sym (ap (λ x. x.height) c.new.ensures)) (sym (ap (λ x. x.arrays) c.new.ensures)) c.in_ok-columns.ensures.parts
+returns-clause-parts g c = some_same _ (λ n s b. columns_read (record_batch_of (order_by c.args.ipc_schema.now.is_little_endian) c.args.version (header_of c.args.header.now) (bytes_in c.args.body b)) (fields_in s) first_place n) c.deref.result.now (rc_value c.args.schema.now) _ _ _ _ c.deref.ensures (sym (ap (λ x. x.height) c.new.ensures)) (sym (ap (λ x. x.arrays) c.new.ensures)) c.in_ok-columns.ensures.parts
 
 pub returns-clause-fetched : goal.returns-clause-fetched
 returns-clause-fetched g c = λ bytes.
     let k = c.read_arrays.ensures.fetched bytes in
-    let n = ap (λ s. batch_fetched (batch_in c.args.ipc_schema.now.is_little_endian c.args.version (header_of c.args.header.now) bytes) (fields_in s) (magnitude c.args.header.now.length)) c.deref.ensures in
+    let n = ap (λ s. batch_fetched (record_batch_of (order_by c.args.ipc_schema.now.is_little_endian) c.args.version (header_of c.args.header.now) bytes) (fields_in s) (magnitude c.args.header.now.length)) c.deref.ensures in
     omega (arith, k, n)

@@ -1,6 +1,6 @@
 use Rattle.std.proofs.Common.{◌≡◌, ◌*◌, ◌≤◌, ap, arith, ◌∙◌}
 use Rattle.arrow_spec.specs.Counts.{magnitude}
-use Rattle.arrow_spec.specs.Columns.{range_of, bit, buf}
+use Rattle.arrow_spec.specs.Arrays.{range_of, bit, buf}
 use Rattle.ipc_read.specs.declared.body.Body.{Body}
 use Rattle.ipc_read.proofs.Refusals.{err_from}
 use Rattle.ipc_read.proofs.Parts.{told_length, bytes_are, bits_same, bitmap_refused, bitmap_short, bitmap_enough, length-told}

@@ -4,8 +4,9 @@ use Rattle.arrow_spec.specs.declared.error.OutOfSpecKind.TheVariants as kinds
 use Rattle.arrow_spec.specs.Readings.{IsAmong}
 use Rattle.arrow_spec.specs.Counts.{magnitude}
 use Rattle.arrow_spec.specs.Laws.{AreBytes}
-use Rattle.arrow_spec.specs.Columns.{range_of, buf, from_on, numbers_faults}
-use Rattle.ipc_read.specs.Sources.{order_of}
+use Rattle.arrow_spec.specs.Arrays.{range_of, buf, from_on}
+use Rattle.arrow_spec.specs.Faults.{numbers_faults}
+use Rattle.arrow_spec.specs.Flat.{order_by}
 use Rattle.ipc_read.specs.declared.body.Body.{Body}
 use Rattle.ipc_read.proofs.Refusals.{err_from}
 use Rattle.ipc_read.proofs.Parts.{told_length, bytes_are, items_same, numbers_refused, numbers_short, numbers_enough, length-told}
@@ -37,7 +38,7 @@ returns-in-Ok-clause-gives g c = λ m i l t.
     let enough : g.T.NativeType.WIDTH * c.args.rows ≤ magnitude (range_of m i).length = omega (arith, n, all) in
     let few : g.T.NativeType.WIDTH * c.args.rows ≤ c.in_ok-part.part.length = omega (arith, all) in
     let same = bytes_are _ c.args.body m i (g.T.NativeType.WIDTH * c.args.rows) c.in_ok-part.part c.fetch_into.new.bytes.items t.told k.1 few c.in_ok-part.ensures.within c.in_ok-fetch_into.ensures.bytes (c.in_ok-fetch_into.ensures.count ∙ all) in
-    let read : List ℕ → g.row.T.Denot = g.T.NativeType.read (order_of c.args.is_little_endian) in
+    let read : List ℕ → g.row.T.Denot = g.T.NativeType.read (order_by c.args.is_little_endian) in
     record {
       ok = (
         numbers_enough m i g.T.NativeType.WIDTH c.args.rows k.0 enough,
@@ -50,7 +51,7 @@ returns-in-Ok-clause-gives g c = λ m i l t.
     }
 
 pub returns-in-Ok-clause-rows : goal.returns-in-Ok-clause-rows
-returns-in-Ok-clause-rows g c = length-told (λ j. g.T.NativeType.read (order_of c.args.is_little_endian) (take g.T.NativeType.WIDTH (drop (g.T.NativeType.WIDTH * j) c.deref.result.now))) 0 c.args.rows _ (c.in-Ok.ensures ∙ c.in_ok-numbers.ensures.numbers)
+returns-in-Ok-clause-rows g c = length-told (λ j. g.T.NativeType.read (order_by c.args.is_little_endian) (take g.T.NativeType.WIDTH (drop (g.T.NativeType.WIDTH * j) c.deref.result.now))) 0 c.args.rows _ (c.in-Ok.ensures ∙ c.in_ok-numbers.ensures.numbers)
 
 pub returns-in-Ok-clause-bytes : goal.returns-in-Ok-clause-bytes
 returns-in-Ok-clause-bytes g c = λ m i l t.

@@ -1,11 +1,13 @@
 use Rattle.std.proofs.Common.{◌+◌, suc, ap, arith, ◌∙◌}
 use Rattle.arrow_types.specs.KindOf.{kind_of}
-use Rattle.arrow_spec.specs.Columns.{validity_faults}
+use Rattle.arrow_spec.specs.Faults.{validity_faults}
 use Rattle.read_columns.specs.PartsRead.{bytes_of_rows}
 use Rattle.ipc_read.specs.Queues.{short_of}
 use Rattle.ipc_read.proofs.Refusals.{err_from, none_of_both}
 use Rattle.ipc_read.proofs.Counted.{left_next}
 use Rattle.ipc_read.proofs.FlatArrays.{flat_fixed_of, node_refused, validity_refused, values_refused, flat_fine, flat_next, flat_fetched, flat_same, known_on}
+use Rattle.arrow_spec.specs.Counts.{first_place}
+use Rattle.ipc_read.proofs.Shortened.{none_taken, taken_more, taken_then, flat_shortened, only_counts}
 use Rattle.ipc_read.proofs.flat.read_fixed_size_binary.Goals as goal
 
 pub returns-in_err-node-clause-gives : goal.returns-in_err-node-clause-gives
@@ -83,3 +85,18 @@ returns-clause-fetched g c = λ m p a.
     let b = left_next m.buffers (suc p.buffer) (p.buffer + 1) _ (omega arith) (c.in_ok-validity.ensures.queue m p.buffer a.buffers) in
     let z = flat_fetched m (kind_of c.args.dtype.now) p c.args.rows _ f in
     omega (arith, z, c.in_ok-validity.ensures.fetched m p a.buffers q.0, c.in_ok-values.ensures.fetched m (p.buffer + 1) b)
+
+pub returns-in_err-node-clause-shortened : goal.returns-in_err-node-clause-shortened
+returns-in_err-node-clause-shortened g c = λ version vs. flat_shortened version vs (flat_fixed_of (only_counts version vs) (kind_of c.args.dtype.now) first_place c.args.rows c.binary_size-size.result c.requires.kind c.binary_size-size.ensures) c.in_err-node.ensures.shortened (none_taken 2 _)
+
+pub returns-in_err-validity-clause-shortened : goal.returns-in_err-validity-clause-shortened
+returns-in_err-validity-clause-shortened g c = λ version vs. flat_shortened version vs (flat_fixed_of (only_counts version vs) (kind_of c.args.dtype.now) first_place c.args.rows c.binary_size-size.result c.requires.kind c.binary_size-size.ensures) c.in_ok-node.ensures.shortened (taken_more c.in_err-validity.ensures.shortened (omega arith))
+
+pub returns-in_err-values-clause-shortened : goal.returns-in_err-values-clause-shortened
+returns-in_err-values-clause-shortened g c = λ version vs. flat_shortened version vs (flat_fixed_of (only_counts version vs) (kind_of c.args.dtype.now) first_place c.args.rows c.binary_size-size.result c.requires.kind c.binary_size-size.ensures) c.in_ok-node.ensures.shortened (taken_then c.in_ok-validity.ensures.shortened c.in_err-values.ensures.shortened (omega arith))
+
+pub returns-in_err-array-clause-shortened : goal.returns-in_err-array-clause-shortened
+returns-in_err-array-clause-shortened g c = λ version vs. flat_shortened version vs (flat_fixed_of (only_counts version vs) (kind_of c.args.dtype.now) first_place c.args.rows c.binary_size-size.result c.requires.kind c.binary_size-size.ensures) c.in_ok-node.ensures.shortened (taken_then c.in_ok-validity.ensures.shortened c.in_ok-values.ensures.shortened (omega arith))
+
+pub returns-clause-shortened : goal.returns-clause-shortened
+returns-clause-shortened g c = λ version vs. flat_shortened version vs (flat_fixed_of (only_counts version vs) (kind_of c.args.dtype.now) first_place c.args.rows c.binary_size-size.result c.requires.kind c.binary_size-size.ensures) c.in_ok-node.ensures.shortened (taken_then c.in_ok-validity.ensures.shortened c.in_ok-values.ensures.shortened (omega arith))

@@ -1,7 +1,8 @@
 use Rattle.arrow_types.specs.KindOf.{kind_of}
 use Rattle.ipc_read.proofs.Refusals.{err_from, err_if, refusal_cause}
-use Rattle.ipc_read.specs.Sources.{ReadCause}
+use Rattle.ipc_read.specs.Sources.{BodyReadCause}
 use Rattle.ipc_read.proofs.FlatArrays.{null_refused, null_fine, null_next}
+use Rattle.ipc_read.proofs.Shortened.{null_shortened}
 use Rattle.ipc_read.proofs.flat.read_null.Goals as goal
 
 pub returns-in_err-take_node-clause-gives : goal.returns-in_err-take_node-clause-gives
@@ -19,5 +20,14 @@ returns-clause-gives c = λ m p a.
 
 pub returns-in_err-take_node-clause-cause : goal.returns-in_err-take_node-clause-cause
 returns-in_err-take_node-clause-cause c = λ n.
-    err_if _ c.in_err-take_node.field-0.0 _ (λ e. ReadCause e n n) c.from_residual.ensures.0 c.from_residual.ensures.1 (λ x e. e)
+    err_if _ c.in_err-take_node.field-0.0 _ (λ e. BodyReadCause e n n) c.from_residual.ensures.0 c.from_residual.ensures.1 (λ x e. e)
     (refusal_cause c.in_err-take_node.field-0.0 n c.in_err-take_node.ensures.refusal)
+
+pub returns-in_err-take_node-clause-shortened : goal.returns-in_err-take_node-clause-shortened
+returns-in_err-take_node-clause-shortened c = λ version bs vs. null_shortened version bs vs (kind_of c.args.dtype.now) c.requires.kind c.in_err-take_node.ensures.shortened
+
+pub returns-in_err-array-clause-shortened : goal.returns-in_err-array-clause-shortened
+returns-in_err-array-clause-shortened c = λ version bs vs. null_shortened version bs vs (kind_of c.args.dtype.now) c.requires.kind c.in_ok-take_node.ensures.shortened
+
+pub returns-clause-shortened : goal.returns-clause-shortened
+returns-clause-shortened c = λ version bs vs. null_shortened version bs vs (kind_of c.args.dtype.now) c.requires.kind c.in_ok-take_node.ensures.shortened

@@ -45,3 +45,12 @@ returns-in-BinaryView-clause-cells g c = λ m p a known. cells_of c.read_views.r
 
 pub returns-in-Null-clause-cells : goal.returns-in-Null-clause-cells
 returns-in-Null-clause-cells g c = λ m p a known. cells_of c.read_nulls.result m (kind_of c.args.field.now.dtype) p c.args.rows c.requires.flat (if_any c.read_nulls.result _ (no_numbers m (kind_of c.args.field.now.dtype) p c.args.rows (ap number_size (sym c.to_physical_type-layout.ensures ∙ c.in-Null.is)))) (c.read_nulls.ensures.parts m p (nodes_at (at_all a)))
+
+pub returns-in-Null-clause-shortened : goal.returns-in-Null-clause-shortened
+returns-in-Null-clause-shortened g c = λ version. c.read_nulls.ensures.shortened version c.args.buffers.now.items c.args.variadic.now.items
+
+pub returns-in-Primitive-clause-shortened : goal.returns-in-Primitive-clause-shortened
+returns-in-Primitive-clause-shortened g c = λ version. c.read_numbers.ensures.shortened version c.args.variadic.now.items
+
+pub returns-in-Boolean-clause-shortened : goal.returns-in-Boolean-clause-shortened
+returns-in-Boolean-clause-shortened g c = λ version. c.read_values.ensures.shortened version c.args.variadic.now.items

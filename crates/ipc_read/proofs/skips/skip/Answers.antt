@@ -1,6 +1,7 @@
 use Rattle.std.proofs.Common.{refl, sym, ◌∙◌, inl, inr}
 use Rattle.arrow_types.specs.KindOf.{kind_of}
 use Rattle.ipc_read.proofs.Passing.{flat_queues, flat_exact, null_queues, views_queues, views_count, nodes_at, answers_same}
+use Rattle.ipc_read.proofs.Shortened.{none_taken, plain_shortened}
 use Rattle.ipc_read.proofs.skips.skip.Goals as goal
 
 pub returns-in-Null-clause-queues : goal.returns-in-Null-clause-queues
@@ -61,4 +62,34 @@ pub returns-in-BinaryView-clause-exact : goal.returns-in-BinaryView-clause-exact
 returns-in-BinaryView-clause-exact c = elim c.in-BinaryView.is [
   | inl h ↦ λ m p a. answers_same _ c.skip_binview.result _ _ _ (views_count m (kind_of c.args.dtype.now) _ p c.requires.plain (sym c.to_physical_type.ensures ∙ h) (λ n. refl) refl) (c.skip_binview.ensures.exact m p a)
   | inr h ↦ λ m p a. answers_same _ c.skip_binview.result _ _ _ (views_count m (kind_of c.args.dtype.now) _ p c.requires.plain (sym c.to_physical_type.ensures ∙ h) (λ n. refl) refl) (c.skip_binview.ensures.exact m p a)
+]
+
+pub returns-in-Null-clause-shortened : goal.returns-in-Null-clause-shortened
+returns-in-Null-clause-shortened c = λ version. plain_shortened (kind_of c.args.dtype.now) _ version 0 0 c.requires.plain (sym c.to_physical_type.ensures ∙ c.in-Null.is) refl refl c.skip_null.ensures.nodes (none_taken 0 c.args.buffers.now.items) (none_taken 0 c.args.variadic.now.items)
+
+pub returns-in-Boolean-clause-shortened : goal.returns-in-Boolean-clause-shortened
+returns-in-Boolean-clause-shortened c = λ version. plain_shortened (kind_of c.args.dtype.now) _ version 2 0 c.requires.plain (sym c.to_physical_type.ensures ∙ c.in-Boolean.is) refl refl c.skip_boolean.ensures.nodes c.skip_boolean.ensures.buffers (none_taken 0 c.args.variadic.now.items)
+
+pub returns-in-Primitive-clause-shortened : goal.returns-in-Primitive-clause-shortened
+returns-in-Primitive-clause-shortened c = λ version. plain_shortened (kind_of c.args.dtype.now) _ version 2 0 c.requires.plain (sym c.to_physical_type.ensures ∙ c.in-Primitive.is) refl refl c.skip_primitive.ensures.nodes c.skip_primitive.ensures.buffers (none_taken 0 c.args.variadic.now.items)
+
+pub returns-in-Binary-clause-shortened : goal.returns-in-Binary-clause-shortened
+returns-in-Binary-clause-shortened c = elim c.in-Binary.is [
+  | inl h ↦ λ version. plain_shortened (kind_of c.args.dtype.now) _ version 3 0 c.requires.plain (sym c.to_physical_type.ensures ∙ h) refl refl c.skip_binary.ensures.nodes c.skip_binary.ensures.buffers (none_taken 0 c.args.variadic.now.items)
+  | inr h ↦ λ version. plain_shortened (kind_of c.args.dtype.now) _ version 3 0 c.requires.plain (sym c.to_physical_type.ensures ∙ h) refl refl c.skip_binary.ensures.nodes c.skip_binary.ensures.buffers (none_taken 0 c.args.variadic.now.items)
+]
+
+pub returns-in-Utf8-clause-shortened : goal.returns-in-Utf8-clause-shortened
+returns-in-Utf8-clause-shortened c = elim c.in-Utf8.is [
+  | inl h ↦ λ version. plain_shortened (kind_of c.args.dtype.now) _ version 3 0 c.requires.plain (sym c.to_physical_type.ensures ∙ h) refl refl c.skip_utf8.ensures.nodes c.skip_utf8.ensures.buffers (none_taken 0 c.args.variadic.now.items)
+  | inr h ↦ λ version. plain_shortened (kind_of c.args.dtype.now) _ version 3 0 c.requires.plain (sym c.to_physical_type.ensures ∙ h) refl refl c.skip_utf8.ensures.nodes c.skip_utf8.ensures.buffers (none_taken 0 c.args.variadic.now.items)
+]
+
+pub returns-in-FixedSizeBinary-clause-shortened : goal.returns-in-FixedSizeBinary-clause-shortened
+returns-in-FixedSizeBinary-clause-shortened c = λ version. plain_shortened (kind_of c.args.dtype.now) _ version 2 0 c.requires.plain (sym c.to_physical_type.ensures ∙ c.in-FixedSizeBinary.is) refl refl c.skip_fixed_size_binary.ensures.nodes c.skip_fixed_size_binary.ensures.buffers (none_taken 0 c.args.variadic.now.items)
+
+pub returns-in-BinaryView-clause-shortened : goal.returns-in-BinaryView-clause-shortened
+returns-in-BinaryView-clause-shortened c = elim c.in-BinaryView.is [
+  | inl h ↦ λ version. plain_shortened (kind_of c.args.dtype.now) _ version _ 1 c.requires.plain (sym c.to_physical_type.ensures ∙ h) refl refl c.skip_binview.ensures.nodes c.skip_binview.ensures.buffers c.skip_binview.ensures.views
+  | inr h ↦ λ version. plain_shortened (kind_of c.args.dtype.now) _ version _ 1 c.requires.plain (sym c.to_physical_type.ensures ∙ h) refl refl c.skip_binview.ensures.nodes c.skip_binview.ensures.buffers c.skip_binview.ensures.views
 ]

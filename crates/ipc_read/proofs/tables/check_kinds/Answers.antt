@@ -1,5 +1,5 @@
 use Rattle.std.proofs.Common.{◌≡◌, Err, sym, ◌∙◌, ap, arith, subst, refl}
-use Rattle.arrow_spec.specs.Columns.{float_faults}
+use Rattle.arrow_spec.specs.Features.{float_faults}
 use Rattle.arrow_spec.specs.Readings.{Refuses}
 use Rattle.arrow_types.specs.KindOf.{child_of}
 use Rattle.arrow_buffers.specs.Layouts.{binary_size}

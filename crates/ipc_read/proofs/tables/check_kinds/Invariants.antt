@@ -1,6 +1,6 @@
 use Rattle.std.proofs.Common.{◌≡◌, drop, true}
 use Rattle.std.specs.Prelude.{None, ◌≤◌, length}
-use Rattle.arrow_spec.specs.Columns.{chosen_floats}
+use Rattle.arrow_spec.specs.Features.{chosen_floats}
 use Rattle.arrow_types.specs.Schemas.{fields_in}
 use Rattle.ipc_read.specs.Batches.{are_column_kinds, are_flat_kinds}
 use Rattle.ipc_read.proofs.tables.check_kinds.Given as goal

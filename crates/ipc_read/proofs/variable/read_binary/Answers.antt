@@ -2,12 +2,14 @@ use Rattle.arrow_types.specs.Numbers.{offsets_by}
 use Rattle.std.proofs.Common.{◌≡◌, ◌+◌, suc, length, map, refl, arith, ◌∙◌}
 use Rattle.std.proofs.lemmas.List.{length-map}
 use Rattle.arrow_types.specs.KindOf.{kind_of}
-use Rattle.arrow_spec.specs.Columns.{validity_faults}
+use Rattle.arrow_spec.specs.Faults.{validity_faults}
 use Rattle.ipc_read.specs.Queues.{short_of}
 use Rattle.ipc_read.proofs.Refusals.{err_from, none_of_both}
 use Rattle.ipc_read.proofs.Counted.{left_next}
 use Rattle.ipc_read.proofs.FlatArrays.{known_on}
 use Rattle.ipc_read.proofs.VariableArrays.{variable_binary, WasRead, node_refused, validity_refused, offsets_refused, values_refused, make_refused, variable_fine, variable_next, variable_fetched, variable_same, shape_of}
+use Rattle.arrow_spec.specs.Counts.{first_place}
+use Rattle.ipc_read.proofs.Shortened.{none_taken, taken_more, taken_then, two_taken, variable_shortened, only_counts}
 use Rattle.ipc_read.proofs.variable.read_binary.Goals as goal
 
 pub returns-in_err-node-clause-gives : goal.returns-in_err-node-clause-gives
@@ -131,3 +133,21 @@ returns-clause-fetched g c = λ m p a.
     let d = left_next m.buffers (suc (p.buffer + 1)) (p.buffer + 2) _ (omega arith) (c.in_ok-offsets.ensures.queue m (p.buffer + 1) b) in
     let s = variable_fetched m (kind_of c.args.dtype.now) p c.args.rows (offsets_by g.O.Offset.IS_LARGE) _ f in
     omega (arith, s, c.in_ok-validity.ensures.fetched m p a.buffers q.0, c.in_ok-offsets.ensures.fetched m (p.buffer + 1) b, c.in_ok-values.ensures.fetched m (p.buffer + 2) d)
+
+pub returns-in_err-node-clause-shortened : goal.returns-in_err-node-clause-shortened
+returns-in_err-node-clause-shortened g c = λ version vs. variable_shortened version vs (variable_binary (only_counts version vs) (kind_of c.args.dtype.now) first_place c.args.rows g.O.Offset.IS_LARGE c.requires.kind) c.in_err-node.ensures.shortened (none_taken 3 _)
+
+pub returns-in_err-validity-clause-shortened : goal.returns-in_err-validity-clause-shortened
+returns-in_err-validity-clause-shortened g c = λ version vs. variable_shortened version vs (variable_binary (only_counts version vs) (kind_of c.args.dtype.now) first_place c.args.rows g.O.Offset.IS_LARGE c.requires.kind) c.in_ok-node.ensures.shortened (taken_more c.in_err-validity.ensures.shortened (omega arith))
+
+pub returns-in_err-offsets-clause-shortened : goal.returns-in_err-offsets-clause-shortened
+returns-in_err-offsets-clause-shortened g c = λ version vs. variable_shortened version vs (variable_binary (only_counts version vs) (kind_of c.args.dtype.now) first_place c.args.rows g.O.Offset.IS_LARGE c.requires.kind) c.in_ok-node.ensures.shortened (taken_then c.in_ok-validity.ensures.shortened c.in_err-offsets.ensures.shortened (omega arith))
+
+pub returns-in_err-values-clause-shortened : goal.returns-in_err-values-clause-shortened
+returns-in_err-values-clause-shortened g c = λ version vs. variable_shortened version vs (variable_binary (only_counts version vs) (kind_of c.args.dtype.now) first_place c.args.rows g.O.Offset.IS_LARGE c.requires.kind) c.in_ok-node.ensures.shortened (taken_then (two_taken c.in_ok-validity.ensures.shortened c.in_ok-offsets.ensures.shortened) c.in_err-values.ensures.shortened (omega arith))
+
+pub returns-in_err-array-clause-shortened : goal.returns-in_err-array-clause-shortened
+returns-in_err-array-clause-shortened g c = λ version vs. variable_shortened version vs (variable_binary (only_counts version vs) (kind_of c.args.dtype.now) first_place c.args.rows g.O.Offset.IS_LARGE c.requires.kind) c.in_ok-node.ensures.shortened (taken_then (two_taken c.in_ok-validity.ensures.shortened c.in_ok-offsets.ensures.shortened) c.in_ok-values.ensures.shortened (omega arith))
+
+pub returns-clause-shortened : goal.returns-clause-shortened
+returns-clause-shortened g c = λ version vs. variable_shortened version vs (variable_binary (only_counts version vs) (kind_of c.args.dtype.now) first_place c.args.rows g.O.Offset.IS_LARGE c.requires.kind) c.in_ok-node.ensures.shortened (taken_then (two_taken c.in_ok-validity.ensures.shortened c.in_ok-offsets.ensures.shortened) c.in_ok-values.ensures.shortened (omega arith))

@@ -1,9 +1,11 @@
 use Rattle.std.proofs.Common.{◌≡◌, ◌+◌, suc, ◌++◌, ◌∷◌, [], rules, arith, sym, ap, subst, ◌∙◌}
-use Rattle.arrow_spec.specs.Columns.{buf, from_on, ranges_faults}
+use Rattle.arrow_spec.specs.Arrays.{buf, from_on}
+use Rattle.arrow_spec.specs.Faults.{ranges_faults}
 use Rattle.ipc_read.proofs.Refusals.{err_from}
 use Rattle.ipc_read.proofs.Counted.{left_next}
 use Rattle.ipc_read.proofs.FlatArrays.{known_on}
 use Rattle.ipc_read.proofs.DataReads.{ranges_refused, stated_more, stated_next, ranges_next, from_on_more}
+use Rattle.ipc_read.proofs.Shortened.{taken_more, taken_then, read_so_far}
 use Rattle.ipc_read.proofs.views.read_all.Goals as goal
 
 pub returns-in_err-bytes-clause-gives : goal.returns-in_err-bytes-clause-gives
@@ -53,3 +55,12 @@ returns-clause-gives g c = λ m i b l t.
     let k = c.loop-number.invariant.gives m i b l t in
     let all : c.loop-number._number ≡ c.args.count = omega arith in
     record { ok = (subst (λ n. ranges_faults m i n ≡ []) all k.0, k.1 ∙ ap (from_on (buf m) i) all); err = tt }
+
+pub returns-in_err-bytes-clause-shortened : goal.returns-in_err-bytes-clause-shortened
+returns-in_err-bytes-clause-shortened g c = taken_then (read_so_far c.loop-number._number c.loop-number.invariant.queue) c.in_err-bytes.ensures.shortened (omega arith)
+
+pub returns-then-is_err-clause-shortened : goal.returns-then-is_err-clause-shortened
+returns-then-is_err-clause-shortened g c = taken_then (read_so_far c.loop-number._number c.loop-number.invariant.queue) c.in_ok-bytes.ensures.shortened (omega arith)
+
+pub returns-clause-shortened : goal.returns-clause-shortened
+returns-clause-shortened g c = taken_more (read_so_far c.loop-number._number c.loop-number.invariant.queue) (omega arith)

@@ -1,6 +1,7 @@
 use Rattle.std.proofs.Common.{◌≡◌, ℕ, ◌+◌, ◌≤◌, [], Bool}
 use Rattle.arrow_spec.specs.Counts.{RecordBatch}
-use Rattle.arrow_spec.specs.Columns.{buf, from_on, ranges_faults}
+use Rattle.arrow_spec.specs.Arrays.{buf, from_on}
+use Rattle.arrow_spec.specs.Faults.{ranges_faults}
 use Rattle.arrow_spec.specs.Needed.{numbers_from}
 use Rattle.read_columns.specs.Faults.{stated_of}
 use Rattle.ipc_read.specs.Queues.{Left}

@@ -1,11 +1,13 @@
 use Rattle.std.proofs.Common.{◌+◌, suc, refl, sym, arith, ◌∙◌}
 use Rattle.arrow_types.specs.KindOf.{kind_of}
-use Rattle.arrow_spec.specs.Columns.{validity_faults}
+use Rattle.arrow_spec.specs.Faults.{validity_faults}
 use Rattle.ipc_read.specs.Queues.{short_of}
 use Rattle.ipc_read.proofs.Refusals.{err_from, none_of_both}
 use Rattle.ipc_read.proofs.Counted.{left_next}
 use Rattle.ipc_read.proofs.FlatArrays.{known_on}
 use Rattle.ipc_read.proofs.ViewArrays.{view_array, WasRead, node_refused, count_refused, order_refused, validity_refused, views_refused, data_refused, make_refused, view_fine, view_next, view_fetched, views_same}
+use Rattle.arrow_spec.specs.Counts.{first_place}
+use Rattle.ipc_read.proofs.Shortened.{none_taken, two_taken, only_counts, from_first, view_shortened}
 use Rattle.ipc_read.proofs.views.read_binview.Goals as goal
 
 pub returns-in_err-node-clause-gives : goal.returns-in_err-node-clause-gives
@@ -143,3 +145,46 @@ returns-clause-fetched g c = λ m p a.
     let d = left_next m.buffers (suc (p.buffer + 1)) (p.buffer + 2) _ (omega arith) (c.in_ok-views.ensures.queue m (p.buffer + 1) b) in
     let s = view_fetched g.V.ViewType.IS_TEXT m (kind_of c.args.dtype.now) p c.args.rows c.in_ok-count.count f n.1 in
     omega (arith, s, c.in_ok-validity.ensures.fetched m p a.buffers q.0, c.in_ok-views.ensures.fetched m (p.buffer + 1) b, c.in_ok-data.ensures.fetched m (p.buffer + 2) d)
+
+pub returns-in_err-node-clause-shortened : goal.returns-in_err-node-clause-shortened
+returns-in_err-node-clause-shortened g c = λ version.
+    let f = view_array g.V.ViewType.IS_TEXT (only_counts version c.args.variadic.now.items) (kind_of c.args.dtype.now) first_place c.args.rows c.requires.kind in
+    view_shortened version 0 (omega arith) f c.in_err-node.ensures.shortened (none_taken 0 _) (none_taken 1 _)
+
+pub returns-in_err-count-clause-shortened : goal.returns-in_err-count-clause-shortened
+returns-in_err-count-clause-shortened g c = λ version.
+    let f = view_array g.V.ViewType.IS_TEXT (only_counts version c.args.variadic.now.items) (kind_of c.args.dtype.now) first_place c.args.rows c.requires.kind in
+    view_shortened version 0 (omega arith) f c.in_ok-node.ensures.shortened (none_taken 0 _) c.in_err-count.ensures.shortened
+
+pub returns-then-is_wrong_order-clause-shortened : goal.returns-then-is_wrong_order-clause-shortened
+returns-then-is_wrong_order-clause-shortened g c = λ version.
+    let f = view_array g.V.ViewType.IS_TEXT (only_counts version c.args.variadic.now.items) (kind_of c.args.dtype.now) first_place c.args.rows c.requires.kind in
+    view_shortened version 0 (omega arith) f c.in_ok-node.ensures.shortened (none_taken 0 _) c.in_ok-count.ensures.shortened
+
+pub returns-in_err-validity-clause-shortened : goal.returns-in_err-validity-clause-shortened
+returns-in_err-validity-clause-shortened g c = λ version.
+    let f = view_array g.V.ViewType.IS_TEXT (only_counts version c.args.variadic.now.items) (kind_of c.args.dtype.now) first_place c.args.rows c.requires.kind in
+    view_shortened version 1 (omega arith) f c.in_ok-node.ensures.shortened c.in_err-validity.ensures.shortened c.in_ok-count.ensures.shortened
+
+pub returns-in_err-views-clause-shortened : goal.returns-in_err-views-clause-shortened
+returns-in_err-views-clause-shortened g c = λ version.
+    let f = view_array g.V.ViewType.IS_TEXT (only_counts version c.args.variadic.now.items) (kind_of c.args.dtype.now) first_place c.args.rows c.requires.kind in
+    view_shortened version 2 (omega arith) f c.in_ok-node.ensures.shortened (two_taken c.in_ok-validity.ensures.shortened c.in_err-views.ensures.shortened) c.in_ok-count.ensures.shortened
+
+pub returns-in_err-data-clause-shortened : goal.returns-in_err-data-clause-shortened
+returns-in_err-data-clause-shortened g c = λ version.
+    let f = view_array g.V.ViewType.IS_TEXT (only_counts version c.args.variadic.now.items) (kind_of c.args.dtype.now) first_place c.args.rows c.requires.kind in
+    let n = (c.in_ok-count.ensures.gives (only_counts version c.args.variadic.now.items) first_place (from_first c.args.variadic.now.items)).ok.1 in
+    view_shortened version (2 + c.in_ok-count.count) (omega (arith, n)) f c.in_ok-node.ensures.shortened (two_taken (two_taken c.in_ok-validity.ensures.shortened c.in_ok-views.ensures.shortened) c.in_err-data.ensures.shortened) c.in_ok-count.ensures.shortened
+
+pub returns-in_err-array-clause-shortened : goal.returns-in_err-array-clause-shortened
+returns-in_err-array-clause-shortened g c = λ version.
+    let f = view_array g.V.ViewType.IS_TEXT (only_counts version c.args.variadic.now.items) (kind_of c.args.dtype.now) first_place c.args.rows c.requires.kind in
+    let n = (c.in_ok-count.ensures.gives (only_counts version c.args.variadic.now.items) first_place (from_first c.args.variadic.now.items)).ok.1 in
+    view_shortened version (2 + c.in_ok-count.count) (omega (arith, n)) f c.in_ok-node.ensures.shortened (two_taken (two_taken c.in_ok-validity.ensures.shortened c.in_ok-views.ensures.shortened) c.in_ok-data.ensures.shortened) c.in_ok-count.ensures.shortened
+
+pub returns-clause-shortened : goal.returns-clause-shortened
+returns-clause-shortened g c = λ version.
+    let f = view_array g.V.ViewType.IS_TEXT (only_counts version c.args.variadic.now.items) (kind_of c.args.dtype.now) first_place c.args.rows c.requires.kind in
+    let n = (c.in_ok-count.ensures.gives (only_counts version c.args.variadic.now.items) first_place (from_first c.args.variadic.now.items)).ok.1 in
+    view_shortened version (2 + c.in_ok-count.count) (omega (arith, n)) f c.in_ok-node.ensures.shortened (two_taken (two_taken c.in_ok-validity.ensures.shortened c.in_ok-views.ensures.shortened) c.in_ok-data.ensures.shortened) c.in_ok-count.ensures.shortened

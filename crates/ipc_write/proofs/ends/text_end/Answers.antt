@@ -3,7 +3,8 @@ use Rattle.std.proofs.lemmas.List.{length-map}
 use Rattle.arrow_types.specs.Physical.{physical_of}
 use Rattle.arrow_buffers.specs.Layouts.{is_text}
 use Rattle.arrow_buffers.proofs.Variable.{text_sound}
-use Rattle.ipc_write.proofs.Lengths.{variable_same, text_width, text_suits, offsets_same}
+use Rattle.array_writer.proofs.RoundTripFit.{text_suits}
+use Rattle.ipc_write.proofs.Lengths.{variable_same, text_width, offsets_same}
 use Rattle.ipc_write.proofs.ends.text_end.Goals as goal
 
 pub variable_end-requires-clause-rise : goal.variable_end-requires-clause-rise

@@ -1,0 +1,94 @@
+-- Queues that are shorter by their first ones.
+use Rattle.std.proofs.Common.{◌≡◌, ℕ, ◌+◌, ◌≤◌, List, [], ◌++◌, drop, Option, Some, None, true, refl, sym, ap, ◌∙◌, arith, drop-drop, ℤ, Bool}
+use Rattle.std.specs.Option.{option_to_list}
+use Rattle.arrow_spec.specs.Flat.{little}
+use Rattle.arrow_spec.specs.Kinds.{Kind, Offsets}
+use Rattle.arrow_spec.specs.Counts.{RecordBatch, Place, first_place, count_among}
+use Rattle.arrow_spec.specs.declared.error.IpcError.{IpcError}
+use Rattle.arrow_spec.specs.declared.message.FieldNode.{FieldNode}
+use Rattle.arrow_spec.specs.declared.message.IpcBuffer.{IpcBuffer}
+use Rattle.arrow_spec.specs.declared.message.MetadataVersion.{MetadataVersion}
+use Rattle.arrow_spec.specs.declared.message.MetadataVersion.TheVariants.{V5}
+use Rattle.arrow_buffers.specs.Layouts.{is_null}
+use Rattle.arrow_types.specs.Physical.{physical_of}
+use Rattle.arrow_types.specs.declared.physical.PhysicalType.{PhysicalType}
+use Rattle.arrow_types.specs.declared.physical.PhysicalType.TheVariants as physical
+use Rattle.ipc_read.specs.Queues.{Left, Shortened, ShortenedBy}
+use Rattle.ipc_read.specs.Skips.{is_plain_kind}
+use Rattle.ipc_read.proofs.Counted.{Counted}
+use Rattle.ipc_read.proofs.FlatArrays.{FlatArray, null_layout, counted_at}
+use Rattle.ipc_read.proofs.VariableArrays.{VariableArray}
+use Rattle.ipc_read.proofs.ViewArrays.{ViewArray}
+use Rattle.ipc_read.proofs.Passing.{plain_after, own_buffers, own_views}
+
+-- ── a queue ──
+
+pub none_taken : {A : Type 0} → (most : ℕ) (xs : List A) → Shortened xs most xs
+none_taken most xs = record { taken = 0; few = omega arith; rest = refl }
+
+pub all_taken : {A : Type 0} → (n : ℕ) (xs ys : List A) → ys ≡ drop n xs → Shortened xs n ys
+all_taken n xs ys h = record { taken = n; few = omega arith; rest = h }
+
+pub taken_more : {A : Type 0} {xs ys : List A} {n most : ℕ} → Shortened xs n ys → n ≤ most → Shortened xs most ys
+taken_more s h = record { taken = s.taken; few = omega (arith, s.few, h); rest = s.rest }
+
+pub taken_then : {A : Type 0} {xs ys zs : List A} {i j most : ℕ} → Shortened xs i ys → Shortened ys j zs → i + j ≤ most → Shortened xs most zs
+taken_then {xs = xs} s t h = record { taken = s.taken + t.taken; few = omega (arith, s.few, t.few, h); rest = t.rest ∙ ap (drop t.taken) s.rest ∙ drop-drop t.taken s.taken xs }
+
+pub two_taken : {A : Type 0} {xs ys zs : List A} {i j : ℕ} → Shortened xs i ys → Shortened ys j zs → Shortened xs (i + j) zs
+two_taken s t = taken_then s t (omega arith)
+
+-- the first of a queue was taken, if there was one
+pub first_taken : {A : Type 0} → (r : Option A) (xs ys : List A) → xs ≡ option_to_list r ++ ys → Shortened xs 1 ys
+first_taken (Some x) xs ys h = record { taken = 1; few = omega arith; rest = sym (ap (drop 1) h) }
+first_taken None xs ys h = record { taken = 0; few = omega arith; rest = sym h }
+
+-- ── a record batch's queues ──
+
+-- a record batch of a version that has these view counts and nothing else
+abbrev pub only_counts : MetadataVersion → List ℤ → RecordBatch
+only_counts version vs = record { order = little; version = version; nodes = []; buffers = []; variadic = vs; body = [] }
+
+-- one that has these buffers and nothing else
+abbrev pub only_buffers : MetadataVersion → List IpcBuffer → RecordBatch
+only_buffers version bs = record { order = little; version = version; nodes = []; buffers = bs; variadic = []; body = [] }
+
+pub from_first : {A : Type 0} → (xs : List A) → Left xs 0 xs
+from_first xs = record { is = refl; within = omega arith }
+
+-- what was read of the buffers so far
+pub read_so_far : {xs ys : List IpcBuffer} → (n : ℕ) → ((m : RecordBatch) (i : ℕ) → Left m.buffers i xs → Left m.buffers (i + n) ys) → Shortened xs n ys
+read_so_far {xs = xs} n h = record { taken = 0 + n; few = omega arith; rest = (h (only_buffers V5 xs) 0 (from_first xs)).is }
+
+pub own_shortened : {k : Kind} {l : PhysicalType} {ns ns' : List FieldNode} {bs bs' : List IpcBuffer} → (version : MetadataVersion) (vs : List ℤ) (n : ℕ) → Counted k l → Rattle.ipc_read.proofs.Counted.own_buffers l ≡ n → Shortened ns 1 ns' → Shortened bs n bs' → ShortenedBy k version ns ns' bs bs' vs vs
+own_shortened version vs n c e a b = record {
+  nodes = taken_more a (omega (arith, c.nodes));
+  buffers = taken_more b (omega (arith, c.buffers version vs 0, e));
+  views = none_taken _ vs;
+}
+
+pub null_shortened : {ns ns' : List FieldNode} → (version : MetadataVersion) (bs : List IpcBuffer) (vs : List ℤ) (k : Kind) → is_null (physical_of k) ≡ true → Shortened ns 1 ns' → ShortenedBy k version ns ns' bs bs vs vs
+null_shortened version bs vs k h a = own_shortened version vs 0 (counted_at k physical.Null (null_layout (physical_of k) h) refl) refl a (none_taken 0 bs)
+
+pub flat_shortened : {m : RecordBatch} {k : Kind} {p : Place} {rows : ℕ} {values : ℕ → List IpcError} {ns ns' : List FieldNode} {bs bs' : List IpcBuffer} → (version : MetadataVersion) (vs : List ℤ) → FlatArray m k p rows values → Shortened ns 1 ns' → Shortened bs 2 bs' → ShortenedBy k version ns ns' bs bs' vs vs
+flat_shortened version vs f a b = own_shortened version vs 2 f.counted f.two a b
+
+pub variable_shortened : {m : RecordBatch} {k : Kind} {p : Place} {rows : ℕ} {o : Offsets} {more : List IpcError} {ns ns' : List FieldNode} {bs bs' : List IpcBuffer} → (version : MetadataVersion) (vs : List ℤ) → VariableArray m k p rows o more → Shortened ns 1 ns' → Shortened bs 3 bs' → ShortenedBy k version ns ns' bs bs' vs vs
+variable_shortened version vs f a b = own_shortened version vs 3 f.counted f.three a b
+
+pub view_shortened : {t : Bool} {m : RecordBatch} {k : Kind} {p : Place} {rows : ℕ} {ns ns' : List FieldNode} {bs bs' : List IpcBuffer} {vs vs' : List ℤ} → (version : MetadataVersion) (n : ℕ) → n ≤ 2 + count_among vs 0 → ViewArray t m k p rows → Shortened ns 1 ns' → Shortened bs n bs' → Shortened vs 1 vs' → ShortenedBy k version ns ns' bs bs' vs vs'
+view_shortened {vs = vs} version n h f a b v = record {
+  nodes = taken_more a (omega (arith, f.counted.nodes));
+  buffers = taken_more b (omega (arith, h, f.counted.buffers version vs 0));
+  views = taken_more v (omega (arith, f.counted.views));
+}
+
+pub plain_shortened : {ns ns' : List FieldNode} {bs bs' : List IpcBuffer} {vs vs' : List ℤ} → (k : Kind) (layout : PhysicalType) (version : MetadataVersion) (n i : ℕ) → is_plain_kind k ≡ true → physical_of k ≡ layout → own_buffers layout (count_among vs 0) ≡ n → own_views layout ≡ i
+    → Shortened ns 1 ns' → Shortened bs n bs' → Shortened vs i vs' → ShortenedBy k version ns ns' bs bs' vs vs'
+plain_shortened {vs = vs} k layout version n i h e b w x y z =
+    let after = plain_after (only_counts version vs) k first_place h in
+    record {
+      nodes = taken_more x (omega (arith, ap (λ (q : Place). q.node) after));
+      buffers = taken_more y (omega (arith, ap (λ (q : Place). q.buffer) after, ap (λ l. own_buffers l (count_among vs 0)) e, b));
+      views = taken_more z (omega (arith, ap (λ (q : Place). q.view) after, ap own_views e, w));
+    }
