@@ -15,7 +15,9 @@ use Rattle.ipc_tool.specs.declared.refusal.Refusal.{Refusal}
 use Rattle.ipc_tool.specs.declared.refusal.Refusal.TheVariants.{Ipc}
 use Rattle.ipc_tool.specs.Refusal.{put_refusal}
 use Rattle.ipc_tool.specs.Request.{whole_input}
-use Rattle.ipc_tool.specs.Transcode.{text_of, IsStreamOf, IsFrontOf, AddsStream, AddsPiece, AddsPart, Transcodes}
+use Rattle.sent_files.specs.Built.{so_far}
+use Rattle.sent_files.specs.Files.{IsFrontOf, IsStreamOf}
+use Rattle.ipc_tool.specs.Transcode.{text_of, AddsStream, AddsPiece, AddsPart, Transcodes}
 use Rattle.ipc_tool.specs.Run.{AddsBefore}
 
 -- what `?` makes of an error
@@ -39,8 +41,8 @@ with_line_feed b old new p = record {
   piece = longer p.piece;
 }
   where
-    longer : (IsStreamOf b «all» p.bytes p.table × AppendsPrefix old new (text_of false p.bytes)) ⊎ (IsFrontOf b «all» p.bytes p.table × AppendsPrefix old new (text_of false p.bytes))
-        → (IsStreamOf b «all» p.bytes p.table × AppendsPrefix old new (text_of false p.bytes ++ 10 ∷ [])) ⊎ (IsFrontOf b «all» p.bytes p.table × AppendsPrefix old new (text_of false p.bytes))
+    longer : (IsStreamOf so_far b «all» p.bytes p.table × AppendsPrefix old new (text_of false p.bytes)) ⊎ (IsFrontOf so_far b «all» p.bytes p.table × AppendsPrefix old new (text_of false p.bytes))
+        → (IsStreamOf so_far b «all» p.bytes p.table × AppendsPrefix old new (text_of false p.bytes ++ 10 ∷ [])) ⊎ (IsFrontOf so_far b «all» p.bytes p.table × AppendsPrefix old new (text_of false p.bytes))
     longer (inl q) = inl (q.0, AppendsPrefix-within old new (text_of false p.bytes) (10 ∷ []) q.1)
     longer (inr q) = inr q
 

@@ -1,7 +1,7 @@
 -- The blocks of a file, sent one after another.
 use Rattle.std.proofs.Common.{◌≡◌, inr, ℕ, zero, suc, ◌+◌, ◌<◌, ◌≤◌, List, [], ◌∷◌, ◌++◌, length, take, drop, get_or, Option, Some, None, IfSome, refl, sym, ap, ◌∙◌, subst, Bool, arith, map, option_map, add-one, slice_get, sum_by}
 use Rattle.std.proofs.Math.Seq.{take-suc}
-use Rattle.std.proofs.lemmas.List.{length-append, length-take-le, take_all}
+use Rattle.std.proofs.lemmas.List.{length-append, length-map, length-take-le, take_all}
 use Rattle.std.proofs.lemmas.List.Sums.{sum_by-append, sum_by-cons}
 use Rattle.std.proofs.lemmas.Option.{get_or_from_slice_get, slice_get-get_or, slice_get-map, slice_get_within}
 use Rattle.std.proofs.KnownBytes.{Appends-kept}
@@ -11,15 +11,15 @@ use Rattle.arrow_spec.specs.declared.error.IpcError.TheVariants as errors
 use Rattle.arrow_spec.specs.declared.message.Block.{Block}
 use Rattle.arrow_spec.specs.Readings.{Refuses, refusals}
 use Rattle.arrow_spec.specs.Files.{«all», FileBlock, Meta, Request, file_reading, to_send}
-use Rattle.written_columns.specs.Streams.{bare_table, batch_bytes, written_so_far}
+use Rattle.written_columns.specs.Streams.{bare_table, batch_bytes, table_batch, written_so_far}
 use Rattle.sent_files.specs.Built.{so_far}
-use Rattle.sent_files.specs.Files.{HaveNoDictionaries, SentSoFar}
+use Rattle.sent_files.specs.Files.{HaveNoDictionaries, IsFrontOf, SentSoFar, StopsBehind}
 use Rattle.sent_files.proofs.Blocks.{none_sent, one_more_sent}
 use Rattle.sent_files.proofs.Refusals.{block_refuses}
 use Rattle.sent_files.proofs.Streams.{one_more_batch}
 use Rattle.ipc_tool.specs.FileBlocks.{file_block}
 use Rattle.ipc_tool.specs.Sends.{Begun, BlockRefused, BlockSent, Refused, SentBlocks}
-use Rattle.ipc_tool.specs.Transcode.{AddsFront, AddsPart, IsFrontOf, PutTextCause, text_of}
+use Rattle.ipc_tool.specs.Transcode.{AddsFront, AddsPart, PutTextCause, text_of}
 use Rattle.ipc_tool.specs.declared.conversion.Summary.{Summary}
 use Rattle.ipc_tool.proofs.FileStreams.{front_of}
 use Rattle.ipc_tool.proofs.Sending.{Appends-text, IsNext, piece_refused}
@@ -35,7 +35,7 @@ split_at (y ∷ ys) zero x h = ap (λ z. z ∷ ys) cc
 split_at (y ∷ ys) (suc i) x h = let e : suc i + 1 ≡ suc (i + 1) = omega arith in rw e (ap (λ l. y ∷ l) (split_at ys i x h))
 
 blocks_begun : (b : List ℕ) (meta : Meta) (raw : Bool) (start old : Option (List ℕ)) (n : ℕ) → Begun b meta raw start old n → SentBlocks b meta [] raw start old (record { batches = 0; rows = 0; bytes = n })
-blocks_begun b meta raw start old n begun = record { batches = []; sent = none_sent b meta.schema.fields; same = refl; added = begun.added; batches_are = refl; rows_are = refl; bytes_are = begun.bytes_are }
+blocks_begun b meta raw start old n begun = record { batches = []; sent = none_sent so_far b meta.schema.fields; same = refl; added = begun.added; batches_are = refl; rows_are = refl; bytes_are = begun.bytes_are }
 
 sums : (a b x y whole : ℕ) → a ≡ x → b ≡ y → whole ≡ x + (y + 0) → a + b ≡ whole
 sums a b x y whole p q h = omega (arith, p, q, h)
@@ -48,35 +48,35 @@ one_more_block : (b : List ℕ) (meta : Meta) (block : FileBlock) (i : ℕ) (raw
 one_more_block b meta block i raw start mid new s rows bytes h none behind one =
     let fs = meta.schema.fields in
     let pairs = meta.schema.metadata in
-    let grown = one_more_batch fs pairs behind.batches one.batch in
+    let grown = one_more_batch fs pairs [] behind.batches one.batch in
     let t : take (i + 1) meta.blocks ≡ take i meta.blocks ++ block ∷ [] = take_next meta.blocks i block h in
     record {
       batches = behind.batches ++ one.batch ∷ [];
-      sent = subst (λ l. SentSoFar b fs l (behind.batches ++ one.batch ∷ [])) (sym t) (one_more_sent b fs (take i meta.blocks) block behind.batches one.batch none behind.sent one.is_sent);
+      sent = subst (λ l. SentSoFar so_far b fs l (behind.batches ++ one.batch ∷ [])) (sym t) (one_more_sent so_far b fs (take i meta.blocks) block behind.batches one.batch none behind.sent one.is_sent);
       same = length-append behind.batches (one.batch ∷ []) ∙ ap (λ n. n + 1) behind.same ∙ sym (ap length t ∙ length-append (take i meta.blocks) (block ∷ []));
-      added = subst (λ l. Appends start new (text_of raw l)) (sym grown) (Appends-text raw start mid new (written_so_far fs pairs behind.batches) (batch_bytes one.batch) behind.added one.added);
+      added = subst (λ l. Appends start new (text_of raw l)) (sym grown) (Appends-text raw start mid new (written_so_far fs pairs [] behind.batches) (batch_bytes one.batch) behind.added one.added);
       batches_are = ap (λ n. n + 1) behind.batches_are ∙ sym (length-append behind.batches (one.batch ∷ []));
       rows_are = sums s.rows rows (sum_by (λ x. x.rows) behind.batches) one.batch.rows _ behind.rows_are one.rows_are (sum_by-append (λ x. x.rows) behind.batches (one.batch ∷ []) ∙ ap (λ n. sum_by (λ x. x.rows) behind.batches + n) (sum_by-cons (λ x. x.rows) one.batch []));
-      bytes_are = lengths s.bytes bytes (written_so_far fs pairs behind.batches) (batch_bytes one.batch) _ grown behind.bytes_are one.bytes_are;
+      bytes_are = lengths s.bytes bytes (written_so_far fs pairs [] behind.batches) (batch_bytes one.batch) _ grown behind.bytes_are one.bytes_are;
     }
 
 -- ── a block that is not sent ──
 
--- a front that stands there, after any refusal
-front_stays : (e : IpcError) (b : List ℕ) (r : Request) (text : List ℕ → List ℕ) (old new : Option (List ℕ)) → AddsFront b r text old new → AddsPart e b r text old new
-front_stays errors.WriteFault b r text old new f = record { bytes = f.bytes; table = f.table; piece = inr (f.stream, (length (text f.bytes), subst (Appends old new) (sym (take_all (length (text f.bytes)) (text f.bytes) (omega arith))) f.added)) }
-front_stays errors.Memory b r text old new f = inr f
-front_stays errors.ReadFault b r text old new f = inr f
-front_stays (errors.OutOfSpec kind) b r text old new f = inr f
-front_stays (errors.Unsupported feature) b r text old new f = inr f
-front_stays errors.TooDeep b r text old new f = inr f
-front_stays (errors.TooMany counted) b r text old new f = inr f
-front_stays (errors.Projection index) b r text old new f = inr f
-front_stays errors.TooLarge b r text old new f = inr f
-front_stays errors.SchemaMismatch b r text old new f = inr f
-front_stays (errors.DictionaryReplaced id) b r text old new f = inr f
-front_stays errors.NotRepresentable b r text old new f = inr f
-front_stays errors.State b r text old new f = inr f
+-- a front that stands there, and stops at what is refused
+front_stays : (e : IpcError) (b : List ℕ) (r : Request) (text : List ℕ → List ℕ) (old new : Option (List ℕ)) (f : AddsFront b r text old new) → StopsBehind so_far b r (length f.table.batches) e → AddsPart e b r text old new
+front_stays errors.WriteFault b r text old new f stops = record { bytes = f.bytes; table = f.table; piece = inr (f.stream, (length (text f.bytes), subst (Appends old new) (sym (take_all (length (text f.bytes)) (text f.bytes) (omega arith))) f.added)) }
+front_stays errors.Memory b r text old new f stops = inr (f, stops)
+front_stays errors.ReadFault b r text old new f stops = inr (f, stops)
+front_stays (errors.OutOfSpec kind) b r text old new f stops = inr (f, stops)
+front_stays (errors.Unsupported feature) b r text old new f stops = inr (f, stops)
+front_stays errors.TooDeep b r text old new f stops = inr (f, stops)
+front_stays (errors.TooMany counted) b r text old new f stops = inr (f, stops)
+front_stays (errors.Projection index) b r text old new f stops = inr (f, stops)
+front_stays errors.TooLarge b r text old new f stops = inr (f, stops)
+front_stays errors.SchemaMismatch b r text old new f stops = inr (f, stops)
+front_stays (errors.DictionaryReplaced id) b r text old new f stops = inr (f, stops)
+front_stays errors.NotRepresentable b r text old new f stops = inr (f, stops)
+front_stays errors.State b r text old new f stops = inr (f, stops)
 
 -- what could not be put says nothing of the bytes
 pub put_refuses : (e : IpcError) (es : List IpcError) (faults faults' : ℕ) → PutTextCause e faults faults' → Refuses e es
@@ -97,19 +97,23 @@ put_refuses errors.State es faults faults' h = absurd h
 -- the bytes of the blocks so far are a front
 pub front_so_far : (b : List ℕ) (meta : Meta) (i : ℕ) (raw : Bool) (start old mid : Option (List ℕ)) (n : ℕ) (s : Summary) → i ≤ length meta.blocks → Begun b meta raw start old n → SentBlocks b meta (take i meta.blocks) raw start mid s → AddsFront b «all» (text_of raw) start mid
 front_so_far b meta i raw start old mid n s within begun sent = record {
-  bytes = written_so_far meta.schema.fields meta.schema.metadata sent.batches;
-  table = bare_table meta.schema.fields meta.schema.metadata sent.batches;
+  bytes = written_so_far meta.schema.fields meta.schema.metadata [] sent.batches;
+  table = bare_table meta.schema.fields meta.schema.metadata [] sent.batches;
   stream = front_of b meta i sent.batches begun.file sent.sent (sent.same ∙ length-take-le i meta.blocks within);
   added = sent.added;
 }
 
 blocks_refused : (e : IpcError) (b : List ℕ) (meta : Meta) (i : ℕ) (block : FileBlock) (raw : Bool) (start old mid new : Option (List ℕ)) (n : ℕ) (s : Summary) (faults faults' : ℕ) → slice_get meta.blocks i ≡ Some block → Begun b meta raw start old n → SentBlocks b meta (take i meta.blocks) raw start mid s → BlockRefused b meta.schema.fields block raw mid new e faults faults' → Refused e b raw start new
+unfolding front_so_far
 blocks_refused e b meta i block raw start old mid new n s faults faults' h begun sent (BlockRefused.refused kept refuses) =
     let within : i < length meta.blocks = slice_get_within meta.blocks i block h in
     let front = front_so_far b meta i raw start old mid n s (omega (arith, within)) begun sent in
+    let both = block_refuses so_far e b meta [] (take i meta.blocks) block (drop (i + 1) meta.blocks) sent.batches begun.file (split_at meta.blocks i block h) sent.sent refuses in
+    let count : length (take i meta.blocks) ≡ length (map table_batch sent.batches) = sym (length-map sent.batches table_batch ∙ sent.same) in
     record {
-      refused = block_refuses so_far e b meta (take i meta.blocks) block (drop (i + 1) meta.blocks) sent.batches begun.file (split_at meta.blocks i block h) sent.sent refuses;
-      part = front_stays e b «all» (text_of raw) start new (record { bytes = front.bytes; table = front.table; stream = front.stream; added = Appends-kept start mid new (text_of raw front.bytes) front.added kept });
+      refused = both.0;
+      part = front_stays e b «all» (text_of raw) start new (record { bytes = front.bytes; table = front.table; stream = front.stream; added = Appends-kept start mid new (text_of raw front.bytes) front.added kept })
+          (subst (λ k. StopsBehind so_far b «all» k e) count both.1);
     }
 blocks_refused e b meta i block raw start old mid new n s faults faults' h begun sent (BlockRefused.not_put x is_sent put cause) =
     let fs = meta.schema.fields in
@@ -117,13 +121,13 @@ blocks_refused e b meta i block raw start old mid new n s faults faults' h begun
     let within : i < length meta.blocks = slice_get_within meta.blocks i block h in
     let front = front_so_far b meta i raw start old mid n s (omega (arith, within)) begun sent in
     let t : take (i + 1) meta.blocks ≡ take i meta.blocks ++ block ∷ [] = take_next meta.blocks i block h in
-    let sent_more = subst (λ l. SentSoFar b fs l (sent.batches ++ x ∷ [])) (sym t) (one_more_sent b fs (take i meta.blocks) block sent.batches x begun.file.schema.no_dictionaries sent.sent is_sent) in
+    let sent_more = subst (λ l. SentSoFar so_far b fs l (sent.batches ++ x ∷ [])) (sym t) (one_more_sent so_far b fs (take i meta.blocks) block sent.batches x begun.file.schema.no_dictionaries sent.sent is_sent) in
     let count : length (sent.batches ++ x ∷ []) ≡ i + 1 = length-append sent.batches (x ∷ []) ∙ ap (λ k. k + 1) (sent.same ∙ length-take-le i meta.blocks (omega (arith, within))) in
-    let table = bare_table fs pairs (sent.batches ++ x ∷ []) in
-    let next : IsNext b «all» (written_so_far fs pairs sent.batches ++ batch_bytes x) = record { table = table; stream = inr (subst (λ y. IsFrontOf b «all» y table) (one_more_batch fs pairs sent.batches x) (front_of b meta (i + 1) (sent.batches ++ x ∷ []) begun.file sent_more count)) } in
+    let table = bare_table fs pairs [] (sent.batches ++ x ∷ []) in
+    let next : IsNext b «all» (written_so_far fs pairs [] sent.batches ++ batch_bytes x) = record { table = table; stream = inr (subst (λ y. IsFrontOf so_far b «all» y table) (one_more_batch fs pairs [] sent.batches x) (front_of b meta (i + 1) (sent.batches ++ x ∷ []) begun.file sent_more count)) } in
     record {
       refused = put_refuses e (refusals (file_reading so_far to_send b «all» None)) faults faults' cause;
-      part = piece_refused e b «all» raw start mid new (written_so_far fs pairs sent.batches) (batch_bytes x) faults faults' (inr front) sent.added next put cause;
+      part = piece_refused e b «all» raw start mid new (written_so_far fs pairs [] sent.batches) (batch_bytes x) faults faults' (inr front) sent.added next put cause;
     }
 
 -- ── as the loop has them ──

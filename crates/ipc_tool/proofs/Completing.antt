@@ -6,14 +6,14 @@ use Rattle.arrow_spec.specs.declared.error.IpcError.TheVariants as errors
 use Rattle.arrow_spec.specs.Files.{«all»}
 use Rattle.sent_files.specs.Meaning.{file_table}
 use Rattle.arrow_spec.specs.SchemaText.{schema_text_of}
-use Rattle.arrow_spec.specs.Words.{Stream, SchemaAsked, bytes_of_hex}
-use Rattle.ipc_schema.specs.Outside.{Held, Stands}
+use Rattle.arrow_spec.specs.Words.{SchemaAsked, bytes_of_hex, StreamAsked, Held, source_of}
+use Rattle.ipc_schema.specs.Outside.{Stands}
 use Rattle.ipc_tool.specs.declared.refusal.Refusal.{Refusal}
 use Rattle.ipc_tool.specs.declared.refusal.Refusal.TheVariants.{Ipc, Words, NotHex, InputTooLong, NoName}
 use Rattle.ipc_tool.specs.Refusal.{number_of}
 use Rattle.ipc_tool.specs.Request.{whole_input, schema_of_input}
 use Rattle.ipc_tool.specs.Input.{TakesTooMany, IsNoHex, HexCause}
-use Rattle.ipc_tool.specs.Run.{Outside, source_of, MayBe, NoneFailed, HasMeaning, HasText, IsLeft, IsComplete, IsTold}
+use Rattle.ipc_tool.specs.Run.{Outside, MayBe, NoneFailed, HasMeaning, HasText, IsLeft, IsComplete, IsTold}
 use Rattle.ipc_tool.proofs.Noting.{stood}
 
 -- the source's bytes are told, and P holds of them
@@ -66,14 +66,14 @@ pub schema_left : (e : Refusal) (old new : Outside) → HexCause e old.rest new.
 schema_left e old new c = λ h f. hex_left (λ b. IsOk (schema_text_of b)) e old.rest new.rest old.input_faults new.input_faults c h f.input
 
 -- the statuses that are left
-abbrev Left : ℕ → Stream → Outside → Type 0
+abbrev Left : ℕ → StreamAsked → Outside → Type 0
 Left n s old = (n ≡ 0) ⊎ (n ≡ 13) ⊎ ((n ≡ 6) × MayBe errors.TooLarge s old)
 
-left : (e : Refusal) (s : Stream) (old : Outside) (n : ℕ) → n ≡ number_of e → IsLeft e s old → Left n s old
+left : (e : Refusal) (s : StreamAsked) (old : Outside) (n : ℕ) → n ≡ number_of e → IsLeft e s old → Left n s old
 left e s old n is (inl h) = inr (inl (is ∙ ap number_of h))
 left e s old n is (inr h) = inr (inr (is ∙ ap number_of h.0, h.1))
 
-pub completes : (o : Option Stream) (e : Refusal) (old new : Outside) (n : ℕ) → n ≡ number_of e → IfSome o (λ s. IsComplete e s old new) → IfSome o (λ s. HasMeaning s old → NoneFailed old new → Left n s old)
+pub completes : (o : Option StreamAsked) (e : Refusal) (old new : Outside) (n : ℕ) → n ≡ number_of e → IfSome o (λ s. IsComplete e s old new) → IfSome o (λ s. HasMeaning s old → NoneFailed old new → Left n s old)
 completes None e old new n is c = tt
 completes (Some s) e old new n is c = λ h f. left e s old n is (c h f)
 

@@ -1,16 +1,21 @@
 -- The footer of a file that is fetched, and what it says.
-use Rattle.std.proofs.Common.{◌≡◌, inl, ℕ, ◌-◌, ◌<◌, ◌≤◌, List, length, take, drop, Option, Some, None, Result, Ok, Err, refl, sym, ◌∙◌, ap, arith, subst}
-use Rattle.std.specs.Prelude.{IfSome}
+use Rattle.std.proofs.Common.{◌≡◌, inl, ℕ, ◌-◌, ◌<◌, ◌≤◌, List, length, take, drop, Option, Some, None, Result, Ok, Err, refl, sym, ◌∙◌, ap, arith, subst, length-drop}
+use Rattle.std.specs.Prelude.{IfErr, IfSome}
+use Rattle.std.proofs.lemmas.List.{take_all}
 use Rattle.arrow_spec.specs.declared.error.IpcError.{IpcError}
 use Rattle.arrow_spec.specs.declared.error.IpcError.TheVariants.{OutOfSpec}
+use Rattle.arrow_spec.specs.declared.error.IpcError.TheVariants as errors
 use Rattle.arrow_spec.specs.declared.error.OutOfSpecKind.TheVariants as kinds
-use Rattle.arrow_spec.specs.Readings.{bind, Gives, Reading, Refuses, refusals}
-use Rattle.arrow_spec.specs.Files.{Meta, footer_of, meta_in, meta_of}
+use Rattle.arrow_spec.specs.Readings.{Gives, Reading, Refuses, refusals}
+use Rattle.arrow_spec.specs.Files.{«all», Meta, custom_of, file_reading, footer_of, meta_in, meta_of, to_send}
+use Rattle.arrow_spec.specs.Messages.{footer_pairs}
+use Rattle.sent_files.specs.Built.{so_far}
+use Rattle.sent_files.proofs.Refusals.{custom_refuses, meta_refuses}
 use Rattle.ipc_schema.specs.Outside.{IsSize}
-use Rattle.ipc_schema.specs.Footers.{footer_length_in, footer_view}
-use Rattle.ipc_schema.specs.declared.footer.Footer.{Footer}
-use Rattle.ipc_schema.proofs.Footers.{footer_by_end, footer_cut}
-use Rattle.ipc_tool.specs.FileBlocks.{Fetched, Faulted, GivesIn}
+use Rattle.ipc_schema.proofs.Footers.{footer_cut}
+use Rattle.ipc_tool.specs.FileBlocks.{Fetched, Faulted, GivesIn, no_map}
+use Rattle.ipc_fields.specs.Causes.{IsOfBytes}
+use Rattle.ipc_tool.specs.FileViews.{FileCause, FileSays}
 use Rattle.ipc_tool.proofs.BlockPrefixes.{memory_or_fault}
 use Rattle.ipc_tool.proofs.BlockMessages.{refused_first, after_prefix}
 
@@ -22,50 +27,112 @@ pub footer_faulted : {X Y : Type 0} (content : Option (List ℕ)) (view : X → 
 footer_faulted None view e reading h = tt
 footer_faulted (Some b) view e reading h = memory_or_fault e (reading b) h
 
--- the footer by the ten bytes that were fetched
-by_end : (b : List ℕ) (size : ℕ) (end text : List ℕ) → size ≡ length b → 10 ≤ size → end ≡ take 10 (drop (size - 10) b) → text ≡ end → footer_of b ≡ bind (footer_length_in text size) (λ n. Ok (take n (drop (size - 10 - n) b)))
-by_end b size end text s long f t =
-    let whole : text ≡ take 10 (drop (length b - 10) b) = t ∙ f ∙ ap (λ n. take 10 (drop (n - 10) b)) s in
-    footer_by_end b (omega (arith, s, long)) ∙ ap (λ x. bind (footer_length_in x (length b)) (λ n. Ok (take n (drop (length b - 10 - n) b)))) (sym whole) ∙ ap (λ k. bind (footer_length_in text k) (λ n. Ok (take n (drop (k - 10 - n) b)))) (sym s)
+-- the ten bytes at the end of a file
+end_of : (b : List ℕ) (size : ℕ) (end text : List ℕ) → size ≡ length b → 10 ≤ size → end ≡ take 10 (drop (size - 10) b) → text ≡ end → drop (size - 10) b ≡ text
+end_of b size end text s long f t =
+    let all : length (drop (size - 10) b) ≡ 10 = omega (arith, length-drop (size - 10) b, s, long) in
+    sym (t ∙ f ∙ take_all 10 (drop (size - 10) b) (omega (arith, all)))
 
-pub length_refused : {X : Type 0} (content : Option (List ℕ)) (size : ℕ) (end text : List ℕ) (view : X → List ℕ) (e : IpcError) → IsSize content size → 10 ≤ size → Fetched content (size - 10) 10 end → text ≡ end → Gives (λ (n : ℕ). n) (Err e) (footer_length_in text size) → GivesIn content view (Err e) footer_of
+-- what the ten bytes at the end say of a file of so many bytes
+abbrev SaysFooter : ℕ → List ℕ → Result ℕ IpcError → Type 0
+SaysFooter size end r = (b : List ℕ) → length b ≡ size → drop (size - 10) b ≡ end → Gives (λ n. take n (drop (size - 10 - n) b)) r (footer_of b)
+
+pub length_refused : {X : Type 0} (content : Option (List ℕ)) (size : ℕ) (end text : List ℕ) (view : X → List ℕ) (e : IpcError) → IsSize content size → 10 ≤ size → Fetched content (size - 10) 10 end → text ≡ end → SaysFooter size text (Err e) → GivesIn content view (Err e) footer_of
 length_refused None size end text view e s long f t h = tt
-length_refused (Some b) size end text view e s long f t h =
-    subst (λ r. Refuses e (refusals r)) (sym (by_end b size end text s long f t)) (refused_first e (footer_length_in text size) (λ n. Ok (take n (drop (size - 10 - n) b))) h)
+length_refused (Some b) size end text view e s long f t h = h b (sym s) (end_of b size end text s long f t)
 
 pub footer_fetched : {X : Type 0} (content after : Option (List ℕ)) (size : ℕ) (end text : List ℕ) (view : X → List ℕ) (n : ℕ) (x : X)
-    → IsSize content size → 10 ≤ size → Fetched content (size - 10) 10 end → text ≡ end → Gives (λ (k : ℕ). k) (Ok n) (footer_length_in text size) → after ≡ content → Fetched after (size - 10 - n) n (view x) → GivesIn content view (Ok x) footer_of
+    → IsSize content size → 10 ≤ size → Fetched content (size - 10) 10 end → text ≡ end → SaysFooter size text (Ok n) → after ≡ content → Fetched after (size - 10 - n) n (view x) → GivesIn content view (Ok x) footer_of
 footer_fetched None after size end text view n x s long f t h same g = tt
 footer_fetched (Some b) after size end text view n x s long f t h same g =
     let here : view x ≡ take n (drop (size - 10 - n) b) = subst (λ c. Fetched c (size - 10 - n) n (view x)) same g in
-    by_end b size end text s long f t ∙ sym (after_prefix (footer_length_in text size) (λ k. Ok (take k (drop (size - 10 - k) b))) n h) ∙ ap Ok (sym here)
+    h b (sym s) (end_of b size end text s long f t) ∙ ap Ok (sym here)
+
+-- what is told of the bytes before a call is told of those behind it
+pub kept_reading : {X Y : Type 0} (content after : Option (List ℕ)) (view : X → Y) (r : Result X IpcError) (reading : List ℕ → Reading Y) → after ≡ content → GivesIn after view r reading → GivesIn content view r reading
+kept_reading content after view r reading same h = subst (λ c. GivesIn c view r reading) same h
+
+-- a refusal that is handed on
+pub same_reading : {X : Type 0} (content : Option (List ℕ)) (view : X → List ℕ) (r : Result X IpcError) (e : IpcError) → r ≡ Err e → GivesIn content view (Err e) footer_of → GivesIn content view r footer_of
+same_reading content view r e is h = subst (λ q. GivesIn content view q footer_of) (sym is) h
+
+-- the footer that was fetched, with the file's size beside it; or none
+pub footer_kept : {X Y : Type 0} (content after : Option (List ℕ)) (view : X → List ℕ) (x : X) (of : Y → List ℕ) (y : Y) → of y ≡ view x → after ≡ content → GivesIn after view (Ok x) footer_of → GivesIn content of (Ok y) footer_of
+footer_kept None after view x of y e same h = tt
+footer_kept (Some b) after view x of y e same h = let read : footer_of b ≡ Ok (view x) = subst (λ c. GivesIn c view (Ok x) footer_of) same h in read ∙ ap Ok (sym e)
+
+pub footer_lost : {X Y : Type 0} (content after : Option (List ℕ)) (view : X → List ℕ) (of : Y → List ℕ) (r : Result Y IpcError) (e : IpcError) → r ≡ Err e → after ≡ content → GivesIn after view (Err e) footer_of → GivesIn content of r footer_of
+footer_lost None after view of r e is same h = tt
+footer_lost (Some b) after view of r e is same h = subst (λ q. Gives of q (footer_of b)) (sym is) (subst (λ c. GivesIn c view (Err e) footer_of) same h)
 
 -- ── what the footer says ──
 
-refused_in : {X Y : Type 0} (content : Option (List ℕ)) (view : X → List ℕ) (meta : Y → Meta) (e : IpcError) → GivesIn content view (Err e) footer_of → IfSome content (λ b. Gives meta (Err e) (meta_of b))
+-- a reading of the footer, where the footer was fetched
+of_footer : {X : Type 0} (b : List ℕ) (view : X → List ℕ) (x : X) → footer_of b ≡ Ok (view x) → meta_in (view x) ≡ meta_of b
 unfolding meta_of
-refused_in None view meta e h = tt
-refused_in (Some b) view meta e h = refused_first e (footer_of b) (λ f. meta_in f) h
+of_footer b view x h = after_prefix (footer_of b) (λ f. meta_in f) (view x) h
 
-pub footer_refused : {X Y : Type 0} (content after : Option (List ℕ)) (view : X → List ℕ) (meta : Y → Meta) (r : Result Y IpcError) (e : IpcError) → after ≡ content → r ≡ Err e → GivesIn after view (Err e) footer_of → IfSome content (λ b. Gives meta r (meta_of b))
-footer_refused content after view meta r e same is h =
-    subst (λ q. IfSome content (λ b. Gives meta q (meta_of b))) (sym is) (refused_in content view meta e (subst (λ c. GivesIn c view (Err e) footer_of) same h))
+pairs_of_footer : {X : Type 0} (b : List ℕ) (view : X → List ℕ) (x : X) → footer_of b ≡ Ok (view x) → footer_pairs so_far.custom (view x) ≡ custom_of so_far.custom b
+unfolding custom_of
+pairs_of_footer b view x h = after_prefix (footer_of b) (λ f. footer_pairs so_far.custom f) (view x) h
 
-said_by : {X : Type 0} (b : List ℕ) (view : X → List ℕ) (x : X) (text : List ℕ) → footer_of b ≡ Ok (view x) → text ≡ view x → meta_in text ≡ meta_of b
+not_fetched : (b : List ℕ) (e : IpcError) → Refuses e (refusals (footer_of b)) → Refuses e (refusals (meta_of b))
 unfolding meta_of
-said_by b view x text h t = ap (λ f. meta_in f) t ∙ after_prefix (footer_of b) (λ f. meta_in f) (view x) h
+not_fetched b e h = refused_first e (footer_of b) (λ f. meta_in f) h
 
-meta_refused_in : {X Y : Type 0} (content : Option (List ℕ)) (view : X → List ℕ) (x : X) (text : List ℕ) (meta : Y → Meta) (e : IpcError) → GivesIn content view (Ok x) footer_of → text ≡ view x → Gives footer_view (Err e) (meta_in text) → IfSome content (λ b. Gives meta (Err e) (meta_of b))
-meta_refused_in None view x text meta e h t g = tt
-meta_refused_in (Some b) view x text meta e h t g = subst (λ r. Refuses e (refusals r)) (said_by b view x text h t) g
+-- the footer was not fetched
+pub footer_refused : {X Y : Type 0} (content : Option (List ℕ)) (view : X → List ℕ) (meta : Y → Meta) (r : Result Y IpcError) (e : IpcError) → r ≡ Err e → GivesIn content view (Err e) footer_of → IfSome content (λ b. Gives meta r (meta_of b))
+footer_refused None view meta r e is h = tt
+footer_refused (Some b) view meta r e is h = subst (λ q. Gives meta q (meta_of b)) (sym is) (not_fetched b e h)
 
-pub meta_refused : {X Y : Type 0} (content after : Option (List ℕ)) (view : X → List ℕ) (x : X) (text : List ℕ) (meta : Y → Meta) (r : Result Y IpcError) (e : IpcError) → after ≡ content → r ≡ Err e → GivesIn after view (Ok x) footer_of → text ≡ view x → Gives footer_view (Err e) (meta_in text) → IfSome content (λ b. Gives meta r (meta_of b))
-meta_refused content after view x text meta r e same is h t g =
-    subst (λ q. IfSome content (λ b. Gives meta q (meta_of b))) (sym is) (meta_refused_in content view x text meta e (subst (λ c. GivesIn c view (Ok x) footer_of) same h) t g)
+-- it was fetched, and says so
+pub meta_said : {X Y : Type 0} (content : Option (List ℕ)) (view : X → List ℕ) (x : X) (meta : Y → Meta) (r : Result Y IpcError) → GivesIn content view (Ok x) footer_of → Gives meta r (meta_in (view x)) → IfSome content (λ b. Gives meta r (meta_of b))
+meta_said None view x meta r h g = tt
+meta_said (Some b) view x meta r h g = subst (λ q. Gives meta r q) (of_footer b view x h) g
 
-meta_said_in : {X Y : Type 0} (content : Option (List ℕ)) (view : X → List ℕ) (x : X) (text : List ℕ) (meta : Y → Meta) (y : Y) (footer : Footer) → GivesIn content view (Ok x) footer_of → text ≡ view x → Gives footer_view (Ok footer) (meta_in text) → meta y ≡ footer_view footer → IfSome content (λ b. Gives meta (Ok y) (meta_of b))
-meta_said_in None view x text meta y footer h t g m = tt
-meta_said_in (Some b) view x text meta y footer h t g m = sym (said_by b view x text h t) ∙ g ∙ ap Ok (sym m)
+-- ── a file that is to be sent ──
 
-pub meta_said : {X Y : Type 0} (content after : Option (List ℕ)) (view : X → List ℕ) (x : X) (text : List ℕ) (meta : Y → Meta) (y : Y) (footer : Footer) → after ≡ content → GivesIn after view (Ok x) footer_of → text ≡ view x → Gives footer_view (Ok footer) (meta_in text) → meta y ≡ footer_view footer → IfSome content (λ b. Gives meta (Ok y) (meta_of b))
-meta_said content after view x text meta y footer same h t g m = meta_said_in content view x text meta y footer (subst (λ c. GivesIn c view (Ok x) footer_of) same h) t g m
+abbrev RefusesToSend : IpcError → List ℕ → Type 0
+RefusesToSend e b = Refuses e (refusals (file_reading so_far to_send b «all» None))
+
+-- its footer was not fetched
+pub footer_not_fetched : {X : Type 0} (content : Option (List ℕ)) (view : X → List ℕ) (e : IpcError) → GivesIn content view (Err e) footer_of → IfSome content (λ b. RefusesToSend e b)
+footer_not_fetched None view e h = tt
+footer_not_fetched (Some b) view e h = meta_refuses so_far e b (not_fetched b e h)
+
+-- it says nothing that is a footer
+pub footer_not_read : {X Y : Type 0} (content : Option (List ℕ)) (view : X → List ℕ) (x : X) (meta : Y → Meta) (e : IpcError) → GivesIn content view (Ok x) footer_of → Gives meta (Err e) (meta_in (view x)) → IfSome content (λ b. RefusesToSend e b)
+footer_not_read None view x meta e h g = tt
+footer_not_read (Some b) view x meta e h g = meta_refuses so_far e b (subst (λ q. Refuses e (refusals q)) (of_footer b view x h) g)
+
+-- it has pairs, or what stands there is damaged
+pub pairs_not_carried : {X Y : Type 0} (content : Option (List ℕ)) (view : X → List ℕ) (x : X) (text : List ℕ) (meta : Y → Meta) (y : Y) (e : IpcError) → GivesIn content view (Ok x) footer_of → Gives meta (Ok y) (meta_in (view x)) → text ≡ view x → Gives no_map (Err e) (footer_pairs so_far.custom text) → IfSome content (λ b. RefusesToSend e b)
+pairs_not_carried None view x text meta y e h g t p = tt
+pairs_not_carried (Some b) view x text meta y e h g t p =
+    let read : meta_of b ≡ Ok (meta y) = sym (of_footer b view x h) ∙ g in
+    custom_refuses so_far e b (meta y) read (subst (λ q. Refuses e (refusals q)) (ap (λ f. footer_pairs so_far.custom f) t ∙ pairs_of_footer b view x h) p)
+
+-- it says so, and has no pairs
+pub plain_said : {X Y : Type 0} (content : Option (List ℕ)) (view : X → List ℕ) (x : X) (text : List ℕ) (meta : Y → Meta) (y : Y) → GivesIn content view (Ok x) footer_of → Gives meta (Ok y) (meta_in (view x)) → text ≡ view x → Gives no_map (Ok tt) (footer_pairs so_far.custom text) → IfSome content (λ b. FileSays b (meta y))
+plain_said None view x text meta y h g t p = tt
+plain_said (Some b) view x text meta y h g t p = record {
+  read = sym (of_footer b view x h) ∙ g;
+  no_pairs = sym (ap (λ f. footer_pairs so_far.custom f) t ∙ pairs_of_footer b view x h) ∙ p;
+}
+
+-- what only bytes or memory refuse is no fault of the source
+pub quiet_cause : {A : Type 0} (r : Result A IpcError) (n m : ℕ) → IfErr r IsOfBytes → IfErr r (λ e. FileCause e n m)
+quiet_cause (Ok x) n m h = tt
+quiet_cause (Err (errors.OutOfSpec kind)) n m h = tt
+quiet_cause (Err (errors.Unsupported feature)) n m h = tt
+quiet_cause (Err (errors.TooMany counted)) n m h = tt
+quiet_cause (Err errors.TooDeep) n m h = tt
+quiet_cause (Err errors.Memory) n m h = tt
+quiet_cause (Err errors.ReadFault) n m h = absurd h
+quiet_cause (Err errors.WriteFault) n m h = absurd h
+quiet_cause (Err (errors.Projection index)) n m h = absurd h
+quiet_cause (Err errors.TooLarge) n m h = absurd h
+quiet_cause (Err errors.SchemaMismatch) n m h = absurd h
+quiet_cause (Err (errors.DictionaryReplaced id)) n m h = absurd h
+quiet_cause (Err errors.NotRepresentable) n m h = absurd h
+quiet_cause (Err errors.State) n m h = absurd h

@@ -1,5 +1,5 @@
 -- What was read of a file's bytes fits: its schema may be written, and the numbers of a block's message have 64 bits.
-use Rattle.std.proofs.Common.{◌≡◌, ℕ, ◌^◌, ◌<◌, List, Result, Ok, Err, IfOk, true, ap, sym, subst}
+use Rattle.std.proofs.Common.{◌≡◌, ℕ, ◌^◌, ◌<◌, List, Result, Ok, Err, IfOk, true, ap, sym, ◌∙◌, subst}
 use Rattle.std.specs.Rc.{rc_value}
 use Rattle.arrow_spec.specs.declared.error.IpcError.{IpcError}
 use Rattle.arrow_spec.specs.Files.{Meta, meta_in}
@@ -29,6 +29,10 @@ pub same_meta : (m : FileMetadata) (footer : Footer) → rc_value m.schema ≡ f
 same_meta m footer s i p b d =
     let by : List Keyed → Meta = λ k. record { schema = schema_view (k, footer.ipc_schema, footer.custom_metadata); blocks = (footer_view footer).blocks; dictionaries = (footer_view footer).dictionaries } in
     rw (i, p, b, d) (ap by s)
+
+-- and says what its footer does
+pub said_same : (m : FileMetadata) (footer : Footer) (text bytes : List ℕ) → meta_view m ≡ footer_view footer → text ≡ bytes → meta_in text ≡ Ok (footer_view footer) → meta_in bytes ≡ Ok (meta_view m)
+said_same m footer text bytes same t h = ap meta_in (sym t) ∙ h ∙ ap Ok (sym same)
 
 -- a footer's schema
 pub footer_may : (bytes : List ℕ) (r : Result Footer IpcError) → AreBytes bytes → Gives footer_view r (meta_in bytes) → IfOk r (λ f. SchemaMayBeWritten (footer_view f).schema.fields (footer_view f).schema.metadata)

@@ -8,7 +8,9 @@ use Rattle.arrow_spec.specs.declared.error.IpcError.TheVariants as errors
 use Rattle.arrow_spec.specs.Files.{Request, ArrowTable}
 use Rattle.ipc_schema.specs.Outside.{AppendsPrefix}
 use Rattle.ipc_schema.proofs.Known.{AppendsPrefix-after}
-use Rattle.ipc_tool.specs.Transcode.{text_of, IsStreamOf, IsFrontOf, AddsFrontOrNone, AddsPiece, AddsPart, PutsText, PutTextCause}
+use Rattle.sent_files.specs.Built.{so_far}
+use Rattle.sent_files.specs.Files.{IsFrontOf, IsStreamOf}
+use Rattle.ipc_tool.specs.Transcode.{text_of, AddsFront, AddsFrontOrNone, AddsPiece, AddsPart, PutsText, PutTextCause}
 
 encode-append : (t xs ys : List ℕ) → encode_with t (xs ++ ys) ≡ encode_with t xs ++ encode_with t ys
 unfolding encode_with
@@ -23,21 +25,26 @@ text_of-append false xs ys = encode-append lower_digits xs ys
 pub Appends-text : (raw : Bool) (old mid new : Option (List ℕ)) (xs ys : List ℕ) → Appends old mid (text_of raw xs) → Appends mid new (text_of raw ys) → Appends old new (text_of raw (xs ++ ys))
 Appends-text raw old mid new xs ys p q = subst (Appends old new) (sym (text_of-append raw xs ys)) (Appends-trans old mid new (text_of raw xs) (text_of raw ys) p q)
 
-pub front_kept : (b : List ℕ) (r : Request) (text : List ℕ → List ℕ) (old mid new : Option (List ℕ)) → AddsFrontOrNone b r text old mid → Keeps mid new → AddsFrontOrNone b r text old new
+-- nothing stands there, or a front
+abbrev pub FrontOrNone : List ℕ → Request → (List ℕ → List ℕ) → Option (List ℕ) → Option (List ℕ) → Type 0
+FrontOrNone b r text old new = Keeps old new ⊎ AddsFront b r text old new
+
+-- it stays where memory is wanting
+front_kept : (b : List ℕ) (r : Request) (text : List ℕ → List ℕ) (old mid new : Option (List ℕ)) → FrontOrNone b r text old mid → Keeps mid new → AddsFrontOrNone errors.Memory b r text old new
 front_kept b r text old mid new (inl k) h = inl (Keeps-trans old mid new k h)
-front_kept b r text old mid new (inr f) h = inr (record { bytes = f.bytes; table = f.table; stream = f.stream; added = Appends-kept old mid new (text f.bytes) f.added h })
+front_kept b r text old mid new (inr f) h = inr (record { bytes = f.bytes; table = f.table; stream = f.stream; added = Appends-kept old mid new (text f.bytes) f.added h }, tt)
 
 -- With the piece a front or a whole stream would stand there.
 pub record IsNext (b : List ℕ) (r : Request) (x : List ℕ) : Type 0 where
   pub table : ArrowTable
-  pub stream : IsStreamOf b r x table ⊎ IsFrontOf b r x table
+  pub stream : IsStreamOf so_far b r x table ⊎ IsFrontOf so_far b r x table
 
-piece_of : (b : List ℕ) (r : Request) (text : List ℕ → List ℕ) (old new : Option (List ℕ)) (x : List ℕ) (t : ArrowTable) → IsStreamOf b r x t ⊎ IsFrontOf b r x t → AppendsPrefix old new (text x) → AddsPiece b r text text old new
+piece_of : (b : List ℕ) (r : Request) (text : List ℕ → List ℕ) (old new : Option (List ℕ)) (x : List ℕ) (t : ArrowTable) → IsStreamOf so_far b r x t ⊎ IsFrontOf so_far b r x t → AppendsPrefix old new (text x) → AddsPiece b r text text old new
 piece_of b r text old new x t (inl s) p = record { bytes = x; table = t; piece = inl (s, p) }
 piece_of b r text old new x t (inr f) p = record { bytes = x; table = t; piece = inr (f, p) }
 
 -- a piece that could not be put
-pub piece_refused : (e : IpcError) (b : List ℕ) (r : Request) (raw : Bool) (old mid new : Option (List ℕ)) (x m : List ℕ) (faults faults' : ℕ) → AddsFrontOrNone b r (text_of raw) old mid → Appends old mid (text_of raw x) → IsNext b r (x ++ m)
+pub piece_refused : (e : IpcError) (b : List ℕ) (r : Request) (raw : Bool) (old mid new : Option (List ℕ)) (x m : List ℕ) (faults faults' : ℕ) → FrontOrNone b r (text_of raw) old mid → Appends old mid (text_of raw x) → IsNext b r (x ++ m)
     → PutsText mid new (Err e) (text_of raw m) → PutTextCause e faults faults' → AddsPart e b r (text_of raw) old new
 piece_refused errors.WriteFault b r raw old mid new x m faults faults' f a n p c =
     piece_of b r (text_of raw) old new (x ++ m) n.table n.stream (subst (AppendsPrefix old new) (sym (text_of-append raw x m)) (AppendsPrefix-after old mid new (text_of raw x) (text_of raw m) a p))

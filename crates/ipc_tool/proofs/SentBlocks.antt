@@ -5,11 +5,11 @@ use Rattle.arrow_spec.specs.declared.error.IpcError.{IpcError}
 use Rattle.arrow_spec.specs.declared.error.IpcError.TheVariants as errors
 use Rattle.arrow_spec.specs.declared.message.MetadataVersion.{MetadataVersion}
 use Rattle.arrow_spec.specs.Readings.{Gives, Reading, Refuses, bind, ◌>>=◌, refusals}
-use Rattle.arrow_spec.specs.Flat.{little}
+use Rattle.arrow_spec.specs.Flat.{little, order_by}
 use Rattle.arrow_spec.specs.Counts.{first_place}
 use Rattle.arrow_spec.specs.Kinds.{Fields}
 use Rattle.arrow_spec.specs.Messages.{BatchHeader, RecordMessage}
-use Rattle.arrow_spec.specs.Files.{FileBlock, TableBatch, batch_of, batch_of_tables, block_body, if_sent, to_read, to_send}
+use Rattle.arrow_spec.specs.Files.{FileBlock, TableBatch, batch_of, batch_of_tables, block_body, if_sent, to_read, to_send, all_asked, record_batch_of}
 use Rattle.arrow_spec.specs.Sent.{may_be_sent}
 use Rattle.arrow_spec.specs.WrittenSchemas.{FieldsFit}
 use Rattle.arrow_spec.proofs.Projection.{on}
@@ -19,13 +19,13 @@ use Rattle.arrow_arrays.specs.Parts.{cells_in}
 use Rattle.read_columns.specs.Batches.{columns_read}
 use Rattle.written_columns.specs.Columns.{Means}
 use Rattle.written_columns.specs.Streams.{written_batch}
-use Rattle.sent_files.specs.Built.{are_flat_fields}
-use Rattle.sent_files.specs.Files.{HeaderFits, IsSentBatch, asked_of}
+use Rattle.sent_files.specs.Built.{are_flat_fields, so_far}
+use Rattle.sent_files.specs.Files.{HeaderFits, IsSentBatch}
 use Rattle.sent_files.proofs.Batches.{block_is_sent}
 use Rattle.sent_files.proofs.Refusals.{none_refuses}
 use Rattle.sent_files.proofs.SoFar.{no_floats}
 use Rattle.ipc_write.specs.Batches.{written_batch_of}
-use Rattle.ipc_read.specs.Batches.{batch_in, batch_reading, table_of}
+use Rattle.ipc_read.specs.Batches.{batch_reading, table_of}
 use Rattle.ipc_tool.specs.FileBlocks.{block_record}
 use Rattle.ipc_tool.specs.Sends.{BlockRead, ReadsBlock}
 use Rattle.ipc_tool.proofs.BlockMessages.{batch_by_record, refused_first}
@@ -39,24 +39,24 @@ pub record AreFlat (fs : Fields) : Type 0 where
 -- ── a block that is read ──
 
 -- a block whose message is refused
-pub message_refused : (e : IpcError) (b : List ℕ) (fs : Fields) (block : FileBlock) → Refuses e (refusals (block_record b block)) → Refuses e (refusals (batch_of to_send b (asked_of fs (length b)) block None))
-message_refused e b fs block h = rw (batch_by_record to_send b (asked_of fs (length b)) block None) (refused_first e (block_record b block) _ h)
+pub message_refused : (e : IpcError) (b : List ℕ) (fs : Fields) (block : FileBlock) → Refuses e (refusals (block_record b block)) → Refuses e (refusals (batch_of so_far.custom to_send b (all_asked little fs (length b)) block None))
+message_refused e b fs block h = rw (batch_by_record to_send b (all_asked little fs (length b)) block None) (refused_first e (block_record b block) _ h)
 
 -- a block whose tables are refused
-tables_refuse : (e : IpcError) (b : List ℕ) (fs : Fields) (block : FileBlock) (m : RecordMessage) → block_record b block ≡ Ok m → Refuses e (refusals (batch_of_tables to_read (asked_of fs (length b)) m.version m.tables (block_body b block) None)) → Refuses e (refusals (batch_of to_send b (asked_of fs (length b)) block None))
-tables_refuse e b fs block m is h = rw (batch_by_record to_send b (asked_of fs (length b)) block None, on (block_record b block) _ m is) (by_reading (batch_of_tables to_read (asked_of fs (length b)) m.version m.tables (block_body b block) None) refl h)
+tables_refuse : (e : IpcError) (b : List ℕ) (fs : Fields) (block : FileBlock) (m : RecordMessage) → block_record b block ≡ Ok m → Refuses e (refusals (batch_of_tables to_read (all_asked little fs (length b)) m.version [] m.tables (block_body b block) None)) → Refuses e (refusals (batch_of so_far.custom to_send b (all_asked little fs (length b)) block None))
+tables_refuse e b fs block m is h = rw (batch_by_record to_send b (all_asked little fs (length b)) block None, on (block_record b block) _ m is) (by_reading (batch_of_tables to_read (all_asked little fs (length b)) m.version [] m.tables (block_body b block) None) refl h)
   where
-    by_reading : (r : Reading TableBatch) → batch_of_tables to_read (asked_of fs (length b)) m.version m.tables (block_body b block) None ≡ r → Refuses e (refusals r) → Refuses e (refusals (batch_of_tables to_send (asked_of fs (length b)) m.version m.tables (block_body b block) None))
-    by_reading (Err es) e1 k = rw (tables_refused (asked_of fs (length b)) m.version m.tables (block_body b block) es e1) k
-    by_reading (Ok x) e1 k = none_refuses e (refusals (batch_of_tables to_send (asked_of fs (length b)) m.version m.tables (block_body b block) None)) k
+    by_reading : (r : Reading TableBatch) → batch_of_tables to_read (all_asked little fs (length b)) m.version [] m.tables (block_body b block) None ≡ r → Refuses e (refusals r) → Refuses e (refusals (batch_of_tables to_send (all_asked little fs (length b)) m.version [] m.tables (block_body b block) None))
+    by_reading (Err es) e1 k = rw (tables_refused (all_asked little fs (length b)) m.version [] m.tables (block_body b block) es e1) k
+    by_reading (Ok x) e1 k = none_refuses e (refusals (batch_of_tables to_send (all_asked little fs (length b)) m.version [] m.tables (block_body b block) None)) k
 
 -- where all kinds are flat none of them is refused
-flat_reading : (fs : Fields) (most : ℕ) (v : MetadataVersion) (tables : BatchHeader) (body : List ℕ) → are_flat_fields fs ≡ true → batch_reading true fs most v tables body ≡ batch_of_tables to_read (asked_of fs most) v tables body None
+flat_reading : (fs : Fields) (most : ℕ) (v : MetadataVersion) (tables : BatchHeader) (body : List ℕ) → are_flat_fields fs ≡ true → batch_reading true fs most v tables body ≡ batch_of_tables to_read (all_asked little fs most) v [] tables body None
 unfolding bind
 flat_reading fs most v tables body flat = rw (no_floats fs 0 flat) refl
 
 pub block_read : (b : List ℕ) (fs : Fields) (block : FileBlock) (m : RecordMessage) (result : Result Batch IpcError) → are_flat_fields fs ≡ true → block_record b block ≡ Ok m → HeaderFits m.tables
-    → Gives table_of result (batch_reading true fs (length b) m.version m.tables (block_body b block)) → IfOk result (λ x. x.arrays ≡ columns_read (batch_in true m.version m.tables (block_body b block)) fs first_place x.height) → ReadsBlock b fs block result
+    → Gives table_of result (batch_reading true fs (length b) m.version m.tables (block_body b block)) → IfOk result (λ x. x.arrays ≡ columns_read (record_batch_of (order_by true) m.version m.tables (block_body b block)) fs first_place x.height) → ReadsBlock b fs block result
 block_read b fs block m (Ok x) flat is fits gives parts = record {
   read = record { message = m; is = is; fits = fits; read = sym (flat_reading fs (length b) m.version m.tables (block_body b block) flat) ∙ gives; columns = parts };
   refused = tt;
@@ -69,18 +69,18 @@ block_read b fs block m (Err e) flat is fits gives parts = record {
 -- ── a block that is sent ──
 
 -- it is sent where its message may be
-block_sent : (b : List ℕ) (fs : Fields) (block : FileBlock) (x : Batch) → AreFlat fs → BlockRead b fs block x → batch_of to_send b (asked_of fs (length b)) block None ≡ (if_sent to_send (may_be_sent (written_batch (written_batch_of x))) >>= λ size. Ok (table_of x))
-block_sent b fs block x are r = batch_by_record to_send b (asked_of fs (length b)) block None ∙ on (block_record b block) _ r.message r.is ∙ read_is_sent fs (length b) r.message.version r.message.tables (block_body b block) x are.flat are.fit r.read r.columns
+block_sent : (b : List ℕ) (fs : Fields) (block : FileBlock) (x : Batch) → AreFlat fs → BlockRead b fs block x → batch_of so_far.custom to_send b (all_asked little fs (length b)) block None ≡ (if_sent to_send (may_be_sent (written_batch (written_batch_of x))) >>= λ size. Ok (table_of x))
+block_sent b fs block x are r = batch_by_record to_send b (all_asked little fs (length b)) block None ∙ on (block_record b block) _ r.message r.is ∙ read_is_sent fs (length b) r.message.version r.message.tables (block_body b block) x are.flat are.fit r.read r.columns
 
 pub sent_batch : (b : List ℕ) (fs : Fields) (block : FileBlock) (x : Batch) → AreFlat fs → BlockRead b fs block x → may_be_sent (written_batch (written_batch_of x)) ≡ true
-    → AllByRecursion (λ c. Means little [] x.height c) (written_batch_of x).columns → map (λ c. c.cells) (written_batch_of x).columns ≡ map cells_in x.arrays → IsSentBatch b fs block (written_batch_of x)
+    → AllByRecursion (λ c. Means little [] x.height c) (written_batch_of x).columns → map (λ c. c.cells) (written_batch_of x).columns ≡ map cells_in x.arrays → IsSentBatch so_far b fs block (written_batch_of x)
 sent_batch b fs block x are r size means cells =
     let table = same_table x cells in
-    let read = batch_by_record to_read b (asked_of fs (length b)) block None ∙ on (block_record b block) _ r.message r.is ∙ r.read in
-    block_is_sent b fs block (written_batch_of x) (read ∙ ap Ok (sym table)) (block_sent b fs block x are r ∙ ap (λ t. if_sent to_send (may_be_sent (written_batch (written_batch_of x))) >>= λ size. Ok t) (sym table))
+    let read = batch_by_record to_read b (all_asked little fs (length b)) block None ∙ on (block_record b block) _ r.message r.is ∙ r.read in
+    block_is_sent so_far b fs block (written_batch_of x) (read ∙ ap Ok (sym table)) (block_sent b fs block x are r ∙ ap (λ t. if_sent to_send (may_be_sent (written_batch (written_batch_of x))) >>= λ size. Ok t) (sym table))
     (read_may_be_written fs (length b) r.message.version r.message.tables (block_body b block) x r.fits are.flat are.fit r.read r.columns means cells size)
 
 -- and refused where it may not
-pub block_too_large : (b : List ℕ) (fs : Fields) (block : FileBlock) (x : Batch) → AreFlat fs → BlockRead b fs block x → may_be_sent (written_batch (written_batch_of x)) ≡ false → Refuses errors.TooLarge (refusals (batch_of to_send b (asked_of fs (length b)) block None))
+pub block_too_large : (b : List ℕ) (fs : Fields) (block : FileBlock) (x : Batch) → AreFlat fs → BlockRead b fs block x → may_be_sent (written_batch (written_batch_of x)) ≡ false → Refuses errors.TooLarge (refusals (batch_of so_far.custom to_send b (all_asked little fs (length b)) block None))
 unfolding bind
 block_too_large b fs block x are r size = rw (block_sent b fs block x are r, size) (inl refl)

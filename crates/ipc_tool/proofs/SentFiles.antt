@@ -7,10 +7,10 @@ use Rattle.arrow_spec.specs.declared.error.IpcError.{IpcError}
 use Rattle.arrow_spec.specs.declared.error.IpcError.TheVariants as errors
 use Rattle.arrow_spec.specs.Readings.{Gives, Refuses, refusals}
 use Rattle.arrow_spec.specs.Counts.{first_place}
-use Rattle.arrow_spec.specs.Flat.{little, big}
+use Rattle.arrow_spec.specs.Flat.{little, big, order_by}
 use Rattle.arrow_spec.specs.Kinds.{Fields}
 use Rattle.arrow_spec.specs.Messages.{RecordMessage}
-use Rattle.arrow_spec.specs.Files.{FileBlock, batch_of, to_send}
+use Rattle.arrow_spec.specs.Files.{FileBlock, batch_of, to_send, all_asked, record_batch_of}
 use Rattle.arrow_spec.specs.Schema.{is_little}
 use Rattle.arrow_spec.specs.Sent.{may_be_sent}
 use Rattle.arrow_arrays.specs.Batches.{Batch}
@@ -18,13 +18,13 @@ use Rattle.arrow_arrays.specs.Parts.{cells_in}
 use Rattle.read_columns.specs.Batches.{columns_read}
 use Rattle.written_columns.specs.Columns.{Means}
 use Rattle.written_columns.specs.Streams.{batch_bytes, written_batch}
-use Rattle.sent_files.specs.Built.{are_flat_fields}
-use Rattle.sent_files.specs.Files.{HeaderFits, asked_of}
+use Rattle.sent_files.specs.Built.{are_flat_fields, so_far}
+use Rattle.sent_files.specs.Files.{HeaderFits}
 use Rattle.ipc_schema.specs.Outside.{IsSize}
 use Rattle.ipc_schema.specs.Views.{message_of}
 use Rattle.ipc_schema.specs.declared.message.RecordMessage.{RecordMessage as MessageRead}
 use Rattle.ipc_write.specs.Batches.{written_batch_of}
-use Rattle.ipc_read.specs.Batches.{batch_in, batch_reading, table_of}
+use Rattle.ipc_read.specs.Batches.{batch_reading, table_of}
 use Rattle.ipc_read.specs.Sources.{bytes_in}
 use Rattle.ipc_read.specs.declared.body.Body.{Body}
 use Rattle.ipc_tool.specs.FileBlocks.{BlockIn, block_record}
@@ -78,7 +78,7 @@ abbrev GivesAt : Option (List ℕ) → Bool → Fields → ℕ → RecordMessage
 GivesAt content order fs size m body result = IfSome content (λ b. Gives table_of result (batch_reading order fs size m.version m.tables (bytes_in body b)))
 
 abbrev PartsAt : Option (List ℕ) → Bool → Fields → RecordMessage → Body → Result Batch IpcError → Type 0
-PartsAt content order fs m body result = IfOk result (λ x. IfSome content (λ b. x.arrays ≡ columns_read (batch_in order m.version m.tables (bytes_in body b)) fs first_place x.height))
+PartsAt content order fs m body result = IfOk result (λ x. IfSome content (λ b. x.arrays ≡ columns_read (record_batch_of (order_by order) m.version m.tables (bytes_in body b)) fs first_place x.height))
 
 pub block_answer : (content content' : Option (List ℕ)) (order : Bool) (fs read : Fields) (size : ℕ) (block : FileBlock) (m : RecordMessage) (body : Body) (result : Result Batch IpcError)
     → are_flat_fields fs ≡ true → order ≡ true → read ≡ fs → content' ≡ content → body ≡ body_place block → IsSize content size → IfSome content (λ b. block_record b block ≡ Ok m) → HeaderFits m.tables
@@ -112,7 +112,7 @@ pub record IsWritten (x : Batch) (message : List ℕ) : Type 0 where
   pub means : AllByRecursion (λ c. Means little [] x.height c) (written_batch_of x).columns
   pub cells : map (λ c. c.cells) (written_batch_of x).columns ≡ map cells_in x.arrays
 
-message_refuses : (e : IpcError) (b : List ℕ) (fs : Fields) (block : FileBlock) (x : Batch) → AreFlat fs → NotWritten e x → BlockRead b fs block x → Refuses e (refusals (batch_of to_send b (asked_of fs (length b)) block None))
+message_refuses : (e : IpcError) (b : List ℕ) (fs : Fields) (block : FileBlock) (x : Batch) → AreFlat fs → NotWritten e x → BlockRead b fs block x → Refuses e (refusals (batch_of so_far.custom to_send b (all_asked little fs (length b)) block None))
 message_refuses errors.TooLarge b fs block x are w read = block_too_large b fs block x are read w
 message_refuses errors.Memory b fs block x are w read = tt
 message_refuses errors.ReadFault b fs block x are w read = absurd w

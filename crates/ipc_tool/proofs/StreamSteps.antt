@@ -9,9 +9,9 @@ use Rattle.hex.specs.Hex.{encode_with}
 use Rattle.arrow_spec.specs.declared.error.IpcError.{IpcError}
 use Rattle.arrow_spec.specs.declared.error.IpcError.TheVariants as errors
 use Rattle.arrow_spec.specs.declared.error.Feature.TheVariants as features
-use Rattle.arrow_spec.specs.Readings.{IsAmong, Refuses, refusals}
-use Rattle.arrow_spec.specs.Columns.{chosen_floats}
-use Rattle.arrow_spec.specs.Files.{«all», Meta, Request, TableBatch, dictionaries_read, file_reading, has_any, meta_of, to_send}
+use Rattle.arrow_spec.specs.Readings.{IsAmong, Refuses, free_of, refusals}
+use Rattle.arrow_spec.specs.Features.{feature_faults}
+use Rattle.arrow_spec.specs.Files.{«all», Meta, Request, TableBatch, dictionaries_read, file_reading, has_any, to_send}
 use Rattle.arrow_spec.specs.Framing.{message_bytes}
 use Rattle.arrow_spec.specs.Kinds.{Fields, Metadata}
 use Rattle.arrow_spec.specs.Sent.{may_be_sent, stream_schema}
@@ -19,12 +19,11 @@ use Rattle.arrow_spec.specs.Streams.{end_mark}
 use Rattle.written_columns.specs.Streams.{WrittenBatch, bare_table, table_batch, written_so_far}
 use Rattle.sent_files.specs.Built.{so_far}
 use Rattle.sent_files.specs.Files.{IsSendable, IsSentFile}
-use Rattle.sent_files.proofs.Readings.{dictionaries_refused, kinds_refused, schema_refused}
-use Rattle.sent_files.proofs.Refusals.{meta_refuses}
+use Rattle.sent_files.proofs.Readings.{dictionaries_refused, features_refused, schema_refused}
 use Rattle.ipc_schema.proofs.Known.{Appends-kept_nil}
 use Rattle.arrow_types.specs.Schemas.{Keyed, fields_in}
 use Rattle.ipc_fields.specs.IpcFields.{Ids, fields_with}
-use Rattle.ipc_tool.specs.FileViews.{FileCause, IsBuilt}
+use Rattle.ipc_tool.specs.FileViews.{FileCause, FileSays, IsBuilt}
 use Rattle.ipc_tool.specs.Sends.{Begun, Refused, SentBlocks}
 use Rattle.ipc_tool.specs.Transcode.{AddsFront, AddsPart, PutsText, PutTextCause, Transcodes, text_of}
 use Rattle.ipc_tool.specs.Written.{Writes}
@@ -34,7 +33,8 @@ use Rattle.ipc_tool.proofs.FileStreams.{schema_front, stream_of}
 use Rattle.ipc_tool.proofs.Sending.{Appends-text, IsNext, piece_refused}
 use Rattle.ipc_tool.proofs.SentFiles.{keeps_same}
 use Rattle.arrow_spec.specs.declared.error.Feature.{Feature}
-use Rattle.ipc_tool.proofs.MissingFeatures.{chosen_with}
+use Rattle.ipc_tool.proofs.MissingFeatures.{features_with}
+use Rattle.arrow_spec.proofs.FeatureFaults.{features-refused}
 
 -- ── nothing was added ──
 
@@ -59,22 +59,19 @@ nothing_added (errors.DictionaryReplaced id) faults faults' b r text o c = absur
 nothing_added errors.NotRepresentable faults faults' b r text o c = absurd c
 nothing_added errors.State faults faults' b r text o c = absurd c
 
-pub metadata_refused : (e : IpcError) (b : List ℕ) (raw : Bool) (o : Option (List ℕ)) (faults faults' : ℕ) → FileCause e faults faults' → Refuses e (refusals (meta_of b)) → Refused e b raw o o
-metadata_refused e b raw o faults faults' cause h = record { refused = meta_refuses so_far e b h; part = nothing_added e faults faults' b «all» (text_of raw) o cause }
-
 -- ── the schema ──
 
 -- the schema's message as it is asked for
 abbrev SchemaMay : Fields → Metadata → Bool
-SchemaMay fields pairs = may_be_sent (stream_schema fields pairs)
+SchemaMay fields pairs = may_be_sent (stream_schema fields pairs [])
 
 abbrev pub SchemaNotWritten : IpcError → Fields → Metadata → Type 0
-SchemaNotWritten e fields pairs = Writes (Err e) (stream_schema fields pairs) (message_bytes (stream_schema fields pairs).node [])
+SchemaNotWritten e fields pairs = Writes (Err e) (stream_schema fields pairs []) (message_bytes (stream_schema fields pairs []).node [])
 
-too_large : (b : List ℕ) (meta : Meta) → meta_of b ≡ Ok meta → IsSendable so_far meta.schema → SchemaMay meta.schema.fields meta.schema.metadata ≡ false → Refuses errors.TooLarge (refusals (file_reading so_far to_send b «all» None))
-too_large b meta h is size = rw (schema_refused so_far b meta h is size) (inl refl)
+too_large : (b : List ℕ) (meta : Meta) → FileSays b meta → IsSendable so_far meta.schema → SchemaMay meta.schema.fields meta.schema.metadata ≡ false → Refuses errors.TooLarge (refusals (file_reading so_far to_send b «all» None))
+too_large b meta h is size = rw (schema_refused so_far b meta [] h.read h.no_pairs is size) (inl refl)
 
-pub schema_not_written : (e : IpcError) (b : List ℕ) (meta : Meta) (raw : Bool) (o : Option (List ℕ)) → meta_of b ≡ Ok meta → IsSendable so_far meta.schema → SchemaNotWritten e meta.schema.fields meta.schema.metadata → Refused e b raw o o
+pub schema_not_written : (e : IpcError) (b : List ℕ) (meta : Meta) (raw : Bool) (o : Option (List ℕ)) → FileSays b meta → IsSendable so_far meta.schema → SchemaNotWritten e meta.schema.fields meta.schema.metadata → Refused e b raw o o
 schema_not_written errors.TooLarge b meta raw o h is w = record { refused = too_large b meta h is w; part = inl (keeps_same o) }
 schema_not_written errors.Memory b meta raw o h is w = record { refused = tt; part = inl (keeps_same o) }
 schema_not_written errors.ReadFault b meta raw o h is w = absurd w
@@ -89,33 +86,33 @@ schema_not_written (errors.DictionaryReplaced id) b meta raw o h is w = absurd w
 schema_not_written errors.NotRepresentable b meta raw o h is w = absurd w
 schema_not_written errors.State b meta raw o h is w = absurd w
 
-pub dictionaries_not_built : (b : List ℕ) (meta : Meta) (raw : Bool) (o : Option (List ℕ)) → meta_of b ≡ Ok meta → IsSendable so_far meta.schema → SchemaMay meta.schema.fields meta.schema.metadata ≡ true → has_any (dictionaries_read meta.blocks meta.dictionaries) ≡ true → Refused (errors.Unsupported features.NotYet) b raw o o
-dictionaries_not_built b meta raw o h is size any = record { refused = rw (dictionaries_refused so_far b meta refl h is size any) (inl refl); part = inl (keeps_same o) }
+pub dictionaries_not_built : (b : List ℕ) (meta : Meta) (raw : Bool) (o : Option (List ℕ)) → FileSays b meta → IsSendable so_far meta.schema → SchemaMay meta.schema.fields meta.schema.metadata ≡ true → has_any (dictionaries_read meta.blocks meta.dictionaries) ≡ true → Refused (errors.Unsupported features.NotYet) b raw o o
+dictionaries_not_built b meta raw o h is size any = record { refused = rw (dictionaries_refused so_far b meta [] refl h.read h.no_pairs is size any) (inl refl); part = inl (keeps_same o) }
 
 -- the file, its schema's message and that no dictionary is read
-sent_file : (b : List ℕ) (meta : Meta) → meta_of b ≡ Ok meta → IsSendable so_far meta.schema → SchemaMay meta.schema.fields meta.schema.metadata ≡ true → has_any (dictionaries_read meta.blocks meta.dictionaries) ≡ false → IsSentFile so_far b meta
-sent_file b meta h is size any = record { read = h; schema = is; small = size; no_dictionaries = any }
+sent_file : (b : List ℕ) (meta : Meta) → FileSays b meta → IsSendable so_far meta.schema → SchemaMay meta.schema.fields meta.schema.metadata ≡ true → has_any (dictionaries_read meta.blocks meta.dictionaries) ≡ false → IsSentFile so_far b meta []
+sent_file b meta h is size any = record { read = h.read; pairs = h.no_pairs; schema = is; small = size; no_dictionaries = any }
 
 -- the schema's message is what is written before the first batch
-first_written : (fs : Fields) (pairs : Metadata) (m : List ℕ) → m ≡ message_bytes (stream_schema fs pairs).node [] → m ≡ written_so_far fs pairs []
-first_written fs pairs m is = is ∙ sym (append-nil (message_bytes (stream_schema fs pairs).node []))
+first_written : (fs : Fields) (pairs : Metadata) (m : List ℕ) → m ≡ message_bytes (stream_schema fs pairs []).node [] → m ≡ written_so_far fs pairs [] []
+first_written fs pairs m is = is ∙ sym (append-nil (message_bytes (stream_schema fs pairs []).node []))
 
-pub schema_put : (b : List ℕ) (meta : Meta) (raw : Bool) (o new : Option (List ℕ)) (m : List ℕ) (n : ℕ) → meta_of b ≡ Ok meta → IsSendable so_far meta.schema → SchemaMay meta.schema.fields meta.schema.metadata ≡ true → has_any (dictionaries_read meta.blocks meta.dictionaries) ≡ false
-    → m ≡ message_bytes (stream_schema meta.schema.fields meta.schema.metadata).node [] → n ≡ length m → Appends o new (text_of raw m) → Begun b meta raw o new n
+pub schema_put : (b : List ℕ) (meta : Meta) (raw : Bool) (o new : Option (List ℕ)) (m : List ℕ) (n : ℕ) → FileSays b meta → IsSendable so_far meta.schema → SchemaMay meta.schema.fields meta.schema.metadata ≡ true → has_any (dictionaries_read meta.blocks meta.dictionaries) ≡ false
+    → m ≡ message_bytes (stream_schema meta.schema.fields meta.schema.metadata []).node [] → n ≡ length m → Appends o new (text_of raw m) → Begun b meta raw o new n
 schema_put b meta raw o new m n h is size any expected count put =
     let same = first_written meta.schema.fields meta.schema.metadata m expected in
     record { file = sent_file b meta h is size any; added = subst (λ k. Appends o new (text_of raw k)) same put; bytes_are = count ∙ ap length same }
 
-pub schema_not_put : (e : IpcError) (b : List ℕ) (meta : Meta) (raw : Bool) (o new : Option (List ℕ)) (m : List ℕ) (faults faults' : ℕ) → meta_of b ≡ Ok meta → IsSendable so_far meta.schema → SchemaMay meta.schema.fields meta.schema.metadata ≡ true → has_any (dictionaries_read meta.blocks meta.dictionaries) ≡ false
-    → m ≡ message_bytes (stream_schema meta.schema.fields meta.schema.metadata).node [] → PutsText o new (Err e) (text_of raw m) → PutTextCause e faults faults' → Refused e b raw o new
+pub schema_not_put : (e : IpcError) (b : List ℕ) (meta : Meta) (raw : Bool) (o new : Option (List ℕ)) (m : List ℕ) (faults faults' : ℕ) → FileSays b meta → IsSendable so_far meta.schema → SchemaMay meta.schema.fields meta.schema.metadata ≡ true → has_any (dictionaries_read meta.blocks meta.dictionaries) ≡ false
+    → m ≡ message_bytes (stream_schema meta.schema.fields meta.schema.metadata []).node [] → PutsText o new (Err e) (text_of raw m) → PutTextCause e faults faults' → Refused e b raw o new
 schema_not_put e b meta raw o new m faults faults' h is size any expected put cause =
     let fs = meta.schema.fields in
     let pairs = meta.schema.metadata in
-    let next : IsNext b «all» (written_so_far fs pairs []) = record { table = bare_table fs pairs []; stream = inr (schema_front b meta (sent_file b meta h is size any)) } in
+    let next : IsNext b «all» (written_so_far fs pairs [] []) = record { table = bare_table fs pairs [] []; stream = inr (schema_front b meta (sent_file b meta h is size any)) } in
     let none : Appends o o (text_of raw []) = rw (text_nil raw) (Appends-kept_nil o o (keeps_same o)) in
     record {
       refused = put_refuses e (refusals (file_reading so_far to_send b «all» None)) faults faults' cause;
-      part = piece_refused e b «all» raw o o new [] (written_so_far fs pairs []) faults faults' (inl (keeps_same o)) none next (subst (λ k. PutsText o new (Err e) (text_of raw k)) (first_written fs pairs m expected) put) cause;
+      part = piece_refused e b «all» raw o o new [] (written_so_far fs pairs [] []) faults faults' (inl (keeps_same o)) none next (subst (λ k. PutsText o new (Err e) (text_of raw k)) (first_written fs pairs m expected) put) cause;
     }
 
 -- ── the end mark ──
@@ -130,10 +127,10 @@ end_not_put : (e : IpcError) (b : List ℕ) (meta : Meta) (raw : Bool) (start ol
 end_not_put e b meta raw start old mid new n s faults faults' begun sent put cause =
     let fs = meta.schema.fields in
     let pairs = meta.schema.metadata in
-    let next : IsNext b «all» (written_so_far fs pairs sent.batches ++ end_mark) = record { table = bare_table fs pairs sent.batches; stream = inl (stream_of b meta sent.batches begun.file sent.sent) } in
+    let next : IsNext b «all» (written_so_far fs pairs [] sent.batches ++ end_mark) = record { table = bare_table fs pairs [] sent.batches; stream = inl (stream_of b meta sent.batches begun.file sent.sent) } in
     record {
       refused = put_refuses e (refusals (file_reading so_far to_send b «all» None)) faults faults' cause;
-      part = piece_refused e b «all» raw start mid new (written_so_far fs pairs sent.batches) end_mark faults faults' (inr (front_before b meta raw start old mid n s begun sent)) sent.added next put cause;
+      part = piece_refused e b «all» raw start mid new (written_so_far fs pairs [] sent.batches) end_mark faults faults' (inr (front_before b meta raw start old mid n s begun sent)) sent.added next put cause;
     }
 
 rows_same : (xs : List WrittenBatch) → sum_by (λ x. x.rows) xs ≡ sum_by (λ batch. batch.rows) (map table_batch xs)
@@ -146,15 +143,15 @@ table_whole b meta raw start old mid new n s begun sent put =
     let pairs = meta.schema.metadata in
     record {
       stream = record {
-        bytes = written_so_far fs pairs sent.batches ++ end_mark;
-        table = bare_table fs pairs sent.batches;
+        bytes = written_so_far fs pairs [] sent.batches ++ end_mark;
+        table = bare_table fs pairs [] sent.batches;
         stream = stream_of b meta sent.batches begun.file sent.sent;
-        added = Appends-text raw start mid new (written_so_far fs pairs sent.batches) end_mark sent.added put;
+        added = Appends-text raw start mid new (written_so_far fs pairs [] sent.batches) end_mark sent.added put;
       };
       summary = record {
         batches = sent.batches_are ∙ sym (length-map sent.batches table_batch);
         rows = sent.rows_are ∙ rows_same sent.batches;
-        bytes = ap (λ k. k + 8) sent.bytes_are ∙ sym (length-append (written_so_far fs pairs sent.batches) end_mark);
+        bytes = ap (λ k. k + 8) sent.bytes_are ∙ sym (length-append (written_so_far fs pairs [] sent.batches) end_mark);
       };
     }
 
@@ -165,24 +162,24 @@ abbrev OfBlocks : (List ℕ → Option (List ℕ) → Type 0) → List ℕ → M
 OfBlocks P b meta raw old n = (start : Option (List ℕ)) → Begun b meta raw start old n → P b start
 
 abbrev IsBegun : Meta → Bool → Option (List ℕ) → Option (List ℕ) → ℕ → Type 0
-IsBegun meta raw start old n = (b : List ℕ) → meta_of b ≡ Ok meta → Begun b meta raw start old n
+IsBegun meta raw start old n = (b : List ℕ) → FileSays b meta → Begun b meta raw start old n
 
 pub table_sent : (content : Option (List ℕ)) (meta : Meta) (raw : Bool) (start old mid new : Option (List ℕ)) (n : ℕ) (s : Summary) (m : List ℕ) → IsBegun meta raw start old n
-    → IfSome content (λ b. OfBlocks (λ b start. SentBlocks b meta meta.blocks raw start mid s) b meta raw old n) → m ≡ end_mark → Appends mid new (text_of raw m) → IfSome content (λ b. meta_of b ≡ Ok meta → Transcodes (record { batches = s.batches; rows = s.rows; bytes = s.bytes + 8 }) b «all» (text_of raw) start new)
+    → IfSome content (λ b. OfBlocks (λ b start. SentBlocks b meta meta.blocks raw start mid s) b meta raw old n) → m ≡ end_mark → Appends mid new (text_of raw m) → IfSome content (λ b. FileSays b meta → Transcodes (record { batches = s.batches; rows = s.rows; bytes = s.bytes + 8 }) b «all» (text_of raw) start new)
 table_sent None meta raw start old mid new n s m begun sent mark put = tt
 table_sent (Some b) meta raw start old mid new n s m begun sent mark put = λ h.
     let began = begun b h in
     table_whole b meta raw start old mid new n s began (sent start began) (subst (λ k. Appends mid new (text_of raw k)) mark put)
 
 pub table_not_ended : (e : IpcError) (content : Option (List ℕ)) (meta : Meta) (raw : Bool) (start old mid new : Option (List ℕ)) (n : ℕ) (s : Summary) (m : List ℕ) (faults faults' : ℕ) → IsBegun meta raw start old n
-    → IfSome content (λ b. OfBlocks (λ b start. SentBlocks b meta meta.blocks raw start mid s) b meta raw old n) → m ≡ end_mark → PutsText mid new (Err e) (text_of raw m) → PutTextCause e faults faults' → IfSome content (λ b. meta_of b ≡ Ok meta → Refused e b raw start new)
+    → IfSome content (λ b. OfBlocks (λ b start. SentBlocks b meta meta.blocks raw start mid s) b meta raw old n) → m ≡ end_mark → PutsText mid new (Err e) (text_of raw m) → PutTextCause e faults faults' → IfSome content (λ b. FileSays b meta → Refused e b raw start new)
 table_not_ended e None meta raw start old mid new n s m faults faults' begun sent mark put cause = tt
 table_not_ended e (Some b) meta raw start old mid new n s m faults faults' begun sent mark put cause = λ h.
     let began = begun b h in
     end_not_put e b meta raw start old mid new n s faults faults' began (sent start began) (subst (λ k. PutsText mid new (Err e) (text_of raw k)) mark put) cause
 
 pub table_refused : (e : IpcError) (content : Option (List ℕ)) (meta : Meta) (raw : Bool) (start old new : Option (List ℕ)) (n : ℕ) → IsBegun meta raw start old n
-    → IfSome content (λ b. OfBlocks (λ b start. Refused e b raw start new) b meta raw old n) → IfSome content (λ b. meta_of b ≡ Ok meta → Refused e b raw start new)
+    → IfSome content (λ b. OfBlocks (λ b start. Refused e b raw start new) b meta raw old n) → IfSome content (λ b. FileSays b meta → Refused e b raw start new)
 table_refused e None meta raw start old new n begun sent = tt
 table_refused e (Some b) meta raw start old new n begun sent = λ h. sent start (begun b h)
 
@@ -192,15 +189,17 @@ not_true : (x : Bool) → (x ≡ true → ⊥) → x ≡ false
 not_true true h = absurd (h refl)
 not_true false h = refl
 
-pub file_refused : (e : IpcError) (content : Option (List ℕ)) (raw : Bool) (o : Option (List ℕ)) (faults faults' : ℕ) → FileCause e faults faults' → IfSome content (λ b. Refuses e (refusals (meta_of b))) → IfSome content (λ b. Refused e b raw o o)
+pub file_refused : (e : IpcError) (content : Option (List ℕ)) (raw : Bool) (o : Option (List ℕ)) (faults faults' : ℕ) → FileCause e faults faults' → IfSome content (λ b. Refuses e (refusals (file_reading so_far to_send b «all» None))) → IfSome content (λ b. Refused e b raw o o)
 file_refused e None raw o faults faults' cause h = tt
-file_refused e (Some b) raw o faults faults' cause h = metadata_refused e b raw o faults faults' cause h
+file_refused e (Some b) raw o faults faults' cause h = record { refused = h; part = nothing_added e faults faults' b «all» (text_of raw) o cause }
 
 -- columns or a byte order that are not built
 pub file_not_built : (content : Option (List ℕ)) (meta : Meta) (keyed : List Keyed) (below : Ids) (f : Feature) (raw : Bool) (o : Option (List ℕ)) → (IsBuilt meta → ⊥) → meta.schema.fields ≡ fields_with (fields_in keyed) below
-    → IsAmong (chosen_floats None (fields_in keyed) 0 ++ errors.Unsupported features.NotYet ∷ []) (errors.Unsupported f) → IfSome content (λ b. meta_of b ≡ Ok meta) → IfSome content (λ b. Refused (errors.Unsupported f) b raw o o)
+    → IsAmong (feature_faults None (fields_in keyed) false) (errors.Unsupported f) → IfSome content (λ b. FileSays b meta) → IfSome content (λ b. Refused (errors.Unsupported f) b raw o o)
 file_not_built None meta keyed below f raw o beyond is named h = tt
 file_not_built (Some b) meta keyed below f raw o beyond is named h =
-    let same : chosen_floats None meta.schema.fields 0 ≡ chosen_floats None (fields_in keyed) 0 = ap (λ fs. chosen_floats None fs 0) is ∙ chosen_with (fields_in keyed) below 0 in
-    let here = subst (λ es. IsAmong (es ++ errors.Unsupported features.NotYet ∷ []) (errors.Unsupported f)) (sym same) named in
-    record { refused = rw (kinds_refused so_far to_send b None meta h (not_true _ beyond)) here; part = inl (keeps_same o) }
+    let fs = meta.schema.fields in
+    let same : feature_faults None fs false ≡ feature_faults None (fields_in keyed) false = ap (λ gs. feature_faults None gs false) is ∙ features_with (fields_in keyed) below false in
+    let here = subst (λ es. IsAmong es (errors.Unsupported f)) (sym same) named in
+    let place : free_of (feature_faults None fs (so_far.chosen meta.schema.order fs)) ≡ Err (feature_faults None fs false) = rw (not_true _ beyond) (features-refused None fs) in
+    record { refused = rw (features_refused so_far to_send b None meta [] (feature_faults None fs false) h.read h.no_pairs place) here; part = inl (keeps_same o) }

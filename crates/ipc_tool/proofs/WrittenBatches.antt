@@ -22,7 +22,7 @@ use Rattle.ipc_tool.proofs.WrittenMessages.{Framed, frame_refused}
 pub batch_written : (r : Result (Vec ℕ Global) IpcError) (b : Batch) (metadata body : List ℕ) → is_within 2147483647 b ≡ true → metadata ≡ layout (batch_message b).node → body ≡ batch_body b → Framed r metadata body → Writes r (written_batch (written_batch_of b)) (batch_bytes (written_batch_of b))
 batch_written (Ok v) b metadata body within is bodied f = (
   ap may_be_sent (sym (same_message b)) ∙ within_is_sent b within,
-  f.bytes ∙ ap (λ x. message_frame x body) is ∙ ap (λ x. message_frame (layout (batch_message b).node) x) bodied ∙ framed_is_batch b within,
+  f.bytes ∙ ap (λ x. message_frame x body) is ∙ ap (λ x. message_frame (layout (batch_message b).node) x) bodied ∙ framed_is_batch b,
 )
 batch_written (Err e) b metadata body within is bodied f =
     let m = batch_message b in

@@ -25,6 +25,7 @@ use Rattle.ipc_tool.specs.FileViews.{meta_view, IsBuilt, WasRead}
 use Rattle.ipc_tool.specs.Written.{Writes, WritesSchema}
 use Rattle.ipc_tool.specs.declared.ipc_files.metadata.FileMetadata.{FileMetadata}
 use Rattle.ipc_tool.proofs.FlatFields.{can_be_said, fields_stay, fit, flat_schema, no_uses, numbers_aside, same_fields}
+use Rattle.ipc_write.proofs.Written.{framed_whole}
 
 -- ── what may be sent ──
 
@@ -49,13 +50,6 @@ pub record Framed (r : Result (Vec ℕ Global) IpcError) (metadata body : List �
   pub small : OnOk r (up_to 8 (length metadata) < 2 ^ 31)
   pub err : IfErr r (λ e. (e ≡ errors.Memory) ⊎ ((e ≡ errors.TooLarge) × (2 ^ 31 ≤ up_to 8 (length metadata))))
 
--- with an empty body the frame is the message
-framed_alone : (n : Node) → message_frame (layout n) [] ≡ message_bytes n []
-unfolding message_frame message_bytes
-framed_alone n =
-    let front : List ℕ = prefixed (up_to 8 (size n)) (layout n ++ zeros (up_to 8 (size n) - size n)) in
-    ap (λ k. prefixed (up_to 8 k) (layout n ++ zeros (up_to 8 k - k)) ++ [] ++ []) (length-layout n) ∙ append-nil (front ++ [])
-
 -- what is refused of a frame is want of memory, or its metadata is too large
 pub frame_refused : (e : IpcError) (m : SentMessage) (expected : List ℕ) → (e ≡ errors.Memory) ⊎ ((e ≡ errors.TooLarge) × (2 ^ 31 ≤ up_to 8 (length (layout m.node)))) → Writes (Err e) m expected
 frame_refused e m expected (inl h) = subst (λ f. Writes (Err f) m expected) (sym h) tt
@@ -65,23 +59,23 @@ frame_refused e m expected (inr h) = subst (λ f. Writes (Err f) m expected) (sy
 pub alone_written : (r : Result (Vec ℕ Global) IpcError) (m : SentMessage) (metadata : List ℕ) → m.body ≡ 0 → metadata ≡ layout m.node → Framed r metadata [] → Writes r m (message_bytes m.node [])
 alone_written (Ok v) m metadata none is f =
     let same : length metadata ≡ size m.node = ap length is ∙ length-layout m.node in
-    (sends m (subst (λ k. up_to 8 k < 2 ^ 31) same f.small) none, f.bytes ∙ ap (λ x. message_frame x []) is ∙ framed_alone m.node)
+    (sends m (subst (λ k. up_to 8 k < 2 ^ 31) same f.small) none, f.bytes ∙ ap (λ x. message_frame x []) is ∙ framed_whole m.node [] refl)
 alone_written (Err e) m metadata none is f = frame_refused e m (message_bytes m.node []) (subst (λ x. (e ≡ errors.Memory) ⊎ ((e ≡ errors.TooLarge) × (2 ^ 31 ≤ up_to 8 (length x)))) is f.err)
 
 -- ── the message of a schema ──
 
 -- fields without dictionaries that can be said are written, where their message is small
 written_is : (fs : Fields) (own : Ids) (pairs : Metadata) → fields_with fs own ≡ fs → have_shapes fs own ≡ true → uses_in fs ≡ [] → representable fs ≡ true
-    → written little fs own pairs ≡ bind (unless (nat_le (size (schema_message little fs pairs).node) 2147483647) errors.TooLarge) (λ small. Ok (layout (schema_message little fs pairs).node))
+    → written little fs own pairs ≡ bind (unless (nat_le (size (schema_message little fs pairs []).node) 2147483647) errors.TooLarge) (λ small. Ok (layout (schema_message little fs pairs []).node))
 unfolding written serialized bind
 written_is fs own pairs same shape uses said = rw (same, shape, uses, said) refl
 
 -- so flat fields are, whose numbering changes nothing
 flat_written : (fs : Fields) (own : Ids) (pairs : Metadata) → are_flat_fields fs ≡ true → FieldsFit 64 fs → have_shapes fs own ≡ true
-    → written little fs own pairs ≡ bind (unless (nat_le (size (stream_schema fs pairs).node) 2147483647) errors.TooLarge) (λ small. Ok (layout (stream_schema fs pairs).node))
+    → written little fs own pairs ≡ bind (unless (nat_le (size (stream_schema fs pairs []).node) 2147483647) errors.TooLarge) (λ small. Ok (layout (stream_schema fs pairs []).node))
 flat_written fs own pairs flat fit shape =
     let by : SentMessage → Reading (List ℕ) = λ m. bind (unless (nat_le (size m.node) 2147483647) errors.TooLarge) (λ small. Ok (layout m.node)) in
-    written_is fs own pairs (fields_stay fs own flat) shape (no_uses fs flat) (can_be_said 64 fs flat fit) ∙ ap by (ap (λ gs. schema_message little gs pairs) (sym (numbers_aside fs flat)))
+    written_is fs own pairs (fields_stay fs own flat) shape (no_uses fs flat) (can_be_said 64 fs flat fit) ∙ ap by (ap (λ gs. schema_message little gs pairs []) (sym (numbers_aside fs flat)))
 
 tested : (m : SentMessage) (test : Bool) (x : List ℕ) → bind (unless test errors.TooLarge) (λ small. Ok (layout m.node)) ≡ Ok x → x ≡ layout m.node
 unfolding bind
@@ -89,8 +83,8 @@ tested m true x h = cc
 tested m false x h = cc
 
 -- the bytes that were written of a schema
-pub schema_written : (fs : Fields) (own : Ids) (pairs : Metadata) (v : Vec ℕ Global) → are_flat_fields fs ≡ true → FieldsFit 64 fs → have_shapes fs own ≡ true → Gives (λ (w : Vec ℕ Global). w.items) (Ok v) (written little fs own pairs) → v.items ≡ layout (stream_schema fs pairs).node
-schema_written fs own pairs v flat fit shape h = tested (stream_schema fs pairs) (nat_le (size (stream_schema fs pairs).node) 2147483647) v.items (sym (flat_written fs own pairs flat fit shape) ∙ h)
+pub schema_written : (fs : Fields) (own : Ids) (pairs : Metadata) (v : Vec ℕ Global) → are_flat_fields fs ≡ true → FieldsFit 64 fs → have_shapes fs own ≡ true → Gives (λ (w : Vec ℕ Global). w.items) (Ok v) (written little fs own pairs) → v.items ≡ layout (stream_schema fs pairs []).node
+schema_written fs own pairs v flat fit shape h = tested (stream_schema fs pairs []) (nat_le (size (stream_schema fs pairs []).node) 2147483647) v.items (sym (flat_written fs own pairs flat fit shape) ∙ h)
 
 -- why it is refused: the message is too large, or there is no memory
 test_refused : (m : SentMessage) (e : IpcError) (test : Bool) (expected : List ℕ) → nat_le (size m.node) 2147483647 ≡ test → Gives (λ (w : Vec ℕ Global). w.items) (Err e) (bind (unless test errors.TooLarge) (λ small. Ok (layout m.node))) → IsOfMessage e → Writes (Err e) m expected
@@ -119,9 +113,9 @@ test_refused m (errors.DictionaryReplaced id) test expected is g k = absurd k
 test_refused m errors.State test expected is g k = absurd k
 
 pub schema_refused : (r : Result (Vec ℕ Global) IpcError) (fs : Fields) (own : Ids) (pairs : Metadata) (e : IpcError) (expected : List ℕ) → are_flat_fields fs ≡ true → FieldsFit 64 fs → have_shapes fs own ≡ true → r ≡ Err e → Gives (λ (w : Vec ℕ Global). w.items) (Err e) (written little fs own pairs) → IsOfMessage e
-    → Writes r (stream_schema fs pairs) expected
+    → Writes r (stream_schema fs pairs []) expected
 schema_refused r fs own pairs e expected flat fit shape is g k =
-    let m = stream_schema fs pairs in
+    let m = stream_schema fs pairs [] in
     let h = subst (Gives (λ (w : Vec ℕ Global). w.items) (Err e)) (flat_written fs own pairs flat fit shape) g in
     subst (λ q. Writes q m expected) (sym is) (test_refused m e (nat_le (size m.node) 2147483647) expected refl h k)
 
@@ -152,7 +146,7 @@ file_schema_refused file r s own pairs e built read is same shape err g k =
     let of = of_file file s pairs built read is same in
     as_of_file file s pairs r of (schema_refused r (fields_in s) own pairs e _ of.flat of.fit shape err g k)
 
-no_body : (fs : Fields) (pairs : Metadata) → (schema_message little fs pairs).body ≡ 0
+no_body : (fs : Fields) (pairs : Metadata) → (schema_message little fs pairs []).body ≡ 0
 unfolding schema_message
 no_body fs pairs = refl
 
@@ -161,5 +155,5 @@ pub file_schema_framed : (file : FileMetadata) (r : Result (Vec ℕ Global) IpcE
     → have_shapes (fields_in s) own ≡ true → Gives (λ (w : Vec ℕ Global). w.items) (Ok v) (written little (fields_in s) own pairs) → metadata ≡ v.items → body ≡ [] → Framed r metadata body → WritesSchema r (meta_view file).schema.fields (meta_view file).schema.metadata
 file_schema_framed file r s own pairs v metadata body built read is same shape g items none f =
     let of = of_file file s pairs built read is same in
-    let m = stream_schema (fields_in s) pairs in
+    let m = stream_schema (fields_in s) pairs [] in
     as_of_file file s pairs r of (alone_written r m metadata (no_body (numbered (fields_in s) 0) pairs) (items ∙ schema_written (fields_in s) own pairs v of.flat of.fit shape g) (subst (λ x. Framed r metadata x) none f))

@@ -1,9 +1,9 @@
 -- What the values of a file that is read stand for.
-use Rattle.std.specs.Prelude.{◌≡◌, ℕ, ◌^◌, ◌<◌, map, true, ⊤}
+use Rattle.std.specs.Prelude.{◌≡◌, ℕ, ◌^◌, ◌<◌, List, [], Ok, map, true, ⊤}
 use Rattle.std.specs.Rc.{rc_value}
 use Rattle.arrow_spec.specs.declared.error.IpcError.{IpcError}
 use Rattle.arrow_spec.specs.declared.error.IpcError.TheVariants.{OutOfSpec, Unsupported, TooMany, TooDeep, ReadFault, Memory}
-use Rattle.arrow_spec.specs.Files.{Meta}
+use Rattle.arrow_spec.specs.Files.{Meta, custom_of, meta_of}
 use Rattle.arrow_spec.specs.WrittenSchemas.{SchemaMayBeWritten}
 use Rattle.arrow_types.specs.Schemas.{fields_in}
 use Rattle.ipc_fields.specs.IpcFields.{have_shapes, ids_of, schema_view}
@@ -13,7 +13,16 @@ use Rattle.ipc_tool.specs.FileBlocks.{file_block}
 use Rattle.ipc_tool.specs.declared.ipc_files.metadata.FileMetadata.{FileMetadata}
 
 abbrev pub meta_view : FileMetadata → Meta
-meta_view m = record { schema = schema_view (rc_value m.schema, m.ipc_schema, m.custom_metadata); blocks = map file_block m.blocks.items; dictionaries = map file_block m.dictionaries.items }
+meta_view m = record {
+  schema = schema_view (rc_value m.schema, m.ipc_schema, m.custom_metadata);
+  blocks = map file_block m.blocks.items;
+  dictionaries = map file_block m.dictionaries.items;
+}
+
+-- what the footer of a file says, which has no pairs that are not carried
+pub record FileSays (b : List ℕ) (meta : Meta) : Type 0 where
+  pub read : meta_of b ≡ Ok meta
+  pub no_pairs : custom_of so_far.custom b ≡ Ok []
 
 -- the columns of a file are built, and its byte order is
 abbrev pub IsBuilt : Meta → Type 0

@@ -9,3 +9,4 @@ pub mod Written
 pub mod FileViews
 pub mod Sends
 pub mod FileBlocks
+pub mod CommandLine

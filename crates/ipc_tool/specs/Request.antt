@@ -5,7 +5,7 @@ use Rattle.std.specs.Str.{bytes_eq}
 use Rattle.arrow_spec.specs.declared.error.IpcError.TheVariants.{Unsupported}
 use Rattle.arrow_spec.specs.declared.error.Feature.TheVariants.{NotYet}
 use Rattle.arrow_spec.specs.Files.{«all»}
-use Rattle.arrow_spec.specs.Words.{Stream, SchemaAsked, command_of, request_of, schema_request_of}
+use Rattle.arrow_spec.specs.Words.{SchemaAsked, command_of, request_of, schema_request_of, StreamAsked}
 use Rattle.ipc_tool.specs.declared.request.Command.{Command}
 use Rattle.ipc_tool.specs.declared.request.Command.TheVariants as command
 use Rattle.ipc_tool.specs.declared.refusal.Refusal.{Refusal}
@@ -16,7 +16,7 @@ abbrev pub texts : List (Bor (List ℕ)) → List (List ℕ)
 texts words = map (λ word. word.now) words
 
 -- a whole file from the input, as hex text
-abbrev pub whole_input : Stream
+abbrev pub whole_input : StreamAsked
 whole_input = record { request = «all»; raw = false; name = None }
 
 -- the schema of a whole file from the input

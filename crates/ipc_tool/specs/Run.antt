@@ -4,9 +4,9 @@ use Rattle.std.specs.Io.KnownBytes.{Appends, Keeps}
 use Rattle.arrow_spec.specs.declared.error.IpcError.{IpcError}
 use Rattle.arrow_spec.specs.declared.error.IpcError.TheVariants as errors
 use Rattle.sent_files.specs.Meaning.{file_table, may}
-use Rattle.arrow_spec.specs.Words.{Stream, SchemaAsked, Command, of_stream, of_schema, command_of, bytes_of_hex, shown}
+use Rattle.arrow_spec.specs.Words.{SchemaAsked, Command, of_stream, of_schema, command_of, shown, StreamAsked, Held, source_of}
 use Rattle.arrow_spec.specs.SchemaText.{schema_text_of}
-use Rattle.ipc_schema.specs.Outside.{Held, Rose, Stands, Lacks, AppendsPrefix}
+use Rattle.ipc_schema.specs.Outside.{Rose, Stands, Lacks, AppendsPrefix}
 use Rattle.ipc_tool.specs.Refusal.{number_of, line_of}
 use Rattle.ipc_tool.specs.Request.{WordsCause}
 use Rattle.ipc_tool.specs.SchemaPuts.{AddsText, AddsTextFront, may_print}
@@ -46,13 +46,13 @@ beside_shelf rest input_faults written output_faults input output = record {
   output_faults = output_faults output;
 }
 
--- the source's bytes, if there are any, where that is told: what the input's hex text stands for, or what stands under a name
-abbrev pub source_of : Option (List ℕ) → Option Held → Option (List ℕ) → Option (Option (List ℕ))
-source_of None held rest = option_map bytes_of_hex rest
-source_of (Some name) held rest = option_map (λ h. h name) held
-
 abbrev pub source_in : Option (List ℕ) → Outside → Option (Option (List ℕ))
 source_in name old = source_of name old.held old.rest
+
+-- the device of a source failed: the shelf where a name is given, and else the input
+abbrev pub SourceFailed : Option (List ℕ) → Outside → Outside → Type 0
+SourceFailed None old new = Rose old.input_faults new.input_faults
+SourceFailed (Some name) old new = Rose old.shelf_faults new.shelf_faults
 
 -- the name of a request's source
 abbrev pub name_in : Command → Option (List ℕ)
@@ -61,30 +61,31 @@ name_in (of_schema s) = s.name
 
 -- ── a stream ──
 
-abbrev pub shown_in : Stream → List ℕ → List ℕ
+abbrev pub shown_in : StreamAsked → List ℕ → List ℕ
 shown_in s x = shown x s.raw
 
 -- The output has one whole stream more, shown as asked, that means what the source means.
-abbrev pub IsWhole : Stream → Outside → Outside → Type 0
+abbrev pub IsWhole : StreamAsked → Outside → Outside → Type 0
 IsWhole s old new = IfSome (source_in s.name old) (λ bytes. IsSomeAnd bytes (λ b. AddsStream b s.request (shown_in s) old.written new.written))
 
 -- what a request that was refused added, of known bytes: nothing or a front; after a failed put a part of a stream; for want of memory maybe all but the line feed
-abbrev pub AddsBefore : Refusal → Stream → List ℕ → Option (List ℕ) → Option (List ℕ) → Type 0
+abbrev pub AddsBefore : Refusal → StreamAsked → List ℕ → Option (List ℕ) → Option (List ℕ) → Type 0
 AddsBefore (Ipc errors.WriteFault) s b old new = AddsPiece b s.request (shown_in s) (text_of s.raw) old new
-AddsBefore (Ipc errors.Memory) s b old new = AddsFrontOrNone b s.request (text_of s.raw) old new ⊎ AddsStream b s.request (text_of s.raw) old new
-AddsBefore (Ipc e) s b old new = AddsFrontOrNone b s.request (text_of s.raw) old new
+AddsBefore (Ipc errors.Memory) s b old new = AddsFrontOrNone errors.Memory b s.request (text_of s.raw) old new ⊎ AddsStream b s.request (text_of s.raw) old new
+AddsBefore (Ipc e) s b old new = AddsFrontOrNone e b s.request (text_of s.raw) old new
 AddsBefore _ s b old new = Keeps old new
 
-abbrev pub AddsPartOf : Refusal → Stream → Outside → Outside → Type 0
-AddsPartOf e s old new = IfSome (source_in s.name old) (λ bytes. MatchOption bytes (Keeps old.written new.written) (λ b. AddsBefore e s b old.written new.written))
+abbrev pub AddsPartOf : Refusal → StreamAsked → Outside → Outside → Type 0
+AddsPartOf e s old new =
+    IfSome (source_in s.name old) (λ bytes. MatchOption bytes (Keeps old.written new.written) (λ b. AddsBefore e s b old.written new.written))
 
 -- the source's bytes may be refused so
-abbrev pub MayBe : IpcError → Stream → Outside → Type 0
+abbrev pub MayBe : IpcError → StreamAsked → Outside → Type 0
 MayBe e s old = IfSome (source_in s.name old) (λ bytes. IsSomeAnd bytes (λ b. may b s.request e))
 
 -- why a request is refused
-abbrev pub RequestCause : Refusal → Stream → Outside → Outside → Type 0
-RequestCause (Ipc errors.ReadFault) s old new = Rose old.shelf_faults new.shelf_faults ⊎ Rose old.input_faults new.input_faults
+abbrev pub RequestCause : Refusal → StreamAsked → Outside → Outside → Type 0
+RequestCause (Ipc errors.ReadFault) s old new = SourceFailed s.name old new
 RequestCause (Ipc errors.WriteFault) s old new = Rose old.output_faults new.output_faults
 RequestCause (Ipc errors.Memory) s old new = ⊤
 RequestCause (Ipc errors.SchemaMismatch) s old new = ⊥
@@ -118,7 +119,7 @@ SchemaCause (Ipc (errors.OutOfSpec kind)) s old new = MayPrint (errors.OutOfSpec
 SchemaCause (Ipc (errors.Unsupported feature)) s old new = MayPrint (errors.Unsupported feature) s old
 SchemaCause (Ipc errors.TooDeep) s old new = MayPrint errors.TooDeep s old
 SchemaCause (Ipc (errors.TooMany counted)) s old new = MayPrint (errors.TooMany counted) s old
-SchemaCause (Ipc errors.ReadFault) s old new = Rose old.shelf_faults new.shelf_faults ⊎ Rose old.input_faults new.input_faults
+SchemaCause (Ipc errors.ReadFault) s old new = SourceFailed s.name old new
 SchemaCause (Ipc errors.WriteFault) s old new = Rose old.output_faults new.output_faults
 SchemaCause (Ipc errors.Memory) s old new = ⊤
 SchemaCause (Ipc _) s old new = ⊥
@@ -161,14 +162,14 @@ pub record NoneFailed (old new : Outside) : Type 0 where
   pub output : Stands old.output_faults new.output_faults
 
 -- the source's bytes are told, and mean a table
-abbrev pub HasMeaning : Stream → Outside → Type 0
+abbrev pub HasMeaning : StreamAsked → Outside → Type 0
 HasMeaning s old = IsSomeAnd (source_in s.name old) (λ bytes. IsSomeAnd bytes (λ b. IsSome (file_table b s.request)))
 
 -- the only refusals where the source means a table and no device failed
-abbrev pub IsLeft : Refusal → Stream → Outside → Type 0
+abbrev pub IsLeft : Refusal → StreamAsked → Outside → Type 0
 IsLeft e s old = (e ≡ Ipc errors.Memory) ⊎ ((e ≡ Ipc errors.TooLarge) × MayBe errors.TooLarge s old)
 
-abbrev pub IsComplete : Refusal → Stream → Outside → Outside → Type 0
+abbrev pub IsComplete : Refusal → StreamAsked → Outside → Outside → Type 0
 IsComplete e s old new = HasMeaning s old → NoneFailed old new → IsLeft e s old
 
 -- the only refusal where the source says a schema and no device failed

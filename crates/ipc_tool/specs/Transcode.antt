@@ -5,8 +5,9 @@ use Rattle.hex.specs.Hex.{encode_lower}
 use Rattle.arrow_spec.specs.declared.error.IpcError.{IpcError}
 use Rattle.arrow_spec.specs.declared.error.IpcError.TheVariants as errors
 use Rattle.arrow_spec.specs.Files.{Request, ArrowTable}
-use Rattle.sent_files.specs.Meaning.{file_part, file_table, may}
-use Rattle.arrow_spec.specs.Streams.{stream_table, closed}
+use Rattle.sent_files.specs.Built.{so_far}
+use Rattle.sent_files.specs.Files.{IsFrontOf, IsStreamOf, StopsBehind}
+use Rattle.sent_files.specs.Meaning.{may}
 use Rattle.ipc_schema.specs.Outside.{AppendsPrefix, Rose}
 use Rattle.ipc_tool.specs.declared.conversion.Summary.{Summary}
 
@@ -18,40 +19,30 @@ abbrev pub text_of : Bool → List ℕ → List ℕ
 text_of true x = x
 text_of false x = encode_lower x
 
--- one whole stream, closed, that means what the file means
-pub record IsStreamOf (b : List ℕ) (r : Request) (x : List ℕ) (table : ArrowTable) : Type 0 where
-  pub is_closed : closed x
-  pub stream : stream_table x None ≡ Some table
-  pub file : file_table b r ≡ Some table
-
--- an unclosed stream that means the file's schema and first batches
-pub record IsFrontOf (b : List ℕ) (r : Request) (x : List ℕ) (table : ArrowTable) : Type 0 where
-  pub not_closed : closed x → ⊥
-  pub stream : stream_table x None ≡ Some table
-  pub file : file_part b r (length table.batches) ≡ Some table
-
 -- The text of a whole stream was added.
 pub record AddsStream (b : List ℕ) (r : Request) (text : List ℕ → List ℕ) (old new : Option (List ℕ)) : Type 0 where
   pub bytes : List ℕ
   pub table : ArrowTable
-  pub stream : IsStreamOf b r bytes table
+  pub stream : IsStreamOf so_far b r bytes table
   pub added : Appends old new (text bytes)
 
 -- The text of a front was added.
 pub record AddsFront (b : List ℕ) (r : Request) (text : List ℕ → List ℕ) (old new : Option (List ℕ)) : Type 0 where
   pub bytes : List ℕ
   pub table : ArrowTable
-  pub stream : IsFrontOf b r bytes table
+  pub stream : IsFrontOf so_far b r bytes table
   pub added : Appends old new (text bytes)
 
 -- A part of a stream's text was added, from its front: of a whole stream, shown in one way, or of a front, in another.
 pub record AddsPiece (b : List ℕ) (r : Request) (shown text : List ℕ → List ℕ) (old new : Option (List ℕ)) : Type 0 where
   pub bytes : List ℕ
   pub table : ArrowTable
-  pub piece : (IsStreamOf b r bytes table × AppendsPrefix old new (shown bytes)) ⊎ (IsFrontOf b r bytes table × AppendsPrefix old new (text bytes))
+  pub piece : (IsStreamOf so_far b r bytes table × AppendsPrefix old new (shown bytes))
+      ⊎ (IsFrontOf so_far b r bytes table × AppendsPrefix old new (text bytes))
 
-abbrev pub AddsFrontOrNone : List ℕ → Request → (List ℕ → List ℕ) → Option (List ℕ) → Option (List ℕ) → Type 0
-AddsFrontOrNone b r text old new = Keeps old new ⊎ AddsFront b r text old new
+-- Nothing was added, or the text of a front that stops at the block that was refused: its batches are those before it, each once. A device's fault and want of memory come anywhere.
+abbrev pub AddsFrontOrNone : IpcError → List ℕ → Request → (List ℕ → List ℕ) → Option (List ℕ) → Option (List ℕ) → Type 0
+AddsFrontOrNone e b r text old new = Keeps old new ⊎ ((front : AddsFront b r text old new) × StopsBehind so_far b r (length front.table.batches) e)
 
 -- the numbers of a summary
 pub record IsSummary (s : Summary) (table : ArrowTable) (x : List ℕ) : Type 0 where
@@ -67,7 +58,7 @@ pub record Transcodes (s : Summary) (b : List ℕ) (r : Request) (text : List �
 -- what a refused transcoding added: nothing, or a front; after a failed put a part of a stream
 abbrev pub AddsPart : IpcError → List ℕ → Request → (List ℕ → List ℕ) → Option (List ℕ) → Option (List ℕ) → Type 0
 AddsPart errors.WriteFault b r text old new = AddsPiece b r text text old new
-AddsPart _ b r text old new = AddsFrontOrNone b r text old new
+AddsPart e b r text old new = AddsFrontOrNone e b r text old new
 
 -- why a transcoding is refused: by what the bytes mean where they are told, or by a count
 abbrev pub TranscodeCause : IpcError → Option (List ℕ) → Request → ℕ → ℕ → ℕ → ℕ → Type 0

@@ -17,4 +17,4 @@ Writes (Err e) message expected = ⊥
 
 -- the same of a schema's message, with the schema's pairs
 abbrev pub WritesSchema : Result (Vec ℕ Global) IpcError → Fields → Metadata → Type 0
-WritesSchema r fs pairs = Writes r (stream_schema fs pairs) (message_bytes (stream_schema fs pairs).node [])
+WritesSchema r fs pairs = Writes r (stream_schema fs pairs []) (message_bytes (stream_schema fs pairs []).node [])

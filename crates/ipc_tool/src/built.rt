@@ -1,9 +1,8 @@
 //! What of a file is built so far: little-endian files whose columns all have arrays without children.
-ghost use Rattle.std.specs.Prelude.{◌≡◌, ◌↔◌, ◌<◌, ◌++◌, ◌∷◌, [], IsTrue, None, Some, length, map, slice_get};
-ghost use Rattle.arrow_spec.specs.Columns.{chosen_floats};
+ghost use Rattle.std.specs.Prelude.{◌≡◌, ◌↔◌, ◌<◌, false, IsTrue, None, Some, length, map, slice_get};
+ghost use Rattle.arrow_spec.specs.Features.{feature_faults};
 ghost use Rattle.arrow_spec.specs.Readings.{IsAmong};
 ghost use Rattle.arrow_spec.specs.declared.error.IpcError.TheVariants.{Unsupported};
-ghost use Rattle.arrow_spec.specs.declared.error.Feature.TheVariants.{NotYet};
 ghost use Rattle.arrow_types.specs.KindOf.{child_of, kind_of};
 ghost use Rattle.arrow_types.specs.Schemas.{fields_in};
 ghost use Rattle.sent_files.specs.Built.{are_flat_fields, is_flat_kind};
@@ -80,14 +79,15 @@ pub fn is_built(file: &FileMetadata) -> bool
     file.ipc_schema.is_little_endian && are_flat(&file.schema)
 }
 
-/// What is not built of a schema's columns: floats or decimals of 256 bits where one has them, else what is to come.
+/// What is not built of a schema's columns: a column of floats or decimals of 256 bits by its name, else what is to come.
 pub fn missing_feature(schema: &ArrowSchema) -> Feature
-    ensures { IsAmong (chosen_floats None (fields_in schema.now) 0 ++ Unsupported NotYet ∷ []) (Unsupported result) }
+    ensures { IsAmong (feature_faults None (fields_in schema.now) false) (Unsupported result) }
 {
     for i in 0..schema.len() {
         let field = field_at(schema, i);
-        if let Some(feature) = unread_feature(&field.dtype) {
-            return feature;
+        match unread_feature(&field.dtype) {
+            Some(feature) => return feature,
+            None => {}
         }
     }
     Feature::NotYet

@@ -1,17 +1,17 @@
 //! A file's table, sent batch by batch.
 ghost use Rattle.std.specs.Prelude.{◌≡◌, ◌+◌, ◌*◌, ◌^◌, ◌<◌, ◌≤◌, List, Option, length, IfOk, IfErr, IfSome, Ok, ℕ};
-ghost use Rattle.arrow_spec.specs.Files.{«all», dictionaries_read, has_any, meta_of};
+ghost use Rattle.arrow_spec.specs.Files.{«all», dictionaries_read, has_any};
 ghost use Rattle.ipc_schema.specs.Outside.{IsSize};
 ghost use Rattle.ipc_fields.specs.IpcFields.{metadata_in};
 ghost use Rattle.ipc_tool.specs.FileBlocks.{file_block};
-ghost use Rattle.ipc_tool.specs.FileViews.{meta_view, FileCause, IsBuilt, WasRead};
+ghost use Rattle.ipc_tool.specs.FileViews.{meta_view, FileCause, FileSays, IsBuilt, WasRead};
 ghost use Rattle.ipc_tool.specs.Sends.{body_place, Begun, BlockRefused, BlockSent, ReadsBlock, Refused, SendCause, SentBlocks};
 ghost use Rattle.ipc_tool.specs.Transcode.{text_of, Transcodes};
 
 use crate::built::{is_built, missing_feature};
 use crate::conversion::Summary;
 use crate::integers::magnitude;
-use crate::ipc_files::{FileMetadata, read_block_message, read_file_metadata};
+use crate::ipc_files::{FileMetadata, read_block_message, read_plain_metadata};
 use crate::messages::{END_MARK, batch_message, schema_message};
 use crate::text::put_text;
 use arrow_arrays::RecordBatch;
@@ -174,8 +174,8 @@ fn begin_stream<W: Sink>(
 ) -> Result<usize, IpcError>
     requires built { IsBuilt (meta_view file.now) }
     requires read { WasRead file.now }
-    ensures begun { IfOk result (λ n. (b : List ℕ) → meta_of b ≡ Ok (meta_view file.now) → Begun b (meta_view file.now) raw (W.written sink.old) (W.written sink.new) n) }
-    ensures refused { IfErr result (λ e. (b : List ℕ) → meta_of b ≡ Ok (meta_view file.now) → Refused e b raw (W.written sink.old) (W.written sink.new)) }
+    ensures begun { IfOk result (λ n. (b : List ℕ) → FileSays b (meta_view file.now) → Begun b (meta_view file.now) raw (W.written sink.old) (W.written sink.new) n) }
+    ensures refused { IfErr result (λ e. (b : List ℕ) → FileSays b (meta_view file.now) → Refused e b raw (W.written sink.old) (W.written sink.new)) }
     ensures small { IfOk result (λ n. n < 2 ^ 63) }
     ensures cause { IfErr result (λ e. SendCause e 0 0 (W.faults sink.old) (W.faults sink.new)) }
     ensures writes { W.faults sink.old ≤ W.faults sink.new }
@@ -201,8 +201,8 @@ fn send_table<S: Source, W: Sink>(
     requires built { IsBuilt (meta_view file.now) }
     requires read { WasRead file.now }
     requires whole { IsSize (S.content source.old) file.now.size }
-    ensures whole { IfOk result (λ s. IfSome (S.content source.old) (λ b. meta_of b ≡ Ok (meta_view file.now) → Transcodes s b «all» (text_of raw) (W.written sink.old) (W.written sink.new))) }
-    ensures refused { IfErr result (λ e. IfSome (S.content source.old) (λ b. meta_of b ≡ Ok (meta_view file.now) → Refused e b raw (W.written sink.old) (W.written sink.new))) }
+    ensures whole { IfOk result (λ s. IfSome (S.content source.old) (λ b. FileSays b (meta_view file.now) → Transcodes s b «all» (text_of raw) (W.written sink.old) (W.written sink.new))) }
+    ensures refused { IfErr result (λ e. IfSome (S.content source.old) (λ b. FileSays b (meta_view file.now) → Refused e b raw (W.written sink.old) (W.written sink.new))) }
     ensures cause { IfErr result (λ e. SendCause e (S.faults source.old) (S.faults source.new) (W.faults sink.old) (W.faults sink.new)) }
     ensures content { S.content source.new ≡ S.content source.old }
     ensures reads { S.faults source.old ≤ S.faults source.new }
@@ -235,7 +235,7 @@ pub(crate) fn send_file<S: Source, W: Sink>(
     ensures same_source { S.references source.new ≡ S.references source.old }
     ensures same_sink { W.references sink.new ≡ W.references sink.old }
 {
-    let file = read_file_metadata(alloc, source)?;
+    let file = read_plain_metadata(alloc, source)?;
     if !is_built(&file) {
         return Err(IpcError::Unsupported(missing_feature(&file.schema)));
     }

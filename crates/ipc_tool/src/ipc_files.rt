@@ -5,4 +5,4 @@ mod fetch;
 mod metadata;
 
 pub(crate) use block::read_block_message;
-pub(crate) use metadata::{FileMetadata, read_file_metadata};
+pub(crate) use metadata::{FileMetadata, read_file_metadata, read_plain_metadata};

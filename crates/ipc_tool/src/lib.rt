@@ -3,6 +3,7 @@
 
 mod adapters;
 mod built;
+mod command_line;
 mod conversion;
 mod file;
 mod input;
@@ -17,6 +18,7 @@ mod schema_output;
 mod text;
 
 pub use adapters::{InputFeed, OutputSink};
+pub use command_line::{answer, status_of_process};
 pub use conversion::{Summary, transcode};
 pub use note::note_refusal;
 pub use program::run;

@@ -6,7 +6,7 @@ ghost use Rattle.ipc_schema.specs.Outside.{Rose, Lacks};
 ghost use Rattle.ipc_tool.specs.Refusal.{number_of};
 ghost use Rattle.ipc_tool.specs.Request.{texts, whole_input, schema_of_input, begins_with_stream, WordsCause};
 ghost use Rattle.ipc_tool.specs.Input.{TakesTooMany, IsNoHex};
-ghost use Rattle.ipc_tool.specs.Run.{HasMeaning, HasText, IsRefused, IsWhole, IsText, AddsPartOf, AddsTextOf, RequestCause, SchemaCause, CommandAdds, CommandCause, NoneFailed, IsNoted, MayBe, IsComplete, IsTold, name_in, outside_of, beside_shelf};
+ghost use Rattle.ipc_tool.specs.Run.{HasMeaning, HasText, IsRefused, IsWhole, IsText, AddsPartOf, AddsTextOf, RequestCause, SchemaCause, CommandAdds, CommandCause, NoneFailed, IsNoted, MayBe, IsComplete, IsTold, SourceFailed, name_in, outside_of, beside_shelf};
 ghost use Rattle.ipc_tool.specs.declared.refusal.Refusal.{Refusal};
 ghost use Rattle.arrow_spec.specs.declared.error.IpcError.TheVariants.{TooLarge};
 
@@ -192,7 +192,9 @@ pub fn run<H: Shelf, I: Feed, W: Sink, N: Sink>(
     ensures never { (result ≤ 6) ⊎ (11 ≤ result) }
     ensures of_schema { IfSome (schema_request_of (texts words.now)) (λ s. (result ≤ 4) ⊎ (11 ≤ result)) }
     ensures at_most { result ≤ 17 }
-    ensures read_fault { result ≡ 11 → Rose (H.faults shelf.old) (H.faults shelf.new) ⊎ Rose (I.faults input.old) (I.faults input.new) }
+    ensures read_fault { result ≡ 11 → IsSomeAnd (command_of (texts words.now)) (λ c. SourceFailed (name_in c)
+        (outside_of H.held H.faults I.rest I.faults W.written W.faults shelf.old input.old output.old)
+        (outside_of H.held H.faults I.rest I.faults W.written W.faults shelf.new input.new output.new)) }
     ensures write_fault { result ≡ 12 → Rose (W.faults output.old) (W.faults output.new) }
     ensures words { (result ≡ 14) ↔ (IsNone (command_of (texts words.now)) × IsFalse (begins_with_stream (texts words.now))) }
     ensures later_words { IsNone (command_of (texts words.now)) → IsTrue (begins_with_stream (texts words.now)) → result ≡ 2 }

@@ -1,18 +1,20 @@
 //! The messages of a file's blocks.
 ghost use Rattle.std.specs.Prelude.{◌≡◌, ◌+◌, ◌≤◌, ◌<◌, ◌^◌, IfOk, IfErr, OnOk};
-ghost use Rattle.arrow_spec.specs.Messages.{record_message};
 ghost use Rattle.arrow_spec.specs.Readings.{Gives};
 ghost use Rattle.ipc_fields.specs.Causes.{IsOfBytes};
 ghost use Rattle.ipc_schema.specs.Outside.{IsSize};
 ghost use Rattle.ipc_schema.specs.Views.{message_of};
 ghost use Rattle.sent_files.specs.Files.{HeaderFits};
-ghost use Rattle.ipc_tool.specs.FileBlocks.{Lies, PrefixIn, BlockIn, file_block};
+ghost use Rattle.ipc_tool.specs.FileBlocks.{plain_message, Lies, PrefixIn, BlockIn, file_block};
 ghost use Rattle.ipc_tool.specs.FileViews.{FileCause};
 
 use super::fetch::fetch;
 use crate::integers::magnitude;
 use arrow_spec::{Block, IpcError, OutOfSpecKind};
-use ipc_schema::{RecordMessage, Source, is_continuation, metadata_length, read_record_message};
+use ipc_schema::{
+    RecordMessage, Source, is_continuation, metadata_length, read_record_message,
+    refuse_message_pairs,
+};
 use std::alloc::Global;
 
 /// Where the metadata begins behind a place, and its length, in a message whose prefix and metadata take `size` bytes
@@ -49,13 +51,16 @@ fn read_prefix<S: Source>(
     metadata_length(&four, 8, size)
 }
 
-/// The record batch's message in some bytes.
+/// The record batch's message in some bytes, which has no pairs that are not carried.
+#[tactic(auto, unfolding(arrow_spec::specs::Readings::bind, crate::specs::FileBlocks::plain_message))]
 fn message_in(alloc: Global, bytes: &[u8]) -> Result<RecordMessage, IpcError>
-    ensures gives { Gives message_of result (record_message bytes.now) }
+    ensures gives { Gives message_of result (plain_message bytes.now) }
     ensures fits { IfOk result (λ m. HeaderFits (message_of m).tables) }
     ensures quiet { IfErr result IsOfBytes }
 {
-    read_record_message(alloc, bytes)
+    let message = read_record_message(alloc, bytes)?;
+    refuse_message_pairs(bytes)?;
+    Ok(message)
 }
 
 /// The message of a record batch in a block of a file of `size` bytes; of the block, the prefix and the metadata are read.

@@ -14,5 +14,5 @@ pub returns-clause-writes : goal.returns-clause-writes
 returns-clause-writes c =
     let encoded = c.in_ok-encode_record_batch.ensures.encodes in
     let within : is_within 2147483647 c.args.batch.now ≡ true = subst (λ n. is_within n c.args.batch.now ≡ true) c.default.ensures.1 encoded.1 in
-    let framed : Framed c.framed.result c.deref.result.now c.deref-2.result.now = record { bytes = c.framed.ensures.bytes; small = c.framed.ensures.small; err = c.framed.ensures.err } in
-    batch_written c.framed.result c.args.batch.now c.deref.result.now c.deref-2.result.now within (c.deref.ensures.value ∙ encoded.2) (c.deref-2.ensures.value ∙ encoded.3) framed
+    let framed : Framed c.message_to_bytes.result c.deref.result.now c.deref-2.result.now = record { bytes = c.message_to_bytes.ensures.bytes; small = c.message_to_bytes.ensures.small; err = c.message_to_bytes.ensures.err } in
+    batch_written c.message_to_bytes.result c.args.batch.now c.deref.result.now c.deref-2.result.now within (c.deref.ensures.value ∙ encoded.2) (c.deref-2.ensures.value ∙ encoded.3) framed

@@ -16,5 +16,5 @@ pub returns : goal.returns
 returns c =
     let own : have_shapes (fields_in c.deref.result.now) (ids_of c.deref-3.result.now) ≡ true = subst (λ l. have_shapes (fields_in c.deref.result.now) (ids_of l) ≡ true) (sym c.deref-3.ensures.value) c.in-Ok.ensures.shape in
     let shape : have_shapes (fields_in c.deref-2.result.now) (ids_of c.deref-3.result.now) ≡ true = subst (λ s. have_shapes (fields_in s) (ids_of c.deref-3.result.now) ≡ true) (c.deref.ensures ∙ sym c.deref-2.ensures) own in
-    let framed : Framed c.framed.result c.deref-4.result.now [] = record { bytes = c.framed.ensures.bytes; small = c.framed.ensures.small; err = c.framed.ensures.err } in
-    file_schema_framed c.args.file.now c.framed.result c.deref-2.result.now (ids_of c.deref-3.result.now) _ c.in_ok-metadata.metadata c.deref-4.result.now [] c.requires.built c.requires.read c.deref-2.ensures c.metadata_of.ensures shape c.in_ok-metadata.ensures.gives c.deref-4.ensures.value refl framed
+    let framed : Framed c.message_to_bytes.result c.deref-4.result.now [] = record { bytes = c.message_to_bytes.ensures.bytes; small = c.message_to_bytes.ensures.small; err = c.message_to_bytes.ensures.err } in
+    file_schema_framed c.args.file.now c.message_to_bytes.result c.deref-2.result.now (ids_of c.deref-3.result.now) _ c.in_ok-metadata.metadata c.deref-4.result.now [] c.requires.built c.requires.read c.deref-2.ensures c.metadata_of.ensures shape c.in_ok-metadata.ensures.gives c.deref-4.ensures.value refl framed

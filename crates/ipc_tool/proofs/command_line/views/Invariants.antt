@@ -1,0 +1,6 @@
+use Rattle.std.proofs.Common.{◌≡◌, map, string_bytes, take}
+use Rattle.ipc_tool.specs.Request.{texts}
+use Rattle.ipc_tool.proofs.command_line.views.Given as goal
+
+abbrev pub invariant-loop-word : goal.invariant-loop-word
+invariant-loop-word l = texts l.all.items ≡ map string_bytes (take l.word-index l.words)

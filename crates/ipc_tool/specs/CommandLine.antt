@@ -1,0 +1,83 @@
+-- What a run over words, a reader and two writers answers.
+use Rattle.std.specs.Prelude.{◌≡◌, ◌⊎◌, ◌↔◌, ℕ, ◌≤◌, List, Option, IfSome, IsSome, IsNone, IsSomeAnd, IsTrue, IsFalse}
+use Rattle.std.specs.Io.KnownBytes.{Keeps, IsAtEnd}
+use Rattle.arrow_spec.specs.declared.error.IpcError.TheVariants as errors
+use Rattle.arrow_spec.specs.Words.{Held, command_of, request_of, schema_request_of}
+use Rattle.ipc_schema.specs.Outside.{Rose}
+use Rattle.ipc_tool.specs.Input.{TakesTooMany, IsNoHex}
+use Rattle.ipc_tool.specs.Request.{begins_with_stream}
+use Rattle.ipc_tool.specs.Run.{HasMeaning, HasText, IsNoted, IsRefused, IsText, IsWhole, MayBe, NoneFailed, Outside, SourceFailed, name_in}
+use Rattle.ipc_tool.specs.declared.refusal.Refusal.{Refusal}
+use Rattle.ipc_tool.specs.declared.refusal.Refusal.TheVariants.{Ipc}
+
+-- a status of a run
+pub record IsStatus (status : ℕ) : Type 0 where
+  pub never : (status ≤ 6) ⊎ (11 ≤ status)
+  pub at_most : status ≤ 17
+
+-- what is seen of the notes: what was written, and how often they failed and wanted memory
+pub record Noted : Type 0 where
+  pub written : Option (List ℕ)
+  pub faults : ℕ
+  pub wants : ℕ
+
+-- by the members of their bound
+abbrev pub noted_of : {N : Type 0} → (N → Option (List ℕ)) → (N → ℕ) → (N → ℕ) → N → Noted
+noted_of written faults wants notes = record { written = written notes; faults = faults notes; wants = wants notes }
+
+-- what is seen of an input and an output
+pub record Seen : Type 0 where
+  pub rest : Option (List ℕ)
+  pub reads : ℕ
+  pub written : Option (List ℕ)
+  pub writes : ℕ
+
+-- by the members of their bounds
+abbrev pub seen_of : {I W : Type 0} → (I → Option (List ℕ)) → (I → ℕ) → (W → Option (List ℕ)) → (W → ℕ) → I → W → Seen
+seen_of rest reads written writes input output = record { rest = rest input; reads = reads input; written = written output; writes = writes output }
+
+-- beside a shelf
+abbrev pub beside : Option Held → ℕ → Seen → Outside
+beside held faults s = record { held = held; shelf_faults = faults; rest = s.rest; input_faults = s.reads; written = s.written; output_faults = s.writes }
+
+-- what a run says by its status: at 0 what was asked for was added, and else there is one refusal with its cause
+pub record Ran (status : ℕ) (words : List (List ℕ)) (old new : Outside) (noted noted' : Noted) : Type 0 where
+  pub request : status ≡ 0 → IsSome (command_of words)
+  pub whole : status ≡ 0 → IfSome (request_of words) (λ s. IsWhole s old new)
+  pub text : status ≡ 0 → IfSome (schema_request_of words) (λ s. IsText s old new)
+  pub at_end : status ≡ 0 → IsAtEnd new.rest
+  pub quiet : status ≡ 0 → Keeps noted.written noted'.written
+  pub refused : (status ≡ 0 → ⊥) → (e : Refusal) × IsRefused status e words old new
+      × IsNoted e noted.written noted'.written noted.faults noted'.faults noted.wants noted'.wants
+  pub complete : IfSome (request_of words) (λ s. HasMeaning s old → NoneFailed old new
+      → (status ≡ 0) ⊎ (status ≡ 13) ⊎ ((status ≡ 6) × MayBe errors.TooLarge s old))
+  pub told : IfSome (schema_request_of words) (λ s. HasText s old → NoneFailed old new → (status ≡ 0) ⊎ (status ≡ 13))
+  pub is : IsStatus status
+  pub of_schema : IfSome (schema_request_of words) (λ s. (status ≤ 4) ⊎ (11 ≤ status))
+  pub read_fault : status ≡ 11 → IsSomeAnd (command_of words) (λ c. SourceFailed (name_in c) old new)
+  pub write_fault : status ≡ 12 → Rose old.output_faults new.output_faults
+  pub words_are : (status ≡ 14) ↔ (IsNone (command_of words) × IsFalse (begins_with_stream words))
+  pub later_words : IsNone (command_of words) → IsTrue (begins_with_stream words) → status ≡ 2
+  pub not_hex : status ≡ 15 → IsNoHex old.rest new.rest
+  pub too_long : status ≡ 16 → TakesTooMany old.rest new.rest
+  pub untouched : 14 ≤ status → Keeps old.written new.written
+  pub unread : IsNone (command_of words) → new.rest ≡ old.rest
+
+-- there was no memory for the words: nothing was read and nothing added
+pub record WantedMemory (status : ℕ) (old new : Seen) (noted noted' : Noted) : Type 0 where
+  pub is : status ≡ 13
+  pub unread : new.rest ≡ old.rest
+  pub untouched : Keeps old.written new.written
+  pub line : IsNoted (Ipc errors.Memory) noted.written noted'.written noted.faults noted'.faults noted.wants noted'.wants
+
+-- the answer to words is that of a run beside some shelf
+pub record RanBeside (status : ℕ) (words : List (List ℕ)) (old new : Seen) (noted noted' : Noted) : Type 0 where
+  pub held : Option Held
+  pub held' : Option Held
+  pub faults : ℕ
+  pub faults' : ℕ
+  pub ran : Ran status words (beside held faults old) (beside held' faults' new) noted noted'
+
+-- or there was no memory for the words
+abbrev pub IsAnswer : ℕ → List (List ℕ) → Seen → Seen → Noted → Noted → Type 0
+IsAnswer status words old new noted noted' = RanBeside status words old new noted noted' ⊎ WantedMemory status old new noted noted'
