@@ -1,0 +1,126 @@
+//! Files with much in them: many bytes, many blocks, a long text.
+use crate::large_parts::{
+    BATCHES_FRONT, BATCHES_PIECE, BLOCKS_BACK, BLOCKS_FRONT, BLOCKS_PIECE, NUMBERS_BACK,
+    NUMBERS_FRONT, NUMBERS_PIECE, TEXT_BACK, TEXT_FRONT, TEXT_PIECE,
+};
+use ipc_schema::{MemorySink, MemorySource};
+use ipc_tool::{Summary, transcode};
+use std::alloc::Global;
+use std::process::Abort;
+use std::test::Fail;
+
+/// Hex text of which a piece stands so many times between a front and a back.
+#[derive(Clone, Copy)]
+struct Repeated {
+    before: &'static [u8],
+    front: &'static [u8],
+    piece: &'static [u8],
+    times: usize,
+    back: &'static [u8],
+}
+
+fn bytes_of(alloc: Global, text: &Repeated) -> Result<Vec<u8>, Fail> {
+    let piece = hex::decode(alloc, text.piece)?;
+    let mut bytes = hex::decode(alloc, text.before)?;
+    bytes.extend_from_slice(&hex::decode(alloc, text.front)?)?;
+    for _ in 0..text.times {
+        bytes.extend_from_slice(&piece)?;
+    }
+    bytes.extend_from_slice(&hex::decode(alloc, text.back)?)?;
+    Ok(bytes)
+}
+
+/// The file gives the stream, in so many batches, rows and bytes.
+fn gives(
+    rt: &impl Abort,
+    alloc: Global,
+    file: &Repeated,
+    stream: &Repeated,
+    summary: Summary,
+) -> Result<(), Fail> {
+    let mut source = MemorySource::new(bytes_of(alloc, file)?, Vec::new(alloc), Vec::new(alloc));
+    let mut sink = MemorySink::new(alloc, None, Vec::new(alloc));
+    let answer = transcode(alloc, &mut source, &mut sink, None, None);
+    assert_eq!(rt; answer, Ok(summary));
+    assert!(rt; sink.bytes() == bytes_of(alloc, stream)?.as_slice());
+    Ok(())
+}
+
+const MAGIC: &[u8] = b"4152524f57310000";
+
+const END_MARK: &[u8] = b"ffffffff00000000";
+
+/// 131,200 integers of 64 bits.
+const NUMBERS: Repeated = Repeated {
+    before: MAGIC,
+    front: NUMBERS_FRONT,
+    piece: NUMBERS_PIECE,
+    times: 16_400,
+    back: NUMBERS_BACK,
+};
+
+#[test]
+fn a_body_of_more_than_a_mebibyte(rt: HostRuntime) -> Result<(), Fail> {
+    let stream = Repeated {
+        before: b"",
+        back: END_MARK,
+        ..NUMBERS
+    };
+    let summary = Summary {
+        batches: 1,
+        rows: 131_200,
+        bytes: 1_049_896,
+    };
+    gives(&rt, rt.alloc(), &NUMBERS, &stream, summary)
+}
+
+/// A text of 65,600 bytes.
+const TEXT: Repeated = Repeated {
+    before: MAGIC,
+    front: TEXT_FRONT,
+    piece: TEXT_PIECE,
+    times: 1_025,
+    back: TEXT_BACK,
+};
+
+#[test]
+fn a_text_of_more_than_64_kibibytes(rt: HostRuntime) -> Result<(), Fail> {
+    let stream = Repeated {
+        before: b"",
+        back: END_MARK,
+        ..TEXT
+    };
+    let summary = Summary {
+        batches: 1,
+        rows: 1,
+        bytes: 65_960,
+    };
+    gives(&rt, rt.alloc(), &TEXT, &stream, summary)
+}
+
+/// A batch that the footer names a thousand times.
+const BLOCKS: Repeated = Repeated {
+    before: b"",
+    front: BLOCKS_FRONT,
+    piece: BLOCKS_PIECE,
+    times: 1_000,
+    back: BLOCKS_BACK,
+};
+
+const BATCHES: Repeated = Repeated {
+    before: b"",
+    front: BATCHES_FRONT,
+    piece: BATCHES_PIECE,
+    times: 1_000,
+    back: END_MARK,
+};
+
+#[test]
+fn a_thousand_blocks(rt: HostRuntime) -> Result<(), Fail> {
+    let summary = Summary {
+        batches: 1_000,
+        rows: 3_000,
+        bytes: 216_144,
+    };
+    gives(&rt, rt.alloc(), &BLOCKS, &BATCHES, summary)
+}

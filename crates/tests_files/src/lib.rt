@@ -1,0 +1,19 @@
+//! Files and streams through `transcode`, runs of the program, readers and writers, and the texts of refusals. All of it is tests.
+#![tactic(auto)]
+
+#[cfg(test)]
+mod adapters;
+#[cfg(test)]
+mod files;
+#[cfg(test)]
+mod kinds;
+#[cfg(test)]
+mod large;
+#[cfg(test)]
+mod large_parts;
+#[cfg(test)]
+mod refusal_texts;
+#[cfg(test)]
+mod runs;
+#[cfg(test)]
+mod transcodes;

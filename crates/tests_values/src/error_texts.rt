@@ -1,0 +1,300 @@
+//! The texts of errors.
+use arrow_arrays::BatchError;
+use arrow_buffers::ArrayError;
+use arrow_flat::BuildError;
+use arrow_spec::{Counted, Feature, FlatError, IpcError, OutOfSpecKind};
+use std::test::Fail;
+
+const FLAT: &[(FlatError, &str)] = &[
+    (FlatError::Range, "out of range"),
+    (FlatError::Utf8, "not UTF-8"),
+    (FlatError::Number, "not a listed number"),
+];
+
+/// Kinds without a part stand by their names.
+const PLAIN: &[(OutOfSpecKind, &str)] = &[
+    (OutOfSpecKind::Truncated, "Truncated"),
+    (OutOfSpecKind::InvalidFooter, "InvalidFooter"),
+    (OutOfSpecKind::NegativeFooterLength, "NegativeFooterLength"),
+    (OutOfSpecKind::MissingRecordBatches, "MissingRecordBatches"),
+    (OutOfSpecKind::MissingSchema, "MissingSchema"),
+    (OutOfSpecKind::MissingFields, "MissingFields"),
+    (OutOfSpecKind::MissingType, "MissingType"),
+    (OutOfSpecKind::InvalidDataType, "InvalidDataType"),
+    (OutOfSpecKind::BlockRange, "BlockRange"),
+    (OutOfSpecKind::MessageRange, "MessageRange"),
+    (OutOfSpecKind::MissingMessageHeader, "MissingMessageHeader"),
+    (
+        OutOfSpecKind::UnexpectedMessageType,
+        "UnexpectedMessageType",
+    ),
+    (OutOfSpecKind::MissingMessageNodes, "MissingMessageNodes"),
+    (
+        OutOfSpecKind::MissingMessageBuffers,
+        "MissingMessageBuffers",
+    ),
+    (OutOfSpecKind::MissingData, "MissingData"),
+    (OutOfSpecKind::DuplicateDictionary, "DuplicateDictionary"),
+    (
+        OutOfSpecKind::UnexpectedNegativeInteger,
+        "UnexpectedNegativeInteger",
+    ),
+    (OutOfSpecKind::ExpectedBuffer, "ExpectedBuffer"),
+    (OutOfSpecKind::MissingVariadicCount, "MissingVariadicCount"),
+    (OutOfSpecKind::NodeLength, "NodeLength"),
+    (OutOfSpecKind::BufferRange, "BufferRange"),
+    (OutOfSpecKind::InvalidOffsets, "InvalidOffsets"),
+    (OutOfSpecKind::InvalidUtf8, "InvalidUtf8"),
+    (OutOfSpecKind::InvalidView, "InvalidView"),
+    (OutOfSpecKind::InvalidKey, "InvalidKey"),
+    (OutOfSpecKind::InvalidUnion, "InvalidUnion"),
+    (OutOfSpecKind::RowCount, "RowCount"),
+];
+
+/// Behind the name of a flatbuffer's kind stands what is wrong with the flatbuffer.
+const OF_FLATBUFFERS: &[(OutOfSpecKind, &str)] = &[
+    (
+        OutOfSpecKind::InvalidFlatbufferFooter(FlatError::Range),
+        "InvalidFlatbufferFooter: out of range",
+    ),
+    (
+        OutOfSpecKind::InvalidFlatbufferRecordBatches(FlatError::Range),
+        "InvalidFlatbufferRecordBatches: out of range",
+    ),
+    (
+        OutOfSpecKind::InvalidFlatbufferCompression(FlatError::Range),
+        "InvalidFlatbufferCompression: out of range",
+    ),
+    (
+        OutOfSpecKind::InvalidFlatbufferDictionaries(FlatError::Range),
+        "InvalidFlatbufferDictionaries: out of range",
+    ),
+    (
+        OutOfSpecKind::InvalidFlatbufferSchema(FlatError::Utf8),
+        "InvalidFlatbufferSchema: not UTF-8",
+    ),
+    (
+        OutOfSpecKind::InvalidFlatbufferMessage(FlatError::Range),
+        "InvalidFlatbufferMessage: out of range",
+    ),
+    (
+        OutOfSpecKind::InvalidFlatbufferVersion(FlatError::Number),
+        "InvalidFlatbufferVersion: not a listed number",
+    ),
+    (
+        OutOfSpecKind::InvalidFlatbufferBodyLength(FlatError::Range),
+        "InvalidFlatbufferBodyLength: out of range",
+    ),
+    (
+        OutOfSpecKind::InvalidFlatbufferHeader(FlatError::Number),
+        "InvalidFlatbufferHeader: not a listed number",
+    ),
+    (
+        OutOfSpecKind::InvalidFlatbufferNodes(FlatError::Range),
+        "InvalidFlatbufferNodes: out of range",
+    ),
+    (
+        OutOfSpecKind::InvalidFlatbufferBuffers(FlatError::Range),
+        "InvalidFlatbufferBuffers: out of range",
+    ),
+    (
+        OutOfSpecKind::InvalidFlatbufferId(FlatError::Range),
+        "InvalidFlatbufferId: out of range",
+    ),
+    (
+        OutOfSpecKind::InvalidFlatbufferIsDelta(FlatError::Range),
+        "InvalidFlatbufferIsDelta: out of range",
+    ),
+    (
+        OutOfSpecKind::InvalidFlatbufferData(FlatError::Range),
+        "InvalidFlatbufferData: out of range",
+    ),
+];
+
+/// Behind the other names stands what was found.
+const OF_PARTS: &[(OutOfSpecKind, &str)] = &[
+    (
+        OutOfSpecKind::InvalidIdDataType { requested_id: 7 },
+        "InvalidIdDataType: dictionary 7 has values of two types",
+    ),
+    (
+        OutOfSpecKind::InvalidId { requested_id: -1 },
+        "InvalidId: there is no dictionary -1",
+    ),
+    (
+        OutOfSpecKind::InvalidBuffersLength {
+            buffers_size: 200,
+            file_size: 100,
+        },
+        "InvalidBuffersLength: 200 bytes of buffers, and 100 are there",
+    ),
+    (
+        OutOfSpecKind::InvalidBuffer {
+            length: 3,
+            required_number_of_bytes: 12,
+            buffer_length: 8,
+        },
+        "InvalidBuffer: 3 items need 12 bytes, and 8 are there",
+    ),
+    (
+        OutOfSpecKind::InvalidBitmap {
+            length: 9,
+            number_of_bits: 8,
+        },
+        "InvalidBitmap: 9 rows, and 8 bits are there",
+    ),
+];
+
+const FEATURES: &[(Feature, &str)] = &[
+    (Feature::FeatherV1, "FeatherV1"),
+    (Feature::DecimalWidth, "DecimalWidth"),
+    (Feature::NegativeScale, "NegativeScale"),
+    (Feature::RunEnd, "RunEnd"),
+    (Feature::ListView, "ListView"),
+    (Feature::ZeroSize, "ZeroSize"),
+    (Feature::DuplicateField, "DuplicateField"),
+    (Feature::Float, "Float"),
+    (Feature::Decimal256, "Decimal256"),
+    (Feature::ViewBigEndian, "ViewBigEndian"),
+    (Feature::Version, "Version"),
+    (Feature::Compression, "Compression"),
+    (Feature::UnionNulls, "UnionNulls"),
+    (Feature::BigEndianAppend, "BigEndianAppend"),
+    (Feature::NotYet, "NotYet"),
+];
+
+const COUNTED: &[(Counted, &str)] = &[
+    (Counted::Fields, "fields"),
+    (Counted::Pairs, "metadata pairs"),
+    (Counted::Dictionaries, "dictionaries"),
+];
+
+const ERRORS: &[(IpcError, &str)] = &[
+    (
+        IpcError::OutOfSpec(OutOfSpecKind::Truncated),
+        "out of specification: Truncated",
+    ),
+    (
+        IpcError::OutOfSpec(OutOfSpecKind::InvalidFlatbufferFooter(FlatError::Range)),
+        "out of specification: InvalidFlatbufferFooter: out of range",
+    ),
+    (IpcError::Unsupported(Feature::Float), "unsupported: Float"),
+    (IpcError::TooDeep, "a field stands deeper than 64 levels"),
+    (IpcError::TooMany(Counted::Fields), "too many fields"),
+    (
+        IpcError::Projection { index: 1 },
+        "column 1 is none, or is asked for twice",
+    ),
+    (
+        IpcError::TooLarge,
+        "a message, a body or a place is too large",
+    ),
+    (
+        IpcError::SchemaMismatch,
+        "the batch or the IPC fields are not as the schema says",
+    ),
+    (
+        IpcError::DictionaryReplaced { id: 0 },
+        "dictionary 0 would be replaced",
+    ),
+    (IpcError::NotRepresentable, "a type cannot be represented"),
+    (IpcError::State, "the call is out of turn"),
+    (IpcError::ReadFault, "a read failed"),
+    (IpcError::WriteFault, "a write failed"),
+    (IpcError::Memory, "out of memory"),
+];
+
+const OF_ARRAYS: &[(ArrayError, &str)] = &[
+    (
+        ArrayError::DataType,
+        "the type does not have the layout of the parts",
+    ),
+    (
+        ArrayError::Length,
+        "the parts do not have one number of rows",
+    ),
+    (
+        ArrayError::Offsets,
+        "the offsets do not rise within the values",
+    ),
+    (ArrayError::UnionType, "a type is none of the union's ids"),
+    (ArrayError::Utf8, "a text is not UTF-8"),
+    (ArrayError::View, "a view does not agree with its buffers"),
+    (ArrayError::Key, "a key is outside the dictionary"),
+    (ArrayError::Memory, "out of memory"),
+];
+
+#[test]
+fn a_flatbuffer_that_is_wrong(rt: HostRuntime) -> Result<(), Fail> {
+    let alloc = rt.alloc();
+    for (error, text) in FLAT {
+        assert_eq!(rt; format!(in alloc; "{error}")?.as_str(), *text);
+    }
+    Ok(())
+}
+
+#[test]
+fn bytes_that_are_not_as_they_should_be(rt: HostRuntime) -> Result<(), Fail> {
+    let alloc = rt.alloc();
+    for kinds in [PLAIN, OF_FLATBUFFERS, OF_PARTS] {
+        for (kind, text) in kinds {
+            assert_eq!(rt; format!(in alloc; "{kind}")?.as_str(), *text);
+        }
+    }
+    Ok(())
+}
+
+#[test]
+fn features_and_what_is_counted(rt: HostRuntime) -> Result<(), Fail> {
+    let alloc = rt.alloc();
+    for (feature, text) in FEATURES {
+        assert_eq!(rt; format!(in alloc; "{feature}")?.as_str(), *text);
+    }
+    for (counted, text) in COUNTED {
+        assert_eq!(rt; format!(in alloc; "{counted}")?.as_str(), *text);
+    }
+    Ok(())
+}
+
+#[test]
+fn calls_that_are_refused(rt: HostRuntime) -> Result<(), Fail> {
+    let alloc = rt.alloc();
+    for (error, text) in ERRORS {
+        assert_eq!(rt; format!(in alloc; "{error}")?.as_str(), *text);
+    }
+    Ok(())
+}
+
+#[test]
+fn parts_that_make_no_array(rt: HostRuntime) -> Result<(), Fail> {
+    let alloc = rt.alloc();
+    for (error, text) in OF_ARRAYS {
+        assert_eq!(rt; format!(in alloc; "{error}")?.as_str(), *text);
+    }
+    Ok(())
+}
+
+#[test]
+fn parts_that_make_no_batch_or_flatbuffer(rt: HostRuntime) -> Result<(), Fail> {
+    let alloc = rt.alloc();
+    let batches = [
+        (
+            BatchError::Width,
+            "the number of columns is not that of the schema's fields",
+        ),
+        (
+            BatchError::Height,
+            "a column does not have the batch's number of rows",
+        ),
+    ];
+    for (error, text) in batches {
+        assert_eq!(rt; format!(in alloc; "{error}")?.as_str(), text);
+    }
+    for (error, text) in [
+        (BuildError::TooLarge, "too large"),
+        (BuildError::Memory, "out of memory"),
+    ] {
+        assert_eq!(rt; format!(in alloc; "{error}")?.as_str(), text);
+    }
+    Ok(())
+}
