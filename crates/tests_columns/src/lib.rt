@@ -1,0 +1,17 @@
+//! Columns as they are read and passed over, messages, objects over memory, and arrays of each kind written and read back. All of it is tests.
+#![tactic(auto)]
+
+#[cfg(test)]
+mod arrays;
+#[cfg(test)]
+mod columns;
+#[cfg(test)]
+mod memory;
+#[cfg(test)]
+mod messages;
+#[cfg(test)]
+mod round_trips;
+#[cfg(test)]
+mod steps;
+#[cfg(test)]
+mod values;

@@ -1,0 +1,165 @@
+//! Tables of calls of the objects over memory.
+use ipc_schema::{
+    Entry, Failed, Feed, Got, MemoryFeed, MemoryShelf, MemorySink, MemorySource, PutError, Shelf,
+    ShelfError, Sink, Source,
+};
+use std::alloc::{AllocError, Global};
+use std::process::Abort;
+use std::test::Fail;
+
+fn numbers(alloc: Global, list: &[u64]) -> Result<Vec<u64>, AllocError> {
+    list.to_vec(alloc)
+}
+
+// Three bytes from a place.
+fn three<S: Source>(source: &mut S, at: u64) -> Result<Option<[u8; 3]>, Failed> {
+    let mut out = [0; 3];
+    match source.read_at(at, &mut out)? {
+        Got::Full => Ok(Some(out)),
+        Got::Short => Ok(None),
+    }
+}
+
+#[test]
+fn a_source_is_read_at_places(rt: HostRuntime) -> Result<(), Fail> {
+    let alloc = rt.alloc();
+    let failing = numbers(alloc, &[5])?;
+    let places = numbers(alloc, &[6])?;
+    let mut source = MemorySource::new(b"abcdefgh".to_vec(alloc)?, failing, places);
+    assert_eq!(rt; source.size(), Ok(8));
+    let cases = [
+        (0, Ok(Some(*b"abc"))),
+        (3, Ok(Some(*b"def"))),
+        (4, Err(Failed)),
+        (7, Ok(None)),
+        (0, Err(Failed)),
+        (0, Ok(Some(*b"abc"))),
+        (u64::MAX, Ok(None)),
+    ];
+    for (at, want) in cases {
+        assert_eq!(rt; three(&mut source, at), want, "at {at}");
+    }
+    Ok(())
+}
+
+#[test]
+fn a_feed_gives_its_bytes_once(rt: HostRuntime) -> Result<(), Fail> {
+    let alloc = rt.alloc();
+    let mut feed = MemoryFeed::new(b"abcde".to_vec(alloc)?, 3, numbers(alloc, &[1])?);
+    let cases = [
+        (4, Ok(b"abc".as_slice())),
+        (4, Err(Failed)),
+        (1, Ok(b"d".as_slice())),
+        (4, Ok(b"e".as_slice())),
+        (4, Ok(b"".as_slice())),
+    ];
+    for (room, want) in cases {
+        let mut out = [0; 4];
+        let given = feed.pull(&mut out[..room]).map(|count| count.min(4));
+        match (given, want) {
+            (Ok(count), Ok(bytes)) => assert_eq!(rt; &out[..count], bytes),
+            (given, want) => assert_eq!(rt; given.is_err(), want.is_err()),
+        }
+    }
+    Ok(())
+}
+
+fn check_puts(rt: &impl Abort, sink: &mut MemorySink, cases: &[(&[u8], bool, &[u8])]) {
+    for (bytes, fails, want) in cases {
+        let put = sink.put(bytes);
+        assert_eq!(rt; put == Err(PutError::Failed), *fails);
+        assert_eq!(rt; sink.bytes(), *want);
+    }
+}
+
+#[test]
+fn a_sink_adds_up(rt: HostRuntime) -> Result<(), Fail> {
+    let alloc = rt.alloc();
+    let mut sink = MemorySink::new(alloc, Some(5), numbers(alloc, &[1])?);
+    check_puts(
+        &rt,
+        &mut sink,
+        &[
+            (b"abc", false, b"abc"),
+            (b"x", true, b"abc"),
+            (b"", false, b"abc"),
+            (b"def", true, b"abcde"),
+            (b"", false, b"abcde"),
+            (b"g", true, b"abcde"),
+        ],
+    );
+    Ok(())
+}
+
+#[test]
+fn a_sink_without_an_end_takes_all(rt: HostRuntime) -> Result<(), Fail> {
+    let mut endless = MemorySink::new(rt.alloc(), None, Vec::new(rt.alloc()));
+    check_puts(
+        &rt,
+        &mut endless,
+        &[(b"abc", false, b"abc"), (b"d", false, b"abcd")],
+    );
+    Ok(())
+}
+
+fn entry(alloc: Global, name: &str, bytes: &[u8], failing: &[u64]) -> Result<Entry, AllocError> {
+    Ok(Entry {
+        name: String::from_str(alloc, name)?,
+        bytes: bytes.to_vec(alloc)?,
+        failing: failing.to_vec(alloc)?,
+        places: Vec::new(alloc),
+    })
+}
+
+// The first three bytes under a name, from a file that is closed.
+fn front<H: Shelf>(shelf: &mut H, name: &str) -> Result<[u8; 3], ShelfError> {
+    let mut file = shelf.open_file(name)?;
+    let got = three(&mut file, 0);
+    shelf.close_file(file);
+    got.ok().flatten().ok_or(ShelfError::Failed)
+}
+
+#[test]
+fn a_shelf_opens_by_name(rt: HostRuntime) -> Result<(), Fail> {
+    let alloc = rt.alloc();
+    let first = entry(alloc, "a", b"abc", &[])?;
+    let damaged = entry(alloc, "b", b"def", &[0])?;
+    let second = entry(alloc, "a", b"xyz", &[])?;
+    let entries = vec![in alloc; first, damaged, second]?;
+    let mut shelf = MemoryShelf::new(alloc, entries, numbers(alloc, &[3])?);
+    let cases = [
+        ("a", Ok(*b"abc")),
+        ("b", Err(ShelfError::Failed)),
+        ("c", Err(ShelfError::Unknown)),
+        ("a", Err(ShelfError::Failed)),
+        ("a", Ok(*b"abc")),
+    ];
+    for (name, want) in cases {
+        assert_eq!(rt; front(&mut shelf, name), want, "under {name}");
+    }
+    Ok(())
+}
+
+// A reader that owns its source, and one that is lent it.
+struct Reader<S> {
+    source: S,
+}
+
+impl<S: Source> Reader<S> {
+    fn front(&mut self) -> Result<Option<[u8; 3]>, Failed> {
+        three(&mut self.source, 0)
+    }
+}
+
+#[test]
+fn a_lent_source_is_a_source(rt: HostRuntime) -> Result<(), Fail> {
+    let alloc = rt.alloc();
+    let mut source = MemorySource::new(b"abcd".to_vec(alloc)?, Vec::new(alloc), Vec::new(alloc));
+    let mut reader = Reader {
+        source: &mut source,
+    };
+    assert_eq!(rt; reader.front(), Ok(Some(*b"abc")));
+    let Reader { source: lent } = reader;
+    assert_eq!(rt; lent.size(), Ok(4));
+    Ok(())
+}

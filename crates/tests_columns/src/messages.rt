@@ -1,0 +1,128 @@
+//! Messages against worked ones, and records.
+use arrow_arrays::{Array, RecordBatch};
+use arrow_buffers::{Buffer, Utf8ViewArray};
+use arrow_spec::IpcError;
+use arrow_types::{ArrowDataType, ArrowSchema, Field};
+use ipc_fields::IpcField;
+use ipc_schema::MemorySink;
+use ipc_write::{
+    EncodedData, Record, WriteOptions, encode_record_batch, pad_to_64, write_continuation,
+    write_message,
+};
+use std::alloc::Global;
+use std::rc::Rc;
+use std::test::Fail;
+
+#[test]
+fn the_mark_and_a_length_are_eight_bytes(rt: HostRuntime) -> Result<(), Fail> {
+    let alloc = rt.alloc();
+    let mut sink = MemorySink::new(alloc, None, Vec::new(alloc));
+    assert!(rt; matches!(write_continuation(&mut sink, 0), Ok(8)));
+    assert!(rt; sink.bytes() == [255, 255, 255, 255, 0, 0, 0, 0].as_slice());
+    Ok(())
+}
+
+#[test]
+fn metadata_is_padded_to_a_multiple_of_eight(rt: HostRuntime) -> Result<(), Fail> {
+    let alloc = rt.alloc();
+    let encoded = EncodedData {
+        ipc_message: [1, 2, 3, 4, 5].to_vec(alloc)?,
+        arrow_data: Vec::new(alloc),
+    };
+    let mut sink = MemorySink::new(alloc, None, Vec::new(alloc));
+    assert!(rt; matches!(write_message(&mut sink, &encoded), Ok((16, 0))));
+    let bytes = [255, 255, 255, 255, 8, 0, 0, 0, 1, 2, 3, 4, 5, 0, 0, 0];
+    assert!(rt; sink.bytes() == bytes.as_slice());
+    Ok(())
+}
+
+#[test]
+fn padding_to_a_multiple_of_64(rt: HostRuntime) -> Result<(), Fail> {
+    assert_eq!(rt; pad_to_64(0), 0);
+    assert_eq!(rt; pad_to_64(1), 63);
+    assert_eq!(rt; pad_to_64(64), 0);
+    assert_eq!(rt; pad_to_64(65), 63);
+    Ok(())
+}
+
+/// A batch of one column with one text of 13 bytes, over a buffer of so many.
+fn one_text(alloc: Global, held: usize) -> Result<RecordBatch, Fail> {
+    let mut bytes = Vec::new(alloc);
+    for _ in 0..held {
+        bytes.push(b'a')?;
+    }
+    let view = [13, 0, 0, 0, b'a', b'a', b'a', b'a', 0, 0, 0, 0, 0, 0, 0, 0];
+    let views = Buffer::from_vec(view.to_vec(alloc)?)?;
+    let buffers = vec![in alloc; Buffer::from_vec(bytes)?]?;
+    let Ok(array) = Utf8ViewArray::try_new(ArrowDataType::Utf8View, views, buffers, None) else {
+        return Err(Fail::from("an array"));
+    };
+    let name = String::from_str(alloc, "a")?;
+    let field = Field::new(alloc, name, ArrowDataType::Utf8View, true);
+    let schema = ArrowSchema::from_fields(alloc, vec![in alloc; field]?)?;
+    let arrays = vec![in alloc; Array::Utf8View(array)]?;
+    match RecordBatch::try_new(1, Rc::new(alloc, schema)?, arrays) {
+        Ok(batch) => Ok(batch),
+        Err(_) => Err(Fail::from("a batch")),
+    }
+}
+
+#[test]
+fn much_that_is_unused_is_left_out(rt: HostRuntime) -> Result<(), Fail> {
+    let alloc = rt.alloc();
+    let options = WriteOptions::default();
+    // The views stand in the first 64 bytes of the body.
+    for (held, written) in [(25, 25), (26, 13)] {
+        let batch = one_text(alloc, held)?;
+        let mut encoded = EncodedData::new(alloc);
+        let done = encode_record_batch(alloc, &batch, &options, &mut encoded);
+        assert!(rt; done.is_ok());
+        assert_eq!(rt; encoded.arrow_data.len(), 128);
+        let texts = encoded.arrow_data[64..]
+            .iter()
+            .filter(|byte| **byte == b'a')
+            .count();
+        assert_eq!(rt; texts, written);
+    }
+    Ok(())
+}
+
+#[test]
+fn too_much_metadata_leaves_what_was_there(rt: HostRuntime) -> Result<(), Fail> {
+    let alloc = rt.alloc();
+    let batch = one_text(alloc, 13)?;
+    let options = WriteOptions {
+        compression: None,
+        metadata_limit: 64,
+    };
+    let mut encoded = EncodedData::new(alloc);
+    encoded.arrow_data.push(7)?;
+    let done = encode_record_batch(alloc, &batch, &options, &mut encoded);
+    assert!(rt; matches!(done, Err(IpcError::TooLarge)));
+    assert!(rt; encoded.arrow_data.as_slice() == [7].as_slice());
+    Ok(())
+}
+
+#[test]
+fn a_record_gives_back_what_it_borrows(rt: HostRuntime) -> Result<(), Fail> {
+    let alloc = rt.alloc();
+    let batch = one_text(alloc, 13)?;
+    let fields = vec![in alloc; IpcField::new(alloc)]?;
+    let record = Record::from_borrowed(&batch, Some(fields.as_slice()));
+    assert!(rt; matches!(record.fields(), Some([_])));
+    assert_eq!(rt; record.columns().height(), 1);
+    let copy = record.try_clone(alloc)?;
+    assert!(rt; copy == record);
+    Ok(())
+}
+
+#[test]
+fn a_record_without_fields_is_another(rt: HostRuntime) -> Result<(), Fail> {
+    let alloc = rt.alloc();
+    let batch = one_text(alloc, 13)?;
+    let record = Record::from_owned(batch.try_clone(alloc)?, None);
+    assert!(rt; record.fields().is_none());
+    assert!(rt; record == Record::from_borrowed(&batch, None));
+    assert!(rt; record != Record::from_borrowed(&batch, Some(&[])));
+    Ok(())
+}

@@ -1,0 +1,136 @@
+//! An array to nodes, buffers and a body, and back.
+ghost use Rattle.std.specs.Prelude.{◌≡◌, ◌^◌, ◌<◌, [], ◌∷◌, length, map, true, IfOk};
+ghost use Rattle.arrow_spec.specs.Flat.{little, order_by};
+ghost use Rattle.arrow_spec.specs.Sent.{body_of};
+ghost use Rattle.arrow_types.specs.KindOf.{kind_of};
+ghost use Rattle.arrow_arrays.specs.FlatKinds.{is_flat_kind};
+ghost use Rattle.arrow_arrays.specs.Parts.{rows_in};
+ghost use Rattle.arrow_arrays.specs.PartsOf.{parts_of};
+ghost use Rattle.array_writer.specs.Pieces.{pieces_in};
+ghost use Rattle.array_writer.specs.Outputs.{MayHaveOrder};
+ghost use Rattle.ipc_write.specs.Compaction.{top};
+
+use array_writer::write;
+use arrow_arrays::{Array, RecordBatch};
+use arrow_spec::{FieldNode, IpcBuffer, IpcError, MetadataVersion};
+use arrow_types::{ArrowDataType, ArrowSchema, Field, Metadata};
+use ipc_fields::IpcField;
+use ipc_read::{Body, Dictionaries, read};
+use ipc_schema::{MemorySource, Source, read_record_message};
+use ipc_write::{EncodedData, WriteOptions, encode_record_batch};
+use std::alloc::{AllocError, Global};
+use std::collections::VecDeque;
+use std::rc::Rc;
+use std::test::Fail;
+
+/// What an array is written as.
+#[derive(Drop)]
+pub(crate) struct Written {
+    pub(crate) nodes: Vec<FieldNode>,
+    pub(crate) buffers: Vec<IpcBuffer>,
+    pub(crate) body: Vec<u8>,
+    pub(crate) views: Vec<i64>,
+}
+
+/// The array alone, in an order.
+pub(crate) fn write_alone(
+    alloc: Global,
+    array: &Array,
+    is_little_endian: bool,
+) -> Result<Written, Fail>
+    requires order { MayHaveOrder (parts_of array.now) is_little_endian }
+    requires few { rows_in (parts_of array.now) < 2 ^ 63 }
+    requires short { body_of 0 (map length (pieces_in (order_by is_little_endian) (parts_of array.now))) < 2 ^ 63 }
+{
+    let mut written = Written {
+        nodes: Vec::new(alloc),
+        buffers: Vec::new(alloc),
+        body: Vec::new(alloc),
+        views: Vec::new(alloc),
+    };
+    write(
+        array,
+        &mut written.buffers,
+        &mut written.body,
+        &mut written.nodes,
+        &mut written.views,
+        &mut 0,
+        is_little_endian,
+    )?;
+    Ok(written)
+}
+
+/// The batch of one column.
+fn batch_of(alloc: Global, array: &Array) -> Result<RecordBatch, Fail>
+    ensures arrays { IfOk result (λ b. b.arrays ≡ parts_of array.now ∷ []) }
+    ensures height { IfOk result (λ b. b.height ≡ rows_in (parts_of array.now)) }
+{
+    let dtype = array.dtype().try_clone(alloc)?;
+    let field = Field::new(alloc, String::new(alloc), dtype, true);
+    let schema = ArrowSchema::from_fields(alloc, vec![in alloc; field]?)?;
+    let arrays = vec![in alloc; array.try_clone(alloc)?]?;
+    Ok(RecordBatch::try_new(array.len(), Rc::new(alloc, schema)?, arrays)?)
+}
+
+/// The message of that batch.
+pub(crate) fn encoded(alloc: Global, array: &Array) -> Result<Written, Fail>
+    ensures few { IfOk result (λ _. rows_in (parts_of array.now) < 2 ^ 63) }
+    ensures short { IfOk result (λ _. body_of 0 (map length (pieces_in little (top (parts_of array.now)))) < 2 ^ 63) }
+{
+    let batch = batch_of(alloc, array)?;
+    let mut encoded = EncodedData::new(alloc);
+    encode_record_batch(alloc, &batch, &WriteOptions::default(), &mut encoded)?;
+    let message = read_record_message(alloc, &encoded.ipc_message)?;
+    Ok(Written {
+        nodes: message.header.nodes,
+        buffers: message.header.buffers,
+        body: encoded.arrow_data,
+        views: message.header.variadic,
+    })
+}
+
+fn queue_of<T: Copy>(alloc: Global, items: &[T]) -> Result<VecDeque<T>, AllocError> {
+    let mut queue = VecDeque::new(alloc);
+    for item in items {
+        queue.push_back(*item)?;
+    }
+    Ok(queue)
+}
+
+/// The array of so many rows that is read from what was written.
+pub(crate) fn read_back(
+    alloc: Global,
+    dtype: &ArrowDataType,
+    rows: usize,
+    written: Written,
+    is_little_endian: bool,
+) -> Result<Result<Array, IpcError>, Fail>
+    requires { is_flat_kind (kind_of dtype.now) ≡ true }
+{
+    let mut source = MemorySource::new(written.body, Vec::new(alloc), Vec::new(alloc));
+    let body = Body {
+        offset: 0,
+        length: source.size()?,
+    };
+    let field = Field {
+        name: String::new(alloc),
+        dtype: dtype.try_clone(alloc)?,
+        is_nullable: true,
+        metadata: Metadata::new(alloc),
+    };
+    Ok(read(
+        alloc,
+        &mut queue_of(alloc, &written.nodes)?,
+        &mut queue_of(alloc, &written.views)?,
+        &field,
+        &IpcField::new(alloc),
+        &mut queue_of(alloc, &written.buffers)?,
+        &mut source,
+        &Dictionaries::new(alloc),
+        body,
+        is_little_endian,
+        rows,
+        MetadataVersion::V5,
+        &mut Vec::new(alloc),
+    ))
+}
