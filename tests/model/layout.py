@@ -50,6 +50,17 @@ class Numbers64(Structs):
         super().__init__([struct.pack("<q", n) for n in numbers])
 
 
+class Numbers32:
+    def __init__(self, numbers):
+        self.numbers = numbers
+
+    def lay(self, out):
+        out.pad(4)
+        place = out.at()
+        out.data += struct.pack(f"<I{len(self.numbers)}i", len(self.numbers), *self.numbers)
+        return place
+
+
 class Tables:
     def __init__(self, tables):
         self.tables = tables

@@ -5,9 +5,9 @@ use Rattle.std.specs.Prelude.{if◌then◌else◌}
 use Rattle.std.proofs.lemmas.List.{ext_get_or, length-map}
 use Rattle.arrow_spec.specs.Cells.{Cell, null}
 use Rattle.arrow_spec.specs.Arrays.{from_on}
-use Rattle.arrow_buffers.specs.Rows.{masked, masked_by, has_rows, is_valid}
-use Rattle.arrow_buffers.specs.Flat.{Flat, flat_cells}
-use Rattle.arrow_buffers.specs.Views.{Views, view_rows, view_at, view_bytes, view_cell, view_cells}
+use Rattle.arrow_buffers.specs.Rows.{bytes_cell, masked, masked_by, has_rows, is_valid}
+use Rattle.arrow_buffers.specs.Leaf.{Leaf, leaf_cells}
+use Rattle.arrow_buffers.specs.Views.{Views, view_rows, view_at, view_bytes, view_cells}
 use Rattle.arrow_buffers.proofs.Counts.{get_there}
 use Rattle.arrow_buffers.proofs.ViewParts.{Seen}
 use Rattle.arrow_buffers.proofs.Parts.{get-from_on, length-from_on}
@@ -70,13 +70,13 @@ some_there false x y e = cc
 
 pub null_view : (is_text : Bool) (p : Views) (row : ℕ) → Seen p → row < view_rows p.views → is_valid p.validity row ≡ false → slice_get (view_cells is_text p) row ≡ Some null
 null_view is_text p row s h e =
-    let f : ℕ → Cell = λ i. view_cell is_text (view_bytes p.buffers (view_at p.views i)) in
+    let f : ℕ → Cell = λ i. bytes_cell is_text (view_bytes p.buffers (view_at p.views i)) in
     null_row p.validity (from_on f 0 (view_rows p.views)) row (view_rows p.views) (length-from_on f 0 (view_rows p.views)) s.rows h e
 
-pub valid_view : (is_text : Bool) (p : Views) (row : ℕ) (x : List ℕ) → Seen p → row < view_rows p.views → is_valid p.validity row ≡ true → x ≡ view_bytes p.buffers (view_at p.views row) → slice_get (view_cells is_text p) row ≡ Some (view_cell is_text x)
+pub valid_view : (is_text : Bool) (p : Views) (row : ℕ) (x : List ℕ) → Seen p → row < view_rows p.views → is_valid p.validity row ≡ true → x ≡ view_bytes p.buffers (view_at p.views row) → slice_get (view_cells is_text p) row ≡ Some (bytes_cell is_text x)
 valid_view is_text p row x s h e q =
-    let f : ℕ → Cell = λ i. view_cell is_text (view_bytes p.buffers (view_at p.views i)) in
-    valid_row p.validity (from_on f 0 (view_rows p.views)) row (view_rows p.views) (view_cell is_text x) (length-from_on f 0 (view_rows p.views)) s.rows e (get-row f (view_rows p.views) row h ∙ ap (λ y. Some (view_cell is_text y)) (sym q))
+    let f : ℕ → Cell = λ i. bytes_cell is_text (view_bytes p.buffers (view_at p.views i)) in
+    valid_row p.validity (from_on f 0 (view_rows p.views)) row (view_rows p.views) (bytes_cell is_text x) (length-from_on f 0 (view_rows p.views)) s.rows e (get-row f (view_rows p.views) row h ∙ ap (λ y. Some (bytes_cell is_text y)) (sym q))
 
 -- rows that are each told of
 pub null_told : (f : ℕ → Cell) (v : Option (List Bool)) (row n : ℕ) → has_rows v n ≡ true → row < n → is_valid v row ≡ false → slice_get (masked v (from_on f 0 n)) row ≡ Some null
@@ -90,12 +90,12 @@ pub read_valid : (v w : Option (List Bool)) (row : ℕ) (r b : Bool) → w ≡ v
 read_valid v w row r b e s t = ap (λ u. is_valid u row) (sym e) ∙ sym s ∙ t
 
 -- numbers by their bytes
-pub null_number : {A : Type 0} (write : A → List ℕ) (f : Flat A) (row : ℕ) → has_rows f.validity (length f.values) ≡ true → row < length f.values → is_valid f.validity row ≡ false → slice_get (flat_cells (number_cell f.kind) (as_bytes write f)) row ≡ Some null
+pub null_number : {A : Type 0} (write : A → List ℕ) (f : Leaf A) (row : ℕ) → has_rows f.validity (length f.values) ≡ true → row < length f.values → is_valid f.validity row ≡ false → slice_get (leaf_cells (number_cell f.kind) (as_bytes write f)) row ≡ Some null
 null_number write f row h lt e =
     let l = length-map (map write f.values) (number_cell f.kind) ∙ length-map f.values write in
     null_row f.validity (map (number_cell f.kind) (map write f.values)) row (length f.values) l h lt e
 
-pub valid_number : {A : Type 0} (write : A → List ℕ) (f : Flat A) (row : ℕ) (x : A) → has_rows f.validity (length f.values) ≡ true → is_valid f.validity row ≡ true → slice_get f.values row ≡ Some x → slice_get (flat_cells (number_cell f.kind) (as_bytes write f)) row ≡ Some (number_cell f.kind (write x))
+pub valid_number : {A : Type 0} (write : A → List ℕ) (f : Leaf A) (row : ℕ) (x : A) → has_rows f.validity (length f.values) ≡ true → is_valid f.validity row ≡ true → slice_get f.values row ≡ Some x → slice_get (leaf_cells (number_cell f.kind) (as_bytes write f)) row ≡ Some (number_cell f.kind (write x))
 valid_number write f row x h e s =
     let l = length-map (map write f.values) (number_cell f.kind) ∙ length-map f.values write in
     valid_row f.validity (map (number_cell f.kind) (map write f.values)) row (length f.values) (number_cell f.kind (write x)) l h e (get-map (number_cell f.kind) (map write f.values) row (write x) (get-map write f.values row x s))

@@ -10,9 +10,9 @@ use Rattle.arrow_types.specs.declared.physical.PrimitiveType.{PrimitiveType}
 use Rattle.arrow_types.specs.declared.physical.PrimitiveType.TheVariants as primitive
 use Rattle.arrow_buffers.specs.Rows.{part, has_rows}
 use Rattle.arrow_buffers.specs.Layouts.{is_primitive, primitive_number}
-use Rattle.arrow_buffers.specs.Flat.{Flat, flat_cells, flat_part, flat_fault}
-use Rattle.arrow_buffers.proofs.Sound.{flat_sound}
-use Rattle.arrow_buffers.proofs.Masks.{length-flat, flat_cells-part}
+use Rattle.arrow_buffers.specs.Leaf.{Leaf, leaf_cells, leaf_part, leaf_fault}
+use Rattle.arrow_buffers.proofs.Sound.{leaf_sound}
+use Rattle.arrow_buffers.proofs.Masks.{length-leaf, leaf_cells-part}
 use Rattle.arrow_buffers.proofs.Parts.{map-part}
 use Rattle.arrow_arrays.specs.Parts.{numbers, as_bytes, number_cell, number_size, fault_in}
 
@@ -58,28 +58,28 @@ layout_size p physical.Map e = cc
 layout_size p (physical.Dictionary i) e = cc
 
 -- parts that are not refused have the layout
-pub flat_suits : (s : Bool) (n : ℕ) (v : Option (List Bool)) → flat_fault s n v ≡ None → s ≡ true
-flat_suits true n v e = refl
-flat_suits false n v e = cc
+pub leaf_suits : (s : Bool) (n : ℕ) (v : Option (List Bool)) → leaf_fault s n v ≡ None → s ≡ true
+leaf_suits true n v e = refl
+leaf_suits false n v e = cc
 
 all_wide : {A : Type 0} (write : A → List ℕ) (size : ℕ) → ((x : A) → length (write x) ≡ size) → (xs : List A) → list_all (λ bytes. nat_eq (length bytes) size) (map write xs) ≡ true
 all_wide write size wide [] = refl
 all_wide write size wide (x ∷ xs) = rw (eq-eqb (length (write x)) size (wide x), all_wide write size wide xs) refl
 
-pub numbers_sound : {A : Type 0} (write : A → List ℕ) (p : PrimitiveType) (size : ℕ) (f : Flat A) → primitive_size p ≡ size → 0 < size → ((x : A) → length (write x) ≡ size) → flat_fault (is_primitive p (physical_of f.kind)) (length f.values) f.validity ≡ None → fault_in (numbers (as_bytes write f)) ≡ None
+pub numbers_sound : {A : Type 0} (write : A → List ℕ) (p : PrimitiveType) (size : ℕ) (f : Leaf A) → primitive_size p ≡ size → 0 < size → ((x : A) → length (write x) ≡ size) → leaf_fault (is_primitive p (physical_of f.kind)) (length f.values) f.validity ≡ None → fault_in (numbers (as_bytes write f)) ≡ None
 numbers_sound write p size f e above wide fine =
-    let s : number_size (physical_of f.kind) ≡ size = layout_size p (physical_of f.kind) (flat_suits (is_primitive p (physical_of f.kind)) (length f.values) f.validity fine) ∙ e in
-    let rows : has_rows f.validity (length f.values) ≡ true = flat_sound (is_primitive p (physical_of f.kind)) (length f.values) f.validity fine in
+    let s : number_size (physical_of f.kind) ≡ size = layout_size p (physical_of f.kind) (leaf_suits (is_primitive p (physical_of f.kind)) (length f.values) f.validity fine) ∙ e in
+    let rows : has_rows f.validity (length f.values) ≡ true = leaf_sound (is_primitive p (physical_of f.kind)) (length f.values) f.validity fine in
     rw (s, lt-ltb 0 size above, all_wide write size wide f.values, length-map f.values write, rows) refl
 
-pub number_cells-length : {A : Type 0} (write : A → List ℕ) (s : Bool) (f : Flat A) → flat_fault s (length f.values) f.validity ≡ None → length (flat_cells (number_cell f.kind) (as_bytes write f)) ≡ length f.values
+pub number_cells-length : {A : Type 0} (write : A → List ℕ) (s : Bool) (f : Leaf A) → leaf_fault s (length f.values) f.validity ≡ None → length (leaf_cells (number_cell f.kind) (as_bytes write f)) ≡ length f.values
 number_cells-length write s f fine =
     let l : length (map write f.values) ≡ length f.values = length-map f.values write in
-    let rows : has_rows f.validity (length (map write f.values)) ≡ true = ap (has_rows f.validity) l ∙ flat_sound s (length f.values) f.validity fine in
-    length-flat (number_cell f.kind) (map write f.values) f.validity rows ∙ l
+    let rows : has_rows f.validity (length (map write f.values)) ≡ true = ap (has_rows f.validity) l ∙ leaf_sound s (length f.values) f.validity fine in
+    length-leaf (number_cell f.kind) (map write f.values) f.validity rows ∙ l
 
-pub as_bytes-part : {A : Type 0} (write : A → List ℕ) (o n : ℕ) (f : Flat A) → as_bytes write (flat_part o n f) ≡ flat_part o n (as_bytes write f)
+pub as_bytes-part : {A : Type 0} (write : A → List ℕ) (o n : ℕ) (f : Leaf A) → as_bytes write (leaf_part o n f) ≡ leaf_part o n (as_bytes write f)
 as_bytes-part write o n f = rw (map-part write o n f.values) refl
 
-pub number_cells-part : {A : Type 0} (write : A → List ℕ) (o n : ℕ) (f : Flat A) → flat_cells (number_cell f.kind) (as_bytes write (flat_part o n f)) ≡ part o n (flat_cells (number_cell f.kind) (as_bytes write f))
-number_cells-part write o n f = ap (flat_cells (number_cell f.kind)) (as_bytes-part write o n f) ∙ flat_cells-part (number_cell f.kind) o n (map write f.values) f.validity
+pub number_cells-part : {A : Type 0} (write : A → List ℕ) (o n : ℕ) (f : Leaf A) → leaf_cells (number_cell f.kind) (as_bytes write (leaf_part o n f)) ≡ part o n (leaf_cells (number_cell f.kind) (as_bytes write f))
+number_cells-part write o n f = ap (leaf_cells (number_cell f.kind)) (as_bytes-part write o n f) ∙ leaf_cells-part (number_cell f.kind) o n (map write f.values) f.validity

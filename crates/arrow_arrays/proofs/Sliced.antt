@@ -6,19 +6,18 @@ use Rattle.std.proofs.lemmas.Bool.{and_parts}
 use Rattle.std.proofs.lemmas.List.{length-replicate}
 use Rattle.std.proofs.lemmas.List.Elements.{All-take, All-drop}
 use Rattle.std.proofs.lemmas.List.Sums.{AllPass-from_list_all, list_all-from_AllPass}
-use Rattle.std.specs.Prelude.{◌||◌}
 use Rattle.arrow_spec.specs.Cells as cells
 use Rattle.arrow_types.specs.Physical.{physical_of}
 use Rattle.arrow_buffers.specs.Rows.{part, has_rows}
-use Rattle.arrow_buffers.specs.Layouts.{is_boolean, is_binary, is_text, is_view}
-use Rattle.arrow_buffers.specs.Flat.{flat_fault}
-use Rattle.arrow_buffers.proofs.Sound.{flat_sound}
+use Rattle.arrow_buffers.specs.Layouts.{is_boolean, is_variable_any, is_view}
+use Rattle.arrow_buffers.specs.Leaf.{leaf_fault}
+use Rattle.arrow_buffers.proofs.Sound.{leaf_sound}
 use Rattle.arrow_buffers.proofs.Parts.{length-part, part-replicate}
-use Rattle.arrow_buffers.proofs.Masks.{length-flat, flat_cells-part, has_rows-part}
+use Rattle.arrow_buffers.proofs.Masks.{length-leaf, leaf_cells-part, has_rows-part}
 use Rattle.arrow_buffers.proofs.Fixed.{length-fixed_cells, fixed_cells-part, fixed_fault-part}
-use Rattle.arrow_buffers.proofs.Variable.{binary_sound, text_sound, length-variable_cells, variable_cells-part, binary_fault-part, text_fault-part}
+use Rattle.arrow_buffers.proofs.VariableParts.{variable_sound, length-variable_cells, variable_cells-part, variable_fault-part}
 use Rattle.arrow_buffers.proofs.ViewParts.{view_sound, length-view_cells, view_cells-part, view_fault-part}
-use Rattle.arrow_arrays.proofs.NumberParts.{flat_suits}
+use Rattle.arrow_arrays.proofs.NumberParts.{leaf_suits}
 use Rattle.arrow_arrays.specs.Parts.{Parts, nulls, bits, numbers, fixed, binary, text, binary_views, text_views, number_cell, number_size, are_numbers, kind_in, rows_in, cells_in, part_of, fault_in}
 
 pub kind-part : (o n : ℕ) (p : Parts) → kind_in (part_of o n p) ≡ kind_in p
@@ -34,28 +33,28 @@ kind-part o n (text_views p) = refl
 -- there are as many cells as rows
 pub length-cells : (p : Parts) → fault_in p ≡ None → length (cells_in p) ≡ rows_in p
 length-cells (nulls x) e = length-replicate x.rows cells.null
-length-cells (bits f) e = length-flat cells.bool f.values f.validity (flat_sound (is_boolean (physical_of f.kind)) (length f.values) f.validity e)
-length-cells (numbers f) e = length-flat (number_cell f.kind) f.values f.validity (flat_sound (are_numbers (number_size (physical_of f.kind)) f.values) (length f.values) f.validity e)
+length-cells (bits f) e = length-leaf cells.bool f.values f.validity (leaf_sound (is_boolean (physical_of f.kind)) (length f.values) f.validity e)
+length-cells (numbers f) e = length-leaf (number_cell f.kind) f.values f.validity (leaf_sound (are_numbers (number_size (physical_of f.kind)) f.values) (length f.values) f.validity e)
 length-cells (fixed f) e = length-fixed_cells f e
-length-cells (binary p) e = length-variable_cells cells.bytes p (binary_sound (is_binary false (physical_of p.kind) || is_binary true (physical_of p.kind)) p e)
-length-cells (text p) e = length-variable_cells cells.text p (text_sound (is_text false (physical_of p.kind) || is_text true (physical_of p.kind)) p e).0
-length-cells (binary_views p) e = length-view_cells false p (view_sound false (is_view false (physical_of p.kind)) p e)
-length-cells (text_views p) e = length-view_cells true p (view_sound true (is_view true (physical_of p.kind)) p e)
+length-cells (binary p) e = length-variable_cells false p (variable_sound false (is_variable_any false (physical_of p.kind)) p e).spanned
+length-cells (text p) e = length-variable_cells true p (variable_sound true (is_variable_any true (physical_of p.kind)) p e).spanned
+length-cells (binary_views p) e = length-view_cells false p (view_sound false (is_view false (physical_of p.kind)) p e).seen
+length-cells (text_views p) e = length-view_cells true p (view_sound true (is_view true (physical_of p.kind)) p e).seen
 
 -- the cells of a part are a part of the cells
 pub cells-part : (o n : ℕ) (p : Parts) → fault_in p ≡ None → o + n ≤ rows_in p → cells_in (part_of o n p) ≡ part o n (cells_in p)
 cells-part o n (nulls x) e h = part-replicate o n x.rows cells.null h
-cells-part o n (bits f) e h = flat_cells-part cells.bool o n f.values f.validity
-cells-part o n (numbers f) e h = flat_cells-part (number_cell f.kind) o n f.values f.validity
+cells-part o n (bits f) e h = leaf_cells-part cells.bool o n f.values f.validity
+cells-part o n (numbers f) e h = leaf_cells-part (number_cell f.kind) o n f.values f.validity
 cells-part o n (fixed f) e h = fixed_cells-part f o n e h
-cells-part o n (binary p) e h = variable_cells-part cells.bytes o n p (binary_sound (is_binary false (physical_of p.kind) || is_binary true (physical_of p.kind)) p e) h
-cells-part o n (text p) e h = variable_cells-part cells.text o n p (text_sound (is_text false (physical_of p.kind) || is_text true (physical_of p.kind)) p e).0 h
-cells-part o n (binary_views p) e h = view_cells-part false o n p (view_sound false (is_view false (physical_of p.kind)) p e) h
-cells-part o n (text_views p) e h = view_cells-part true o n p (view_sound true (is_view true (physical_of p.kind)) p e) h
+cells-part o n (binary p) e h = variable_cells-part false o n p (variable_sound false (is_variable_any false (physical_of p.kind)) p e).spanned h
+cells-part o n (text p) e h = variable_cells-part true o n p (variable_sound true (is_variable_any true (physical_of p.kind)) p e).spanned h
+cells-part o n (binary_views p) e h = view_cells-part false o n p (view_sound false (is_view false (physical_of p.kind)) p e).seen h
+cells-part o n (text_views p) e h = view_cells-part true o n p (view_sound true (is_view true (physical_of p.kind)) p e).seen h
 
-flat_fault-part : {A : Type 0} (s t : Bool) (o n : ℕ) (xs : List A) (v : Option (List Bool)) → flat_fault s (length xs) v ≡ None → t ≡ true → o + n ≤ length xs → flat_fault t (length (part o n xs)) (option_map (part o n) v) ≡ None
-flat_fault-part s t o n xs v e suits h =
-    let rows : has_rows (option_map (part o n) v) n ≡ true = has_rows-part o n (length xs) v (flat_sound s (length xs) v e) h in
+leaf_fault-part : {A : Type 0} (s t : Bool) (o n : ℕ) (xs : List A) (v : Option (List Bool)) → leaf_fault s (length xs) v ≡ None → t ≡ true → o + n ≤ length xs → leaf_fault t (length (part o n xs)) (option_map (part o n) v) ≡ None
+leaf_fault-part s t o n xs v e suits h =
+    let rows : has_rows (option_map (part o n) v) n ≡ true = has_rows-part o n (length xs) v (leaf_sound s (length xs) v e) h in
     rw (suits, length-part xs o n h, rows) refl
 
 are_numbers-part : (o n size : ℕ) (values : List (List ℕ)) → are_numbers size values ≡ true → are_numbers size (part o n values) ≡ true
@@ -70,14 +69,14 @@ pub fault-part : (o n : ℕ) (p : Parts) → fault_in p ≡ None → o + n ≤ r
 fault-part o n (nulls x) e h = e
 fault-part o n (bits f) e h =
     let s = is_boolean (physical_of f.kind) in
-    flat_fault-part s s o n f.values f.validity e (flat_suits s (length f.values) f.validity e) h
+    leaf_fault-part s s o n f.values f.validity e (leaf_suits s (length f.values) f.validity e) h
 fault-part o n (numbers f) e h =
     let size = number_size (physical_of f.kind) in
     let s = are_numbers size f.values in
-    flat_fault-part s (are_numbers size (part o n f.values)) o n f.values f.validity e (are_numbers-part o n size f.values (flat_suits s (length f.values) f.validity e)) h
+    leaf_fault-part s (are_numbers size (part o n f.values)) o n f.values f.validity e (are_numbers-part o n size f.values (leaf_suits s (length f.values) f.validity e)) h
 fault-part o n (fixed f) e h = fixed_fault-part f o n e h
-fault-part o n (binary p) e h = binary_fault-part (is_binary false (physical_of p.kind) || is_binary true (physical_of p.kind)) o n p e h
-fault-part o n (text p) e h = text_fault-part (is_text false (physical_of p.kind) || is_text true (physical_of p.kind)) o n p e h
+fault-part o n (binary p) e h = variable_fault-part false (is_variable_any false (physical_of p.kind)) o n p e h
+fault-part o n (text p) e h = variable_fault-part true (is_variable_any true (physical_of p.kind)) o n p e h
 fault-part o n (binary_views p) e h = view_fault-part false (is_view false (physical_of p.kind)) o n p e h
 fault-part o n (text_views p) e h = view_fault-part true (is_view true (physical_of p.kind)) o n p e h
 

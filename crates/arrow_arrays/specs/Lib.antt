@@ -1,8 +1,9 @@
 pub mod Parts
+pub mod Nodes
 pub mod PartsCode
 pub mod PartsOf
 pub mod Batches
-pub mod FlatKinds
+pub mod LeafKinds
 pub mod PieceViews
 pub mod CellCode
 pub mod RowLaws

@@ -1,5 +1,5 @@
 -- What an array is seen as: the tree of its parts, how many rows it has and what stands in them. (Arrow Columnar Format, "Physical Memory Layout".)
-use Rattle.std.specs.Prelude.{ℕ, List, Bool, true, false, ◌&&◌, ◌||◌, Option, None, ℤ, pos, map, length, nat_eq, nat_lt}
+use Rattle.std.specs.Prelude.{ℕ, List, Bool, true, false, ◌&&◌, Option, None, ℤ, pos, map, length, nat_eq, nat_lt}
 use Rattle.std.specs.List.{list_all}
 use Rattle.std.specs.Int.{Width, w8, w16, w32, w64, w128, cast_signed}
 use Rattle.arrow_spec.specs.Flat.{little, num}
@@ -14,9 +14,9 @@ use Rattle.arrow_types.specs.declared.physical.PrimitiveType.{PrimitiveType}
 use Rattle.arrow_types.specs.declared.physical.PrimitiveType.TheVariants as primitive
 use Rattle.arrow_buffers.specs.declared.error.ArrayError.{ArrayError}
 use Rattle.arrow_buffers.specs.Rows.{null_rows}
-use Rattle.arrow_buffers.specs.Layouts.{is_null, is_boolean, is_binary, is_text, is_view}
-use Rattle.arrow_buffers.specs.Flat.{Flat, flat_cells, flat_part, flat_fault, fixed_rows, fixed_cells, fixed_part, fixed_fault, Nulls, null_cells, nulls_fault}
-use Rattle.arrow_buffers.specs.Variable.{Variable, variable_rows, variable_part, binary_cells, text_cells, binary_fault, text_fault}
+use Rattle.arrow_buffers.specs.Layouts.{is_null, is_boolean, is_variable_any, is_view}
+use Rattle.arrow_buffers.specs.Leaf.{Leaf, leaf_cells, leaf_part, leaf_fault, fixed_rows, fixed_cells, fixed_part, fixed_fault, Nulls, null_cells, nulls_fault}
+use Rattle.arrow_buffers.specs.Variable.{Variable, variable_rows, variable_part, variable_cells, variable_fault}
 use Rattle.arrow_buffers.specs.Views.{Views, view_rows, view_part, view_cells, view_fault}
 
 -- The parts of an array, by its layout.
@@ -24,11 +24,11 @@ pub data Parts : Type 0 where
   -- nulls alone
   nulls : Nulls → Parts
   -- truth values
-  bits : Flat Bool → Parts
+  bits : Leaf Bool → Parts
   -- numbers of one width, each as its bytes, the lowest first
-  numbers : Flat (List ℕ) → Parts
+  numbers : Leaf (List ℕ) → Parts
   -- byte strings of one size, one after another
-  fixed : Flat ℕ → Parts
+  fixed : Leaf ℕ → Parts
   -- byte strings and texts between offsets
   binary : Variable → Parts
   text : Variable → Parts
@@ -37,7 +37,7 @@ pub data Parts : Type 0 where
   text_views : Views → Parts
 
 -- numbers in place of which their bytes stand
-abbrev pub as_bytes : {A : Type 0} → (A → List ℕ) → Flat A → Flat (List ℕ)
+abbrev pub as_bytes : {A : Type 0} → (A → List ℕ) → Leaf A → Leaf (List ℕ)
 as_bytes write f = record { kind = f.kind; values = map write f.values; validity = f.validity }
 
 -- the kind of its rows
@@ -125,19 +125,19 @@ number_cell k bytes = layout_cell (physical_of k) bytes
 -- the cells of its rows
 abbrev pub cells_in : Parts → List Cell
 cells_in (nulls n) = null_cells n
-cells_in (bits f) = flat_cells cells.bool f
-cells_in (numbers f) = flat_cells (number_cell f.kind) f
+cells_in (bits f) = leaf_cells cells.bool f
+cells_in (numbers f) = leaf_cells (number_cell f.kind) f
 cells_in (fixed f) = fixed_cells f
-cells_in (binary p) = binary_cells p
-cells_in (text p) = text_cells p
+cells_in (binary p) = variable_cells false p
+cells_in (text p) = variable_cells true p
 cells_in (binary_views p) = view_cells false p
 cells_in (text_views p) = view_cells true p
 
 -- the rows from a place on, so many of them
 abbrev pub part_of : ℕ → ℕ → Parts → Parts
 part_of offset rows (nulls n) = nulls (record { kind = n.kind; rows = rows })
-part_of offset rows (bits f) = bits (flat_part offset rows f)
-part_of offset rows (numbers f) = numbers (flat_part offset rows f)
+part_of offset rows (bits f) = bits (leaf_part offset rows f)
+part_of offset rows (numbers f) = numbers (leaf_part offset rows f)
 part_of offset rows (fixed f) = fixed (fixed_part offset rows f)
 part_of offset rows (binary p) = binary (variable_part offset rows p)
 part_of offset rows (text p) = text (variable_part offset rows p)
@@ -158,10 +158,10 @@ are_numbers size values = nat_lt 0 size && list_all (λ bytes. nat_eq (length by
 -- why no array has such parts; none for the parts that arrays have
 abbrev pub fault_in : Parts → Option ArrayError
 fault_in (nulls n) = nulls_fault (is_null (physical_of n.kind))
-fault_in (bits f) = flat_fault (is_boolean (physical_of f.kind)) (length f.values) f.validity
-fault_in (numbers f) = flat_fault (are_numbers (number_size (physical_of f.kind)) f.values) (length f.values) f.validity
+fault_in (bits f) = leaf_fault (is_boolean (physical_of f.kind)) (length f.values) f.validity
+fault_in (numbers f) = leaf_fault (are_numbers (number_size (physical_of f.kind)) f.values) (length f.values) f.validity
 fault_in (fixed f) = fixed_fault f
-fault_in (binary p) = binary_fault (is_binary false (physical_of p.kind) || is_binary true (physical_of p.kind)) p
-fault_in (text p) = text_fault (is_text false (physical_of p.kind) || is_text true (physical_of p.kind)) p
+fault_in (binary p) = variable_fault false (is_variable_any false (physical_of p.kind)) p
+fault_in (text p) = variable_fault true (is_variable_any true (physical_of p.kind)) p
 fault_in (binary_views p) = view_fault false (is_view false (physical_of p.kind)) p
 fault_in (text_views p) = view_fault true (is_view true (physical_of p.kind)) p

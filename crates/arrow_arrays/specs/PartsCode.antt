@@ -2,18 +2,18 @@
 use Rattle.std.specs.Prelude.{◌≡◌, ◌⊎◌, ℕ, List, Bool, refl}
 use Rattle.std.proofs.Common.{inl, inr}
 use Rattle.std.specs.Coded.{Coded, code_by, coded⊎, coded_ℕ, coded_bool, coded_list}
-use Rattle.arrow_buffers.specs.Flat.{Flat, flat_code, Nulls, nulls_code}
+use Rattle.arrow_buffers.specs.Leaf.{Leaf, leaf_code, Nulls, nulls_code}
 use Rattle.arrow_buffers.specs.Variable.{Variable, variable_code}
 use Rattle.arrow_buffers.specs.Views.{Views, views_code}
 use Rattle.arrow_arrays.specs.Parts.{Parts, nulls, bits, numbers, fixed, binary, text, binary_views, text_views}
 
 -- one of the constructors' records
 abbrev pub Stored : Type 0
-Stored = Nulls ⊎ (Flat Bool ⊎ (Flat (List ℕ) ⊎ (Flat ℕ ⊎ (Variable ⊎ (Variable ⊎ (Views ⊎ Views))))))
+Stored = Nulls ⊎ (Leaf Bool ⊎ (Leaf (List ℕ) ⊎ (Leaf ℕ ⊎ (Variable ⊎ (Variable ⊎ (Views ⊎ Views))))))
 
 abbrev pub stored_code : Coded Stored
-stored_code = coded⊎ nulls_code (coded⊎ (flat_code coded_bool) (coded⊎ (flat_code (coded_list coded_ℕ))
-    (coded⊎ (flat_code coded_ℕ) (coded⊎ variable_code (coded⊎ variable_code (coded⊎ views_code views_code))))))
+stored_code = coded⊎ nulls_code (coded⊎ (leaf_code coded_bool) (coded⊎ (leaf_code (coded_list coded_ℕ))
+    (coded⊎ (leaf_code coded_ℕ) (coded⊎ variable_code (coded⊎ variable_code (coded⊎ views_code views_code))))))
 
 abbrev pub parts_to : Parts → Stored
 parts_to (nulls n) = inl n

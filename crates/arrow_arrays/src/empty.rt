@@ -2,15 +2,15 @@
 ghost use Rattle.std.specs.Prelude.{◌≡◌, ◌∷◌, ◌<◌, [], map, pos, None, IfOk, true};
 ghost use Rattle.arrow_types.specs.KindOf.{kind_of};
 ghost use Rattle.arrow_types.specs.Physical.{primitive_size, physical_of};
-ghost use Rattle.arrow_buffers.specs.Layouts.{is_null, is_boolean, is_primitive, is_binary, is_text, is_view, binary_size};
+ghost use Rattle.arrow_buffers.specs.Layouts.{is_null, is_boolean, is_primitive, is_variable, is_view, binary_size};
 ghost use Rattle.arrow_arrays.specs.Parts.{kind_in, rows_in};
 ghost use Rattle.arrow_arrays.specs.PartsOf.{parts_of};
-ghost use Rattle.arrow_arrays.specs.FlatKinds.{is_flat_kind};
+ghost use Rattle.arrow_arrays.specs.LeafKinds.{is_leaf_kind};
 
 use crate::array::Array;
 use arrow_buffers::{
-    BinaryArray, BinaryViewArrayGeneric, Bitmap, BooleanArray, Buffer, FixedSizeBinaryArray,
-    NullArray, PrimitiveArray, Utf8Array, ViewType,
+    BinaryViewArrayGeneric, Bitmap, BooleanArray, Buffer, FixedSizeBinaryArray, NullArray,
+    PrimitiveArray, VariableArray, ViewType,
 };
 use arrow_types::{ArrowDataType, NativeType, Offset, PhysicalType, PrimitiveType};
 use std::alloc::{AllocError, Global};
@@ -75,33 +75,17 @@ fn first_large_offset(alloc: Global) -> Result<Buffer<i64>, AllocError>
     Buffer::from_vec(vec![in alloc; 0]?)
 }
 
-fn no_binary<O: Offset>(
+fn no_variable<O: Offset, V: ViewType>(
     alloc: Global,
     dtype: ArrowDataType,
     offsets: Buffer<O>,
-) -> Result<BinaryArray<O>, AllocError>
-    requires layout { is_binary O.IS_LARGE (physical_of (kind_of dtype)) ≡ true }
+) -> Result<VariableArray<O, V>, AllocError>
+    requires layout { is_variable V.IS_TEXT O.IS_LARGE (physical_of (kind_of dtype)) ≡ true }
     requires start { map O.number offsets ≡ pos 0 ∷ [] }
     ensures { IfOk result (λ a. a ≡ record { kind = kind_of dtype; offsets = pos 0 ∷ []; values = []; validity = None }) }
 {
     let values = Buffer::from_vec(Vec::new(alloc))?;
-    match BinaryArray::try_new(dtype, offsets, values, None) {
-        Ok(array) => Ok(array),
-        Err(_) => unreachable!(),
-    }
-}
-
-fn no_text<O: Offset>(
-    alloc: Global,
-    dtype: ArrowDataType,
-    offsets: Buffer<O>,
-) -> Result<Utf8Array<O>, AllocError>
-    requires layout { is_text O.IS_LARGE (physical_of (kind_of dtype)) ≡ true }
-    requires start { map O.number offsets ≡ pos 0 ∷ [] }
-    ensures { IfOk result (λ a. a ≡ record { kind = kind_of dtype; offsets = pos 0 ∷ []; values = []; validity = None }) }
-{
-    let values = Buffer::from_vec(Vec::new(alloc))?;
-    match Utf8Array::try_new(dtype, offsets, values, None) {
+    match VariableArray::try_new(dtype, offsets, values, None) {
         Ok(array) => Ok(array),
         Err(_) => unreachable!(),
     }
@@ -153,7 +137,7 @@ fn empty_numbers(
 
 /// An array of the type that has no rows.
 pub fn new_empty_array(alloc: Global, dtype: ArrowDataType) -> Result<Array, AllocError>
-    requires { is_flat_kind (kind_of dtype) ≡ true }
+    requires { is_leaf_kind (kind_of dtype) ≡ true }
     ensures kind { IfOk result (λ a. kind_in (parts_of a) ≡ kind_of dtype) }
     ensures rows { IfOk result (λ a. rows_in (parts_of a) ≡ 0) }
 {
@@ -161,15 +145,15 @@ pub fn new_empty_array(alloc: Global, dtype: ArrowDataType) -> Result<Array, All
         PhysicalType::Null => Ok(Array::Null(no_nulls(dtype))),
         PhysicalType::Boolean => Ok(Array::Boolean(no_bits(alloc, dtype)?)),
         PhysicalType::Primitive(number) => empty_numbers(alloc, dtype, number),
-        PhysicalType::Binary => Ok(Array::Binary(no_binary(alloc, dtype, first_offset(alloc)?)?)),
-        PhysicalType::LargeBinary => Ok(Array::LargeBinary(no_binary(
+        PhysicalType::Binary => Ok(Array::Binary(no_variable(alloc, dtype, first_offset(alloc)?)?)),
+        PhysicalType::LargeBinary => Ok(Array::LargeBinary(no_variable(
             alloc,
             dtype,
             first_large_offset(alloc)?,
         )?)),
         PhysicalType::FixedSizeBinary => Ok(Array::FixedSizeBinary(no_fixed(alloc, dtype)?)),
-        PhysicalType::Utf8 => Ok(Array::Utf8(no_text(alloc, dtype, first_offset(alloc)?)?)),
-        PhysicalType::LargeUtf8 => Ok(Array::LargeUtf8(no_text(
+        PhysicalType::Utf8 => Ok(Array::Utf8(no_variable(alloc, dtype, first_offset(alloc)?)?)),
+        PhysicalType::LargeUtf8 => Ok(Array::LargeUtf8(no_variable(
             alloc,
             dtype,
             first_large_offset(alloc)?,

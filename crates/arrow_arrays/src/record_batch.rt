@@ -11,7 +11,7 @@ use std::marker::Model;
 use thiserror::Error;
 
 /// Why columns make no record batch: the first of these that holds, in this order.
-#[derive(Clone, Copy, Debug, PartialEq, Eq, Hash, Error)]
+#[derive(Clone, Copy, Debug, PartialEq, Eq, Error)]
 pub enum BatchError {
     /// There are not as many columns as the schema has fields.
     #[error("the number of columns is not that of the schema's fields")]

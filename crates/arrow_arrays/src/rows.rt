@@ -3,9 +3,9 @@ ghost use Rattle.std.specs.Prelude.{◌≡◌, ◌<◌, length, Some, slice_get}
 ghost use Rattle.std.specs.Option.{ForSome, option_map};
 ghost use Rattle.arrow_spec.specs.Cells as cells;
 ghost use Rattle.arrow_spec.specs.Flat.{little};
-ghost use Rattle.arrow_buffers.specs.Rows.{is_valid};
-ghost use Rattle.arrow_buffers.specs.Flat.{flat_cells, fixed_cells, fixed_rows};
-ghost use Rattle.arrow_buffers.specs.Variable.{binary_cells, text_cells, variable_rows};
+ghost use Rattle.arrow_buffers.specs.Rows.{is_valid, bytes_cell};
+ghost use Rattle.arrow_buffers.specs.Leaf.{leaf_cells, fixed_cells, fixed_rows};
+ghost use Rattle.arrow_buffers.specs.Variable.{variable_cells, variable_rows};
 ghost use Rattle.arrow_buffers.specs.Views.{view_cells, view_rows};
 ghost use Rattle.arrow_arrays.specs.Parts.{numbers, as_bytes, rows_in, cells_in};
 ghost use Rattle.arrow_arrays.specs.PartsOf.{parts_of};
@@ -14,8 +14,8 @@ ghost use Rattle.arrow_arrays.specs.RowCells.{cell_of};
 use crate::array::Array;
 use crate::row_value::{RowNumber, RowValue};
 use arrow_buffers::{
-    BinaryArray, BinaryViewArrayGeneric, Bitmap, BooleanArray, FixedSizeBinaryArray,
-    PrimitiveArray, Utf8Array, ViewType,
+    BinaryViewArrayGeneric, Bitmap, BooleanArray, FixedSizeBinaryArray, PrimitiveArray,
+    VariableArray, ViewType,
 };
 use arrow_types::Offset;
 
@@ -32,7 +32,7 @@ fn is_valid_in(validity: Option<&Bitmap>, row: usize) -> bool
 
 fn bit_in(array: &BooleanArray, row: usize) -> RowValue<'_>
     requires { row < length array.now.values }
-    ensures { slice_get (flat_cells cells.bool array.now) row ≡ Some (cell_of result) }
+    ensures { slice_get (leaf_cells cells.bool array.now) row ≡ Some (cell_of result) }
 {
     if is_valid_in(array.validity(), row) {
         RowValue::Bit(array.value(row))
@@ -64,23 +64,23 @@ fn fixed_in(array: &FixedSizeBinaryArray, row: usize) -> RowValue<'_>
     }
 }
 
-fn binary_in<O: Offset>(array: &BinaryArray<O>, row: usize) -> RowValue<'_>
-    requires { row < variable_rows array.now.offsets }
-    ensures { slice_get (binary_cells array.now) row ≡ Some (cell_of result) }
+/// A row's bytes: a text, or a byte string.
+fn bytes_value<V: ViewType>(bytes: &[u8]) -> RowValue<'_>
+    ensures { cell_of result ≡ bytes_cell V.IS_TEXT bytes.now }
 {
-    if is_valid_in(array.validity(), row) {
-        RowValue::Bytes(array.value(row))
+    if V::IS_TEXT {
+        RowValue::Text(bytes)
     } else {
-        RowValue::Null
+        RowValue::Bytes(bytes)
     }
 }
 
-fn text_in<O: Offset>(array: &Utf8Array<O>, row: usize) -> RowValue<'_>
+fn variable_in<O: Offset, V: ViewType>(array: &VariableArray<O, V>, row: usize) -> RowValue<'_>
     requires { row < variable_rows array.now.offsets }
-    ensures { slice_get (text_cells array.now) row ≡ Some (cell_of result) }
+    ensures { slice_get (variable_cells V.IS_TEXT array.now) row ≡ Some (cell_of result) }
 {
     if is_valid_in(array.validity(), row) {
-        RowValue::Text(array.value(row))
+        bytes_value::<V>(array.value(row))
     } else {
         RowValue::Null
     }
@@ -93,13 +93,7 @@ fn view_in<V: ViewType>(array: &BinaryViewArrayGeneric<V>, row: usize) -> RowVal
     prove!(array.len() > row);
     match array.value(row) {
         None => RowValue::Null,
-        Some(bytes) => {
-            if V::IS_TEXT {
-                RowValue::Text(bytes)
-            } else {
-                RowValue::Bytes(bytes)
-            }
-        }
+        Some(bytes) => bytes_value::<V>(bytes),
     }
 }
 
@@ -123,10 +117,10 @@ impl Array {
             Array::UInt64(array) => number_in(array, row),
             Array::DaysMs(array) => number_in(array, row),
             Array::MonthsDaysNs(array) => number_in(array, row),
-            Array::Binary(array) => binary_in(array, row),
-            Array::LargeBinary(array) => binary_in(array, row),
-            Array::Utf8(array) => text_in(array, row),
-            Array::LargeUtf8(array) => text_in(array, row),
+            Array::Binary(array) => variable_in(array, row),
+            Array::LargeBinary(array) => variable_in(array, row),
+            Array::Utf8(array) => variable_in(array, row),
+            Array::LargeUtf8(array) => variable_in(array, row),
             Array::BinaryView(array) => view_in(array, row),
             Array::Utf8View(array) => view_in(array, row),
             Array::FixedSizeBinary(array) => fixed_in(array, row),

@@ -7,7 +7,7 @@ use Rattle.arrow_spec.specs.Cells.{Cell, bytes}
 use Rattle.arrow_spec.specs.Arrays.{from_on}
 use Rattle.arrow_buffers.specs.Rows.{part, masked}
 use Rattle.arrow_buffers.specs.Layouts.{binary_size}
-use Rattle.arrow_buffers.specs.Flat.{Flat, fixed_fault, fixed_rows, fixed_row, fixed_part, fixed_cells}
+use Rattle.arrow_buffers.specs.Leaf.{Leaf, fixed_fault, fixed_rows, fixed_row, fixed_part, fixed_cells}
 use Rattle.arrow_buffers.proofs.Parts.{part-part, length-part, length-from_on, part-from_on, shift-from_on}
 use Rattle.arrow_buffers.proofs.Masks.{length-masked, part-masked, has_rows-part}
 use Rattle.arrow_buffers.proofs.Sound.{FixedSound, fixed_sound}
@@ -22,20 +22,20 @@ bounded s m o n p q h =
     let e : 1 ≤ s = p in
     (omega (arith, rows_inside s m o n p h), omega (arith, rows_inside s m o n p h), omega (arith, rows_inside s m o n p h, mul-le-mul_left (o + n) e))
 
-fixed_kept : (f : Flat ℕ) → FixedSound f → fixed_fault f ≡ None
+fixed_kept : (f : Leaf ℕ) → FixedSound f → fixed_fault f ≡ None
 fixed_kept f s =
     let a : nat_lt 0 (binary_size f.kind) ≡ true = lt-ltb 0 (binary_size f.kind) s.sized in
     let b : nat_eq (length f.values % binary_size f.kind) 0 ≡ true = eq-eqb _ 0 s.whole in
     rw (a, b, s.rows) refl
 
 -- how many rows a part has
-fixed_rows-part : (f : Flat ℕ) (o n : ℕ) → FixedSound f → o + n ≤ fixed_rows f → length (part (binary_size f.kind * o) (binary_size f.kind * n) f.values) ≡ binary_size f.kind * n
+fixed_rows-part : (f : Leaf ℕ) (o n : ℕ) → FixedSound f → o + n ≤ fixed_rows f → length (part (binary_size f.kind * o) (binary_size f.kind * n) f.values) ≡ binary_size f.kind * n
 fixed_rows-part f o n s h = length-part f.values _ _ (rows_inside (binary_size f.kind) (length f.values) o n s.sized h)
 
 pub quotient : (s n m : ℕ) → 0 < s → m ≡ s * n → m / s ≡ n
 quotient s n m p e = rw e (mul-div_right n p)
 
-pub fixed_fault-part : (f : Flat ℕ) (o n : ℕ) → fixed_fault f ≡ None → o + n ≤ fixed_rows f → fixed_fault (fixed_part o n f) ≡ None
+pub fixed_fault-part : (f : Leaf ℕ) (o n : ℕ) → fixed_fault f ≡ None → o + n ≤ fixed_rows f → fixed_fault (fixed_part o n f) ≡ None
 fixed_fault-part f o n e h =
     let s = fixed_sound f e in
     let size = binary_size f.kind in
@@ -46,7 +46,7 @@ fixed_fault-part f o n e h =
       rows = rw (quotient size n _ s.sized l) (has_rows-part o n (fixed_rows f) f.validity s.rows h);
     })
 
-pub length-fixed_cells : (f : Flat ℕ) → fixed_fault f ≡ None → length (fixed_cells f) ≡ fixed_rows f
+pub length-fixed_cells : (f : Leaf ℕ) → fixed_fault f ≡ None → length (fixed_cells f) ≡ fixed_rows f
 length-fixed_cells f e =
     let s = fixed_sound f e in
     let l = length-from_on (λ row. bytes (fixed_row (binary_size f.kind) f.values row)) 0 (fixed_rows f) in
@@ -60,7 +60,7 @@ row-part s o n k values h =
     let b : s * o + s * k ≡ s * ((0 + o) + k) = omega arith in
     ap (λ j. take s (drop j (part (s * o) (s * n) values))) a ∙ sym (part-part values (s * o) (s * n) (s * k) s fits) ∙ ap (λ j. take s (drop j values)) b
 
-pub fixed_cells-part : (f : Flat ℕ) (o n : ℕ) → fixed_fault f ≡ None → o + n ≤ fixed_rows f → fixed_cells (fixed_part o n f) ≡ part o n (fixed_cells f)
+pub fixed_cells-part : (f : Leaf ℕ) (o n : ℕ) → fixed_fault f ≡ None → o + n ≤ fixed_rows f → fixed_cells (fixed_part o n f) ≡ part o n (fixed_cells f)
 fixed_cells-part f o n e h =
     let s = fixed_sound f e in
     let size = binary_size f.kind in

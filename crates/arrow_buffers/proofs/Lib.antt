@@ -6,7 +6,7 @@ pub mod Fixed
 pub mod Utf8Tests
 pub mod Rows
 pub mod Rising
-pub mod Variable
+pub mod VariableParts
 pub mod Views
 pub mod ViewParts
 pub mod OneText

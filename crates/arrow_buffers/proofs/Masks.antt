@@ -38,13 +38,13 @@ pub part-masked : (o n : ℕ) (v : Option (List Bool)) (cells : List Cell) → p
 part-masked o n None cells = refl
 part-masked o n (Some bits) cells = ap (take n) (drop-masked_by o bits cells) ∙ take-masked_by n (drop o bits) (drop o cells)
 
-pub length-flat : {A : Type 0} (cell : A → Cell) (xs : List A) (v : Option (List Bool)) → has_rows v (length xs) ≡ true → length (masked v (map cell xs)) ≡ length xs
-length-flat cell xs v h =
+pub length-leaf : {A : Type 0} (cell : A → Cell) (xs : List A) (v : Option (List Bool)) → has_rows v (length xs) ≡ true → length (masked v (map cell xs)) ≡ length xs
+length-leaf cell xs v h =
     let e : length (map cell xs) ≡ length xs = length-map xs cell in
     length-masked v (map cell xs) (rw e h) ∙ e
 
-pub flat_cells-part : {A : Type 0} (cell : A → Cell) (o n : ℕ) (xs : List A) (v : Option (List Bool)) → masked (option_map (part o n) v) (map cell (part o n xs)) ≡ part o n (masked v (map cell xs))
-flat_cells-part cell o n xs v =
+pub leaf_cells-part : {A : Type 0} (cell : A → Cell) (o n : ℕ) (xs : List A) (v : Option (List Bool)) → masked (option_map (part o n) v) (map cell (part o n xs)) ≡ part o n (masked v (map cell xs))
+leaf_cells-part cell o n xs v =
     let e : part o n (map cell xs) ≡ map cell (part o n xs) = ap (take n) (drop-map cell o xs) ∙ take-map cell n (drop o xs) in
     ap (masked (option_map (part o n) v)) (sym e) ∙ sym (part-masked o n v (map cell xs))
 

@@ -8,8 +8,8 @@ use Rattle.arrow_spec.specs.Cells.{Cell}
 use Rattle.arrow_spec.specs.Arrays.{from_on}
 use Rattle.arrow_spec.specs.Faults.{some_row}
 use Rattle.arrow_buffers.specs.declared.error.ArrayError.TheVariants.{DataType, Length, Utf8, View}
-use Rattle.arrow_buffers.specs.Rows.{part, has_rows, is_valid, masked}
-use Rattle.arrow_buffers.specs.Views.{Views, view_rows, view_at, view_bytes, is_good_view, is_no_text_view, has_bad_view, has_bad_view_text, view_cell, view_cells, view_part, view_fault}
+use Rattle.arrow_buffers.specs.Rows.{part, has_rows, is_valid, bytes_cell, masked}
+use Rattle.arrow_buffers.specs.Views.{Views, view_rows, view_at, view_bytes, is_good_view, is_no_text_view, has_bad_view, has_bad_view_text, view_cells, view_part, view_fault}
 use Rattle.arrow_buffers.proofs.Parts.{length-part, length-from_on, part-from_on, shift-from_on}
 use Rattle.arrow_buffers.proofs.Masks.{length-masked, part-masked, has_rows-part, is_valid-part}
 use Rattle.arrow_buffers.proofs.Rows.{none_below, none_from}
@@ -21,6 +21,12 @@ pub record Seen (p : Views) : Type 0 where
   pub rows : has_rows p.validity (view_rows p.views) ≡ true
   pub good : has_bad_view p.views p.buffers p.validity ≡ false
 
+-- of parts that are not refused the layout suits, and what is to be text is
+pub record ViewSound (is_text s : Bool) (p : Views) : Type 0 where
+  pub suits : s ≡ true
+  pub seen : Seen p
+  pub texts : (is_text && has_bad_view_text p.views p.buffers p.validity) ≡ false
+
 four_tests : (s t u v : Bool) → (if not s then Some DataType else (if not t then Some Length else (if u then Some Utf8 else (if v then Some View else None)))) ≡ None → (s ≡ true) × (t ≡ true) × (u ≡ false) × (v ≡ false)
 four_tests true true false false e = (refl, refl, refl, refl)
 four_tests true true false true e = cc
@@ -28,11 +34,11 @@ four_tests true true true v e = cc
 four_tests true false u v e = cc
 four_tests false t u v e = cc
 
-pub view_sound : (is_text s : Bool) (p : Views) → view_fault is_text s p ≡ None → Seen p
+pub view_sound : (is_text s : Bool) (p : Views) → view_fault is_text s p ≡ None → ViewSound is_text s p
 view_sound is_text s p e =
     let t = four_tests s (nat_eq (length p.views % 16) 0 && has_rows p.validity (view_rows p.views)) (is_text && has_bad_view_text p.views p.buffers p.validity) (has_bad_view p.views p.buffers p.validity) e in
     let q = and_parts (nat_eq (length p.views % 16) 0) (has_rows p.validity (view_rows p.views)) t.1 in
-    record { whole = eqb-true (length p.views % 16) 0 q.0; rows = q.1; good = t.3 }
+    record { suits = t.0; seen = record { whole = eqb-true (length p.views % 16) 0 q.0; rows = q.1; good = t.3 }; texts = t.2 }
 
 -- the view of a row that is not null is good
 pub good_row : (p : Views) (row : ℕ) → Seen p → row < view_rows p.views → is_valid p.validity row ≡ true → is_good_view p.buffers (view_at p.views row) ≡ true
@@ -48,8 +54,8 @@ good_row p row s h e =
 
 pub length-view_cells : (is_text : Bool) (p : Views) → Seen p → length (view_cells is_text p) ≡ view_rows p.views
 length-view_cells is_text p s =
-    let l = length-from_on (λ row. view_cell is_text (view_bytes p.buffers (view_at p.views row))) 0 (view_rows p.views) in
-    length-masked p.validity (from_on (λ row. view_cell is_text (view_bytes p.buffers (view_at p.views row))) 0 (view_rows p.views)) (rw l s.rows) ∙ l
+    let l = length-from_on (λ row. bytes_cell is_text (view_bytes p.buffers (view_at p.views row))) 0 (view_rows p.views) in
+    length-masked p.validity (from_on (λ row. bytes_cell is_text (view_bytes p.buffers (view_at p.views row))) 0 (view_rows p.views)) (rw l s.rows) ∙ l
 
 length-part_views : (o n : ℕ) (p : Views) → o + n ≤ view_rows p.views → length (part (16 * o) (16 * n) p.views) ≡ 16 * n
 length-part_views o n p h = length-part p.views _ _ (rows_inside 16 (length p.views) o n (omega arith) h)
@@ -63,10 +69,10 @@ view_at-part o n k views h = ap (view_at (part (16 * o) (16 * n) views)) (omega 
 
 pub view_cells-part : (is_text : Bool) (o n : ℕ) (p : Views) → Seen p → o + n ≤ view_rows p.views → view_cells is_text (view_part o n p) ≡ part o n (view_cells is_text p)
 view_cells-part is_text o n p s h =
-    let whole : ℕ → Cell = λ row. view_cell is_text (view_bytes p.buffers (view_at p.views row)) in
-    let mine : ℕ → Cell = λ row. view_cell is_text (view_bytes p.buffers (view_at (part (16 * o) (16 * n) p.views) row)) in
+    let whole : ℕ → Cell = λ row. bytes_cell is_text (view_bytes p.buffers (view_at p.views row)) in
+    let mine : ℕ → Cell = λ row. bytes_cell is_text (view_bytes p.buffers (view_at (part (16 * o) (16 * n) p.views) row)) in
     let l = rows-part o n p h in
-    let row : (k : ℕ) → k < n → mine (0 + k) ≡ whole ((0 + o) + k) = λ k lt. ap mine (omega arith) ∙ ap (λ v. view_cell is_text (view_bytes p.buffers v)) (view_at-part o n k p.views lt) ∙ ap whole (omega arith) in
+    let row : (k : ℕ) → k < n → mine (0 + k) ≡ whole ((0 + o) + k) = λ k lt. ap mine (omega arith) ∙ ap (λ v. bytes_cell is_text (view_bytes p.buffers v)) (view_at-part o n k p.views lt) ∙ ap whole (omega arith) in
     let all : from_on mine 0 n ≡ part o n (from_on whole 0 (view_rows p.views)) = shift-from_on mine whole 0 (0 + o) n row ∙ part-from_on whole 0 (view_rows p.views) o n h in
     ap (λ m. masked (option_map (part o n) p.validity) (from_on mine 0 m)) l ∙ ap (masked (option_map (part o n) p.validity)) all ∙ sym (part-masked o n p.validity (from_on whole 0 (view_rows p.views)))
 
@@ -94,8 +100,7 @@ texts-part false o n p h e = refl
 -- a part of an array is sound where the whole is
 pub view_fault-part : (is_text s : Bool) (o n : ℕ) (p : Views) → view_fault is_text s p ≡ None → o + n ≤ view_rows p.views → view_fault is_text s (view_part o n p) ≡ None
 view_fault-part is_text s o n p e h =
-    let t = four_tests s (nat_eq (length p.views % 16) 0 && has_rows p.validity (view_rows p.views)) (is_text && has_bad_view_text p.views p.buffers p.validity) (has_bad_view p.views p.buffers p.validity) e in
     let q = view_sound is_text s p e in
     let w : nat_eq (length (part (16 * o) (16 * n) p.views) % 16) 0 ≡ true = eq-eqb (length (part (16 * o) (16 * n) p.views) % 16) 0 (rw (length-part_views o n p h) (mul-mod_right 16 n)) in
-    let r : has_rows (option_map (part o n) p.validity) (view_rows (part (16 * o) (16 * n) p.views)) ≡ true = rw (rows-part o n p h) (has_rows-part o n (view_rows p.views) p.validity q.rows h) in
-    rw (t.0, w, r, texts-part is_text o n p h t.2, good-part o n p h t.3) refl
+    let r : has_rows (option_map (part o n) p.validity) (view_rows (part (16 * o) (16 * n) p.views)) ≡ true = rw (rows-part o n p h) (has_rows-part o n (view_rows p.views) p.validity q.seen.rows h) in
+    rw (q.suits, w, r, texts-part is_text o n p h q.texts, good-part o n p h q.seen.good) refl

@@ -1,5 +1,5 @@
 -- Which layouts the parts of an array have. (Arrow Columnar Format, "Physical Memory Layout".)
-use Rattle.std.specs.Prelude.{ℕ, Bool, true, false, nat_eq}
+use Rattle.std.specs.Prelude.{ℕ, Bool, true, false, ◌&&◌, ◌||◌, not, nat_eq}
 use Rattle.arrow_spec.specs.Kinds.{Kind, fixed_size_binary, extension}
 use Rattle.arrow_types.specs.declared.physical.PhysicalType.{PhysicalType}
 use Rattle.arrow_types.specs.declared.physical.PhysicalType.TheVariants.{Null, Boolean, Primitive, Binary, LargeBinary, Utf8, LargeUtf8, BinaryView, Utf8View}
@@ -39,22 +39,22 @@ abbrev pub is_null : PhysicalType → Bool
 is_null Null = true
 is_null layout = false
 
--- the layout is that of byte strings between offsets of 64 bits, or of 32
-abbrev pub is_binary : Bool → PhysicalType → Bool
-is_binary false Binary = true
-is_binary true LargeBinary = true
-is_binary large layout = false
+-- the layout is that of texts, or of byte strings, between offsets of 64 bits, or of 32
+abbrev pub is_variable : Bool → Bool → PhysicalType → Bool
+is_variable is_text is_large Binary = not is_text && not is_large
+is_variable is_text is_large LargeBinary = not is_text && is_large
+is_variable is_text is_large Utf8 = is_text && not is_large
+is_variable is_text is_large LargeUtf8 = is_text && is_large
+is_variable is_text is_large layout = false
 
--- the layout is that of texts between offsets of 64 bits, or of 32
-abbrev pub is_text : Bool → PhysicalType → Bool
-is_text false Utf8 = true
-is_text true LargeUtf8 = true
-is_text large layout = false
+-- the same, between offsets of any width
+abbrev pub is_variable_any : Bool → PhysicalType → Bool
+is_variable_any is_text layout = is_variable is_text false layout || is_variable is_text true layout
 
 -- the layout is that of views of texts, or of byte strings
 abbrev pub is_view : Bool → PhysicalType → Bool
-is_view false BinaryView = true
-is_view true Utf8View = true
+is_view is_text BinaryView = not is_text
+is_view is_text Utf8View = is_text
 is_view is_text layout = false
 
 -- the size of byte strings of one size, extensions looked through; 0 for other kinds

@@ -1,6 +1,6 @@
 pub mod Rows
 pub mod Bits
 pub mod Layouts
-pub mod Flat
+pub mod Leaf
 pub mod Variable
 pub mod Views

@@ -1,7 +1,7 @@
 -- Rows of an array: a part of them, and which of them are null. (Arrow Columnar Format, "Validity bitmaps".)
-use Rattle.std.specs.Prelude.{ℕ, List, [], ◌∷◌, Bool, true, Option, Some, None, length, nat_eq, not, take, drop, slice_index_or, if◌then◌else◌}
+use Rattle.std.specs.Prelude.{ℕ, List, [], ◌∷◌, Bool, true, false, Option, Some, None, length, nat_eq, not, take, drop, slice_index_or, if◌then◌else◌}
 use Rattle.std.specs.List.{count_by}
-use Rattle.arrow_spec.specs.Cells.{Cell, null}
+use Rattle.arrow_spec.specs.Cells.{Cell, null, bytes, text}
 
 -- the rows from a place on, so many of them
 abbrev pub part : {A : Type 0} → ℕ → ℕ → List A → List A
@@ -21,6 +21,11 @@ is_valid (Some bits) row = slice_index_or bits row true
 abbrev pub null_rows : Option (List Bool) → ℕ
 null_rows None = 0
 null_rows (Some bits) = count_by not bits
+
+-- bytes as a cell: a text, or a byte string
+abbrev pub bytes_cell : Bool → List ℕ → Cell
+bytes_cell true = text
+bytes_cell false = bytes
 
 -- cells row by row, null where a bit is not set
 abbrev pub masked_by : List Bool → List Cell → List Cell

@@ -4,12 +4,12 @@ use Rattle.std.specs.Option.{option_map}
 use Rattle.std.specs.Str.{is_utf8}
 use Rattle.std.specs.Coded.{Coded, code_by, coded×, coded_ℕ, coded_ℤ, coded_list, coded_option, coded_bool}
 use Rattle.arrow_spec.specs.Kinds.{Kind}
-use Rattle.arrow_spec.specs.Cells.{Cell, bytes, text}
+use Rattle.arrow_spec.specs.Cells.{Cell}
 use Rattle.arrow_spec.specs.Counts.{magnitude}
 use Rattle.arrow_spec.specs.Arrays.{from_on, slice}
 use Rattle.arrow_spec.specs.Faults.{some_row}
 use Rattle.arrow_types.specs.KindCode.{kind_code}
-use Rattle.arrow_buffers.specs.Rows.{part, has_rows, is_valid, masked}
+use Rattle.arrow_buffers.specs.Rows.{part, has_rows, is_valid, bytes_cell, masked}
 use Rattle.arrow_buffers.specs.declared.error.ArrayError.{ArrayError}
 use Rattle.arrow_buffers.specs.declared.error.ArrayError.TheVariants.{DataType, Length, Offsets, Utf8}
 
@@ -54,36 +54,21 @@ row_bytes offsets values row = slice values (place_at offsets row) (place_at off
 unfoldable pub has_bad_text : List ℤ → List ℕ → Option (List Bool) → Bool
 has_bad_text offsets values validity = some_row (λ row. is_valid validity row && not (is_utf8 (row_bytes offsets values row))) (variable_rows offsets)
 
--- the cells: each row's bytes as a cell, null where the row is null
-abbrev pub variable_cells : (List ℕ → Cell) → Variable → List Cell
-variable_cells cell p = masked p.validity (from_on (λ row. cell (row_bytes p.offsets p.values row)) 0 (variable_rows p.offsets))
-
--- the cells of byte strings
-abbrev pub binary_cells : Variable → List Cell
-binary_cells = variable_cells bytes
-
--- the cells of texts
-abbrev pub text_cells : Variable → List Cell
-text_cells = variable_cells text
+-- the cells: each row's bytes as a text or a byte string, null where the row is null
+abbrev pub variable_cells : Bool → Variable → List Cell
+variable_cells is_text p = masked p.validity (from_on (λ row. bytes_cell is_text (row_bytes p.offsets p.values row)) 0 (variable_rows p.offsets))
 
 -- the rows from a place on, so many of them
 abbrev pub variable_part : ℕ → ℕ → Variable → Variable
 variable_part offset rows p =
     record { kind = p.kind; offsets = part offset (rows + 1) p.offsets; values = p.values; validity = option_map (part offset rows) p.validity }
 
--- why parts are refused: the layout is another, the validity is not of as many rows, or the offsets do not rise within the bytes
-abbrev pub binary_fault : Bool → Variable → Option ArrayError
-binary_fault suits p =
+-- why parts are refused: the layout is another, the validity is not of as many rows, the offsets do not rise within the bytes,
+-- or a row that is not null is not UTF-8 where it is to be text
+abbrev pub variable_fault : Bool → Bool → Variable → Option ArrayError
+variable_fault is_text suits p =
     if not suits then Some DataType
     else (if not (has_rows p.validity (variable_rows p.offsets)) then Some Length
     else (if not (are_offsets p.offsets (length p.values)) then Some Offsets
-    else None))
-
--- the same, or a row that is not null is not UTF-8
-abbrev pub text_fault : Bool → Variable → Option ArrayError
-text_fault suits p =
-    if not suits then Some DataType
-    else (if not (has_rows p.validity (variable_rows p.offsets)) then Some Length
-    else (if not (are_offsets p.offsets (length p.values)) then Some Offsets
-    else (if has_bad_text p.offsets p.values p.validity then Some Utf8
+    else (if is_text && has_bad_text p.offsets p.values p.validity then Some Utf8
     else None)))

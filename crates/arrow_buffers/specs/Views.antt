@@ -1,15 +1,15 @@
 -- Arrays of views of byte strings and texts: what they are seen as, their cells, and why their parts are refused. (Arrow Columnar Format, "Variable-size Binary View Layout".)
-use Rattle.std.specs.Prelude.{ℕ, ◌+◌, ◌*◌, ◌/◌, ◌%◌, List, [], ◌&&◌, Bool, true, false, Option, Some, None, length, take, drop, nat_le, nat_lt, nat_eq, not, slice_index_or, if◌then◌else◌, refl}
+use Rattle.std.specs.Prelude.{ℕ, ◌+◌, ◌*◌, ◌/◌, ◌%◌, List, [], ◌&&◌, Bool, Option, Some, None, length, take, drop, nat_le, nat_lt, nat_eq, not, slice_index_or, if◌then◌else◌, refl}
 use Rattle.std.specs.Option.{option_map}
 use Rattle.std.specs.Str.{is_utf8, bytes_eq}
 use Rattle.std.specs.Coded.{Coded, code_by, coded×, coded_ℕ, coded_list, coded_option, coded_bool}
 use Rattle.arrow_spec.specs.Kinds.{Kind}
-use Rattle.arrow_spec.specs.Cells.{Cell, bytes, text}
+use Rattle.arrow_spec.specs.Cells.{Cell}
 use Rattle.arrow_spec.specs.Arrays.{from_on, u32_of}
 use Rattle.arrow_spec.specs.Faults.{some_row, all_zero}
 use Rattle.arrow_types.specs.KindCode.{kind_code}
-use Rattle.arrow_buffers.specs.Rows.{part, has_rows, is_valid, masked}
-use Rattle.arrow_buffers.specs.Flat.{fixed_row}
+use Rattle.arrow_buffers.specs.Rows.{part, has_rows, is_valid, bytes_cell, masked}
+use Rattle.arrow_buffers.specs.Leaf.{fixed_row}
 use Rattle.arrow_buffers.specs.declared.error.ArrayError.{ArrayError}
 use Rattle.arrow_buffers.specs.declared.error.ArrayError.TheVariants.{DataType, Length, Utf8, View}
 
@@ -72,14 +72,9 @@ has_bad_view views buffers validity = some_row (λ row. is_valid validity row &&
 unfoldable pub has_bad_view_text : List ℕ → List (List ℕ) → Option (List Bool) → Bool
 has_bad_view_text views buffers validity = some_row (λ row. is_valid validity row && is_no_text_view buffers (view_at views row)) (view_rows views)
 
--- bytes as a cell: a text, or a byte string
-abbrev pub view_cell : Bool → List ℕ → Cell
-view_cell true = text
-view_cell false = bytes
-
 -- the cells: each view's bytes as a cell, null where the row is null
 abbrev pub view_cells : Bool → Views → List Cell
-view_cells is_text p = masked p.validity (from_on (λ row. view_cell is_text (view_bytes p.buffers (view_at p.views row))) 0 (view_rows p.views))
+view_cells is_text p = masked p.validity (from_on (λ row. bytes_cell is_text (view_bytes p.buffers (view_at p.views row))) 0 (view_rows p.views))
 
 -- the rows from a place on, so many of them
 abbrev pub view_part : ℕ → ℕ → Views → Views

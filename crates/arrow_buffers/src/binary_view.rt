@@ -10,45 +10,12 @@ ghost use Rattle.arrow_buffers.specs.Views.{view_rows, view_at, view_bytes, view
 use crate::validity::are_whole_rows;
 use crate::view::{VIEW_SIZE, are_good_views, are_view_texts, bytes_in, clone_buffers, view_at};
 use crate::{
-    ArrayError, Bitmap, Buffer, clone_validity, layout, narrow_validity, nulls_in, validity_at,
+    ArrayError, Bitmap, Buffer, ByteRows, TextRows, ViewType, clone_validity, layout,
+    narrow_validity, nulls_in, validity_at,
 };
 use arrow_types::ArrowDataType;
 use std::alloc::{AllocError, Global};
 use std::marker::{Model, PhantomData};
-
-/// What the rows of a view array are.
-pub trait ViewType {
-    ghost use Rattle.std.specs.Prelude.{Bool};
-
-    /// Whether they are texts, and not byte strings.
-    ghost IS_TEXT: { Bool };
-
-    const IS_TEXT: bool;
-}
-
-/// Rows that are byte strings.
-#[derive(Drop)]
-pub struct ByteRows;
-
-/// Rows that are texts.
-#[derive(Drop)]
-pub struct TextRows;
-
-impl ViewType for ByteRows {
-    ghost use Rattle.std.specs.Prelude.{false};
-
-    ghost IS_TEXT = { false };
-
-    const IS_TEXT: bool = false;
-}
-
-impl ViewType for TextRows {
-    ghost use Rattle.std.specs.Prelude.{true};
-
-    ghost IS_TEXT = { true };
-
-    const IS_TEXT: bool = true;
-}
 
 /// An array of views, seen as its type's kind, its views of 16 bytes a row, its buffers and its validity.
 #[derive(Drop)]

@@ -6,7 +6,7 @@ ghost use Rattle.arrow_types.specs.KindOf.{kind_of};
 ghost use Rattle.arrow_types.specs.Physical.{physical_of};
 ghost use Rattle.arrow_buffers.specs.Rows.{part, has_rows, null_rows};
 ghost use Rattle.arrow_buffers.specs.Layouts.{is_boolean};
-ghost use Rattle.arrow_buffers.specs.Flat.{flat_part, flat_cells, flat_fault};
+ghost use Rattle.arrow_buffers.specs.Leaf.{leaf_part, leaf_cells, leaf_fault};
 
 use crate::{ArrayError, Bitmap, clone_validity, layout, narrow_validity, nulls_in, validity_has};
 use arrow_types::ArrowDataType;
@@ -27,15 +27,15 @@ impl Model for BooleanArray {
     ghost use Rattle.arrow_types.specs.KindOf.{kind_of};
     ghost use Rattle.arrow_types.specs.Physical.{physical_of};
     ghost use Rattle.arrow_buffers.specs.Layouts.{is_boolean};
-    ghost use Rattle.arrow_buffers.specs.Flat.{Flat, flat_code, flat_fault};
+    ghost use Rattle.arrow_buffers.specs.Leaf.{Leaf, leaf_code, leaf_fault};
 
-    ghost Value = { Flat Bool };
+    ghost Value = { Leaf Bool };
 
-    ghost coded = { flat_code coded_bool };
+    ghost coded = { leaf_code coded_bool };
 
     ghost view = { λ a. record { kind = kind_of a.dtype; values = a.values; validity = a.validity } };
 
-    ghost invariant = { λ a. flat_fault (is_boolean (physical_of (kind_of a.dtype))) (length a.values) a.validity ≡ None };
+    ghost invariant = { λ a. leaf_fault (is_boolean (physical_of (kind_of a.dtype))) (length a.values) a.validity ≡ None };
 }
 
 impl BooleanArray {
@@ -46,8 +46,8 @@ impl BooleanArray {
         validity: Option<Bitmap>,
     ) -> Result<BooleanArray, ArrayError>
         ensures ok { IfOk result (λ a. a ≡ record { kind = kind_of dtype; values = values; validity = validity }) }
-        ensures sound { IfOk result (λ _. flat_fault (is_boolean (physical_of (kind_of dtype))) (length values) validity ≡ None) }
-        ensures err { IfErr result (λ e. flat_fault (is_boolean (physical_of (kind_of dtype))) (length values) validity ≡ Some e) }
+        ensures sound { IfOk result (λ _. leaf_fault (is_boolean (physical_of (kind_of dtype))) (length values) validity ≡ None) }
+        ensures err { IfErr result (λ e. leaf_fault (is_boolean (physical_of (kind_of dtype))) (length values) validity ≡ Some e) }
     {
         if !layout::is_boolean(&dtype) {
             return Err(ArrayError::DataType);
@@ -64,8 +64,8 @@ impl BooleanArray {
 
     pub fn len(&self) -> usize
         ensures values { result ≡ length self.now.values }
-        ensures cells { result ≡ length (flat_cells bool self.now) }
-        ensures sound { flat_fault (is_boolean (physical_of self.now.kind)) (length self.now.values) self.now.validity ≡ None }
+        ensures cells { result ≡ length (leaf_cells bool self.now) }
+        ensures sound { leaf_fault (is_boolean (physical_of self.now.kind)) (length self.now.values) self.now.validity ≡ None }
     {
         self.values.len()
     }
@@ -107,8 +107,8 @@ impl BooleanArray {
     /// Leaves only the part, and copies nothing.
     pub fn narrow(&mut self, offset: usize, rows: usize)
         requires { offset + rows ≤ length self.old.values }
-        ensures parts { self.new ≡ flat_part offset rows self.old }
-        ensures cells { flat_cells bool self.new ≡ part offset rows (flat_cells bool self.old) }
+        ensures parts { self.new ≡ leaf_part offset rows self.old }
+        ensures cells { leaf_cells bool self.new ≡ part offset rows (leaf_cells bool self.old) }
     {
         self.values.narrow(offset, rows);
         narrow_validity(&mut self.validity, offset, rows);
@@ -117,8 +117,8 @@ impl BooleanArray {
     /// The part, which shares the memory.
     pub fn sliced(self, offset: usize, rows: usize) -> BooleanArray
         requires { offset + rows ≤ length self.values }
-        ensures parts { result ≡ flat_part offset rows self }
-        ensures cells { flat_cells bool result ≡ part offset rows (flat_cells bool self) }
+        ensures parts { result ≡ leaf_part offset rows self }
+        ensures cells { leaf_cells bool result ≡ part offset rows (leaf_cells bool self) }
     {
         let mut part = self;
         part.narrow(offset, rows);

@@ -3,7 +3,7 @@ use std::alloc::AllocError;
 use thiserror::Error;
 
 /// Why parts make no array: the first of these that holds, in this order.
-#[derive(Clone, Copy, Debug, PartialEq, Eq, Hash, Error)]
+#[derive(Clone, Copy, Debug, PartialEq, Eq, Error)]
 pub enum ArrayError {
     /// The layout of the type is not that of the parts, or its size is 0.
     #[error("the type does not have the layout of the parts")]

@@ -4,7 +4,7 @@ ghost use Rattle.std.specs.Option.{option_map};
 ghost use Rattle.arrow_types.specs.KindOf.{kind_of};
 ghost use Rattle.arrow_buffers.specs.Rows.{part, has_rows, null_rows};
 ghost use Rattle.arrow_buffers.specs.Layouts.{binary_size};
-ghost use Rattle.arrow_buffers.specs.Flat.{Flat, fixed_rows, fixed_row, fixed_part, fixed_cells, fixed_fault};
+ghost use Rattle.arrow_buffers.specs.Leaf.{Leaf, fixed_rows, fixed_row, fixed_part, fixed_cells, fixed_fault};
 
 use crate::validity::are_whole_rows;
 use crate::{ArrayError, Bitmap, Buffer, clone_validity, layout, narrow_validity, nulls_in};
@@ -24,11 +24,11 @@ impl Model for FixedSizeBinaryArray {
     ghost use Rattle.std.specs.Prelude.{◌≡◌, ℕ, None};
     ghost use Rattle.std.specs.Coded.{coded_ℕ};
     ghost use Rattle.arrow_types.specs.KindOf.{kind_of};
-    ghost use Rattle.arrow_buffers.specs.Flat.{Flat, flat_code, fixed_fault};
+    ghost use Rattle.arrow_buffers.specs.Leaf.{Leaf, leaf_code, fixed_fault};
 
-    ghost Value = { Flat ℕ };
+    ghost Value = { Leaf ℕ };
 
-    ghost coded = { flat_code coded_ℕ };
+    ghost coded = { leaf_code coded_ℕ };
 
     ghost view = { λ a. record { kind = kind_of a.dtype; values = a.values; validity = a.validity } };
 

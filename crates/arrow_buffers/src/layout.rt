@@ -2,7 +2,7 @@
 ghost use Rattle.std.specs.Prelude.{◌≡◌, nat_eq};
 ghost use Rattle.arrow_types.specs.KindOf.{kind_of};
 ghost use Rattle.arrow_types.specs.Physical.{physical_of};
-ghost use Rattle.arrow_buffers.specs.Layouts.{is_primitive, is_boolean, is_null, is_binary, is_text, is_view, binary_size, primitive_number};
+ghost use Rattle.arrow_buffers.specs.Layouts.{is_primitive, is_boolean, is_null, is_variable, is_view, binary_size, primitive_number};
 
 use arrow_types::{ArrowDataType, PhysicalType, PrimitiveType};
 
@@ -33,24 +33,15 @@ pub(crate) fn is_null(dtype: &ArrowDataType) -> bool
     matches!(dtype.to_physical_type(), PhysicalType::Null)
 }
 
-/// Whether the type is of byte strings, with offsets of 64 bits where they are large.
-pub(crate) fn is_binary(dtype: &ArrowDataType, large: bool) -> bool
-    ensures { result ≡ is_binary large (physical_of (kind_of dtype.now)) }
+/// Whether the type is of texts, or of byte strings, with offsets of 64 bits where they are large.
+pub(crate) fn is_variable(dtype: &ArrowDataType, texts: bool, large: bool) -> bool
+    ensures { result ≡ is_variable texts large (physical_of (kind_of dtype.now)) }
 {
     match dtype.to_physical_type() {
-        PhysicalType::Binary => !large,
-        PhysicalType::LargeBinary => large,
-        _ => false,
-    }
-}
-
-/// Whether the type is of texts, with offsets of 64 bits where they are large.
-pub(crate) fn is_text(dtype: &ArrowDataType, large: bool) -> bool
-    ensures { result ≡ is_text large (physical_of (kind_of dtype.now)) }
-{
-    match dtype.to_physical_type() {
-        PhysicalType::Utf8 => !large,
-        PhysicalType::LargeUtf8 => large,
+        PhysicalType::Binary => !texts && !large,
+        PhysicalType::LargeBinary => !texts && large,
+        PhysicalType::Utf8 => texts && !large,
+        PhysicalType::LargeUtf8 => texts && large,
         _ => false,
     }
 }

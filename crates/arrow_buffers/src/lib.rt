@@ -1,7 +1,6 @@
 //! Runs of items and of bits that several owners may share, and the arrays that hold no array (Arrow Columnar Format, "Physical Memory Layout").
 #![tactic(auto)]
 
-mod binary;
 mod binary_view;
 mod bitmap;
 mod boolean;
@@ -13,14 +12,12 @@ mod null;
 mod offsets;
 mod primitive;
 mod texts;
-mod utf8;
 mod validity;
+mod variable;
 mod view;
+mod view_type;
 
-pub use binary::BinaryArray;
-pub use binary_view::{
-    BinaryViewArray, BinaryViewArrayGeneric, ByteRows, TextRows, Utf8ViewArray, ViewType,
-};
+pub use binary_view::{BinaryViewArray, BinaryViewArrayGeneric, Utf8ViewArray};
 pub use bitmap::Bitmap;
 pub use boolean::BooleanArray;
 pub use buffer::Buffer;
@@ -29,5 +26,6 @@ pub use fixed_size_binary::FixedSizeBinaryArray;
 pub use null::NullArray;
 pub use offsets::rise_within;
 pub use primitive::PrimitiveArray;
-pub use utf8::Utf8Array;
 pub use validity::{clone_validity, narrow_validity, nulls_in, validity_at, validity_has};
+pub use variable::{BinaryArray, Utf8Array, VariableArray};
+pub use view_type::{ByteRows, TextRows, ViewType};

@@ -4,7 +4,7 @@ ghost use Rattle.arrow_types.specs.KindOf.{kind_of};
 ghost use Rattle.arrow_types.specs.Physical.{physical_of};
 ghost use Rattle.arrow_buffers.specs.Rows.{part};
 ghost use Rattle.arrow_buffers.specs.Layouts.{is_null};
-ghost use Rattle.arrow_buffers.specs.Flat.{null_cells, nulls_fault};
+ghost use Rattle.arrow_buffers.specs.Leaf.{null_cells, nulls_fault};
 
 use crate::{ArrayError, Bitmap, layout};
 use arrow_types::ArrowDataType;
@@ -23,7 +23,7 @@ impl Model for NullArray {
     ghost use Rattle.arrow_types.specs.KindOf.{kind_of};
     ghost use Rattle.arrow_types.specs.Physical.{physical_of};
     ghost use Rattle.arrow_buffers.specs.Layouts.{is_null};
-    ghost use Rattle.arrow_buffers.specs.Flat.{Nulls, nulls_code, nulls_fault};
+    ghost use Rattle.arrow_buffers.specs.Leaf.{Nulls, nulls_code, nulls_fault};
 
     ghost Value = { Nulls };
 

@@ -32,12 +32,5 @@ pub refusals-place : (xs : List IpcError) → refusals (free_of xs) ≡ xs
 refusals-place [] = refl
 refusals-place (x ∷ xs) = refl
 
-pub refuses_first : (xs ys : List IpcError) (e : IpcError) → Refuses e (refusals (free_of xs)) → Refuses e (refusals (free_of (xs ++ ys)))
-refuses_first xs ys e h = rw (refusals-place (xs ++ ys)) (refuses_mono xs (xs ++ ys) e (among_first xs ys e) (rw (refusals-place xs) at h))
-
 pub refuses_second : (xs ys : List IpcError) (e : IpcError) → Refuses e (refusals (free_of ys)) → Refuses e (refusals (free_of (xs ++ ys)))
 refuses_second xs ys e h = rw (refusals-place (xs ++ ys)) (refuses_mono ys (xs ++ ys) e (among_second xs ys e) (rw (refusals-place ys) at h))
-
-pub place_both : (xs ys : List IpcError) → free_of xs ≡ Ok tt → free_of ys ≡ Ok tt → free_of (xs ++ ys) ≡ Ok tt
-place_both [] ys h k = k
-place_both (x ∷ xs) ys h k = cc

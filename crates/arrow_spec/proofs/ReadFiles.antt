@@ -39,8 +39,3 @@ in_footer {P} f meta k h =
 -- the schema of a footer may be written
 pub footer_schema_may : (f : List ℕ) (meta : Meta) → AreBytes f → meta_in f ≡ Ok meta → SchemaMayBeWritten meta.schema.fields meta.schema.metadata × IdsMayBeWritten meta.schema.fields
 footer_schema_may f meta bytes h = in_footer f meta (λ t s s_is. read_may f t s bytes s_is) h
-
--- the same of a file
-pub file_schema_may : (b : List ℕ) (meta : Meta) → AreBytes b → meta_of b ≡ Ok meta → SchemaMayBeWritten meta.schema.fields meta.schema.metadata × IdsMayBeWritten meta.schema.fields
-unfolding meta_of
-file_schema_may b meta bytes h = through _ _ meta h λ f f_is h1. footer_schema_may f meta (footer_bytes b f bytes f_is) h1

@@ -333,7 +333,8 @@ compacted m p row begun (suc n) =
 
 -- at least min(v, 1024) bytes are unused, where v is the sum of the lengths
 abbrev pub needs_compaction : RecordBatch → Place → ℕ → Bool
-needs_compaction m p rows = nat_le (min (view_lengths m p rows) 1024) (sum_by (λ x. x) (lengths_on m (p.buffer + 2) (count_at m p.view)) - view_lengths m p rows)
+needs_compaction m p rows =
+    nat_le (min (view_lengths m p rows) 1024) (sum_by (λ x. x) (lengths_on m (p.buffer + 2) (count_at m p.view)) - view_lengths m p rows)
 
 -- a view column that is laid anew
 abbrev pub compacted_written : RecordBatch → Place → ℕ → Written

@@ -1,11 +1,13 @@
 //! What can be wrong with bytes, with a request, with what is to be written, or with a device.
 ghost use Rattle.std.specs.Prelude.{◌≡◌};
 ghost use Rattle.arrow_spec.specs.Names.{error_name, feature_name, kind_name};
+ghost use Rattle.arrow_spec.specs.declared.error.IpcError.TheVariants.{Memory};
 
+use std::alloc::{AllocError, AllocFailed};
 use thiserror::Error;
 
 /// Why a flatbuffer could not be read.
-#[derive(Clone, Copy, Debug, PartialEq, Eq, Hash, Error)]
+#[derive(Clone, Copy, Debug, PartialEq, Eq, Error)]
 pub enum FlatError {
     /// What is looked at passes the end of the bytes, or a vtable is too short.
     #[error("out of range")]
@@ -19,7 +21,7 @@ pub enum FlatError {
 }
 
 /// How bytes differ from the Arrow IPC format.
-#[derive(Clone, Copy, Debug, PartialEq, Eq, Hash, Error)]
+#[derive(Clone, Copy, Debug, PartialEq, Eq, Error)]
 pub enum OutOfSpecKind {
     #[error("Truncated")]
     Truncated,
@@ -130,7 +132,7 @@ pub enum OutOfSpecKind {
 }
 
 /// What the format has and this library does not read or write.
-#[derive(Clone, Copy, Debug, PartialEq, Eq, Hash, Error)]
+#[derive(Clone, Copy, Debug, PartialEq, Eq, Error)]
 pub enum Feature {
     #[error("FeatherV1")]
     FeatherV1,
@@ -165,7 +167,7 @@ pub enum Feature {
 }
 
 /// What there may be only so many of.
-#[derive(Clone, Copy, Debug, PartialEq, Eq, Hash, Error)]
+#[derive(Clone, Copy, Debug, PartialEq, Eq, Error)]
 pub enum Counted {
     /// 65,536 fields in a schema, children counted.
     #[error("fields")]
@@ -179,7 +181,7 @@ pub enum Counted {
 }
 
 /// Why a call of this library did not do what was asked.
-#[derive(Clone, Copy, Debug, PartialEq, Eq, Hash, Error)]
+#[derive(Clone, Copy, Debug, PartialEq, Eq, Error)]
 pub enum IpcError {
     /// The bytes are not as the format says.
     #[error("out of specification: {0}")]
@@ -322,5 +324,22 @@ impl IpcError {
             IpcError::WriteFault => "WriteFault",
             IpcError::Memory => "Memory",
         }
+    }
+}
+
+/// Want of memory is an answer.
+impl From<AllocError> for IpcError {
+    ghost from_gives = { λ _ e. e ≡ Memory };
+
+    fn from(_: AllocError) -> Self {
+        IpcError::Memory
+    }
+}
+
+impl<T: Drop> From<AllocFailed<T>> for IpcError {
+    ghost from_gives = { λ _ e. e ≡ Memory };
+
+    fn from(_: AllocFailed<T>) -> Self {
+        IpcError::Memory
     }
 }

@@ -1,7 +1,7 @@
 //! The plain records and the versions of messages (Arrow Columnar Format, Message.fbs and File.fbs).
 
 /// The version that a message was written in.
-#[derive(Clone, Copy, Debug, PartialEq, Eq, Hash)]
+#[derive(Clone, Copy, Debug, PartialEq, Eq)]
 pub enum MetadataVersion {
     V1,
     V2,

@@ -7,7 +7,7 @@ use crate::ArrowDataType;
 use arrow_spec::{IntegerType, IntervalUnit};
 
 /// The numbers of a column of fixed width.
-#[derive(Clone, Copy, Debug, PartialEq, Eq, Hash)]
+#[derive(Clone, Copy, Debug, PartialEq, Eq)]
 pub enum PrimitiveType {
     Int8,
     Int16,
@@ -27,7 +27,7 @@ pub enum PrimitiveType {
 }
 
 /// The layout of a column.
-#[derive(Clone, Copy, Debug, PartialEq, Eq, Hash)]
+#[derive(Clone, Copy, Debug, PartialEq, Eq)]
 pub enum PhysicalType {
     Null,
     Boolean,

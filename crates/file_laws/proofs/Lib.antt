@@ -1,7 +1,7 @@
 mod Cuts
 mod SameBuffers
 mod SameParts
-mod NeededParts
+pub mod NeededParts
 mod TooLarge
 mod FooterTables
 mod FetchedParts

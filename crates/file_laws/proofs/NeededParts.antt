@@ -436,13 +436,13 @@ custom-same : (carried : Bool) (b b' f : List ℕ) → footer_of b ≡ Ok f → 
 unfolding custom_of
 custom-same carried b b' f h h' = on _ _ f h' ∙ sym (on _ _ f h)
 
-meta-footer : (b : List ℕ) (meta : Meta) → meta_of b ≡ Ok meta → (f : List ℕ) × (footer_of b ≡ Ok f)
+pub meta-footer : (b : List ℕ) (meta : Meta) → meta_of b ≡ Ok meta → (f : List ℕ) × (footer_of b ≡ Ok f)
 unfolding meta_of
 meta-footer b meta h = let f = went (footer_of b) _ meta h in (f.got, f.first)
 
 -- ── the file ──
 
-parts_are : (b : List ℕ) (r : Request) (meta : Meta) (f : List ℕ) (ds bs : List Range) → meta_of b ≡ Ok meta → footer_of b ≡ Ok f → all_need (λ block. dictionary_fetched b meta block) (dictionaries_read meta.blocks meta.dictionaries) ≡ Ok ds → batches_fetched b meta r meta.blocks r.limit ≡ Ok bs
+pub parts_are : (b : List ℕ) (r : Request) (meta : Meta) (f : List ℕ) (ds bs : List Range) → meta_of b ≡ Ok meta → footer_of b ≡ Ok f → all_need (λ block. dictionary_fetched b meta block) (dictionaries_read meta.blocks meta.dictionaries) ≡ Ok ds → batches_fetched b meta r meta.blocks r.limit ≡ Ok bs
     → parts_fetched b r ≡ Ok (record { place = length b - 10; length = 10 } ∷ record { place = length b - 10 - length f; length = length f } ∷ ds ++ bs)
 unfolding parts_fetched
 parts_are b r meta f ds bs h1 h2 h3 h4 = on _ _ meta h1 ∙ on _ _ (length f) (on (footer_of b) (λ x. Ok (length x)) f h2) ∙ on _ _ ds h3 ∙ on _ _ bs h4

@@ -16,7 +16,6 @@ use Rattle.arrow_spec.specs.Counts.{first_place, is_negative, magnitude}
 use Rattle.arrow_spec.specs.Columns.{columns_at}
 use Rattle.arrow_spec.specs.Features.{chosen_floats}
 use Rattle.arrow_spec.specs.Files.{batch_of_tables, to_read, none_negative, lengths_sum, all_asked, record_batch_of}
-use Rattle.arrow_spec.specs.declared.error.IpcError.TheVariants.{Memory}
 use Rattle.arrow_spec.specs.declared.message.FieldNode.{FieldNode}
 use Rattle.arrow_spec.specs.declared.message.IpcBuffer.{IpcBuffer}
 use Rattle.std.specs.Prelude.{nat_eq}
@@ -27,7 +26,7 @@ use Rattle.ipc_read.specs.Queues.{Left, AllAt}
 use Rattle.ipc_read.specs.Batches.{AreQueuesOf, MayBeRead, batch_reading}
 use Rattle.ipc_read.specs.Sources.{Told, Known, bytes_in}
 use Rattle.ipc_read.specs.declared.body.Body.{Body}
-use Rattle.ipc_read.proofs.Passing.{refuses_more}
+use Rattle.ipc_read.proofs.Refusals.{refuses_none}
 
 natural_negative : (z : ℤ) → is_negative z ≡ true → natural z ≡ damaged kinds.UnexpectedNegativeInteger
 natural_negative (pos n) h = cc
@@ -59,7 +58,7 @@ refuses_sum order fs most version tables bytes h k n s = rw (h, is_natural table
 -- what refuses the first refuses the whole
 pub refused_first : {A B : Type 0} → (r : Reading A) (f : A → Reading B) (e : IpcError) → Refuses e (refusals r) → Refuses e (refusals (r >>= f))
 unfolding bind
-refused_first (Ok x) f e h = refuses_more [] (refusals (f x)) (λ g a. absurd a) e h
+refused_first (Ok x) f e h = refuses_none (refusals (f x)) e h
 refused_first (Err es) f e h = h
 
 -- a place refuses what it names
@@ -111,9 +110,6 @@ gives_err view (Err f) e read h k = subst (λ g. Refuses g (refusals read)) (let
 pub some_err : {X Y : Type 0} → (r : Result X IpcError) (e : IpcError) (content : Option (List ℕ)) (view : X → Y) (read : List ℕ → Reading Y) → r ≡ Err e → ((b : List ℕ) → Refuses e (refusals (read b))) → IfSome content (λ b. Gives view r (read b))
 some_err r e None view read h k = tt
 some_err r e (Some b) view read h k = gives_err view r e (read b) h (k b)
-
-pub memory_refuses : (e : IpcError) (es : List IpcError) → e ≡ Memory → Refuses e es
-memory_refuses e es h = subst (λ f. Refuses f es) (sym h) tt
 
 first_left : {A : Type 0} → (all rest : List A) → rest ≡ all → Left all 0 rest
 first_left all rest h = record { is = h; within = omega arith }

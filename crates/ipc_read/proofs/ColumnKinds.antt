@@ -15,10 +15,10 @@ use Rattle.arrow_types.specs.declared.physical.PhysicalType.{PhysicalType}
 use Rattle.arrow_types.specs.declared.physical.PhysicalType.TheVariants as physical
 use Rattle.arrow_types.specs.declared.physical.PrimitiveType.TheVariants as primitive
 use Rattle.arrow_buffers.specs.Layouts.{binary_size}
-use Rattle.arrow_arrays.specs.FlatKinds.{is_flat_kind, is_flat_layout}
+use Rattle.arrow_arrays.specs.LeafKinds.{is_leaf_kind, is_leaf_layout}
 use Rattle.ipc_read.specs.Skips.{is_plain_kind, is_plain_layout}
-use Rattle.ipc_read.specs.Batches.{unread_feature, is_column_kind, is_column_layout, are_column_kinds, are_flat_kinds}
-use Rattle.ipc_read.proofs.Passing.{refuses_more, among_left}
+use Rattle.ipc_read.specs.Batches.{unread_feature, is_column_kind, is_column_layout, are_column_kinds, are_leaf_kinds}
+use Rattle.ipc_read.proofs.Refusals.{refuses_left}
 
 -- a refusal for a feature
 abbrev pub feature_faults : Option Feature → List IpcError
@@ -99,10 +99,10 @@ none_unread None h = refl
 none_unread (Some f) h = cc
 
 -- a column's kind of which all is read is that of an array
-pub column_is_flat : (k : Kind) → is_column_kind k ≡ true → float_faults k ≡ [] → is_flat_kind k ≡ true
-column_is_flat k h f = by_layout (physical_of k) (binary_size k) h (none_unread _ (sym (plain_floats k (column_is_plain (physical_of k) (binary_size k) h)) ∙ f))
+pub column_is_leaf : (k : Kind) → is_column_kind k ≡ true → float_faults k ≡ [] → is_leaf_kind k ≡ true
+column_is_leaf k h f = by_layout (physical_of k) (binary_size k) h (none_unread _ (sym (plain_floats k (column_is_plain (physical_of k) (binary_size k) h)) ∙ f))
   where
-    by_layout : (layout : PhysicalType) (size : ℕ) → is_column_layout layout size ≡ true → unread_feature layout ≡ None → is_flat_layout layout size ≡ true
+    by_layout : (layout : PhysicalType) (size : ℕ) → is_column_layout layout size ≡ true → unread_feature layout ≡ None → is_leaf_layout layout size ≡ true
     by_layout physical.FixedSizeBinary size h u = h
     by_layout physical.Null size h u = refl
     by_layout physical.Boolean size h u = refl
@@ -159,14 +159,14 @@ both_second false b h = cc
 pub columns_next : (s : List Keyed) (i : ℕ) (x : Keyed) → slice_get s i ≡ Some x → are_column_kinds (drop i s) ≡ true → (is_column_kind x.1.kind ≡ true) × (are_column_kinds (drop (i + 1) s) ≡ true)
 columns_next s i x h c = let e = sym (ap are_column_kinds (drop_at s i x h)) ∙ c in (both_first _ _ e, both_second (is_column_kind x.1.kind) _ e)
 
-pub flat_next : (s : List Keyed) (i : ℕ) (x : Keyed) → slice_get s i ≡ Some x → is_flat_kind x.1.kind ≡ true → are_flat_kinds (drop i s) ≡ are_flat_kinds (drop (i + 1) s)
-flat_next s i x h f = ap are_flat_kinds (drop_at s i x h) ∙ ap (λ b. b && are_flat_kinds (drop (i + 1) s)) f
+pub leaf_next : (s : List Keyed) (i : ℕ) (x : Keyed) → slice_get s i ≡ Some x → is_leaf_kind x.1.kind ≡ true → are_leaf_kinds (drop i s) ≡ are_leaf_kinds (drop (i + 1) s)
+leaf_next s i x h f = ap are_leaf_kinds (drop_at s i x h) ∙ ap (λ b. b && are_leaf_kinds (drop (i + 1) s)) f
 
 pub floats_next : (s : List Keyed) (i : ℕ) (x : Keyed) → slice_get s i ≡ Some x → float_faults x.1.kind ≡ [] → chosen_floats None (fields_in (drop i s)) i ≡ chosen_floats None (fields_in (drop (i + 1) s)) (i + 1)
 floats_next s i x h f = let n : suc i ≡ i + 1 = omega arith in ap (λ t. chosen_floats None (fields_in t) i) (drop_at s i x h) ∙ ap (λ es. es ++ chosen_floats None (fields_in (drop (i + 1) s)) (suc i)) f ∙ ap (λ j. chosen_floats None (fields_in (drop (i + 1) s)) j) n
 
 pub floats_refused : (s : List Keyed) (i : ℕ) (x : Keyed) (e : IpcError) → slice_get s i ≡ Some x → Refuses e (float_faults x.1.kind) → Refuses e (chosen_floats None (fields_in (drop i s)) i)
-floats_refused s i x e h r = subst (λ t. Refuses e (chosen_floats None (fields_in t) i)) (sym (drop_at s i x h)) (refuses_more (float_faults x.1.kind) _ (λ f a. among_left (float_faults x.1.kind) (chosen_floats None (fields_in (drop (i + 1) s)) (suc i)) f a) e r)
+floats_refused s i x e h r = subst (λ t. Refuses e (chosen_floats None (fields_in t) i)) (sym (drop_at s i x h)) (refuses_left (float_faults x.1.kind) _ e r)
 
 pub drop_all : {A : Type 0} → (xs : List A) (i : ℕ) → length xs ≤ i → drop i xs ≡ []
 drop_all [] zero h = refl
@@ -177,5 +177,5 @@ drop_all (x ∷ xs) (suc i) h = drop_all xs i (omega (arith, h))
 pub floats_end : (s : List Keyed) (i : ℕ) → length s ≤ i → chosen_floats None (fields_in (drop i s)) i ≡ []
 floats_end s i h = ap (λ t. chosen_floats None (fields_in t) i) (drop_all s i h)
 
-pub flat_end : (s : List Keyed) (i : ℕ) → length s ≤ i → are_flat_kinds (drop i s) ≡ true
-flat_end s i h = ap are_flat_kinds (drop_all s i h)
+pub leaf_end : (s : List Keyed) (i : ℕ) → length s ≤ i → are_leaf_kinds (drop i s) ≡ true
+leaf_end s i h = ap are_leaf_kinds (drop_all s i h)

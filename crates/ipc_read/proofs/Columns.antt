@@ -17,12 +17,12 @@ use Rattle.arrow_types.specs.declared.data_type.Field.{Field}
 use Rattle.arrow_types.specs.Schemas.{Keyed, fields_in}
 use Rattle.arrow_arrays.specs.Parts.{Parts, cells_in, rows_in}
 use Rattle.arrow_arrays.specs.Batches.{have_rows}
-use Rattle.arrow_arrays.specs.FlatKinds.{is_flat_kind}
-use Rattle.read_columns.specs.Batches.{columns_read}
-use Rattle.read_columns.specs.Faults.{read_faults, stated_of, fetched_at_most}
-use Rattle.read_columns.specs.PartsRead.{parts_read}
-use Rattle.ipc_read.specs.Batches.{IsFieldAt, are_flat_kinds, batch_fetched, columns_fetched}
-use Rattle.ipc_read.proofs.Passing.{refuses_more, among_left, among_right}
+use Rattle.arrow_arrays.specs.LeafKinds.{is_leaf_kind}
+use Rattle.ipc_read_laws.specs.Batches.{columns_read}
+use Rattle.ipc_read_laws.specs.Faults.{read_faults, stated_of, fetched_at_most}
+use Rattle.ipc_read_laws.specs.PartsRead.{parts_read}
+use Rattle.ipc_read.specs.Batches.{IsFieldAt, are_leaf_kinds, batch_fetched, columns_fetched}
+use Rattle.ipc_read.proofs.Refusals.{refuses_left, refuses_right}
 use Rattle.ipc_read.proofs.ColumnKinds.{drop_at, drop_all, both_first, both_second}
 use Rattle.ipc_read.proofs.BatchTables.{refused_first, refused_place, place_none}
 
@@ -36,7 +36,7 @@ column_is m k p rows h = ap (λ es. es ++ array_faults m [] k p rows) (sym (appe
 -- a node of other rows refuses the column
 pub node_refused : (m : RecordBatch) (k : Kind) (p : Place) (rows : ℕ) (e : IpcError) → Refuses e (top_node_faults (slice_get m.nodes p.node) rows) → Refuses e (column_faults m [] k p rows rows)
 unfolding column_faults
-node_refused m k p rows e h = refuses_more (top_node_faults (slice_get m.nodes p.node) rows) _ (λ f a. among_left (count_faults m k p ++ top_node_faults (slice_get m.nodes p.node) rows) (array_faults m [] k p rows) f (among_right (count_faults m k p) _ f a)) e h
+node_refused m k p rows e h = refuses_left (count_faults m k p ++ top_node_faults (slice_get m.nodes p.node) rows) _ e (refuses_right (count_faults m k p) _ e h)
 
 -- ── the fields that are left ──
 
@@ -44,11 +44,11 @@ node_refused m k p rows e h = refuses_more (top_node_faults (slice_get m.nodes p
 pub rest_at : (s : List Keyed) (i : ℕ) (x : Keyed) → slice_get s i ≡ Some x → fields_in (drop i s) ≡ field x.1.name x.1.nullable x.1.metadata x.1.kind (fields_in (drop (i + 1) s))
 rest_at s i x h = ap fields_in (drop_at s i x h)
 
-pub flat_at : (s : List Keyed) (i : ℕ) (x : Keyed) → slice_get s i ≡ Some x → are_flat_kinds s ≡ true → is_flat_kind x.1.kind ≡ true
-flat_at [] zero x h f = cc
-flat_at [] (suc i) x h f = cc
-flat_at (y ∷ ys) zero x h f = let e : y ≡ x = cc in subst (λ (z : Keyed). is_flat_kind z.1.kind ≡ true) e (both_first (is_flat_kind y.1.kind) (are_flat_kinds ys) f)
-flat_at (y ∷ ys) (suc i) x h f = flat_at ys i x h (both_second (is_flat_kind y.1.kind) (are_flat_kinds ys) f)
+pub leaf_at : (s : List Keyed) (i : ℕ) (x : Keyed) → slice_get s i ≡ Some x → are_leaf_kinds s ≡ true → is_leaf_kind x.1.kind ≡ true
+leaf_at [] zero x h f = cc
+leaf_at [] (suc i) x h f = cc
+leaf_at (y ∷ ys) zero x h f = let e : y ≡ x = cc in subst (λ (z : Keyed). is_leaf_kind z.1.kind ≡ true) e (both_first (is_leaf_kind y.1.kind) (are_leaf_kinds ys) f)
+leaf_at (y ∷ ys) (suc i) x h f = leaf_at ys i x h (both_second (is_leaf_kind y.1.kind) (are_leaf_kinds ys) f)
 
 -- the place of the next field
 pub next_place : (m : RecordBatch) (s : List Keyed) (i : ℕ) (x : Keyed) (p : Place) → slice_get s i ≡ Some x → place_in m (fields_in s) (i + 1) p ≡ after m x.1.kind (place_in m (fields_in s) i p)
@@ -157,8 +157,8 @@ fetched_is m fs (suc n) = some_fetched m n fs 0 first_place
 
 -- ── the same of a field at a place of a schema ──
 
-pub field_flat : (s : List Keyed) (i : ℕ) (f : Field) → IsFieldAt s i f → are_flat_kinds s ≡ true → is_flat_kind (kind_of f.dtype) ≡ true
-field_flat s i f h k = ap is_flat_kind (sym h.kind) ∙ flat_at s i (h.key, child_of f) h.at k
+pub field_leaf : (s : List Keyed) (i : ℕ) (f : Field) → IsFieldAt s i f → are_leaf_kinds s ≡ true → is_leaf_kind (kind_of f.dtype) ≡ true
+field_leaf s i f h k = ap is_leaf_kind (sym h.kind) ∙ leaf_at s i (h.key, child_of f) h.at k
 
 pub field_place : (m : RecordBatch) (s : List Keyed) (i : ℕ) (f : Field) → IsFieldAt s i f → place_in m (fields_in s) (i + 1) first_place ≡ after m (kind_of f.dtype) (place_in m (fields_in s) i first_place)
 field_place m s i f h = next_place m s i (h.key, child_of f) first_place h.at ∙ ap (λ k. after m k (place_in m (fields_in s) i first_place)) h.kind

@@ -17,7 +17,7 @@ use Rattle.arrow_spec.specs.Needed.{looked_at, validity_looked_at}
 use Rattle.arrow_types.specs.Physical.{physical_of}
 use Rattle.arrow_types.specs.declared.physical.PhysicalType.{PhysicalType}
 use Rattle.arrow_types.specs.declared.physical.PhysicalType.TheVariants as physical
-use Rattle.read_columns.specs.Faults.{read_faults, fetched_at_most, stated, stated_of}
+use Rattle.ipc_read_laws.specs.Faults.{read_faults, fetched_at_most, stated, stated_of}
 use Rattle.ipc_read.specs.Queues.{Left, IsWithin, NodesAt, At, short_of}
 use Rattle.ipc_read.specs.Sources.{bytes_where, validity_fetched}
 use Rattle.ipc_read.proofs.Refusals.{among_left, among_right, refuses_right, refuses_more, both_none}

@@ -1,5 +1,5 @@
 -- Buffers behind one another, as many as a count says.
-use Rattle.std.proofs.Common.{◌≡◌, ℕ, zero, suc, ◌+◌, ◌-◌, ◌≤◌, ◌<◌, List, [], ◌∷◌, ◌++◌, length, drop, Option, Some, None, Result, ℤ, pos, negsuc, ◌≤ℤ◌, false, refl, sym, ap, ◌∙◌, arith, subst, length-drop}
+use Rattle.std.proofs.Common.{◌≡◌, ℕ, zero, suc, ◌+◌, ◌-◌, ◌≤◌, ◌<◌, List, [], ◌∷◌, ◌++◌, length, drop, Some, Result, ℤ, pos, negsuc, ◌≤ℤ◌, false, refl, sym, ap, ◌∙◌, arith, subst, length-drop}
 use Rattle.std.specs.Prelude.{nat_lt, slice_get, MatchOption}
 use Rattle.std.specs.Option.{option_to_list}
 use Rattle.std.proofs.lemmas.Bool.{le-ltb}
@@ -12,29 +12,11 @@ use Rattle.arrow_spec.specs.Counts.{RecordBatch, Place, magnitude_or_0, is_negat
 use Rattle.arrow_spec.specs.Arrays.{buf, from_on}
 use Rattle.arrow_spec.specs.Faults.{cause, range_faults, ranges_faults, view_count_faults}
 use Rattle.arrow_spec.specs.Needed.{numbers_from}
-use Rattle.read_columns.specs.Faults.{stated, stated_of}
+use Rattle.ipc_read_laws.specs.Faults.{stated, stated_of}
 use Rattle.ipc_read.specs.Queues.{Left}
 use Rattle.ipc_read.specs.Sources.{Answers}
 use Rattle.ipc_read.specs.DataBuffers.{data_causes, data_of}
-use Rattle.ipc_read.proofs.Refusals.{is_left, among_left, among_right, refuses_more, both_none, none_of_both, no_cause}
-
--- ── passing over ──
-
-drop_end : {A : Type 0} → (all : List A) (n : ℕ) → length all ≤ n → drop n all ≡ []
-drop_end [] zero h = refl
-drop_end [] (suc n) h = refl
-drop_end (x ∷ xs) zero h = absurd (omega (arith, h))
-drop_end (x ∷ xs) (suc n) h = drop_end xs n (omega (arith, h))
-
-pub drop_next : {A : Type 0} → (r : Option A) (xs ys all : List A) (n a b : ℕ) → xs ≡ drop n all → xs ≡ option_to_list r ++ ys → a ≡ length xs → MatchOption r ((a ≡ 0) × (b ≡ 0)) (λ _. b + 1 ≡ a) → ys ≡ drop (n + 1) all
-drop_next (Some x) xs ys all n a b e f g h =
-    let k : suc n ≡ n + 1 = omega arith in
-    subst (λ j. ys ≡ drop j all) k (is_left all n x ys (sym f ∙ e)).1.is
-drop_next None xs ys all n a b e f g h =
-    let z : length xs ≡ 0 = sym g ∙ h.0 in
-    let u : length xs ≡ length all - n = ap length e ∙ length-drop n all in
-    let all_passed : length all ≤ n = omega (arith, z, u) in
-    sym f ∙ e ∙ drop_end all n all_passed ∙ sym (drop_end all (n + 1) (omega (arith, all_passed)))
+use Rattle.ipc_read.proofs.Refusals.{among_left, among_right, refuses_more, both_none, none_of_both, no_cause}
 
 -- ── counts ──
 

@@ -1,7 +1,7 @@
 pub mod Refusals
 pub mod Parts
 pub mod Counted
-pub mod FlatArrays
+pub mod LeafArrays
 pub mod OffsetReads
 pub mod VariableArrays
 pub mod Passing
@@ -12,3 +12,4 @@ pub mod BatchTables
 pub mod ColumnKinds
 pub mod Columns
 pub mod Shortened
+pub mod ReaderSteps

@@ -9,11 +9,11 @@ use Rattle.arrow_spec.specs.Faults.{numbers_faults, offsets_buffer_faults}
 use Rattle.arrow_spec.proofs.CellLists.{from_on-same}
 use Rattle.arrow_types.specs.Numbers.{signed_from_bytes, ReadsOffsets, offsets_by}
 use Rattle.arrow_types.specs.NumberLaws.{signed_agrees}
-use Rattle.read_columns.specs.PartsRead.{items_read, item_bytes}
-use Rattle.read_columns.proofs.Buffers.{map-from_on}
+use Rattle.ipc_read_laws.specs.PartsRead.{items_read, item_bytes}
+use Rattle.ipc_read_laws.proofs.Buffers.{map-from_on}
 use Rattle.arrow_spec.specs.declared.error.IpcError.{IpcError}
 use Rattle.arrow_spec.specs.Readings.{Refuses}
-use Rattle.read_columns.proofs.Buffers.{numbers_held}
+use Rattle.ipc_read_laws.proofs.Buffers.{numbers_held}
 use Rattle.ipc_read.specs.Queues.{short_of}
 use Rattle.ipc_read.specs.Sources.{offsets_of_rows, faults_where}
 use Rattle.ipc_read.proofs.Refusals.{refuses_right, both_none, lacks_none}

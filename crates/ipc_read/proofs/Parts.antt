@@ -16,9 +16,9 @@ use Rattle.arrow_spec.specs.Arrays.{from_on, range_of, has_nulls, buf, bit}
 use Rattle.arrow_spec.specs.Faults.{node_causes, node_faults, range_causes, range_faults, bitmap_faults, numbers_faults, validity_faults}
 use Rattle.arrow_spec.proofs.CellLists.{from_on-same}
 use Rattle.arrow_buffers.specs.Bits.{bits_from}
-use Rattle.ipc_schema.specs.Outside.{StandsAt}
-use Rattle.read_columns.specs.PartsRead.{bits_read, validity_read}
-use Rattle.read_columns.specs.Faults.{stated}
+use Rattle.ipc_io.specs.Outside.{StandsAt}
+use Rattle.ipc_read_laws.specs.PartsRead.{bits_read, validity_read}
+use Rattle.ipc_read_laws.specs.Faults.{stated}
 use Rattle.ipc_read.specs.Sources.{Inside, Told, part_of, validity_fetched}
 use Rattle.ipc_read.specs.declared.body.Body.{Body}
 use Rattle.ipc_read.proofs.Refusals.{among_cause, no_cause, none_at, refuses_sound}
@@ -79,21 +79,18 @@ front size o n c w =
     rw f (take-take n (size - o) (drop o c) j)
 
 -- the bytes that were read at a buffer's place are its first bytes in the body
-pub bytes_are : (content : Option (List ℕ)) (body : Body) (m : RecordBatch) (i n : ℕ) (part : Body) (out : List ℕ) → Told content body m.body → part ≡ part_of body (range_of m i) → n ≤ part.length
-    → part.offset + part.length ≤ body.offset + body.length → StandsAt content part.offset out → length out ≡ n → out ≡ take n (buf m i)
+pub bytes_are : (content : Option (List ℕ)) (body : Body) (m : RecordBatch) (i n at : ℕ) (out : List ℕ) → Told content body m.body → at ≡ body.offset + magnitude (range_of m i).offset → n ≤ magnitude (range_of m i).length
+    → at + n ≤ body.offset + body.length → StandsAt content at out → length out ≡ n → out ≡ take n (buf m i)
 unfolding buf
-bytes_are None body m i n part out t p l w s k = absurd t
-bytes_are (Some c) body m i n part out t p l w s k =
-    let offset : part.offset ≡ body.offset + magnitude (range_of m i).offset = ap (λ (x : Body). x.offset) p in
-    let size : part.length ≡ magnitude (range_of m i).length = ap (λ (x : Body). x.length) p in
-    let few : n ≤ magnitude (range_of m i).length = omega (arith, l, size) in
-    let low : magnitude (range_of m i).offset + n ≤ body.length = omega (arith, offset, size, w, few) in
+bytes_are None body m i n at out t p l w s k = absurd t
+bytes_are (Some c) body m i n at out t p l w s k =
+    let low : magnitude (range_of m i).offset + n ≤ body.length = omega (arith, p, w) in
     s.1
-    ∙ ap (λ z. take z (drop part.offset c)) k
-    ∙ ap (λ z. take n (drop z c)) offset
+    ∙ ap (λ z. take z (drop at c)) k
+    ∙ ap (λ z. take n (drop z c)) p
     ∙ sym (inner body.length body.offset (magnitude (range_of m i).offset) n c low)
     ∙ ap (λ z. take n (drop (magnitude (range_of m i).offset) z)) (sym t)
-    ∙ sym (take-take n (magnitude (range_of m i).length) (drop (magnitude (range_of m i).offset) m.body) few)
+    ∙ sym (take-take n (magnitude (range_of m i).length) (drop (magnitude (range_of m i).offset) m.body) l)
 
 whole : (n : ℕ) (xs ys : List ℕ) → xs ≡ take n ys → take n xs ≡ xs
 whole n xs ys h = rw h (take-take n n ys (omega arith))
@@ -103,8 +100,9 @@ pub bytes_whole : (content : Option (List ℕ)) (body : Body) (m : RecordBatch) 
     → part.offset + part.length ≤ body.offset + body.length → StandsAt content part.offset out → length out ≡ part.length → out ≡ buf m i
 unfolding buf
 bytes_whole content body m i part out t p w s k =
+    let at : part.offset ≡ body.offset + magnitude (range_of m i).offset = ap (λ (x : Body). x.offset) p in
     let size : part.length ≡ magnitude (range_of m i).length = ap (λ (x : Body). x.length) p in
-    bytes_are content body m i part.length part out t p (omega arith) w s k
+    bytes_are content body m i part.length part.offset out t at (omega (arith, size)) w s k
     ∙ ap (λ n. take n (buf m i)) size
     ∙ whole (magnitude (range_of m i).length) (buf m i) (drop (magnitude (range_of m i).offset) m.body) refl
 

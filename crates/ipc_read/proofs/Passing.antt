@@ -1,12 +1,12 @@
 -- What is left of queues that are passed over, and the refusals where they are too short.
-use Rattle.std.proofs.Common.{◌≡◌, ℕ, zero, suc, ◌+◌, ◌≤◌, ◌<◌, List, [], ◌∷◌, ◌++◌, length, take, drop, Result, Ok, Err, Bool, true, false, refl, sym, ap, ◌∙◌, arith, subst, inl, inr, ℤ}
+use Rattle.std.proofs.Common.{◌≡◌, ℕ, zero, suc, ◌+◌, ◌≤◌, ◌<◌, List, [], ◌∷◌, ◌++◌, length, take, drop, Result, Ok, Err, Bool, true, false, refl, sym, ap, ◌∙◌, arith, subst, ℤ}
 use Rattle.std.proofs.Common.{length-drop, drop-drop, append-nil}
 use Rattle.std.specs.Prelude.{IfOk, IsErr, IsErrAnd, nat_lt, ◌||◌, slice_get, Some}
 use Rattle.std.proofs.lemmas.Bool.{lt-ltb, le-ltb}
 use Rattle.arrow_spec.specs.declared.error.IpcError.{IpcError}
-use Rattle.arrow_spec.specs.declared.error.IpcError.TheVariants.{OutOfSpec, Unsupported, TooDeep, TooMany, Projection, TooLarge, SchemaMismatch, DictionaryReplaced, NotRepresentable, State, ReadFault, WriteFault, Memory}
+use Rattle.arrow_spec.specs.declared.error.IpcError.TheVariants.{OutOfSpec}
 use Rattle.arrow_spec.specs.declared.error.OutOfSpecKind.TheVariants.{ExpectedBuffer, MissingVariadicCount, UnexpectedNegativeInteger}
-use Rattle.arrow_spec.specs.Readings.{IsAmong, Refuses}
+use Rattle.arrow_spec.specs.Readings.{Refuses}
 use Rattle.arrow_spec.specs.Counts.{RecordBatch, Place, after, magnitude, is_negative, count_at, views}
 use Rattle.arrow_spec.specs.Faults.{cause, counts_faults, count_faults, view_count_faults, some_negative}
 use Rattle.arrow_spec.specs.Kinds.{Kind, null, boolean, integer, float, date32, date64, time32, time64, timestamp, duration, interval, decimal, decimal256, binary, utf8, binary_view, utf8_view, fixed_size_binary, «list», fixed_size_list, struct, map, union, dictionary, extension, small, large}
@@ -18,6 +18,7 @@ use Rattle.arrow_spec.specs.declared.message.IpcBuffer.{IpcBuffer}
 use Rattle.ipc_read.specs.Queues.{Left, NodesAt, At, AllAt}
 use Rattle.ipc_read.specs.Skips.{moved, is_plain_kind, IsNextCount}
 use Rattle.ipc_read.specs.Sources.{Answers}
+use Rattle.ipc_read.proofs.Refusals.{refuses_right}
 
 -- ── queues ──
 
@@ -63,45 +64,6 @@ answers_same view r es fs y e a = subst (λ gs. Answers view r gs y) e a
 pub is_err : {X : Type 0} → (r : Result X IpcError) (e : IpcError) (P : IpcError → Type 0) → IsErr r → IsErrAnd r P → ((f : IpcError) → P f → f ≡ e) → r ≡ Err e
 is_err (Ok x) e P h p k = cc
 is_err (Err f) e P h p k = ap Err (k f p)
-
-pub among_right : (es fs : List IpcError) (e : IpcError) → IsAmong fs e → IsAmong (es ++ fs) e
-among_right [] fs e h = h
-among_right (x ∷ es) fs e h = inr (among_right es fs e h)
-
-pub among_left : (es fs : List IpcError) (e : IpcError) → IsAmong es e → IsAmong (es ++ fs) e
-among_left [] fs e h = absurd h
-among_left (x ∷ es) fs e (inl h) = inl h
-among_left (x ∷ es) fs e (inr h) = inr (among_left es fs e h)
-
-pub among_refuses : (es : List IpcError) (e : IpcError) → IsAmong es e → Refuses e es
-among_refuses es (OutOfSpec k) h = h
-among_refuses es (Unsupported k) h = h
-among_refuses es TooDeep h = h
-among_refuses es (TooMany k) h = h
-among_refuses es (Projection k) h = h
-among_refuses es TooLarge h = h
-among_refuses es SchemaMismatch h = h
-among_refuses es (DictionaryReplaced k) h = h
-among_refuses es NotRepresentable h = h
-among_refuses es State h = h
-among_refuses es ReadFault h = tt
-among_refuses es WriteFault h = tt
-among_refuses es Memory h = tt
-
-pub refuses_more : (es fs : List IpcError) → ((e : IpcError) → IsAmong es e → IsAmong fs e) → (e : IpcError) → Refuses e es → Refuses e fs
-refuses_more es fs s (OutOfSpec k) h = s _ h
-refuses_more es fs s (Unsupported k) h = s _ h
-refuses_more es fs s TooDeep h = s _ h
-refuses_more es fs s (TooMany k) h = s _ h
-refuses_more es fs s (Projection k) h = s _ h
-refuses_more es fs s TooLarge h = s _ h
-refuses_more es fs s SchemaMismatch h = s _ h
-refuses_more es fs s (DictionaryReplaced k) h = s _ h
-refuses_more es fs s NotRepresentable h = s _ h
-refuses_more es fs s State h = s _ h
-refuses_more es fs s ReadFault h = tt
-refuses_more es fs s WriteFault h = tt
-refuses_more es fs s Memory h = tt
 
 -- ── the next view count ──
 
@@ -212,30 +174,30 @@ no_view_faults m k p e h =
     let f : nat_lt (length m.variadic) (p.view + 0) ≡ false = le-ltb _ _ (omega (arith, h)) in
     rw (e, f) refl
 
-pub flat_after : (m : RecordBatch) (k : Kind) (layout : PhysicalType) (n : ℕ) (p : Place) → is_plain_kind k ≡ true → physical_of k ≡ layout → ((c : ℕ) → own_buffers layout c ≡ n) → own_views layout ≡ 0 → after m k p ≡ moved 1 n 0 p
-flat_after m k layout n p h e b v = plain_after m k p h ∙ rw (e, v, b (count_at m p.view)) refl
+pub leaf_after : (m : RecordBatch) (k : Kind) (layout : PhysicalType) (n : ℕ) (p : Place) → is_plain_kind k ≡ true → physical_of k ≡ layout → ((c : ℕ) → own_buffers layout c ≡ n) → own_views layout ≡ 0 → after m k p ≡ moved 1 n 0 p
+leaf_after m k layout n p h e b v = plain_after m k p h ∙ rw (e, v, b (count_at m p.view)) refl
 
-pub flat_count : (m : RecordBatch) (k : Kind) (layout : PhysicalType) (n : ℕ) (p : Place) → is_plain_kind k ≡ true → physical_of k ≡ layout → ((c : ℕ) → own_buffers layout c ≡ n) → own_views layout ≡ 0 → p.view ≤ length m.variadic → counts_faults m (moved 1 n 0 p) ≡ count_faults m k p
+pub leaf_count : (m : RecordBatch) (k : Kind) (layout : PhysicalType) (n : ℕ) (p : Place) → is_plain_kind k ≡ true → physical_of k ≡ layout → ((c : ℕ) → own_buffers layout c ≡ n) → own_views layout ≡ 0 → p.view ≤ length m.variadic → counts_faults m (moved 1 n 0 p) ≡ count_faults m k p
 unfolding count_faults
-flat_count m k layout n p h e b v w =
+leaf_count m k layout n p h e b v w =
     let none : view_count_faults m k p ≡ [] = no_view_faults m k p (plain_views k h ∙ ap own_views e ∙ v) w in
-    sym (append-nil (counts_faults m (moved 1 n 0 p))) ∙ ap (λ es. counts_faults m (moved 1 n 0 p) ++ es) (sym none) ∙ ap (λ q. counts_faults m q ++ view_count_faults m k p) (sym (flat_after m k layout n p h e b v))
+    sym (append-nil (counts_faults m (moved 1 n 0 p))) ∙ ap (λ es. counts_faults m (moved 1 n 0 p) ++ es) (sym none) ∙ ap (λ q. counts_faults m q ++ view_count_faults m k p) (sym (leaf_after m k layout n p h e b v))
 
-pub flat_queues : {X : Type 0} → (r : Result X IpcError) (k : Kind) (layout : PhysicalType) (n : ℕ) (ns ns' : List FieldNode) (bs bs' : List IpcBuffer) (vs : List ℤ)
+pub leaf_queues : {X : Type 0} → (r : Result X IpcError) (k : Kind) (layout : PhysicalType) (n : ℕ) (ns ns' : List FieldNode) (bs bs' : List IpcBuffer) (vs : List ℤ)
     → is_plain_kind k ≡ true → physical_of k ≡ layout → ((c : ℕ) → own_buffers layout c ≡ n) → own_views layout ≡ 0
     → IfOk r (λ _. (m : RecordBatch) (p : Place) → At m p ns bs → At m (moved 1 n 0 p) ns' bs')
     → IfOk r (λ _. (m : RecordBatch) (p : Place) → AllAt m p ns bs vs → AllAt m (after m k p) ns' bs' vs)
-flat_queues (Err x) k layout n ns ns' bs bs' vs h e b v q = tt
-flat_queues (Ok x) k layout n ns ns' bs bs' vs h e b v q = λ m p a.
+leaf_queues (Err x) k layout n ns ns' bs bs' vs h e b v q = tt
+leaf_queues (Ok x) k layout n ns ns' bs bs' vs h e b v q = λ m p a.
     let c = q m p (at_all a) in
     let l : p.view ≡ p.view + 0 = omega arith in
-    rw (flat_after m k layout n p h e b v) (record { nodes = c.nodes; buffers = c.buffers; views = left_same m.variadic p.view (p.view + 0) vs l a.views })
+    rw (leaf_after m k layout n p h e b v) (record { nodes = c.nodes; buffers = c.buffers; views = left_same m.variadic p.view (p.view + 0) vs l a.views })
 
-pub flat_exact : {X Y : Type 0} → (view : X → Y) (y : Y) (r : Result X IpcError) (k : Kind) (layout : PhysicalType) (n : ℕ) (ns : List FieldNode) (bs : List IpcBuffer) (vs : List ℤ)
+pub leaf_exact : {X Y : Type 0} → (view : X → Y) (y : Y) (r : Result X IpcError) (k : Kind) (layout : PhysicalType) (n : ℕ) (ns : List FieldNode) (bs : List IpcBuffer) (vs : List ℤ)
     → is_plain_kind k ≡ true → physical_of k ≡ layout → ((c : ℕ) → own_buffers layout c ≡ n) → own_views layout ≡ 0
     → ((m : RecordBatch) (p : Place) → At m p ns bs → Answers view r (counts_faults m (moved 1 n 0 p)) y)
     → (m : RecordBatch) (p : Place) → AllAt m p ns bs vs → Answers view r (count_faults m k p) y
-flat_exact view y r k layout n ns bs vs h e b v x m p a = answers_same view r _ _ y (flat_count m k layout n p h e b v a.views.within) (x m p (at_all a))
+leaf_exact view y r k layout n ns bs vs h e b v x m p a = answers_same view r _ _ y (leaf_count m k layout n p h e b v a.views.within) (x m p (at_all a))
 
 -- the same of nulls, which have a node alone
 pub null_queues : {X : Type 0} → (r : Result X IpcError) (ns ns' : List FieldNode) (bs : List IpcBuffer)
@@ -284,7 +246,7 @@ node_queues (Ok x) ns ns' h e = λ m p a.
 
 pub views_refused : (m : RecordBatch) (p : Place) (e : IpcError) → Refuses e (view_count_faults m binary_view p) → Refuses e (count_faults m binary_view p)
 unfolding count_faults
-views_refused m p e h = refuses_more (view_count_faults m binary_view p) (counts_faults m (after m binary_view p) ++ view_count_faults m binary_view p) (among_right (counts_faults m (after m binary_view p)) (view_count_faults m binary_view p)) e h
+views_refused m p e h = refuses_right (counts_faults m (after m binary_view p)) (view_count_faults m binary_view p) e h
 
 pub count_known : (m : RecordBatch) (p : Place) (n : ℕ) (rest : List ℤ) → IsNextCount m p.view n rest → counts_faults m (moved 1 (2 + n) 0 p) ≡ count_faults m binary_view p
 unfolding count_faults

@@ -12,7 +12,7 @@ use Rattle.arrow_spec.specs.Faults.{cause, if_sound}
 use Rattle.ipc_read.specs.Queues.{Left, short_of}
 use Rattle.arrow_spec.specs.Counts.{RecordBatch}
 use Rattle.arrow_spec.specs.Arrays.{buf}
-use Rattle.read_columns.specs.PartsRead.{bytes_of_rows}
+use Rattle.ipc_read_laws.specs.PartsRead.{bytes_of_rows}
 use Rattle.ipc_read.specs.Sources.{Answers, IsRefusal, BodyReadCause, Told, faults_where, bytes_where}
 use Rattle.ipc_read.specs.declared.body.Body.{Body}
 
@@ -87,6 +87,31 @@ pub among_split : (es fs gs : List IpcError) (e : IpcError) → ((x : IpcError) 
 among_split [] fs gs e l r h = r e h
 among_split (x ∷ es) fs gs e l r (inl h) = l e (inl h)
 among_split (x ∷ es) fs gs e l r (inr h) = among_split es fs gs e (λ y k. l y (inr k)) r h
+
+-- a refusal by either list is one by both
+refused_by : (es fs gs : List IpcError) (e : IpcError) → (IsAmong es e → IsAmong gs e) → (IsAmong fs e → IsAmong gs e) → IsAmong (es ++ fs) e → IsAmong gs e
+refused_by [] fs gs e l r h = r h
+refused_by (x ∷ es) fs gs e l r (inl h) = l (inl h)
+refused_by (x ∷ es) fs gs e l r (inr h) = refused_by es fs gs e (λ k. l (inr k)) r h
+
+pub refuses_by : (es fs gs : List IpcError) (e : IpcError) → (Refuses e es → Refuses e gs) → (Refuses e fs → Refuses e gs) → Refuses e (es ++ fs) → Refuses e gs
+refuses_by es fs gs (OutOfSpec k) l r h = refused_by es fs gs _ l r h
+refuses_by es fs gs (Unsupported k) l r h = refused_by es fs gs _ l r h
+refuses_by es fs gs TooDeep l r h = refused_by es fs gs _ l r h
+refuses_by es fs gs (TooMany k) l r h = refused_by es fs gs _ l r h
+refuses_by es fs gs (Projection k) l r h = refused_by es fs gs _ l r h
+refuses_by es fs gs TooLarge l r h = refused_by es fs gs _ l r h
+refuses_by es fs gs SchemaMismatch l r h = refused_by es fs gs _ l r h
+refuses_by es fs gs (DictionaryReplaced k) l r h = refused_by es fs gs _ l r h
+refuses_by es fs gs NotRepresentable l r h = refused_by es fs gs _ l r h
+refuses_by es fs gs State l r h = refused_by es fs gs _ l r h
+refuses_by es fs gs ReadFault l r h = tt
+refuses_by es fs gs WriteFault l r h = tt
+refuses_by es fs gs Memory l r h = tt
+
+-- where nothing is wrong in front
+pub answers_behind : {X Y : Type 0} → (view : X → Y) (r : Result X IpcError) (es fs : List IpcError) (y : Y) → es ≡ [] → Answers view r fs y → Answers view r (es ++ fs) y
+answers_behind view r es fs y h a = rw h a
 
 pub none_of_both : (es fs : List IpcError) → es ++ fs ≡ [] → (es ≡ []) × (fs ≡ [])
 none_of_both [] fs h = (refl, h)

@@ -1,5 +1,5 @@
 -- Arrays of views: what is wrong with them, by the layout of their kind.
-use Rattle.std.proofs.Common.{◌≡◌, ◌⊎◌, inl, inr, ℕ, zero, suc, ◌+◌, ◌*◌, ◌≤◌, List, [], ◌∷◌, ◌++◌, length, drop, Bool, true, false, Option, Some, None, ℤ, not, ◌&&◌, ◌||◌, refl, sym, ap, ◌∙◌, arith, subst}
+use Rattle.std.proofs.Common.{◌≡◌, ◌⊎◌, inl, inr, ℕ, zero, suc, ◌+◌, ◌*◌, ◌≤◌, List, [], ◌∷◌, ◌++◌, length, drop, Bool, true, false, Option, Some, None, Result, Ok, Err, IfOk, IfErr, ℤ, not, ◌&&◌, ◌||◌, refl, sym, ap, ◌∙◌, arith, subst}
 use Rattle.std.specs.Prelude.{nat_lt, nat_le, take, if◌then◌else◌}
 use Rattle.std.proofs.lemmas.Bool.{le-ltb, lt-ltb, le-leb}
 use Rattle.arrow_spec.specs.declared.error.IpcError.{IpcError}
@@ -24,18 +24,18 @@ use Rattle.arrow_types.specs.declared.physical.PhysicalType.TheVariants as physi
 use Rattle.arrow_buffers.specs.declared.error.ArrayError.{ArrayError}
 use Rattle.arrow_buffers.specs.declared.error.ArrayError.TheVariants.{Utf8, View}
 use Rattle.arrow_buffers.specs.Layouts.{is_view, binary_size}
-use Rattle.arrow_buffers.specs.Views.{Views, view_fault, has_bad_view, has_bad_view_text}
-use Rattle.read_columns.specs.Faults.{read_faults, fetched_at_most, stated, stated_of}
-use Rattle.read_columns.specs.PartsRead.{bytes_of_rows, validity_read, views_read}
-use Rattle.read_columns.specs.LayoutFaults.{contents_of}
-use Rattle.read_columns.proofs.ViewsRead.{views_told, buffers_told}
-use Rattle.read_columns.proofs.Sound.{views_held, bad_view_faults-read, bad_text_faults-read, view_fault-read, view_fault-none}
+use Rattle.arrow_buffers.specs.Views.{Views, view_rows, view_fault, has_bad_view, has_bad_view_text}
+use Rattle.ipc_read_laws.specs.Faults.{read_faults, fetched_at_most, stated, stated_of}
+use Rattle.ipc_read_laws.specs.PartsRead.{bytes_of_rows, validity_read, views_read}
+use Rattle.ipc_read_laws.specs.LayoutFaults.{contents_of}
+use Rattle.ipc_read_laws.proofs.ViewsRead.{views_told, buffers_told}
+use Rattle.ipc_read_laws.proofs.Sound.{views_held, bad_view_faults-read, bad_text_faults-read, view_fault-read, view_fault-none}
 use Rattle.ipc_read.specs.Queues.{Left, AllAt, short_of}
-use Rattle.ipc_read.specs.Sources.{faults_where, bytes_where, validity_fetched}
+use Rattle.ipc_read.specs.Sources.{Answers, faults_where, bytes_where, validity_fetched}
 use Rattle.ipc_read.specs.DataBuffers.{data_causes, data_of}
 use Rattle.ipc_read.proofs.Refusals.{among_left, among_right, among_sound, among_cause, no_cause, refuses_left, refuses_right, refuses_more, memory_refuses, both_none}
 use Rattle.ipc_read.proofs.Counted.{refused_in, lacks_or, left_next, stated_append}
-use Rattle.ipc_read.proofs.FlatArrays.{by_layout}
+use Rattle.ipc_read.proofs.LeafArrays.{by_layout}
 
 -- ── layouts ──
 
@@ -282,7 +282,7 @@ parts_none m p n count b a r =
 same_parts : (a : Views) (k : Kind) (xs : List ℕ) (ys : List (List ℕ)) (v : Option (List Bool)) → a.kind ≡ k → a.views ≡ xs → a.buffers ≡ ys → a.validity ≡ v → a ≡ record { kind = k; views = xs; buffers = ys; validity = v }
 same_parts a k xs ys v e x y z = rw (← e, ← x, ← y, ← z) refl
 
-pub views_same : (m : RecordBatch) (k : Kind) (p : Place) (rows count : ℕ) (b : Bool) (a : Views) → a.kind ≡ k → WasRead m p rows count b a → a ≡ views_read m k p rows
+views_same : (m : RecordBatch) (k : Kind) (p : Place) (rows count : ℕ) (b : Bool) (a : Views) → a.kind ≡ k → WasRead m p rows count b a → a ≡ views_read m k p rows
 views_same m k p zero count b a e r = same_parts a k _ _ _ e r.is_views r.is_buffers r.is_validity
 views_same m k p (suc n) count b a e r = same_parts a k _ _ _ e r.is_views (r.is_buffers ∙ ap (data_of m (p.buffer + 2) (suc n)) r.is_count) r.is_validity
 
@@ -371,6 +371,15 @@ counts_none t m k p rows count f e n b c =
     or_false false v h k = k
     or_false true v h k = cc
 
-pub view_fine : (t : Bool) (m : RecordBatch) (k : Kind) (p : Place) (rows count : ℕ) (b : Bool) (ns : List FieldNode) (bs : List IpcBuffer) (a : Views) → ViewArray t m k p rows → Left m.nodes (suc p.node) ns → Left m.buffers (p.buffer + 2 + count) bs → node_faults m p rows ≡ [] → a.kind ≡ k → WasRead m p rows count b a → view_fault t true a ≡ None → read_faults m k p rows ≡ []
+view_fine : (t : Bool) (m : RecordBatch) (k : Kind) (p : Place) (rows count : ℕ) (b : Bool) (ns : List FieldNode) (bs : List IpcBuffer) (a : Views) → ViewArray t m k p rows → Left m.nodes (suc p.node) ns → Left m.buffers (p.buffer + 2 + count) bs → node_faults m p rows ≡ [] → a.kind ≡ k → WasRead m p rows count b a → view_fault t true a ≡ None → read_faults m k p rows ≡ []
 unfolding read_faults
 view_fine t m k p rows count b ns bs a f n l x s r h = both_none (count_faults m k p) _ (counts_none t m k p rows count f r.is_count n.within l.within r.counts) (f.faults ∙ both_none (node_faults m p rows) _ x (contents_none t m k p rows count b a s r h))
+
+-- an array of parts that are all well, which is made or refused
+pub view_made : (t : Bool) (m : RecordBatch) (k : Kind) (p : Place) (rows count : ℕ) (b : Bool) (ns : List FieldNode) (bs : List IpcBuffer) (a : Views) (r : Result Views IpcError) → ViewArray t m k p rows → Left m.nodes (suc p.node) ns → Left m.buffers (p.buffer + 2 + count) bs → node_faults m p rows ≡ [] → a.kind ≡ k → WasRead m p rows count b a
+    → IfOk r (λ x. x ≡ a) → IfOk r (λ x. view_fault t true a ≡ None) → IfErr r (λ e. Refuses e (read_faults m k p rows)) → Answers (λ x. x) r (read_faults m k p rows) (views_read m k p rows)
+view_made t m k p rows count b ns bs a (Ok x) f n l node e read is sound err = record { ok = (view_fine t m k p rows count b ns bs a f n l node e read sound, is ∙ views_same m k p rows count b a e read); err = tt }
+view_made t m k p rows count b ns bs a (Err x) f n l node e read is sound err = record { ok = tt; err = err }
+
+pub view_shape : (k : Kind) (x : Views) (xs : List ℕ) (ys : List (List ℕ)) (v : Option (List Bool)) (rows : ℕ) → x ≡ record { kind = k; views = xs; buffers = ys; validity = v } → length xs ≡ 16 * rows → (x.kind ≡ k) × (view_rows x.views ≡ rows)
+view_shape k x xs ys v rows e c = rw e (refl, omega (arith, c))

@@ -24,8 +24,8 @@ use Rattle.arrow_spec.specs.declared.error.Feature.TheVariants as features
 use Rattle.arrow_buffers.specs.Layouts.{binary_size}
 use Rattle.arrow_arrays.specs.Parts.{Parts, cells_in}
 use Rattle.arrow_arrays.specs.Batches.{Batch}
-use Rattle.arrow_arrays.specs.FlatKinds.{is_flat_kind}
-use Rattle.read_columns.specs.Faults.{stated_of, fetched_at_most}
+use Rattle.arrow_arrays.specs.LeafKinds.{is_leaf_kind}
+use Rattle.ipc_read_laws.specs.Faults.{stated_of, fetched_at_most}
 use Rattle.ipc_read.specs.Skips.{is_plain_layout}
 
 -- ── the columns ──
@@ -44,9 +44,9 @@ are_column_kinds [] = true
 are_column_kinds (p ∷ ps) = is_column_kind p.1.kind && are_column_kinds ps
 
 -- each field's kind is one that arrays have
-abbrev pub are_flat_kinds : List Keyed → Bool
-are_flat_kinds [] = true
-are_flat_kinds (p ∷ ps) = is_flat_kind p.1.kind && are_flat_kinds ps
+abbrev pub are_leaf_kinds : List Keyed → Bool
+are_leaf_kinds [] = true
+are_leaf_kinds (p ∷ ps) = is_leaf_kind p.1.kind && are_leaf_kinds ps
 
 -- what of numbers, and of a layout, is not read
 abbrev pub unread_number : PrimitiveType → Option Feature

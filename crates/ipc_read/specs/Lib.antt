@@ -1,6 +1,7 @@
 pub mod DataBuffers
 pub mod Queues
 pub mod Sources
+pub mod Readers
 pub mod Skips
 pub mod Readings
 pub mod Batches

@@ -1,10 +1,12 @@
 -- Layouts whose arrays are read alike.
 use Rattle.std.specs.Prelude.{Bool, true, false}
 use Rattle.arrow_types.specs.declared.physical.PhysicalType.{PhysicalType}
-use Rattle.arrow_types.specs.declared.physical.PhysicalType.TheVariants.{Boolean, FixedSizeBinary, Binary, LargeBinary, Utf8, LargeUtf8, BinaryView, Utf8View}
+use Rattle.arrow_types.specs.declared.physical.PhysicalType.TheVariants.{Null, Boolean, FixedSizeBinary, Binary}
+use Rattle.arrow_types.specs.declared.physical.PhysicalType.TheVariants.{LargeBinary, Utf8, LargeUtf8, BinaryView, Utf8View}
 
--- the layout is that of truth values, of byte strings of one size, or of byte strings or texts between offsets
+-- the layout is that of nulls, of truth values, of byte strings of one size, or of byte strings or texts between offsets
 abbrev pub is_of_values : PhysicalType → Bool
+is_of_values Null = true
 is_of_values Boolean = true
 is_of_values FixedSizeBinary = true
 is_of_values Binary = true

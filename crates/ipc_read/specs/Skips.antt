@@ -1,11 +1,15 @@
 -- Columns that are passed over.
-use Rattle.std.specs.Prelude.{◌≡◌, ℕ, ◌+◌, List, take, drop, Bool, true, false, ⊤, ℤ}
+use Rattle.std.specs.Prelude.{◌≡◌, ℕ, ◌+◌, List, take, drop, Bool, true, false, ⊤, ℤ, Result, IfOk, IfErr}
 use Rattle.arrow_spec.specs.declared.error.IpcError.{IpcError}
 use Rattle.arrow_spec.specs.declared.error.IpcError.TheVariants.{OutOfSpec}
-use Rattle.arrow_spec.specs.Faults.{some_negative}
-use Rattle.ipc_read.specs.Queues.{Left}
+use Rattle.arrow_spec.specs.Faults.{some_negative, counts_faults, count_faults}
+use Rattle.ipc_read.specs.Queues.{Left, At, AllAt, Shortened, ShortenedBy}
+use Rattle.ipc_read.specs.Sources.{Answers}
 use Rattle.arrow_spec.specs.Kinds.{Kind}
-use Rattle.arrow_spec.specs.Counts.{RecordBatch, Place, count_at}
+use Rattle.arrow_spec.specs.Counts.{RecordBatch, Place, count_at, after}
+use Rattle.arrow_spec.specs.declared.message.FieldNode.{FieldNode}
+use Rattle.arrow_spec.specs.declared.message.IpcBuffer.{IpcBuffer}
+use Rattle.arrow_spec.specs.declared.message.MetadataVersion.{MetadataVersion}
 use Rattle.arrow_types.specs.Physical.{physical_of}
 use Rattle.arrow_types.specs.declared.physical.PhysicalType.{PhysicalType}
 use Rattle.arrow_types.specs.declared.physical.PhysicalType.TheVariants as physical
@@ -39,3 +43,18 @@ pub record IsNextCount (m : RecordBatch) (i n : ℕ) (rest : List ℤ) : Type 0 
   pub is : n ≡ count_at m i
   pub natural : some_negative (take 1 (drop i m.variadic)) ≡ false
   pub left : Left m.variadic (i + 1) rest
+
+-- a node and so many buffers were passed over, or some of them were missing
+pub record PassesParts (n : ℕ) (ns ns' : List FieldNode) (bs bs' : List IpcBuffer) (result : Result (Unit {0}) IpcError) : Type 0 where
+  pub queues : IfOk result (λ _. (m : RecordBatch) (p : Place) → At m p ns bs → At m (moved 1 n 0 p) ns' bs')
+  pub exact : (m : RecordBatch) (p : Place) → At m p ns bs → Answers (λ u. u) result (counts_faults m (moved 1 n 0 p)) tt
+  pub nodes : Shortened ns 1 ns'
+  pub buffers : Shortened bs n bs'
+  pub damage : IfErr result IsDamage
+
+-- an array of a kind was passed over, or parts of it were missing
+pub record PassesColumn (k : Kind) (ns ns' : List FieldNode) (bs bs' : List IpcBuffer) (vs vs' : List ℤ) (result : Result (Unit {0}) IpcError) : Type 0 where
+  pub queues : IfOk result (λ _. (m : RecordBatch) (p : Place) → AllAt m p ns bs vs → AllAt m (after m k p) ns' bs' vs')
+  pub exact : (m : RecordBatch) (p : Place) → AllAt m p ns bs vs → Answers (λ u. u) result (count_faults m k p) tt
+  pub shortened : (version : MetadataVersion) → ShortenedBy k version ns ns' bs bs' vs vs'
+  pub damage : IfErr result IsDamage

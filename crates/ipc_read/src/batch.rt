@@ -11,178 +11,93 @@ ghost use Rattle.arrow_types.specs.KindOf.{kind_of};
 ghost use Rattle.arrow_types.specs.Schemas.{fields_in};
 ghost use Rattle.arrow_arrays.specs.Batches.{have_rows};
 ghost use Rattle.arrow_spec.specs.Flat.{order_by};
-ghost use Rattle.arrow_arrays.specs.FlatKinds.{is_flat_kind};
+ghost use Rattle.arrow_arrays.specs.LeafKinds.{is_leaf_kind};
 ghost use Rattle.arrow_arrays.specs.Parts.{kind_in, rows_in, cells_in};
 ghost use Rattle.arrow_arrays.specs.PartsOf.{parts_of, all_parts_of};
-ghost use Rattle.read_columns.specs.Batches.{columns_read};
-ghost use Rattle.read_columns.specs.Faults.{fetched_at_most};
-ghost use Rattle.read_columns.specs.PartsRead.{parts_read};
+ghost use Rattle.ipc_read_laws.specs.Batches.{columns_read};
+ghost use Rattle.ipc_read_laws.specs.Faults.{fetched_at_most};
+ghost use Rattle.ipc_read_laws.specs.PartsRead.{parts_read};
 ghost use Rattle.ipc_schema.specs.Views.{header_of};
-ghost use Rattle.ipc_read.specs.Batches.{table_in, are_column_kinds, are_flat_kinds, batch_reading, table_of, batch_fetched, columns_fetched};
+ghost use Rattle.ipc_read.specs.Batches.{AreQueuesOf, table_in, are_column_kinds, are_leaf_kinds, batch_reading, table_of, batch_fetched, columns_fetched};
 ghost use Rattle.arrow_spec.specs.Files.{record_batch_of};
-ghost use Rattle.ipc_read.specs.Queues.{AllAt};
-ghost use Rattle.ipc_read.specs.Sources.{Answers, Inside, Known, BodyReadCause, bytes_in};
+ghost use Rattle.ipc_read.specs.Readers.{QueuesAt, KnownTo, Readable, CanRead, KeepsQueues, FailsToReadColumn, HasReadCause, TakesColumn, FetchesColumn};
+ghost use Rattle.ipc_read.specs.Sources.{Answers, Inside, BodyReadCause, bytes_in};
 
 use crate::Body;
-use crate::reading::{Dictionaries, read};
+use crate::readers::{BufferReader, ColumnReader};
+use crate::reading::Dictionaries;
 use crate::tables::{check_kinds, check_node, field_at, queues_of, row_count};
 use arrow_arrays::{Array, RecordBatch};
-use arrow_spec::{FieldNode, IpcBuffer, IpcError, MetadataVersion};
-use arrow_types::{ArrowSchema, ArrowSchemaRef, Field};
-use ipc_fields::{IpcField, IpcSchema};
+use arrow_spec::{IpcError, MetadataVersion};
+use arrow_types::{ArrowDataType, ArrowSchema, ArrowSchemaRef};
+use ipc_fields::IpcSchema;
 use ipc_schema::{BatchHeader, Source};
 use std::alloc::Global;
-use std::collections::VecDeque;
 
-/// A column: its node has exactly the batch's rows.
-fn read_column<S: Source>(
-    alloc: Global,
-    nodes: &mut VecDeque<FieldNode>,
-    variadic: &mut VecDeque<i64>,
-    field: &Field,
-    ipc_field: &IpcField,
-    buffers: &mut VecDeque<IpcBuffer>,
-    source: &mut S,
-    dictionaries: &Dictionaries,
-    body: Body,
-    is_little_endian: bool,
-    rows: usize,
-    version: MetadataVersion,
-    scratch: &mut Vec<u8>,
-) -> Result<Array, IpcError>
-    requires flat { is_flat_kind (kind_of field.now.dtype) ≡ true }
-    requires room { body.offset + body.length < 2 ^ 63 }
-    requires inside { Inside (S.content source.old) body }
-    ensures queues { IfOk result (λ _. (m : Batch) (p : Place) → AllAt m p nodes.old.items buffers.old.items variadic.old.items → AllAt m (after m (kind_of field.now.dtype) p) nodes.new.items buffers.new.items variadic.new.items) }
-    ensures parts { (m : Batch) (p : Place) → AllAt m p nodes.old.items buffers.old.items variadic.old.items → Known (S.content source.old) body is_little_endian m → Answers (λ a. parts_of a) result (column_faults m [] (kind_of field.now.dtype) p rows rows) (parts_read m (kind_of field.now.dtype) p rows) }
-    ensures cells { (m : Batch) (p : Place) → AllAt m p nodes.old.items buffers.old.items variadic.old.items → Known (S.content source.old) body is_little_endian m → Answers (λ a. cells_in (parts_of a)) result (column_faults m [] (kind_of field.now.dtype) p rows rows) (from_on (cell m [] (kind_of field.now.dtype) p) 0 rows) }
-    ensures shape { IfOk result (λ a. (kind_in (parts_of a) ≡ (kind_of field.now.dtype)) × (rows_in (parts_of a) ≡ rows)) }
-    ensures cause { IfErr result (λ e. BodyReadCause e (S.faults source.old) (S.faults source.new)) }
-    ensures content { S.content source.new ≡ S.content source.old }
-    ensures faults { S.faults source.old ≤ S.faults source.new }
-    ensures fetched { (m : Batch) (p : Place) → AllAt m p nodes.old.items buffers.old.items variadic.old.items → S.fetched source.new ≤ S.fetched source.old + fetched_at_most m (kind_of field.now.dtype) p rows }
-    ensures same_source { S.references source.new ≡ S.references source.old }
-{
-    check_node(nodes, rows)?;
-    read(
-        alloc,
-        nodes,
-        variadic,
-        field,
-        ipc_field,
-        buffers,
-        source,
-        dictionaries,
-        body,
-        is_little_endian,
-        rows,
-        version,
-        scratch,
-    )
-}
-
-/// All columns, one after another.
-fn read_columns<S: Source>(
-    alloc: Global,
-    nodes: &mut VecDeque<FieldNode>,
-    variadic: &mut VecDeque<i64>,
-    schema: &ArrowSchema,
-    ipc_schema: &IpcSchema,
-    buffers: &mut VecDeque<IpcBuffer>,
-    source: &mut S,
-    dictionaries: &Dictionaries,
-    body: Body,
-    rows: usize,
-    version: MetadataVersion,
-    scratch: &mut Vec<u8>,
-) -> Result<Vec<Array>, IpcError>
-    requires flat { are_flat_kinds schema.now ≡ true }
-    requires fields { length ipc_schema.now.fields.items ≡ length schema.now }
-    requires room { body.offset + body.length < 2 ^ 63 }
-    requires inside { Inside (S.content source.old) body }
-    ensures gives { (m : Batch) → AllAt m first_place nodes.old.items buffers.old.items variadic.old.items → Known (S.content source.old) body ipc_schema.now.is_little_endian m → Gives (λ v. map cells_in (all_parts_of v.items)) result (columns_at m [] None (fields_in schema.now) 0 first_place rows rows) }
-    ensures parts { IfOk result (λ v. (m : Batch) → AllAt m first_place nodes.old.items buffers.old.items variadic.old.items → Known (S.content source.old) body ipc_schema.now.is_little_endian m → all_parts_of v.items ≡ columns_read m (fields_in schema.now) first_place rows) }
-    ensures shape { IfOk result (λ v. have_rows rows (all_parts_of v.items) ≡ true) }
-    ensures count { IfOk result (λ v. length v.items ≡ length schema.now) }
-    ensures cause { IfErr result (λ e. BodyReadCause e (S.faults source.old) (S.faults source.new)) }
-    ensures content { S.content source.new ≡ S.content source.old }
-    ensures faults { S.faults source.old ≤ S.faults source.new }
-    ensures fetched { (m : Batch) → AllAt m first_place nodes.old.items buffers.old.items variadic.old.items → S.fetched source.new ≤ S.fetched source.old + columns_fetched m (fields_in schema.now) first_place rows }
-    ensures same_source { S.references source.new ≡ S.references source.old }
-{
-    let mut arrays = Vec::new(alloc);
-    for i in 0..schema.len() {
-        let field = field_at(schema, i);
-        let ipc_field = &ipc_schema.fields[i];
-        let array = read_column(
-            alloc,
-            nodes,
-            variadic,
-            field,
-            ipc_field,
-            buffers,
-            source,
-            dictionaries,
-            body,
-            ipc_schema.is_little_endian,
-            rows,
-            version,
-            scratch,
-        )?;
-        if arrays.push(array).is_err() {
-            return Err(IpcError::Memory);
-        }
+impl<'n, 'a, S: Source> ColumnReader<'n, 'a, S> {
+    /// A column: its node has exactly the batch's rows.
+    fn read_column(&mut self, dtype: &ArrowDataType, rows: usize) -> Result<Array, IpcError>
+        requires leaf { is_leaf_kind (kind_of dtype.now) ≡ true }
+        requires readable { CanRead S.content self.old.buffers }
+        ensures takes { TakesColumn (kind_of dtype.now) self.old self.new result }
+        ensures parts { (m : Batch) (p : Place) → QueuesAt m p self.old → KnownTo S.content self.old.buffers m → Answers (λ a. parts_of a) result (column_faults m [] (kind_of dtype.now) p rows rows) (parts_read m (kind_of dtype.now) p rows) }
+        ensures cells { (m : Batch) (p : Place) → QueuesAt m p self.old → KnownTo S.content self.old.buffers m → Answers (λ a. cells_in (parts_of a)) result (column_faults m [] (kind_of dtype.now) p rows rows) (from_on (cell m [] (kind_of dtype.now) p) 0 rows) }
+        ensures shape { IfOk result (λ a. (kind_in (parts_of a) ≡ (kind_of dtype.now)) × (rows_in (parts_of a) ≡ rows)) }
+        ensures cause { FailsToReadColumn S.faults self.old self.new result }
+        ensures keeps { KeepsQueues S.content S.faults S.references self.old self.new }
+        ensures fetched { FetchesColumn S.fetched (kind_of dtype.now) self.old self.new rows }
+    {
+        check_node(self.nodes, rows)?;
+        self.read_array(dtype, rows)
     }
-    Ok(arrays)
-}
 
-/// The rows and the columns of a batch.
-fn read_arrays<S: Source>(
-    alloc: Global,
-    header: &BatchHeader,
-    schema: &ArrowSchema,
-    ipc_schema: &IpcSchema,
-    dictionaries: &Dictionaries,
-    version: MetadataVersion,
-    source: &mut S,
-    body: Body,
-    size: u64,
-    scratch: &mut Vec<u8>,
-) -> Result<(usize, Vec<Array>), IpcError>
-    requires columns { are_column_kinds schema.now ≡ true }
-    requires fields { length ipc_schema.now.fields.items ≡ length schema.now }
-    requires room { body.offset + body.length < 2 ^ 63 }
-    requires inside { Inside (S.content source.old) body }
-    ensures gives { IfSome (S.content source.old) (λ b. Gives (λ r. table_in r.0 (all_parts_of r.1.items)) result (batch_reading ipc_schema.now.is_little_endian (fields_in schema.now) size version (header_of header.now) (bytes_in body b))) }
-    ensures parts { IfOk result (λ r. IfSome (S.content source.old) (λ b. all_parts_of r.1.items ≡ columns_read (record_batch_of (order_by ipc_schema.now.is_little_endian) version (header_of header.now) (bytes_in body b)) (fields_in schema.now) first_place r.0)) }
-    ensures shape { IfOk result (λ r. have_rows r.0 (all_parts_of r.1.items) ≡ true) }
-    ensures count { IfOk result (λ r. length r.1.items ≡ length schema.now) }
-    ensures height { IfOk result (λ r. r.0 ≡ magnitude header.now.length) }
-    ensures cause { IfErr result (λ e. BodyReadCause e (S.faults source.old) (S.faults source.new)) }
-    ensures content { S.content source.new ≡ S.content source.old }
-    ensures faults { S.faults source.old ≤ S.faults source.new }
-    ensures fetched { (bytes : List ℕ) → S.fetched source.new ≤ S.fetched source.old + batch_fetched (record_batch_of (order_by ipc_schema.now.is_little_endian) version (header_of header.now) bytes) (fields_in schema.now) (magnitude header.now.length) }
-    ensures same_source { S.references source.new ≡ S.references source.old }
-{
-    check_kinds(schema)?;
-    let rows = row_count(header, size)?;
-    let queues = queues_of(alloc, header)?;
-    let (mut nodes, mut buffers, mut variadic) = queues;
-    let arrays = read_columns(
-        alloc,
-        &mut nodes,
-        &mut variadic,
-        schema,
-        ipc_schema,
-        &mut buffers,
-        source,
-        dictionaries,
-        body,
-        rows,
-        version,
-        scratch,
-    )?;
-    Ok((rows, arrays))
+    /// All columns, one after another.
+    fn read_columns(&mut self, schema: &ArrowSchema, rows: usize) -> Result<Vec<Array>, IpcError>
+        requires leaf { are_leaf_kinds schema.now ≡ true }
+        requires readable { CanRead S.content self.old.buffers }
+        ensures gives { (m : Batch) → QueuesAt m first_place self.old → KnownTo S.content self.old.buffers m → Gives (λ v. map cells_in (all_parts_of v.items)) result (columns_at m [] None (fields_in schema.now) 0 first_place rows rows) }
+        ensures parts { IfOk result (λ v. (m : Batch) → QueuesAt m first_place self.old → KnownTo S.content self.old.buffers m → all_parts_of v.items ≡ columns_read m (fields_in schema.now) first_place rows) }
+        ensures shape { IfOk result (λ v. have_rows rows (all_parts_of v.items) ≡ true) }
+        ensures count { IfOk result (λ v. length v.items ≡ length schema.now) }
+        ensures cause { FailsToReadColumn S.faults self.old self.new result }
+        ensures keeps { KeepsQueues S.content S.faults S.references self.old self.new }
+        ensures fetched { (m : Batch) → QueuesAt m first_place self.old → S.fetched self.new.buffers.source.now ≤ S.fetched self.old.buffers.source.now + columns_fetched m (fields_in schema.now) first_place rows }
+    {
+        let mut arrays = Vec::new(self.buffers.alloc);
+        for i in 0..schema.len() {
+            let field = field_at(schema, i);
+            let array = self.read_column(&field.dtype, rows)?;
+            if arrays.push(array).is_err() {
+                return Err(IpcError::Memory);
+            }
+        }
+        Ok(arrays)
+    }
+
+    /// The rows and the columns of a batch, whose queues it stands on.
+    fn read_arrays(
+        &mut self,
+        header: &BatchHeader,
+        schema: &ArrowSchema,
+        size: u64,
+    ) -> Result<(usize, Vec<Array>), IpcError>
+        requires columns { are_column_kinds schema.now ≡ true }
+        requires queues { AreQueuesOf (header_of header.now) self.old.nodes.now.items self.old.buffers.queue.now.items self.old.variadic.now.items }
+        requires readable { CanRead S.content self.old.buffers }
+        ensures gives { IfSome (S.content self.old.buffers.source.now) (λ b. Gives (λ r. table_in r.0 (all_parts_of r.1.items)) result (batch_reading self.old.buffers.is_little_endian (fields_in schema.now) size self.old.version (header_of header.now) (bytes_in self.old.buffers.body b))) }
+        ensures parts { IfOk result (λ r. IfSome (S.content self.old.buffers.source.now) (λ b. all_parts_of r.1.items ≡ columns_read (record_batch_of (order_by self.old.buffers.is_little_endian) self.old.version (header_of header.now) (bytes_in self.old.buffers.body b)) (fields_in schema.now) first_place r.0)) }
+        ensures shape { IfOk result (λ r. have_rows r.0 (all_parts_of r.1.items) ≡ true) }
+        ensures count { IfOk result (λ r. length r.1.items ≡ length schema.now) }
+        ensures height { IfOk result (λ r. r.0 ≡ magnitude header.now.length) }
+        ensures cause { FailsToReadColumn S.faults self.old self.new result }
+        ensures keeps { KeepsQueues S.content S.faults S.references self.old self.new }
+        ensures fetched { (bytes : List ℕ) → S.fetched self.new.buffers.source.now ≤ S.fetched self.old.buffers.source.now + batch_fetched (record_batch_of (order_by self.old.buffers.is_little_endian) self.old.version (header_of header.now) bytes) (fields_in schema.now) (magnitude header.now.length) }
+    {
+        check_kinds(schema)?;
+        let rows = row_count(header, size)?;
+        let arrays = self.read_columns(schema, rows)?;
+        Ok((rows, arrays))
+    }
 }
 
 /// Reads a record batch whose body stands in a place of the source. The lengths of all buffers together are at most
@@ -229,18 +144,22 @@ pub fn read_record_batch<S: Source>(
     ensures fetched { (bytes : List ℕ) → S.fetched source.new ≤ S.fetched source.old + batch_fetched (record_batch_of (order_by ipc_schema.now.is_little_endian) version (header_of header.now) bytes) (fields_in (rc_value schema.now)) (magnitude header.now.length) }
     ensures same_source { S.references source.new ≡ S.references source.old }
 {
-    let columns = read_arrays(
-        alloc,
-        header,
-        schema,
-        ipc_schema,
-        dictionaries,
+    let queues = queues_of(alloc, header)?;
+    let (mut nodes, mut buffers, mut variadic) = queues;
+    let mut reader = ColumnReader {
+        nodes: &mut nodes,
+        variadic: &mut variadic,
+        buffers: BufferReader {
+            alloc,
+            queue: &mut buffers,
+            source,
+            body,
+            is_little_endian: ipc_schema.is_little_endian,
+            scratch,
+        },
         version,
-        source,
-        body,
-        size,
-        scratch,
-    )?;
+    };
+    let columns = reader.read_arrays(header, schema, size)?;
     let (rows, arrays) = columns;
     let Ok(shared) = schema.clone() else {
         return Err(IpcError::Memory);

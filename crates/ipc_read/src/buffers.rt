@@ -6,15 +6,17 @@ ghost use Rattle.arrow_spec.specs.Faults.{range_causes, range_faults, bitmap_fau
 ghost use Rattle.arrow_spec.specs.Laws.{AreBytes};
 ghost use Rattle.arrow_spec.specs.declared.error.IpcError.TheVariants.{Memory, ReadFault};
 ghost use Rattle.arrow_buffers.specs.Rows.{has_rows};
-ghost use Rattle.ipc_schema.specs.Outside.{StandsAt};
+ghost use Rattle.ipc_io.specs.Outside.{StandsAt};
 ghost use Rattle.ipc_read.specs.Queues.{Left, Takes, short_of, Shortened};
-ghost use Rattle.ipc_read.specs.Sources.{Answers, Inside, Known, BodyReadCause, IsRefusal, part_of, validity_fetched};
+ghost use Rattle.ipc_read.specs.Sources.{Answers, Inside, Told, Known, IsRefusal, part_of, validity_fetched};
+ghost use Rattle.ipc_read.specs.Readers.{KnownTo, Readable, SourceKept, HasReadCause, BufferTaken, BytesGiven, NumbersGiven, BufferFetched, CanRead, KeepsSource, FailsToRead, TakesBuffer, ShortensBuffers, GivesBytes, GivesNumbers, FetchesBuffer};
 ghost use Rattle.arrow_spec.specs.Flat.{order_by};
-ghost use Rattle.read_columns.specs.PartsRead.{bits_read, items_read, validity_read};
-ghost use Rattle.read_columns.specs.Faults.{stated};
+ghost use Rattle.ipc_read_laws.specs.PartsRead.{bits_read, items_read, validity_read};
+ghost use Rattle.ipc_read_laws.specs.Faults.{stated};
 
 use crate::Body;
 use crate::integers::magnitude;
+use crate::readers::BufferReader;
 use arrow_buffers::{Bitmap, Buffer};
 use arrow_spec::{FieldNode, IpcBuffer, IpcError, OutOfSpecKind};
 use arrow_types::NativeType;
@@ -36,7 +38,7 @@ pub(crate) fn take_one<T: Drop>(queue: &mut VecDeque<T>) -> Result<T, IpcError>
 
 /// Passes over the next buffer.
 pub(crate) fn pass_buffer(buffers: &mut VecDeque<IpcBuffer>) -> Result<(), IpcError>
-    ensures queue { IfOk result (λ _. (m : Batch) (i : ℕ) → Left m.buffers i buffers.old.items → Left m.buffers (suc i) buffers.new.items) }
+    ensures takes { BufferTaken buffers.old.items buffers.new.items result }
     ensures gives { (m : Batch) (i : ℕ) → Left m.buffers i buffers.old.items → Answers (λ u. u) result (short_of m.buffers i) tt }
     ensures shortened { Shortened buffers.old.items 1 buffers.new.items }
     ensures refusal { IfErr result IsRefusal }
@@ -68,7 +70,7 @@ fn buffer_place(body: Body, buffer: IpcBuffer) -> Result<Body, IpcError>
 /// Takes the next buffer: where it stands in the source.
 pub(crate) fn next_part(buffers: &mut VecDeque<IpcBuffer>, body: Body) -> Result<Body, IpcError>
     requires room { body.offset + body.length < 2 ^ 63 }
-    ensures queue { IfOk result (λ _. (m : Batch) (i : ℕ) → Left m.buffers i buffers.old.items → Left m.buffers (suc i) buffers.new.items) }
+    ensures takes { BufferTaken buffers.old.items buffers.new.items result }
     ensures gives { (m : Batch) (i : ℕ) → Left m.buffers i buffers.old.items → length m.body ≡ body.length → Answers (λ part. part) result (range_faults m i) (part_of body (range_of m i)) }
     ensures shortened { Shortened buffers.old.items 1 buffers.new.items }
     ensures place { IfOk result (λ part. (m : Batch) (i : ℕ) → Left m.buffers i buffers.old.items → part ≡ part_of body (range_of m i)) }
@@ -80,18 +82,46 @@ pub(crate) fn next_part(buffers: &mut VecDeque<IpcBuffer>, body: Body) -> Result
     Ok(part)
 }
 
+/// Takes the next buffer, which has so many items of a width: where they stand in the source.
+pub(crate) fn items_part(
+    buffers: &mut VecDeque<IpcBuffer>,
+    body: Body,
+    width: usize,
+    rows: usize,
+) -> Result<Body, IpcError>
+    requires room { body.offset + body.length < 2 ^ 63 }
+    ensures takes { BufferTaken buffers.old.items buffers.new.items result }
+    ensures gives { (m : Batch) (i : ℕ) → Left m.buffers i buffers.old.items → length m.body ≡ body.length → Answers (λ part. part.offset) result (numbers_faults m i width rows) (body.offset + magnitude (range_of m i).offset) }
+    ensures shortened { Shortened buffers.old.items 1 buffers.new.items }
+    ensures enough { IfOk result (λ _. (m : Batch) (i : ℕ) → Left m.buffers i buffers.old.items → width * rows ≤ stated m i) }
+    ensures count { IfOk result (λ part. part.length ≡ width * rows) }
+    ensures within { IfOk result (λ part. part.offset + part.length ≤ body.offset + body.length) }
+    ensures refusal { IfErr result IsRefusal }
+{
+    let part = next_part(buffers, body)?;
+    let size = width as u128 * rows as u128;
+    if (part.length as u128) < size {
+        return Err(IpcError::OutOfSpec(OutOfSpecKind::InvalidBuffer {
+            length: rows as u64,
+            required_number_of_bytes: size,
+            buffer_length: part.length,
+        }));
+    }
+    Ok(Body {
+        offset: part.offset,
+        length: size as u64,
+    })
+}
+
 /// Fills the bytes with those that stand in a place of the source.
 fn fetch_into<S: Source>(source: &mut S, part: Body, bytes: &mut Vec<u8>) -> Result<(), IpcError>
-    requires room { part.offset + part.length < 2 ^ 63 }
-    requires inside { Inside (S.content source.old) part }
+    requires readable { Readable (S.content source.old) part }
     ensures bytes { IfOk result (λ _. StandsAt (S.content source.old) part.offset bytes.new.items) }
     ensures count { IfOk result (λ _. length bytes.new.items ≡ part.length) }
     ensures err { IfErr result (λ e. ((e ≡ Memory) ⊎ (e ≡ ReadFault)) ⊎ (S.content source.old ≡ None)) }
-    ensures cause { IfErr result (λ e. BodyReadCause e (S.faults source.old) (S.faults source.new)) }
-    ensures content { S.content source.new ≡ S.content source.old }
-    ensures faults { S.faults source.old ≤ S.faults source.new }
+    ensures cause { HasReadCause (S.faults source.old) (S.faults source.new) result }
+    ensures kept { SourceKept S.content S.faults S.references source.old source.new }
     ensures fetched { S.fetched source.new ≤ S.fetched source.old + part.length }
-    ensures same_source { S.references source.new ≡ S.references source.old }
 {
     if bytes.resize(part.length as usize, 0).is_err() {
         return Err(IpcError::Memory);
@@ -105,51 +135,17 @@ fn fetch_into<S: Source>(source: &mut S, part: Body, bytes: &mut Vec<u8>) -> Res
 
 /// The bytes that stand in a place of the source.
 fn fetch<S: Source>(alloc: Global, source: &mut S, part: Body) -> Result<Vec<u8>, IpcError>
-    requires room { part.offset + part.length < 2 ^ 63 }
-    requires inside { Inside (S.content source.old) part }
+    requires readable { Readable (S.content source.old) part }
     ensures bytes { IfOk result (λ v. StandsAt (S.content source.old) part.offset v.items) }
     ensures count { IfOk result (λ v. length v.items ≡ part.length) }
     ensures err { IfErr result (λ e. ((e ≡ Memory) ⊎ (e ≡ ReadFault)) ⊎ (S.content source.old ≡ None)) }
-    ensures cause { IfErr result (λ e. BodyReadCause e (S.faults source.old) (S.faults source.new)) }
-    ensures content { S.content source.new ≡ S.content source.old }
-    ensures faults { S.faults source.old ≤ S.faults source.new }
+    ensures cause { HasReadCause (S.faults source.old) (S.faults source.new) result }
+    ensures kept { SourceKept S.content S.faults S.references source.old source.new }
     ensures fetched { S.fetched source.new ≤ S.fetched source.old + part.length }
-    ensures same_source { S.references source.new ≡ S.references source.old }
 {
     let mut bytes = Vec::new(alloc);
     fetch_into(source, part, &mut bytes)?;
     Ok(bytes)
-}
-
-/// Takes the next buffer and reads its bytes.
-///
-/// # Errors
-///
-/// `OutOfSpec` where there is no buffer, or its range is negative or leaves the body; `ReadFault`, `Memory`.
-pub fn read_bytes<S: Source>(
-    alloc: Global,
-    buffers: &mut VecDeque<IpcBuffer>,
-    source: &mut S,
-    body: Body,
-    scratch: &mut Vec<u8>,
-) -> Result<Buffer<u8>, IpcError>
-    requires room { body.offset + body.length < 2 ^ 63 }
-    requires inside { Inside (S.content source.old) body }
-    ensures queue { IfOk result (λ _. (m : Batch) (i : ℕ) → Left m.buffers i buffers.old.items → Left m.buffers (suc i) buffers.new.items) }
-    ensures gives { (m : Batch) (i : ℕ) (is_little_endian : Bool) → Left m.buffers i buffers.old.items → Known (S.content source.old) body is_little_endian m → Answers (λ b. b) result (range_faults m i) (buf m i) }
-    ensures shortened { Shortened buffers.old.items 1 buffers.new.items }
-    ensures cause { IfErr result (λ e. BodyReadCause e (S.faults source.old) (S.faults source.new)) }
-    ensures content { S.content source.new ≡ S.content source.old }
-    ensures faults { S.faults source.old ≤ S.faults source.new }
-    ensures fetched { (m : Batch) (i : ℕ) → Left m.buffers i buffers.old.items → S.fetched source.new ≤ S.fetched source.old + stated m i }
-    ensures same_source { S.references source.new ≡ S.references source.old }
-{
-    let part = next_part(buffers, body)?;
-    let bytes = fetch(alloc, source, part)?;
-    match Buffer::from_vec(bytes) {
-        Ok(buffer) => Ok(buffer),
-        Err(_) => Err(IpcError::Memory),
-    }
 }
 
 /// How many bytes hold the bits of so many rows.
@@ -157,50 +153,6 @@ fn bytes_for(rows: usize) -> u64
     ensures { result ≡ (rows + 7) / 8 }
 {
     ((rows as u128 + 7) / 8) as u64
-}
-
-/// Takes the next buffer and reads its first bits.
-///
-/// # Errors
-///
-/// As `read_bytes`, and `InvalidBitmap` where it has fewer bits.
-pub fn read_bitmap<S: Source>(
-    alloc: Global,
-    buffers: &mut VecDeque<IpcBuffer>,
-    source: &mut S,
-    body: Body,
-    scratch: &mut Vec<u8>,
-    rows: usize,
-) -> Result<Bitmap, IpcError>
-    requires room { body.offset + body.length < 2 ^ 63 }
-    requires inside { Inside (S.content source.old) body }
-    ensures queue { IfOk result (λ _. (m : Batch) (i : ℕ) → Left m.buffers i buffers.old.items → Left m.buffers (suc i) buffers.new.items) }
-    ensures gives { (m : Batch) (i : ℕ) (is_little_endian : Bool) → Left m.buffers i buffers.old.items → Known (S.content source.old) body is_little_endian m → Answers (λ b. b) result (bitmap_faults m i rows) (bits_read m i rows) }
-    ensures shortened { Shortened buffers.old.items 1 buffers.new.items }
-    ensures cause { IfErr result (λ e. BodyReadCause e (S.faults source.old) (S.faults source.new)) }
-    ensures content { S.content source.new ≡ S.content source.old }
-    ensures faults { S.faults source.old ≤ S.faults source.new }
-    ensures fetched { (m : Batch) (i : ℕ) → Left m.buffers i buffers.old.items → S.fetched source.new ≤ S.fetched source.old + stated m i }
-    ensures few { S.fetched source.new ≤ S.fetched source.old + (rows + 7) / 8 }
-    ensures rows { IfOk result (λ b. length b ≡ rows) }
-    ensures same_source { S.references source.new ≡ S.references source.old }
-{
-    let part = next_part(buffers, body)?;
-    if (part.length as u128) * 8 < rows as u128 {
-        return Err(IpcError::OutOfSpec(OutOfSpecKind::InvalidBitmap {
-            length: rows as u64,
-            number_of_bits: part.length * 8,
-        }));
-    }
-    let needed = Body {
-        offset: part.offset,
-        length: bytes_for(rows),
-    };
-    let bytes = fetch(alloc, source, needed)?;
-    match Bitmap::from_vec(bytes, rows) {
-        Ok(bits) => Ok(bits),
-        Err(_) => Err(IpcError::Memory),
-    }
 }
 
 /// The number in the bytes of an item.
@@ -238,6 +190,192 @@ fn numbers_of<T: NativeType>(
     Ok(numbers)
 }
 
+/// Whether a validity is read.
+fn reads_validity(rows: usize, node: FieldNode) -> bool
+    ensures { result ≡ (nat_lt 0 rows && nat_lt 0 (magnitude node.null_count)) }
+{
+    rows > 0 && magnitude(node.null_count) > 0
+}
+
+impl<'a, S: Source> BufferReader<'a, S> {
+    /// Takes the next buffer and reads its bytes.
+    pub(crate) fn read_bytes(&mut self) -> Result<Buffer<u8>, IpcError>
+        requires readable { CanRead S.content self.old }
+        ensures takes { TakesBuffer self.old self.new result }
+        ensures gives { GivesBytes S.content self.old (λ b. b) result range_faults buf }
+        ensures shortened { ShortensBuffers 1 self.old self.new }
+        ensures cause { FailsToRead S.faults self.old self.new result }
+        ensures keeps { KeepsSource S.content S.faults S.references self.old self.new }
+        ensures fetched { FetchesBuffer S.fetched self.old self.new stated }
+    {
+        let part = next_part(self.queue, self.body)?;
+        let bytes = fetch(self.alloc, self.source, part)?;
+        match Buffer::from_vec(bytes) {
+            Ok(buffer) => Ok(buffer),
+            Err(_) => Err(IpcError::Memory),
+        }
+    }
+
+    /// Takes the next buffer and reads its first bits.
+    pub(crate) fn read_bitmap(&mut self, rows: usize) -> Result<Bitmap, IpcError>
+        requires readable { CanRead S.content self.old }
+        ensures takes { TakesBuffer self.old self.new result }
+        ensures gives { GivesBytes S.content self.old (λ b. b) result (λ m i. bitmap_faults m i rows) (λ m i. bits_read m i rows) }
+        ensures shortened { ShortensBuffers 1 self.old self.new }
+        ensures cause { FailsToRead S.faults self.old self.new result }
+        ensures keeps { KeepsSource S.content S.faults S.references self.old self.new }
+        ensures fetched { FetchesBuffer S.fetched self.old self.new stated }
+        ensures few { S.fetched self.new.source.now ≤ S.fetched self.old.source.now + (rows + 7) / 8 }
+        ensures rows { IfOk result (λ b. length b ≡ rows) }
+    {
+        let part = next_part(self.queue, self.body)?;
+        if (part.length as u128) * 8 < rows as u128 {
+            return Err(IpcError::OutOfSpec(OutOfSpecKind::InvalidBitmap {
+                length: rows as u64,
+                number_of_bits: part.length * 8,
+            }));
+        }
+        let needed = Body {
+            offset: part.offset,
+            length: bytes_for(rows),
+        };
+        let bytes = fetch(self.alloc, self.source, needed)?;
+        match Bitmap::from_vec(bytes, rows) {
+            Ok(bits) => Ok(bits),
+            Err(_) => Err(IpcError::Memory),
+        }
+    }
+
+    /// Takes the next buffer and reads its first numbers.
+    pub(crate) fn read_numbers<T: NativeType>(&mut self, rows: usize) -> Result<Buffer<T>, IpcError>
+        requires readable { CanRead S.content self.old }
+        ensures takes { TakesBuffer self.old self.new result }
+        ensures gives { GivesNumbers S.content self.old (λ b. b) result (λ m i. numbers_faults m i T.WIDTH rows) (λ m i. items_read T.read T.WIDTH m i rows) }
+        ensures shortened { ShortensBuffers 1 self.old self.new }
+        ensures bytes { IfOk result (λ _. (m : Batch) (i : ℕ) → Left m.buffers i self.old.queue.now.items → KnownTo S.content self.old m → AreBytes (take (T.WIDTH * rows) (buf m i))) }
+        ensures cause { FailsToRead S.faults self.old self.new result }
+        ensures keeps { KeepsSource S.content S.faults S.references self.old self.new }
+        ensures fetched { FetchesBuffer S.fetched self.old self.new stated }
+        ensures few { S.fetched self.new.source.now ≤ S.fetched self.old.source.now + T.WIDTH * rows }
+        ensures rows { IfOk result (λ b. length b ≡ rows) }
+    {
+        let part = items_part(self.queue, self.body, T::WIDTH, rows)?;
+        fetch_into(self.source, part, self.scratch)?;
+        let numbers = numbers_of(self.alloc, self.scratch, rows, self.is_little_endian)?;
+        match Buffer::from_vec(numbers) {
+            Ok(values) => Ok(values),
+            Err(_) => Err(IpcError::Memory),
+        }
+    }
+
+    /// Takes the next buffer and reads its first rows of a size.
+    pub(crate) fn read_first(&mut self, size: usize, rows: usize) -> Result<Buffer<u8>, IpcError>
+        requires readable { CanRead S.content self.old }
+        ensures takes { TakesBuffer self.old self.new result }
+        ensures gives { GivesBytes S.content self.old (λ b. b) result (λ m i. numbers_faults m i size rows) (λ m i. take (size * rows) (buf m i)) }
+        ensures shortened { ShortensBuffers 1 self.old self.new }
+        ensures rows { IfOk result (λ b. length b ≡ size * rows) }
+        ensures cause { FailsToRead S.faults self.old self.new result }
+        ensures keeps { KeepsSource S.content S.faults S.references self.old self.new }
+        ensures fetched { FetchesBuffer S.fetched self.old self.new stated }
+    {
+        let part = items_part(self.queue, self.body, size, rows)?;
+        let bytes = fetch(self.alloc, self.source, part)?;
+        match Buffer::from_vec(bytes) {
+            Ok(buffer) => Ok(buffer),
+            Err(_) => Err(IpcError::Memory),
+        }
+    }
+
+    /// Takes the next buffer, and reads its first bits where there are rows and the node counts nulls.
+    pub(crate) fn read_validity(
+        &mut self,
+        rows: usize,
+        node: FieldNode,
+    ) -> Result<Option<Bitmap>, IpcError>
+        requires readable { CanRead S.content self.old }
+        ensures takes { TakesBuffer self.old self.new result }
+        ensures gives { (m : Batch) (p : Place) → Left m.buffers p.buffer self.old.queue.now.items → slice_get m.nodes p.node ≡ Some node → Told (S.content self.old.source.now) self.old.body m.body → Answers (λ v. v) result (short_of m.buffers p.buffer ++ validity_faults m p rows) (validity_read m p rows) }
+        ensures shortened { ShortensBuffers 1 self.old self.new }
+        ensures cause { FailsToRead S.faults self.old self.new result }
+        ensures keeps { KeepsSource S.content S.faults S.references self.old self.new }
+        ensures fetched { (m : Batch) (p : Place) → Left m.buffers p.buffer self.old.queue.now.items → slice_get m.nodes p.node ≡ Some node → S.fetched self.new.source.now ≤ S.fetched self.old.source.now + validity_fetched m p rows }
+        ensures rows { IfOk result (λ v. has_rows v rows ≡ true) }
+    {
+        if !reads_validity(rows, node) {
+            pass_buffer(self.queue)?;
+            return Ok(None);
+        }
+        let bits = self.read_bitmap(rows)?;
+        Ok(Some(bits))
+    }
+}
+
+/// Takes the next buffer and reads its bytes.
+///
+/// # Errors
+///
+/// `OutOfSpec` where there is no buffer, or its range is negative or leaves the body; `ReadFault`, `Memory`.
+pub fn read_bytes<S: Source>(
+    alloc: Global,
+    buffers: &mut VecDeque<IpcBuffer>,
+    source: &mut S,
+    body: Body,
+    scratch: &mut Vec<u8>,
+) -> Result<Buffer<u8>, IpcError>
+    requires readable { Readable (S.content source.old) body }
+    ensures queue { BufferTaken buffers.old.items buffers.new.items result }
+    ensures gives { BytesGiven (S.content source.old) body buffers.old.items (λ b. b) result range_faults buf }
+    ensures shortened { Shortened buffers.old.items 1 buffers.new.items }
+    ensures cause { HasReadCause (S.faults source.old) (S.faults source.new) result }
+    ensures kept { SourceKept S.content S.faults S.references source.old source.new }
+    ensures fetched { BufferFetched buffers.old.items (S.fetched source.old) (S.fetched source.new) stated }
+{
+    let mut reader = BufferReader {
+        alloc,
+        queue: buffers,
+        source,
+        body,
+        is_little_endian: true,
+        scratch,
+    };
+    reader.read_bytes()
+}
+
+/// Takes the next buffer and reads its first bits.
+///
+/// # Errors
+///
+/// As `read_bytes`, and `InvalidBitmap` where it has fewer bits.
+pub fn read_bitmap<S: Source>(
+    alloc: Global,
+    buffers: &mut VecDeque<IpcBuffer>,
+    source: &mut S,
+    body: Body,
+    scratch: &mut Vec<u8>,
+    rows: usize,
+) -> Result<Bitmap, IpcError>
+    requires readable { Readable (S.content source.old) body }
+    ensures queue { BufferTaken buffers.old.items buffers.new.items result }
+    ensures gives { BytesGiven (S.content source.old) body buffers.old.items (λ b. b) result (λ m i. bitmap_faults m i rows) (λ m i. bits_read m i rows) }
+    ensures shortened { Shortened buffers.old.items 1 buffers.new.items }
+    ensures cause { HasReadCause (S.faults source.old) (S.faults source.new) result }
+    ensures kept { SourceKept S.content S.faults S.references source.old source.new }
+    ensures fetched { BufferFetched buffers.old.items (S.fetched source.old) (S.fetched source.new) stated }
+    ensures few { S.fetched source.new ≤ S.fetched source.old + (rows + 7) / 8 }
+    ensures rows { IfOk result (λ b. length b ≡ rows) }
+{
+    let mut reader = BufferReader {
+        alloc,
+        queue: buffers,
+        source,
+        body,
+        is_little_endian: true,
+        scratch,
+    };
+    reader.read_bitmap(rows)
+}
+
 /// Takes the next buffer and reads its first numbers in an order.
 ///
 /// # Errors
@@ -252,88 +390,26 @@ pub fn read_buffer<T: NativeType, S: Source>(
     rows: usize,
     is_little_endian: bool,
 ) -> Result<Buffer<T>, IpcError>
-    requires room { body.offset + body.length < 2 ^ 63 }
-    requires inside { Inside (S.content source.old) body }
-    ensures queue { IfOk result (λ _. (m : Batch) (i : ℕ) → Left m.buffers i buffers.old.items → Left m.buffers (suc i) buffers.new.items) }
-    ensures gives { (m : Batch) (i : ℕ) → Left m.buffers i buffers.old.items → Known (S.content source.old) body is_little_endian m → Answers (λ b. b) result (numbers_faults m i T.WIDTH rows) (items_read T.read T.WIDTH m i rows) }
+    requires readable { Readable (S.content source.old) body }
+    ensures queue { BufferTaken buffers.old.items buffers.new.items result }
+    ensures gives { NumbersGiven (S.content source.old) body is_little_endian buffers.old.items (λ b. b) result (λ m i. numbers_faults m i T.WIDTH rows) (λ m i. items_read T.read T.WIDTH m i rows) }
     ensures shortened { Shortened buffers.old.items 1 buffers.new.items }
     ensures bytes { IfOk result (λ _. (m : Batch) (i : ℕ) → Left m.buffers i buffers.old.items → Known (S.content source.old) body is_little_endian m → AreBytes (take (T.WIDTH * rows) (buf m i))) }
-    ensures cause { IfErr result (λ e. BodyReadCause e (S.faults source.old) (S.faults source.new)) }
-    ensures content { S.content source.new ≡ S.content source.old }
-    ensures faults { S.faults source.old ≤ S.faults source.new }
-    ensures fetched { (m : Batch) (i : ℕ) → Left m.buffers i buffers.old.items → S.fetched source.new ≤ S.fetched source.old + stated m i }
+    ensures cause { HasReadCause (S.faults source.old) (S.faults source.new) result }
+    ensures kept { SourceKept S.content S.faults S.references source.old source.new }
+    ensures fetched { BufferFetched buffers.old.items (S.fetched source.old) (S.fetched source.new) stated }
     ensures few { S.fetched source.new ≤ S.fetched source.old + T.WIDTH * rows }
     ensures rows { IfOk result (λ b. length b ≡ rows) }
-    ensures same_source { S.references source.new ≡ S.references source.old }
 {
-    let part = next_part(buffers, body)?;
-    let size = T::WIDTH as u128 * rows as u128;
-    if (part.length as u128) < size {
-        return Err(IpcError::OutOfSpec(OutOfSpecKind::InvalidBuffer {
-            length: rows as u64,
-            required_number_of_bytes: size,
-            buffer_length: part.length,
-        }));
-    }
-    let needed = Body {
-        offset: part.offset,
-        length: size as u64,
+    let mut reader = BufferReader {
+        alloc,
+        queue: buffers,
+        source,
+        body,
+        is_little_endian,
+        scratch,
     };
-    fetch_into(source, needed, scratch)?;
-    let numbers = numbers_of(alloc, scratch, rows, is_little_endian)?;
-    match Buffer::from_vec(numbers) {
-        Ok(values) => Ok(values),
-        Err(_) => Err(IpcError::Memory),
-    }
-}
-
-/// Takes the next buffer and reads its first rows of a size.
-pub(crate) fn read_first<S: Source>(
-    alloc: Global,
-    buffers: &mut VecDeque<IpcBuffer>,
-    source: &mut S,
-    body: Body,
-    size: usize,
-    rows: usize,
-) -> Result<Buffer<u8>, IpcError>
-    requires room { body.offset + body.length < 2 ^ 63 }
-    requires inside { Inside (S.content source.old) body }
-    ensures queue { IfOk result (λ _. (m : Batch) (i : ℕ) → Left m.buffers i buffers.old.items → Left m.buffers (suc i) buffers.new.items) }
-    ensures gives { (m : Batch) (i : ℕ) (is_little_endian : Bool) → Left m.buffers i buffers.old.items → Known (S.content source.old) body is_little_endian m → Answers (λ b. b) result (numbers_faults m i size rows) (take (size * rows) (buf m i)) }
-    ensures shortened { Shortened buffers.old.items 1 buffers.new.items }
-    ensures rows { IfOk result (λ b. length b ≡ size * rows) }
-    ensures cause { IfErr result (λ e. BodyReadCause e (S.faults source.old) (S.faults source.new)) }
-    ensures content { S.content source.new ≡ S.content source.old }
-    ensures faults { S.faults source.old ≤ S.faults source.new }
-    ensures fetched { (m : Batch) (i : ℕ) → Left m.buffers i buffers.old.items → S.fetched source.new ≤ S.fetched source.old + stated m i }
-    ensures few { S.fetched source.new ≤ S.fetched source.old + size * rows }
-    ensures same_source { S.references source.new ≡ S.references source.old }
-{
-    let part = next_part(buffers, body)?;
-    let count = size as u128 * rows as u128;
-    if (part.length as u128) < count {
-        return Err(IpcError::OutOfSpec(OutOfSpecKind::InvalidBuffer {
-            length: rows as u64,
-            required_number_of_bytes: count,
-            buffer_length: part.length,
-        }));
-    }
-    let needed = Body {
-        offset: part.offset,
-        length: count as u64,
-    };
-    let bytes = fetch(alloc, source, needed)?;
-    match Buffer::from_vec(bytes) {
-        Ok(buffer) => Ok(buffer),
-        Err(_) => Err(IpcError::Memory),
-    }
-}
-
-/// Whether a validity is read.
-fn reads_validity(rows: usize, node: FieldNode) -> bool
-    ensures { result ≡ (nat_lt 0 rows && nat_lt 0 (magnitude node.null_count)) }
-{
-    rows > 0 && magnitude(node.null_count) > 0
+    reader.read_numbers(rows)
 }
 
 /// Takes the next buffer, and reads its first bits where there are rows and the node counts nulls.
@@ -350,22 +426,22 @@ pub fn read_validity<S: Source>(
     rows: usize,
     node: FieldNode,
 ) -> Result<Option<Bitmap>, IpcError>
-    requires room { body.offset + body.length < 2 ^ 63 }
-    requires inside { Inside (S.content source.old) body }
-    ensures queue { IfOk result (λ _. (m : Batch) (i : ℕ) → Left m.buffers i buffers.old.items → Left m.buffers (suc i) buffers.new.items) }
-    ensures gives { (m : Batch) (p : Place) (is_little_endian : Bool) → Left m.buffers p.buffer buffers.old.items → slice_get m.nodes p.node ≡ Some node → Known (S.content source.old) body is_little_endian m → Answers (λ v. v) result (short_of m.buffers p.buffer ++ validity_faults m p rows) (validity_read m p rows) }
+    requires readable { Readable (S.content source.old) body }
+    ensures queue { BufferTaken buffers.old.items buffers.new.items result }
+    ensures gives { (m : Batch) (p : Place) → Left m.buffers p.buffer buffers.old.items → slice_get m.nodes p.node ≡ Some node → Told (S.content source.old) body m.body → Answers (λ v. v) result (short_of m.buffers p.buffer ++ validity_faults m p rows) (validity_read m p rows) }
     ensures shortened { Shortened buffers.old.items 1 buffers.new.items }
-    ensures cause { IfErr result (λ e. BodyReadCause e (S.faults source.old) (S.faults source.new)) }
-    ensures content { S.content source.new ≡ S.content source.old }
-    ensures faults { S.faults source.old ≤ S.faults source.new }
+    ensures cause { HasReadCause (S.faults source.old) (S.faults source.new) result }
+    ensures kept { SourceKept S.content S.faults S.references source.old source.new }
     ensures fetched { (m : Batch) (p : Place) → Left m.buffers p.buffer buffers.old.items → slice_get m.nodes p.node ≡ Some node → S.fetched source.new ≤ S.fetched source.old + validity_fetched m p rows }
     ensures rows { IfOk result (λ v. has_rows v rows ≡ true) }
-    ensures same_source { S.references source.new ≡ S.references source.old }
 {
-    if !reads_validity(rows, node) {
-        pass_buffer(buffers)?;
-        return Ok(None);
-    }
-    let bits = read_bitmap(alloc, buffers, source, body, scratch, rows)?;
-    Ok(Some(bits))
+    let mut reader = BufferReader {
+        alloc,
+        queue: buffers,
+        source,
+        body,
+        is_little_endian: true,
+        scratch,
+    };
+    reader.read_validity(rows, node)
 }

@@ -5,9 +5,10 @@ mod batch;
 mod body;
 mod buffers;
 mod counts;
-mod flat;
 mod integers;
+mod leaf;
 mod makes;
+mod readers;
 mod reading;
 mod rows;
 mod skips;
@@ -18,8 +19,8 @@ mod views;
 pub use batch::read_record_batch;
 pub use body::Body;
 pub use buffers::{read_bitmap, read_buffer, read_bytes, read_validity};
-pub use flat::{read_boolean, read_fixed_size_binary, read_null, read_primitive};
 pub use integers::magnitude;
+pub use leaf::{read_boolean, read_fixed_size_binary, read_null, read_primitive};
 pub use reading::{Dictionaries, read};
 pub use skips::{
     skip, skip_binary, skip_binview, skip_boolean, skip_fixed_size_binary, skip_null,

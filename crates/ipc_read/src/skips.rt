@@ -1,15 +1,14 @@
 //! Arrays that are passed over: what they take of the queues is taken, and nothing is read (Arrow Columnar Format, "RecordBatch message", "Variadic buffers").
 ghost use Rattle.std.specs.Prelude.{◌≡◌, ◌+◌, ◌<◌, ◌≤◌, length, drop, true, IfOk, IfErr};
-ghost use Rattle.arrow_spec.specs.Counts.{RecordBatch as Batch, Place, after, count_at, count_among};
+ghost use Rattle.arrow_spec.specs.Counts.{RecordBatch as Batch, Place, count_at, count_among};
 ghost use Rattle.arrow_spec.specs.Faults.{count_faults, counts_faults};
 ghost use Rattle.arrow_spec.specs.Kinds.{binary_view};
 ghost use Rattle.arrow_spec.specs.declared.error.IpcError.TheVariants.{OutOfSpec};
 ghost use Rattle.arrow_spec.specs.declared.error.OutOfSpecKind.TheVariants.{ExpectedBuffer};
 ghost use Rattle.arrow_types.specs.KindOf.{kind_of};
-ghost use Rattle.ipc_read.specs.Queues.{NodesAt, At, AllAt, Shortened, ShortenedBy};
-ghost use Rattle.ipc_read.specs.Skips.{moved, is_plain_kind, IsDamage};
+ghost use Rattle.ipc_read.specs.Queues.{NodesAt, At, AllAt, Shortened};
+ghost use Rattle.ipc_read.specs.Skips.{moved, is_plain_kind, IsDamage, PassesParts, PassesColumn};
 ghost use Rattle.ipc_read.specs.Sources.{Answers};
-ghost use Rattle.arrow_spec.specs.declared.message.MetadataVersion.{MetadataVersion};
 
 use crate::counts::take_count;
 use arrow_spec::{FieldNode, IpcBuffer, IpcError, MetadataVersion, OutOfSpecKind};
@@ -17,7 +16,7 @@ use arrow_types::{ArrowDataType, PhysicalType};
 use std::collections::VecDeque;
 
 /// Passes over the first ones of a queue.
-fn pass<T: Drop>(queue: &mut VecDeque<T>, count: usize) -> Result<(), IpcError>
+pub(crate) fn pass<T: Drop>(queue: &mut VecDeque<T>, count: usize) -> Result<(), IpcError>
     ensures enough { IfOk result (λ _. count ≤ length queue.old.items) }
     ensures rest { IfOk result (λ _. queue.new.items ≡ drop count queue.old.items) }
     ensures err { IfErr result (λ e. e ≡ OutOfSpec ExpectedBuffer) }
@@ -72,11 +71,7 @@ pub fn skip_boolean(
     nodes: &mut VecDeque<FieldNode>,
     buffers: &mut VecDeque<IpcBuffer>,
 ) -> Result<(), IpcError>
-    ensures queues { IfOk result (λ _. (m : Batch) (p : Place) → At m p nodes.old.items buffers.old.items → At m (moved 1 2 0 p) nodes.new.items buffers.new.items) }
-    ensures exact { (m : Batch) (p : Place) → At m p nodes.old.items buffers.old.items → Answers (λ u. u) result (counts_faults m (moved 1 2 0 p)) tt }
-    ensures nodes { Shortened nodes.old.items 1 nodes.new.items }
-    ensures buffers { Shortened buffers.old.items 2 buffers.new.items }
-    ensures damage { IfErr result IsDamage }
+    ensures { PassesParts 2 nodes.old.items nodes.new.items buffers.old.items buffers.new.items result }
 {
     skip_parts(nodes, buffers, 2)
 }
@@ -90,11 +85,7 @@ pub fn skip_primitive(
     nodes: &mut VecDeque<FieldNode>,
     buffers: &mut VecDeque<IpcBuffer>,
 ) -> Result<(), IpcError>
-    ensures queues { IfOk result (λ _. (m : Batch) (p : Place) → At m p nodes.old.items buffers.old.items → At m (moved 1 2 0 p) nodes.new.items buffers.new.items) }
-    ensures exact { (m : Batch) (p : Place) → At m p nodes.old.items buffers.old.items → Answers (λ u. u) result (counts_faults m (moved 1 2 0 p)) tt }
-    ensures nodes { Shortened nodes.old.items 1 nodes.new.items }
-    ensures buffers { Shortened buffers.old.items 2 buffers.new.items }
-    ensures damage { IfErr result IsDamage }
+    ensures { PassesParts 2 nodes.old.items nodes.new.items buffers.old.items buffers.new.items result }
 {
     skip_parts(nodes, buffers, 2)
 }
@@ -108,11 +99,7 @@ pub fn skip_binary(
     nodes: &mut VecDeque<FieldNode>,
     buffers: &mut VecDeque<IpcBuffer>,
 ) -> Result<(), IpcError>
-    ensures queues { IfOk result (λ _. (m : Batch) (p : Place) → At m p nodes.old.items buffers.old.items → At m (moved 1 3 0 p) nodes.new.items buffers.new.items) }
-    ensures exact { (m : Batch) (p : Place) → At m p nodes.old.items buffers.old.items → Answers (λ u. u) result (counts_faults m (moved 1 3 0 p)) tt }
-    ensures nodes { Shortened nodes.old.items 1 nodes.new.items }
-    ensures buffers { Shortened buffers.old.items 3 buffers.new.items }
-    ensures damage { IfErr result IsDamage }
+    ensures { PassesParts 3 nodes.old.items nodes.new.items buffers.old.items buffers.new.items result }
 {
     skip_parts(nodes, buffers, 3)
 }
@@ -126,11 +113,7 @@ pub fn skip_utf8(
     nodes: &mut VecDeque<FieldNode>,
     buffers: &mut VecDeque<IpcBuffer>,
 ) -> Result<(), IpcError>
-    ensures queues { IfOk result (λ _. (m : Batch) (p : Place) → At m p nodes.old.items buffers.old.items → At m (moved 1 3 0 p) nodes.new.items buffers.new.items) }
-    ensures exact { (m : Batch) (p : Place) → At m p nodes.old.items buffers.old.items → Answers (λ u. u) result (counts_faults m (moved 1 3 0 p)) tt }
-    ensures nodes { Shortened nodes.old.items 1 nodes.new.items }
-    ensures buffers { Shortened buffers.old.items 3 buffers.new.items }
-    ensures damage { IfErr result IsDamage }
+    ensures { PassesParts 3 nodes.old.items nodes.new.items buffers.old.items buffers.new.items result }
 {
     skip_parts(nodes, buffers, 3)
 }
@@ -144,11 +127,7 @@ pub fn skip_fixed_size_binary(
     nodes: &mut VecDeque<FieldNode>,
     buffers: &mut VecDeque<IpcBuffer>,
 ) -> Result<(), IpcError>
-    ensures queues { IfOk result (λ _. (m : Batch) (p : Place) → At m p nodes.old.items buffers.old.items → At m (moved 1 2 0 p) nodes.new.items buffers.new.items) }
-    ensures exact { (m : Batch) (p : Place) → At m p nodes.old.items buffers.old.items → Answers (λ u. u) result (counts_faults m (moved 1 2 0 p)) tt }
-    ensures nodes { Shortened nodes.old.items 1 nodes.new.items }
-    ensures buffers { Shortened buffers.old.items 2 buffers.new.items }
-    ensures damage { IfErr result IsDamage }
+    ensures { PassesParts 2 nodes.old.items nodes.new.items buffers.old.items buffers.new.items result }
 {
     skip_parts(nodes, buffers, 2)
 }
@@ -189,10 +168,7 @@ pub fn skip(
     _version: MetadataVersion,
 ) -> Result<(), IpcError>
     requires plain { is_plain_kind (kind_of dtype.now) ≡ true }
-    ensures queues { IfOk result (λ _. (m : Batch) (p : Place) → AllAt m p nodes.old.items buffers.old.items variadic.old.items → AllAt m (after m (kind_of dtype.now) p) nodes.new.items buffers.new.items variadic.new.items) }
-    ensures exact { (m : Batch) (p : Place) → AllAt m p nodes.old.items buffers.old.items variadic.old.items → Answers (λ u. u) result (count_faults m (kind_of dtype.now) p) tt }
-    ensures shortened { (version : MetadataVersion) → ShortenedBy (kind_of dtype.now) version nodes.old.items nodes.new.items buffers.old.items buffers.new.items variadic.old.items variadic.new.items }
-    ensures damage { IfErr result IsDamage }
+    ensures { PassesColumn (kind_of dtype.now) nodes.old.items nodes.new.items buffers.old.items buffers.new.items variadic.old.items variadic.new.items result }
 {
     match dtype.to_physical_type() {
         PhysicalType::Null => skip_null(nodes),

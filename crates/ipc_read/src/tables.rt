@@ -13,7 +13,7 @@ ghost use Rattle.arrow_types.specs.KindOf.{kind_of};
 ghost use Rattle.arrow_types.specs.Physical.{physical_of};
 ghost use Rattle.arrow_types.specs.Schemas.{fields_in};
 ghost use Rattle.ipc_schema.specs.Views.{header_of};
-ghost use Rattle.ipc_read.specs.Batches.{AreQueuesOf, MayBeRead, IsFieldAt, are_column_kinds, are_flat_kinds, unread_feature, unread_number};
+ghost use Rattle.ipc_read.specs.Batches.{AreQueuesOf, MayBeRead, IsFieldAt, are_column_kinds, are_leaf_kinds, unread_feature, unread_number};
 ghost use Rattle.ipc_read.specs.Queues.{Left};
 ghost use Rattle.ipc_read.specs.Skips.{IsDamage, is_plain_kind};
 ghost use Rattle.ipc_read.specs.Sources.{Answers, IsRefusal};
@@ -142,7 +142,7 @@ pub(crate) fn field_at(schema: &ArrowSchema, i: usize) -> &Field
 pub(crate) fn check_kinds(schema: &ArrowSchema) -> Result<(), IpcError>
     requires columns { are_column_kinds schema.now ≡ true }
     ensures exact { Answers (λ u. u) result (chosen_floats None (fields_in schema.now) 0) tt }
-    ensures flat { IfOk result (λ _. are_flat_kinds schema.now ≡ true) }
+    ensures leaf { IfOk result (λ _. are_leaf_kinds schema.now ≡ true) }
     ensures cause { IfErr result IsRefusal }
 {
     for i in 0..schema.len() {

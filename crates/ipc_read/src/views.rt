@@ -8,97 +8,28 @@ ghost use Rattle.arrow_spec.specs.declared.error.IpcError.TheVariants.{Memory, O
 ghost use Rattle.arrow_spec.specs.declared.error.OutOfSpecKind.TheVariants.{InvalidUtf8, InvalidView};
 ghost use Rattle.arrow_types.specs.KindOf.{kind_of};
 ghost use Rattle.arrow_types.specs.Physical.{physical_of};
-ghost use Rattle.ipc_read.specs.Queues.{Left, AllAt, Shortened, ShortenedBy};
-ghost use Rattle.ipc_read.specs.Sources.{Answers, Inside, Known, BodyReadCause, bytes_where};
+ghost use Rattle.ipc_read.specs.Queues.{Left};
+ghost use Rattle.ipc_read.specs.Sources.{Answers, Told, bytes_where};
+ghost use Rattle.ipc_read.specs.Readers.{Readable, SourceKept, HasReadCause, BuffersTaken, FetchesBuffer, GivesBytes, ColumnTaken, ColumnGiven, ColumnFetched, ColumnShortened, CanRead, KeepsSource, KeepsQueues, FailsToRead, FailsToReadColumn, ShortensBuffers, TakesColumn, GivesColumn, FetchesColumn, ShortensColumn};
 ghost use Rattle.ipc_read.specs.DataBuffers.{data_causes, data_of};
-ghost use Rattle.read_columns.specs.Faults.{read_faults, fetched_at_most, stated_of};
+ghost use Rattle.ipc_read_laws.specs.Faults.{stated_of};
 ghost use Rattle.arrow_buffers.specs.declared.error.ArrayError.TheVariants.{Utf8, View};
 ghost use Rattle.arrow_buffers.specs.Layouts.{is_view};
 ghost use Rattle.arrow_buffers.specs.Rows.{has_rows};
 ghost use Rattle.arrow_buffers.specs.Views.{view_rows, view_fault};
-ghost use Rattle.read_columns.specs.PartsRead.{views_read};
-ghost use Rattle.arrow_spec.specs.declared.message.MetadataVersion.{MetadataVersion};
+ghost use Rattle.ipc_read_laws.specs.PartsRead.{views_read};
 
 use crate::Body;
-use crate::buffers::{read_bytes, read_validity};
 use crate::counts::take_count;
-use crate::rows::{read_rows, take_node};
+use crate::readers::{BufferReader, ColumnReader};
+use crate::rows::take_node;
+use crate::skips::pass;
 use arrow_buffers::{ArrayError, BinaryViewArrayGeneric, Bitmap, Buffer, ViewType};
-use arrow_spec::{Feature, FieldNode, IpcBuffer, IpcError, OutOfSpecKind};
+use arrow_spec::{Feature, FieldNode, IpcBuffer, IpcError, MetadataVersion, OutOfSpecKind};
 use arrow_types::ArrowDataType;
 use ipc_schema::Source;
 use std::alloc::Global;
 use std::collections::VecDeque;
-
-/// Passes over so many buffers.
-fn pass_buffers(buffers: &mut VecDeque<IpcBuffer>, count: usize)
-    ensures { buffers.new.items ≡ drop count buffers.old.items }
-{
-    for _number in 0..count {
-        let _ = buffers.pop_front();
-    }
-}
-
-/// Takes so many buffers and reads their bytes.
-fn read_all<S: Source>(
-    alloc: Global,
-    buffers: &mut VecDeque<IpcBuffer>,
-    source: &mut S,
-    body: Body,
-    scratch: &mut Vec<u8>,
-    count: usize,
-) -> Result<Vec<Buffer<u8>>, IpcError>
-    requires room { body.offset + body.length < 2 ^ 63 }
-    requires inside { Inside (S.content source.old) body }
-    ensures queue { IfOk result (λ _. (m : Batch) (i : ℕ) → Left m.buffers i buffers.old.items → Left m.buffers (i + count) buffers.new.items) }
-    ensures gives { (m : Batch) (i : ℕ) (is_little_endian : Bool) → Left m.buffers i buffers.old.items → Known (S.content source.old) body is_little_endian m → Answers (λ v. v.items) result (ranges_faults m i count) (from_on (buf m) i count) }
-    ensures shortened { Shortened buffers.old.items count buffers.new.items }
-    ensures cause { IfErr result (λ e. BodyReadCause e (S.faults source.old) (S.faults source.new)) }
-    ensures content { S.content source.new ≡ S.content source.old }
-    ensures faults { S.faults source.old ≤ S.faults source.new }
-    ensures fetched { (m : Batch) (i : ℕ) → Left m.buffers i buffers.old.items → S.fetched source.new ≤ S.fetched source.old + stated_of m (numbers_from i count) }
-    ensures same_source { S.references source.new ≡ S.references source.old }
-{
-    let mut data = Vec::new(alloc);
-    for _number in 0..count {
-        let bytes = read_bytes(alloc, buffers, source, body, scratch)?;
-        if data.push(bytes).is_err() {
-            return Err(IpcError::Memory);
-        }
-    }
-    Ok(data)
-}
-
-/// Takes an array's data buffers, and reads their bytes where there are rows.
-fn read_data<S: Source>(
-    alloc: Global,
-    buffers: &mut VecDeque<IpcBuffer>,
-    source: &mut S,
-    body: Body,
-    scratch: &mut Vec<u8>,
-    rows: usize,
-    count: usize,
-) -> Result<Vec<Buffer<u8>>, IpcError>
-    requires room { body.offset + body.length < 2 ^ 63 }
-    requires inside { Inside (S.content source.old) body }
-    ensures queue { IfOk result (λ _. (m : Batch) (i : ℕ) → Left m.buffers i buffers.old.items → Left m.buffers (i + count) buffers.new.items) }
-    ensures gives { (m : Batch) (i : ℕ) (is_little_endian : Bool) → Left m.buffers i buffers.old.items → Known (S.content source.old) body is_little_endian m → Answers (λ v. v.items) result (data_causes m i rows count) (data_of m i rows count) }
-    ensures shortened { Shortened buffers.old.items count buffers.new.items }
-    ensures cause { IfErr result (λ e. BodyReadCause e (S.faults source.old) (S.faults source.new)) }
-    ensures content { S.content source.new ≡ S.content source.old }
-    ensures faults { S.faults source.old ≤ S.faults source.new }
-    ensures fetched { (m : Batch) (i : ℕ) → Left m.buffers i buffers.old.items → S.fetched source.new ≤ S.fetched source.old + bytes_where rows (stated_of m (numbers_from i count)) }
-    ensures same_source { S.references source.new ≡ S.references source.old }
-{
-    if buffers.len() < count {
-        return Err(IpcError::OutOfSpec(OutOfSpecKind::ExpectedBuffer));
-    }
-    if rows > 0 {
-        return read_all(alloc, buffers, source, body, scratch, count);
-    }
-    pass_buffers(buffers, count);
-    Ok(Vec::new(alloc))
-}
 
 fn make_view<V: ViewType>(
     alloc: Global,
@@ -134,6 +65,77 @@ fn is_wrong_order(rows: usize, is_little_endian: bool) -> bool
     rows > 0 && !is_little_endian
 }
 
+impl<'a, S: Source> BufferReader<'a, S> {
+    /// Takes so many buffers and reads their bytes.
+    fn read_all(&mut self, count: usize) -> Result<Vec<Buffer<u8>>, IpcError>
+        requires readable { CanRead S.content self.old }
+        ensures takes { BuffersTaken count self.old.queue.now.items self.new.queue.now.items result }
+        ensures gives { GivesBytes S.content self.old (λ v. v.items) result (λ m i. ranges_faults m i count) (λ m i. from_on (buf m) i count) }
+        ensures shortened { ShortensBuffers count self.old self.new }
+        ensures cause { FailsToRead S.faults self.old self.new result }
+        ensures keeps { KeepsSource S.content S.faults S.references self.old self.new }
+        ensures fetched { FetchesBuffer S.fetched self.old self.new (λ m i. stated_of m (numbers_from i count)) }
+    {
+        let mut data = Vec::new(self.alloc);
+        for _number in 0..count {
+            let bytes = self.read_bytes()?;
+            if data.push(bytes).is_err() {
+                return Err(IpcError::Memory);
+            }
+        }
+        Ok(data)
+    }
+
+    /// Takes an array's data buffers, and reads their bytes where there are rows.
+    fn read_data(&mut self, rows: usize, count: usize) -> Result<Vec<Buffer<u8>>, IpcError>
+        requires readable { CanRead S.content self.old }
+        ensures takes { BuffersTaken count self.old.queue.now.items self.new.queue.now.items result }
+        ensures gives { GivesBytes S.content self.old (λ v. v.items) result (λ m i. data_causes m i rows count) (λ m i. data_of m i rows count) }
+        ensures shortened { ShortensBuffers count self.old self.new }
+        ensures cause { FailsToRead S.faults self.old self.new result }
+        ensures keeps { KeepsSource S.content S.faults S.references self.old self.new }
+        ensures fetched { FetchesBuffer S.fetched self.old self.new (λ m i. bytes_where rows (stated_of m (numbers_from i count))) }
+    {
+        if self.queue.len() < count {
+            return Err(IpcError::OutOfSpec(OutOfSpecKind::ExpectedBuffer));
+        }
+        if rows > 0 {
+            return self.read_all(count);
+        }
+        pass(self.queue, count)?;
+        Ok(Vec::new(self.alloc))
+    }
+}
+
+impl<'n, 'a, S: Source> ColumnReader<'n, 'a, S> {
+    /// An array of views, with as many data buffers as its count says.
+    pub(crate) fn read_binview<V: ViewType>(
+        &mut self,
+        dtype: &ArrowDataType,
+        rows: usize,
+    ) -> Result<BinaryViewArrayGeneric<V>, IpcError>
+        requires kind { is_view V.IS_TEXT (physical_of (kind_of dtype.now)) ≡ true }
+        requires readable { CanRead S.content self.old.buffers }
+        ensures takes { TakesColumn (kind_of dtype.now) self.old self.new result }
+        ensures shape { IfOk result (λ a. (a.kind ≡ kind_of dtype.now) × (view_rows a.views ≡ rows)) }
+        ensures gives { GivesColumn S.content self.old (λ a. a) result (kind_of dtype.now) rows (λ m p. views_read m (kind_of dtype.now) p rows) }
+        ensures shortened { ShortensColumn (kind_of dtype.now) self.old self.new }
+        ensures cause { FailsToReadColumn S.faults self.old self.new result }
+        ensures keeps { KeepsQueues S.content S.faults S.references self.old self.new }
+        ensures fetched { FetchesColumn S.fetched (kind_of dtype.now) self.old self.new rows }
+    {
+        let node = take_node(self.nodes, rows)?;
+        let count = take_count(self.variadic)?;
+        if is_wrong_order(rows, self.buffers.is_little_endian) {
+            return Err(IpcError::Unsupported(Feature::ViewBigEndian));
+        }
+        let validity = self.buffers.read_validity(rows, node)?;
+        let views = self.buffers.read_rows(16, rows)?;
+        let data = self.buffers.read_data(rows, count)?;
+        make_view(self.buffers.alloc, dtype, rows, views, data, validity)
+    }
+}
+
 /// An array of views, as far as its first rows go, with as many data buffers as its count says. All of them are read.
 ///
 /// # Errors
@@ -152,26 +154,27 @@ pub fn read_binview<V: ViewType, S: Source>(
     variadic: &mut VecDeque<i64>,
 ) -> Result<BinaryViewArrayGeneric<V>, IpcError>
     requires kind { is_view V.IS_TEXT (physical_of (kind_of dtype.now)) ≡ true }
-    requires room { body.offset + body.length < 2 ^ 63 }
-    requires inside { Inside (S.content source.old) body }
+    requires readable { Readable (S.content source.old) body }
     ensures shape { IfOk result (λ a. (a.kind ≡ kind_of dtype.now) × (view_rows a.views ≡ rows)) }
-    ensures queues { IfOk result (λ _. (m : Batch) (p : Place) → AllAt m p nodes.old.items buffers.old.items variadic.old.items → AllAt m (after m (kind_of dtype.now) p) nodes.new.items buffers.new.items variadic.new.items) }
-    ensures gives { (m : Batch) (p : Place) → AllAt m p nodes.old.items buffers.old.items variadic.old.items → Known (S.content source.old) body is_little_endian m → Answers (λ a. a) result (read_faults m (kind_of dtype.now) p rows) (views_read m (kind_of dtype.now) p rows) }
-    ensures shortened { (version : MetadataVersion) → ShortenedBy (kind_of dtype.now) version nodes.old.items nodes.new.items buffers.old.items buffers.new.items variadic.old.items variadic.new.items }
-    ensures cause { IfErr result (λ e. BodyReadCause e (S.faults source.old) (S.faults source.new)) }
-    ensures content { S.content source.new ≡ S.content source.old }
-    ensures faults { S.faults source.old ≤ S.faults source.new }
-    ensures fetched { (m : Batch) (p : Place) → AllAt m p nodes.old.items buffers.old.items variadic.old.items → S.fetched source.new ≤ S.fetched source.old + fetched_at_most m (kind_of dtype.now) p rows }
-    ensures same_source { S.references source.new ≡ S.references source.old }
+    ensures queues { ColumnTaken (kind_of dtype.now) nodes.old.items nodes.new.items buffers.old.items buffers.new.items variadic.old.items variadic.new.items result }
+    ensures gives { ColumnGiven (S.content source.old) body is_little_endian nodes.old.items buffers.old.items variadic.old.items (λ a. a) result (kind_of dtype.now) rows (λ m p. views_read m (kind_of dtype.now) p rows) }
+    ensures shortened { ColumnShortened (kind_of dtype.now) nodes.old.items nodes.new.items buffers.old.items buffers.new.items variadic.old.items variadic.new.items }
+    ensures cause { HasReadCause (S.faults source.old) (S.faults source.new) result }
+    ensures kept { SourceKept S.content S.faults S.references source.old source.new }
+    ensures fetched { ColumnFetched (kind_of dtype.now) nodes.old.items buffers.old.items variadic.old.items rows (S.fetched source.old) (S.fetched source.new) }
 {
-    let node = take_node(nodes, rows)?;
-    let count = take_count(variadic)?;
-    if is_wrong_order(rows, is_little_endian) {
-        return Err(IpcError::Unsupported(Feature::ViewBigEndian));
-    }
-    let validity = read_validity(alloc, buffers, source, body, scratch, rows, node)?;
-    let views = read_rows(alloc, buffers, source, body, 16, rows)?;
-    let data = read_data(alloc, buffers, source, body, scratch, rows, count)?;
-    let array = make_view(alloc, dtype, rows, views, data, validity)?;
-    Ok(array)
+    let mut reader = ColumnReader {
+        nodes,
+        variadic,
+        buffers: BufferReader {
+            alloc,
+            queue: buffers,
+            source,
+            body,
+            is_little_endian,
+            scratch,
+        },
+        version: MetadataVersion::V5,
+    };
+    reader.read_binview(dtype, rows)
 }

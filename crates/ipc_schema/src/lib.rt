@@ -1,14 +1,11 @@
-//! The outside of a program as objects that it is lent, and such objects over memory; the metadata of messages, schemas and footers.
+//! The metadata of messages, schemas and footers.
 #![tactic(auto)]
 
 mod custom;
 mod footer;
 mod header;
-mod lent;
-mod memory;
 mod message;
 mod number;
-mod outside;
 mod prefix;
 
 pub use arrow_spec::{
@@ -19,9 +16,11 @@ pub use custom::{refuse_footer_pairs, refuse_message_pairs};
 pub use footer::{Footer, decode_footer_len, deserialize_footer};
 pub use header::{read_message_header, read_record_message};
 pub use ipc_fields::{IpcField, IpcSchema};
-pub use memory::{Entry, MemoryFeed, MemoryShelf, MemorySink, MemorySource};
+pub use ipc_io::{
+    Entry, Failed, Feed, Got, MemoryFeed, MemoryShelf, MemorySink, MemorySource, PutError, Shelf,
+    ShelfError, Sink, Source,
+};
 pub use message::{BatchHeader, Message, MessageHeader, RecordMessage};
-pub use outside::{Failed, Feed, Got, PutError, Shelf, ShelfError, Sink, Source};
 pub use prefix::{is_continuation, message_prefix, metadata_length};
 pub use schema_reader::{deserialize_schema, read_schema};
 pub use schema_writer::{default_ipc_fields, schema_message, schema_to_bytes, serialize_schema};

@@ -4,17 +4,17 @@ use Rattle.std.specs.Prelude.{IsOk}
 use Rattle.std.specs.Io.KnownBytes.{Consumes}
 use Rattle.arrow_spec.specs.declared.error.IpcError.TheVariants as errors
 use Rattle.arrow_spec.specs.Files.{«all»}
-use Rattle.sent_files.specs.Meaning.{file_table}
+use Rattle.transcode_laws.specs.Meaning.{file_table}
 use Rattle.arrow_spec.specs.SchemaText.{schema_text_of}
 use Rattle.arrow_spec.specs.Words.{SchemaAsked, bytes_of_hex, StreamAsked, Held, source_of}
-use Rattle.ipc_schema.specs.Outside.{Stands}
+use Rattle.ipc_io.specs.Outside.{Stands}
 use Rattle.ipc_tool.specs.declared.refusal.Refusal.{Refusal}
 use Rattle.ipc_tool.specs.declared.refusal.Refusal.TheVariants.{Ipc, Words, NotHex, InputTooLong, NoName}
 use Rattle.ipc_tool.specs.Refusal.{number_of}
 use Rattle.ipc_tool.specs.Request.{whole_input, schema_of_input}
 use Rattle.ipc_tool.specs.Input.{TakesTooMany, IsNoHex, HexCause}
 use Rattle.ipc_tool.specs.Run.{Outside, MayBe, NoneFailed, HasMeaning, HasText, IsLeft, IsComplete, IsTold}
-use Rattle.ipc_tool.proofs.Noting.{stood}
+use Rattle.ipc_files.proofs.Refusing.{stood}
 
 -- the source's bytes are told, and P holds of them
 abbrev OfSource : (List ℕ → Type 0) → Option (Option (List ℕ)) → Type 0

@@ -21,11 +21,6 @@ pub record Taken (old new : Option (List ℕ)) (taken : ℕ) (digits : List ℕ)
   pub count : taken ≡ length text
   pub kept : digits ≡ no_white text
 
--- nothing was taken yet
-pub taken_none : (old : Option (List ℕ)) → Taken old old 0 []
-taken_none None = record { text = []; consumed = tt; count = refl; kept = refl }
-taken_none (Some xs) = record { text = []; consumed = refl; count = refl; kept = refl }
-
 -- a piece more
 pub taken_more : (old mid new : Option (List ℕ)) (taken n : ℕ) (digits piece more : List ℕ) → Taken old mid taken digits → Consumes mid new piece → length piece ≡ n → more ≡ digits ++ no_white piece → Taken old new (taken + n) more
 taken_more old mid new taken n digits piece more t c size same = record {
@@ -34,11 +29,3 @@ taken_more old mid new taken n digits piece more t c size same = record {
   count = ap (λ x. x + n) t.count ∙ ap (λ x. length t.text + x) (sym size) ∙ sym (length-append t.text piece);
   kept = same ∙ ap (λ l. l ++ no_white piece) t.kept ∙ sym (filter-append (λ c. not (is_white c)) t.text piece);
 }
-
--- all of it was taken
-pub taken_all : (old new : Option (List ℕ)) (taken : ℕ) (digits : List ℕ) → Taken old new taken digits → IsAtEnd new → taken ≤ 2 ^ 27 → IfSome old (λ text. (length text ≤ 2 ^ 27) × (digits ≡ no_white text))
-taken_all None new taken digits t end few = tt
-taken_all (Some xs) None taken digits t end few = absurd t.consumed
-taken_all (Some xs) (Some ys) taken digits t end few =
-    let same : xs ≡ t.text = t.consumed ∙ ap (λ l. t.text ++ l) end ∙ append-nil t.text in
-    (subst (λ n. n ≤ 2 ^ 27) (t.count ∙ ap length (sym same)) few, t.kept ∙ ap no_white (sym same))

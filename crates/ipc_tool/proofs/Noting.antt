@@ -1,13 +1,11 @@
 -- A line that was noted, or failed.
 use Rattle.std.proofs.Common.{ℕ, ◌⊎◌, List, [], Option, Result, Ok, Err, inl, inr, arith, append-nil, subst}
-use Rattle.ipc_schema.specs.Outside.{AppendsPrefix, PutsFront, PutsHaveCause, Stands, Rose}
-use Rattle.ipc_schema.proofs.Known.{AppendsPrefix-front}
+use Rattle.ipc_io.specs.Outside.{AppendsPrefix, PutsFront, PutsHaveCause, Stands, Rose}
+use Rattle.ipc_io.proofs.Known.{AppendsPrefix-front}
 use Rattle.ipc_tool.specs.declared.refusal.Refusal.{Refusal}
 use Rattle.ipc_tool.specs.Refusal.{line_of}
 use Rattle.ipc_tool.specs.Run.{IsNoted}
-
-pub stood : (a b : ℕ) → Stands a b → Rose a b → ⊥
-stood a b s r = omega (arith, s.same, s.below)
+use Rattle.ipc_files.proofs.Refusing.{stood}
 
 pub neither_rose : (f f' w w' : ℕ) → Stands f f' → Stands w w' → Rose f f' ⊎ Rose w w' → ⊥
 neither_rose f f' w w' s t (inl r) = stood f f' s r

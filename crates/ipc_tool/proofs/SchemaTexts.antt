@@ -9,14 +9,14 @@ use Rattle.arrow_spec.specs.Readings.{Reading, Refuses, bind, ◌>>=◌, refusal
 use Rattle.arrow_spec.specs.SchemaText.{schema_text, schema_text_of}
 use Rattle.arrow_types.specs.Schemas.{Keyed}
 use Rattle.ipc_fields.specs.IpcFields.{ids_of, schema_with}
-use Rattle.ipc_schema.specs.Faults.{put_error}
-use Rattle.ipc_schema.specs.Outside.{Puts}
-use Rattle.ipc_schema.specs.declared.outside.PutError.{PutError}
-use Rattle.ipc_schema.specs.declared.outside.PutError.TheVariants as put
-use Rattle.ipc_tool.specs.FileViews.{meta_view, FileCause}
+use Rattle.ipc_io.specs.Faults.{put_error}
+use Rattle.ipc_io.specs.Outside.{Puts}
+use Rattle.ipc_io.specs.declared.outside.PutError.{PutError}
+use Rattle.ipc_io.specs.declared.outside.PutError.TheVariants as put
+use Rattle.ipc_files.specs.FileViews.{meta_view, FileCause}
 use Rattle.ipc_tool.specs.SchemaPuts.{AddsText, AddsTextPart, PrintCause}
-use Rattle.ipc_tool.specs.declared.ipc_files.metadata.FileMetadata.{FileMetadata}
-use Rattle.ipc_tool.proofs.SentFiles.{told}
+use Rattle.ipc_files.specs.declared.metadata.FileMetadata.{FileMetadata}
+use Rattle.ipc_files.proofs.SentFiles.{told}
 
 text_said : (b : List ℕ) (meta : Meta) → meta_of b ≡ Ok meta → schema_text_of b ≡ Ok (schema_text meta.schema)
 unfolding schema_text_of bind

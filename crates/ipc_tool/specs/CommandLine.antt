@@ -3,7 +3,7 @@ use Rattle.std.specs.Prelude.{◌≡◌, ◌⊎◌, ◌↔◌, ℕ, ◌≤◌, L
 use Rattle.std.specs.Io.KnownBytes.{Keeps, IsAtEnd}
 use Rattle.arrow_spec.specs.declared.error.IpcError.TheVariants as errors
 use Rattle.arrow_spec.specs.Words.{Held, command_of, request_of, schema_request_of}
-use Rattle.ipc_schema.specs.Outside.{Rose}
+use Rattle.ipc_io.specs.Outside.{Rose}
 use Rattle.ipc_tool.specs.Input.{TakesTooMany, IsNoHex}
 use Rattle.ipc_tool.specs.Request.{begins_with_stream}
 use Rattle.ipc_tool.specs.Run.{HasMeaning, HasText, IsNoted, IsRefused, IsText, IsWhole, MayBe, NoneFailed, Outside, SourceFailed, name_in}

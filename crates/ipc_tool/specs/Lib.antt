@@ -1,12 +1,6 @@
 pub mod Refusal
 pub mod Request
-pub mod Transcode
 pub mod SchemaPuts
 pub mod Input
 pub mod Run
-pub mod Built
-pub mod Written
-pub mod FileViews
-pub mod Sends
-pub mod FileBlocks
 pub mod CommandLine

@@ -3,8 +3,8 @@ use Rattle.std.specs.Prelude.{ℕ, List, [], ◌∷◌, ◌++◌, codes, decimal
 use Rattle.arrow_spec.specs.declared.error.IpcError.{IpcError}
 use Rattle.arrow_spec.specs.declared.error.IpcError.TheVariants as errors
 use Rattle.arrow_spec.specs.Names.{error_name}
-use Rattle.ipc_schema.specs.declared.outside.PutError.{PutError}
-use Rattle.ipc_schema.specs.Faults.{put_error}
+use Rattle.ipc_io.specs.declared.outside.PutError.{PutError}
+use Rattle.ipc_io.specs.Faults.{put_error}
 use Rattle.ipc_tool.specs.declared.refusal.Refusal.{Refusal}
 use Rattle.ipc_tool.specs.declared.refusal.Refusal.TheVariants.{Ipc, Words, NotHex, InputTooLong, NoName}
 

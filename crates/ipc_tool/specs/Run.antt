@@ -1,16 +1,18 @@
 -- What a run adds to its output, and when it is refused.
-use Rattle.std.specs.Prelude.{◌≡◌, ◌⊎◌, ℕ, List, ⊤, Option, Some, None, IfSome, IsSome, IsNone, IsSomeAnd, MatchOption, option_map, IsOk}
+use Rattle.std.specs.Prelude.{◌≡◌, ◌⊎◌, ℕ, Bool, true, false, List, ⊤, Option, Some, None, IfSome, IsSome, IsNone, IsSomeAnd, MatchOption, option_map, IsOk}
 use Rattle.std.specs.Io.KnownBytes.{Appends, Keeps}
 use Rattle.arrow_spec.specs.declared.error.IpcError.{IpcError}
 use Rattle.arrow_spec.specs.declared.error.IpcError.TheVariants as errors
-use Rattle.sent_files.specs.Meaning.{file_table, may}
+use Rattle.transcode_laws.specs.Meaning.{file_table, may}
 use Rattle.arrow_spec.specs.Words.{SchemaAsked, Command, of_stream, of_schema, command_of, shown, StreamAsked, Held, source_of}
 use Rattle.arrow_spec.specs.SchemaText.{schema_text_of}
-use Rattle.ipc_schema.specs.Outside.{Rose, Stands, Lacks, AppendsPrefix}
+use Rattle.ipc_io.specs.Outside.{Rose, Stands, Lacks, AppendsPrefix}
 use Rattle.ipc_tool.specs.Refusal.{number_of, line_of}
 use Rattle.ipc_tool.specs.Request.{WordsCause}
 use Rattle.ipc_tool.specs.SchemaPuts.{AddsText, AddsTextFront, may_print}
-use Rattle.ipc_tool.specs.Transcode.{text_of, AddsStream, AddsPiece, AddsFrontOrNone}
+use Rattle.ipc_files.specs.declared.encoding.Encoding.{Encoding}
+use Rattle.ipc_files.specs.declared.encoding.Encoding.TheVariants.{Bytes, HexText}
+use Rattle.ipc_files.specs.Transcode.{text_of, AddsStream, AddsPiece, AddsFrontOrNone}
 use Rattle.ipc_tool.specs.Input.{TakesTooMany, IsNoHex}
 use Rattle.ipc_tool.specs.declared.refusal.Refusal.{Refusal}
 use Rattle.ipc_tool.specs.declared.refusal.Refusal.TheVariants.{Ipc, Words, NotHex, InputTooLong, NoName}
@@ -61,6 +63,11 @@ name_in (of_schema s) = s.name
 
 -- ── a stream ──
 
+-- the encoding of a stream
+abbrev pub encoding_of : Bool → Encoding
+encoding_of true = Bytes
+encoding_of false = HexText
+
 abbrev pub shown_in : StreamAsked → List ℕ → List ℕ
 shown_in s x = shown x s.raw
 
@@ -68,11 +75,13 @@ shown_in s x = shown x s.raw
 abbrev pub IsWhole : StreamAsked → Outside → Outside → Type 0
 IsWhole s old new = IfSome (source_in s.name old) (λ bytes. IsSomeAnd bytes (λ b. AddsStream b s.request (shown_in s) old.written new.written))
 
--- what a request that was refused added, of known bytes: nothing or a front; after a failed put a part of a stream; for want of memory maybe all but the line feed
+-- what a request that was refused added, of known bytes: nothing or a front; after a failed put a part of a stream; for want of memory maybe all but the line
+-- feed
 abbrev pub AddsBefore : Refusal → StreamAsked → List ℕ → Option (List ℕ) → Option (List ℕ) → Type 0
-AddsBefore (Ipc errors.WriteFault) s b old new = AddsPiece b s.request (shown_in s) (text_of s.raw) old new
-AddsBefore (Ipc errors.Memory) s b old new = AddsFrontOrNone errors.Memory b s.request (text_of s.raw) old new ⊎ AddsStream b s.request (text_of s.raw) old new
-AddsBefore (Ipc e) s b old new = AddsFrontOrNone e b s.request (text_of s.raw) old new
+AddsBefore (Ipc errors.WriteFault) s b old new = AddsPiece b s.request (shown_in s) (text_of (encoding_of s.raw)) old new
+AddsBefore (Ipc errors.Memory) s b old new =
+    AddsFrontOrNone errors.Memory b s.request (text_of (encoding_of s.raw)) old new ⊎ AddsStream b s.request (text_of (encoding_of s.raw)) old new
+AddsBefore (Ipc e) s b old new = AddsFrontOrNone e b s.request (text_of (encoding_of s.raw)) old new
 AddsBefore _ s b old new = Keeps old new
 
 abbrev pub AddsPartOf : Refusal → StreamAsked → Outside → Outside → Type 0

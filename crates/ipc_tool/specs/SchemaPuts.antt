@@ -5,7 +5,7 @@ use Rattle.arrow_spec.specs.declared.error.IpcError.{IpcError}
 use Rattle.arrow_spec.specs.declared.error.IpcError.TheVariants as errors
 use Rattle.arrow_spec.specs.Readings.{IsAmong, refusals}
 use Rattle.arrow_spec.specs.SchemaText.{schema_text_of}
-use Rattle.ipc_schema.specs.Outside.{AppendsPrefix, Rose}
+use Rattle.ipc_io.specs.Outside.{AppendsPrefix, Rose}
 
 -- The text of the schema was added.
 pub record AddsText (b : List ℕ) (old new : Option (List ℕ)) : Type 0 where

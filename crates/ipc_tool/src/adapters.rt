@@ -2,7 +2,7 @@
 ghost use Rattle.std.specs.Prelude.{◌≡◌};
 ghost use Rattle.std.specs.Io.{ReadsAtMost, WritesAtMost};
 ghost use Rattle.std.specs.Io.KnownBytes.{ReadConsumes, WriteAppends};
-ghost use Rattle.ipc_schema.specs.Outside.{PutsFront};
+ghost use Rattle.ipc_io.specs.Outside.{PutsFront};
 
 use ipc_schema::{Failed, Feed, PutError, Sink};
 use std::io::{ErrorKind, Read, Write};

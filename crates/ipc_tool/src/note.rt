@@ -1,6 +1,6 @@
 //! The line that is noted of a refusal.
 ghost use Rattle.std.specs.Prelude.{◌≡◌};
-ghost use Rattle.ipc_schema.specs.Outside.{PutsFront, PutsHaveCause};
+ghost use Rattle.ipc_io.specs.Outside.{PutsFront, PutsHaveCause};
 ghost use Rattle.ipc_tool.specs.Refusal.{front_of, line_of};
 ghost use Rattle.ipc_tool.specs.Run.{IsNoted};
 

@@ -2,7 +2,7 @@
 ghost use Rattle.std.specs.Prelude.{◌≡◌, ◌⊎◌, ◌↔◌, ◌<◌, ◌≤◌, IsNone, IsSome, IsSomeAnd, MatchOption, IsTrue, IsFalse, Some, None, OnOk, IfErr, IfSome};
 ghost use Rattle.std.specs.Io.KnownBytes.{Keeps, IsAtEnd};
 ghost use Rattle.arrow_spec.specs.Words.{command_of, request_of, schema_request_of};
-ghost use Rattle.ipc_schema.specs.Outside.{Rose, Lacks};
+ghost use Rattle.ipc_io.specs.Outside.{Rose, Lacks};
 ghost use Rattle.ipc_tool.specs.Refusal.{number_of};
 ghost use Rattle.ipc_tool.specs.Request.{texts, whole_input, schema_of_input, begins_with_stream, WordsCause};
 ghost use Rattle.ipc_tool.specs.Input.{TakesTooMany, IsNoHex};
@@ -10,12 +10,12 @@ ghost use Rattle.ipc_tool.specs.Run.{HasMeaning, HasText, IsRefused, IsWhole, Is
 ghost use Rattle.ipc_tool.specs.declared.refusal.Refusal.{Refusal};
 ghost use Rattle.arrow_spec.specs.declared.error.IpcError.TheVariants.{TooLarge};
 
-use crate::conversion::send;
 use crate::input::read_hex;
 use crate::note::note_refusal;
 use crate::refusal::Refusal;
 use crate::request::{Command, read_words};
 use crate::schema_output::write_schema;
+use ipc_files::{Encoding, transcode_as};
 use ipc_schema::{Failed, Feed, Got, Shelf, Sink, Source};
 use std::alloc::Global;
 
@@ -72,7 +72,14 @@ fn stream_from_input<I: Feed, W: Sink>(
     ensures not_read { IfErr result (λ e. number_of e ≡ 11 → Keeps (W.written output.old) (W.written output.new)) }
 {
     let bytes = read_hex(alloc, input)?;
-    send(alloc, &mut Bytes { bytes }, output, None, None, false)?;
+    transcode_as(
+        alloc,
+        &mut Bytes { bytes },
+        output,
+        None,
+        None,
+        Encoding::HexText,
+    )?;
     output.put(b"\n")?;
     Ok(())
 }

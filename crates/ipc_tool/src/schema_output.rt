@@ -2,9 +2,8 @@
 ghost use Rattle.std.specs.Prelude.{◌≡◌, ◌≤◌, OnOk, IfErr, IfSome};
 ghost use Rattle.ipc_tool.specs.SchemaPuts.{AddsText, AddsTextPart, PrintCause};
 
-use crate::file::metadata_of;
-use crate::ipc_files::read_file_metadata;
 use arrow_spec::IpcError;
+use ipc_files::{metadata_of, read_file_metadata};
 use ipc_schema::{Sink, Source};
 use ipc_text::schema_text;
 use std::alloc::Global;

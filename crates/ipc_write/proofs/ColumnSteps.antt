@@ -17,18 +17,15 @@ use Rattle.arrow_arrays.specs.Batches.{have_rows}
 use Rattle.arrow_arrays.specs.Parts.{Parts, rows_in, binary_views, text_views}
 use Rattle.arrow_arrays.specs.PartsOf.{parts_of, all_parts_of}
 use Rattle.arrow_arrays.specs.declared.array.Array.{Array}
-use Rattle.array_writer.specs.Outputs.{Outputs, outputs, written_behind, MayHaveOrder}
-use Rattle.array_writer.specs.Pieces.{node_in, pieces_in, counts_in}
-use Rattle.array_writer.proofs.Adding.{placed-append, body-append}
-use Rattle.ipc_write.specs.Batches.{columns_written, columns_pieces}
+use Rattle.ipc_write_arrays.specs.Outputs.{Outputs, outputs, written_behind, MayHaveOrder}
+use Rattle.arrow_arrays.specs.Nodes.{node_in, counts_in}
+use Rattle.ipc_write_laws.specs.Streams.{pieces_of}
+use Rattle.ipc_write_arrays.specs.Pieces.{pieces_in}
+use Rattle.ipc_write_arrays.proofs.Adding.{placed-append, body-append}
+use Rattle.ipc_write.specs.Batches.{columns_written, columns_pieces, top_column}
 use Rattle.ipc_write.specs.Compaction.{top}
 use Rattle.ipc_write.specs.Ends.{end_of_array}
 use Rattle.ipc_write.specs.Encoding.{no_outputs, added, all_outputs, Adds, WritesColumns}
-
-pub may_be_little : (p : Parts) → MayHaveOrder p true
-may_be_little (binary_views p) = refl
-may_be_little (text_views p) = refl
-may_be_little p = tt
 
 pub aligned_end : (ns : List ℕ) (at : ℕ) → at % 64 ≡ 0 → body_of at ns % 64 ≡ 0
 aligned_end [] at h = h
@@ -51,9 +48,10 @@ all_added (p ∷ ps) o =
     let end = body_length t o in
     let lens = map length (pieces_in little t) in
     let at = length o.body in
+    let more : (columns_written (p ∷ ps)).lengths ≡ lens ++ (columns_written ps).lengths = map-append length (pieces_in little t) (pieces_of (map top_column ps)) in
     let nodes : w.nodes ++ (columns_written ps).nodes ≡ o.nodes ++ (columns_written (p ∷ ps)).nodes = append_assoc o.nodes (node_in t ∷ []) (columns_written ps).nodes in
     let buffers : w.buffers ++ placed (length w.body) (columns_written ps).lengths ≡ o.buffers ++ placed at (columns_written (p ∷ ps)).lengths =
-    ap (λ n. w.buffers ++ placed n (columns_written ps).lengths) end ∙ append_assoc o.buffers (placed at lens) (placed (body_of at lens) (columns_written ps).lengths) ∙ ap (λ l. o.buffers ++ l) (sym (placed-append at lens (columns_written ps).lengths)) in
+    ap (λ n. w.buffers ++ placed n (columns_written ps).lengths) end ∙ append_assoc o.buffers (placed at lens) (placed (body_of at lens) (columns_written ps).lengths) ∙ ap (λ l. o.buffers ++ l) (sym (placed-append at lens (columns_written ps).lengths)) ∙ ap (λ ns. o.buffers ++ placed at ns) (sym more) in
     let body : w.body ++ body_bytes (length w.body) (columns_pieces ps) ≡ o.body ++ body_bytes at (columns_pieces (p ∷ ps)) =
     ap (λ n. w.body ++ body_bytes n (columns_pieces ps)) end ∙ append_assoc o.body (body_bytes at (pieces_in little t)) (body_bytes (body_of at lens) (columns_pieces ps)) ∙ ap (λ l. o.body ++ l) (sym (body-append at (pieces_in little t) (columns_pieces ps))) in
     let views : w.views ++ map pos (columns_written ps).views ≡ o.views ++ map pos (columns_written (p ∷ ps)).views =
@@ -108,9 +106,6 @@ height_of (y ∷ xs) (suc i) x height e h k = height_of xs i x height e (omega a
     second true b e = e
     second false b e = absurd (true≢false (sym e))
 height_of [] i x height e h k = absurd (omega arith)
-
-pub nothing_yet : (ps : List Parts) (nodes : List FieldNode) (buffers : List IpcBuffer) (body : List ℕ) (counts : List ℤ) → nodes ≡ [] → buffers ≡ [] → body ≡ [] → counts ≡ [] → added ps (outputs nodes buffers body counts) ≡ added ps no_outputs
-nothing_yet ps nodes buffers body counts p q r s = ap (added ps) (rw (p, q, r, s) refl)
 
 pub columns_done : (xs : List Array) (i : ℕ) (o : Outputs) → length xs ≤ i → added (all_parts_of (drop i xs)) o ≡ added (all_parts_of xs) no_outputs → o ≡ all_outputs (all_parts_of xs)
 columns_done xs i o h k = ap (λ l. added (all_parts_of l) o) (sym (drop_all i xs h)) ∙ k ∙ added_all (all_parts_of xs)

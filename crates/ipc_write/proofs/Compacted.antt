@@ -10,10 +10,9 @@ use Rattle.arrow_spec.specs.Arrays.{from_on, u32_of}
 use Rattle.arrow_spec.specs.Faults.{some_row}
 use Rattle.arrow_types.specs.Physical.{physical_of}
 use Rattle.arrow_buffers.specs.declared.error.ArrayError.{ArrayError}
-use Rattle.arrow_buffers.specs.declared.error.ArrayError.TheVariants.{DataType, Length, Utf8, View}
 use Rattle.arrow_buffers.specs.Layouts.{is_view}
-use Rattle.arrow_buffers.specs.Rows.{has_rows, is_valid, masked, masked_by}
-use Rattle.arrow_buffers.specs.Views.{Views, view_rows, view_at, view_bytes, is_good_view, is_no_text_view, has_bad_view, has_bad_view_text, view_cell, view_cells, view_fault}
+use Rattle.arrow_buffers.specs.Rows.{has_rows, is_valid, bytes_cell, masked, masked_by}
+use Rattle.arrow_buffers.specs.Views.{Views, view_rows, view_at, view_bytes, is_good_view, is_no_text_view, has_bad_view, has_bad_view_text, view_cells, view_fault}
 use Rattle.arrow_buffers.proofs.Parts.{shift-from_on}
 use Rattle.arrow_buffers.proofs.Fixed.{quotient}
 use Rattle.arrow_buffers.proofs.Rows.{none_below, none_from, fine_here, null_here}
@@ -51,13 +50,6 @@ masked-same (Some marks) f g n h =
 
 -- ── tests of a view array ──
 
-four_tests : (s t u v : Bool) → (if not s then Some DataType else (if not t then Some Length else (if u then Some Utf8 else (if v then Some View else None)))) ≡ None → (s ≡ true) × (t ≡ true) × (u ≡ false) × (v ≡ false)
-four_tests true true false false e = (refl, refl, refl, refl)
-four_tests true true false true e = cc
-four_tests true true true v e = cc
-four_tests true false u v e = cc
-four_tests false t u v e = cc
-
 -- no text in a row that is the same elsewhere
 none_bad : (v g h : Bool) (a b : List ℕ) → g ≡ h → a ≡ b → (v && (h && not (is_utf8 b))) ≡ false → (v && (g && not (is_utf8 a))) ≡ false
 none_bad v g h a b e f k = rw (e, f) k
@@ -77,7 +69,7 @@ pub record Anew (p : Views) : Type 0 where
 pub anew : (is_text s : Bool) (p : Views) → view_fault is_text s p ≡ None → LaidFits p → Anew p
 unfolding laid_anew
 anew is_text s p e fits =
-    let seen = view_sound is_text s p e in
+    let seen = (view_sound is_text s p e).seen in
     let values = long_value is_text s p e fits in
     let all = view_rows p.views in
     let size : length (laid_from p 0 0 [] all).views ≡ 16 * all = length-laid p (λ row lt v long. (values row lt v long).long) all 0 0 [] (omega arith) in
@@ -97,9 +89,9 @@ pub compacted_cells : (is_text suits : Bool) (p : Views) → view_fault is_text 
 compacted_cells is_text suits p e fits =
     let q = compacted p in
     let a = anew is_text suits p e fits in
-    let old : ℕ → Cell = λ row. view_cell is_text (view_bytes p.buffers (view_at p.views row)) in
-    let new : ℕ → Cell = λ row. view_cell is_text (view_bytes q.buffers (view_at q.views row)) in
-    ap (λ n. masked p.validity (from_on new 0 n)) a.rows ∙ masked-same p.validity new old (view_rows p.views) (λ k l v. ap (view_cell is_text) (a.viewed k l v).same)
+    let old : ℕ → Cell = λ row. bytes_cell is_text (view_bytes p.buffers (view_at p.views row)) in
+    let new : ℕ → Cell = λ row. bytes_cell is_text (view_bytes q.buffers (view_at q.views row)) in
+    ap (λ n. masked p.validity (from_on new 0 n)) a.rows ∙ masked-same p.validity new old (view_rows p.views) (λ k l v. ap (bytes_cell is_text) (a.viewed k l v).same)
 
 good_anew : (p : Views) → Anew p → has_bad_view (compacted p).views (compacted p).buffers p.validity ≡ false
 unfolding has_bad_view
@@ -135,11 +127,10 @@ pub compacted_sound : (is_text suits : Bool) (p : Views) → view_fault is_text 
 compacted_sound is_text suits p e fits =
     let q = compacted p in
     let a = anew is_text suits p e fits in
-    let seen = view_sound is_text suits p e in
-    let t = four_tests suits (nat_eq (length p.views % 16) 0 && has_rows p.validity (view_rows p.views)) (is_text && has_bad_view_text p.views p.buffers p.validity) (has_bad_view p.views p.buffers p.validity) e in
+    let sound = view_sound is_text suits p e in
     let whole : nat_eq (length q.views % 16) 0 ≡ true = eq-eqb (length q.views % 16) 0 (rw a.size (mul-mod_right 16 (view_rows p.views))) in
-    let rows : has_rows p.validity (view_rows q.views) ≡ true = rw a.rows seen.rows in
-    rw (t.0, whole, rows, texts_anew is_text p seen a t.2, good_anew p a) refl
+    let rows : has_rows p.validity (view_rows q.views) ≡ true = rw a.rows sound.seen.rows in
+    rw (sound.suits, whole, rows, texts_anew is_text p sound.seen a sound.texts, good_anew p a) refl
 
 -- so such parts are an array
 pub never_refused : (is_text : Bool) (p : Views) (k : Kind) (views : List ℕ) (buffers : List (List ℕ)) (validity : Option (List Bool)) (e : ArrayError) → view_fault is_text (is_view is_text (physical_of p.kind)) p ≡ None
@@ -161,13 +152,6 @@ top_views_cells is_text suits p e fits =
       | inr c ↦ rw c refl
     ]
 
-top_views_sound : (is_text suits : Bool) (p : Views) → view_fault is_text suits p ≡ None → (views_need_compaction p ≡ true → LaidFits p) → view_fault is_text suits (top_views p) ≡ None
-top_views_sound is_text suits p e fits =
-    elim (cases_Bool (views_need_compaction p)) [
-      | inl c ↦ rw c (compacted_sound is_text suits p e (fits c))
-      | inr c ↦ rw c e
-    ]
-
 kind_kept : (p : Views) → (top_views p).kind ≡ p.kind
 kind_kept p =
     elim (cases_Bool (views_need_compaction p)) [
@@ -185,17 +169,6 @@ top_cells (numbers f) e fits = refl
 top_cells (fixed f) e fits = refl
 top_cells (binary p) e fits = refl
 top_cells (text p) e fits = refl
-
--- and is as sound
-pub top_sound : (p : Parts) → fault_in p ≡ None → ColumnFits p → fault_in (top p) ≡ None
-top_sound (binary_views p) e fits = ap (λ k. view_fault false (is_view false (physical_of k)) (top_views p)) (kind_kept p) ∙ top_views_sound false (is_view false (physical_of p.kind)) p e fits
-top_sound (text_views p) e fits = ap (λ k. view_fault true (is_view true (physical_of k)) (top_views p)) (kind_kept p) ∙ top_views_sound true (is_view true (physical_of p.kind)) p e fits
-top_sound (nulls n) e fits = e
-top_sound (bits f) e fits = e
-top_sound (numbers f) e fits = e
-top_sound (fixed f) e fits = e
-top_sound (binary p) e fits = e
-top_sound (text p) e fits = e
 
 top_views_rows : (is_text suits : Bool) (p : Views) → view_fault is_text suits p ≡ None → (views_need_compaction p ≡ true → LaidFits p) → view_rows (top_views p).views ≡ view_rows p.views
 top_views_rows is_text suits p e fits =

@@ -51,9 +51,6 @@ keeps_metadata n h rows body nodes buffers counts hh hn =
     let few : slot_count last ≤ 2 = count_zero w64 (pos body) no_more in
     subst KeepsSlotLimit (sym hn) (omega (arith, few), (header, keeps_zero w64 (pos body) no_more tt))
 
-pub same_metadata : (n h : Node) (rows body : ℕ) (nodes : List FieldNode) (buffers : List IpcBuffer) (counts : List ℤ) → h ≡ header_node rows nodes buffers counts → n ≡ table (message_slots 3 h body []) → n ≡ metadata_node rows nodes buffers counts body
-same_metadata n h rows body nodes buffers counts hh hn = hn ∙ ap (λ k. table (message_slots 3 k body [])) hh
-
 -- ── many nodes or buffers ──
 
 length-nodes : (xs : List FieldNode) → length (flat_map node_bytes xs) ≡ 16 * length xs

@@ -21,14 +21,6 @@ null_laid p row n views buffers begun h =
     let rest = laid_from p (suc row) (length buffers) begun n in
     rw (add-one, h) (ap (λ v. behind v buffers rest) refl ∙ ap (λ v. record { views = v; buffers = buffers ++ rest.buffers }) (append_assoc views (zeros 16) rest.views))
 
--- a value that stands in its view
-pub short_laid : (p : Views) (row n : ℕ) (views : List ℕ) (buffers : List (List ℕ)) (begun : List ℕ) → is_valid p.validity row ≡ true → u32_of (view_at p.views row) 0 ≤ 12
-    → all_laid p (row + 1) n (views ++ view_at p.views row) buffers begun ≡ all_laid p row (suc n) views buffers begun
-short_laid p row n views buffers begun h k =
-    let rest = laid_from p (suc row) (length buffers) begun n in
-    let le : nat_le (u32_of (view_at p.views row) 0) 12 ≡ true = le-leb _ 12 k in
-    rw (add-one, h, le) (ap (λ v. record { views = v; buffers = buffers ++ rest.buffers }) (append_assoc views (view_at p.views row) rest.views))
-
 -- a longer one, in the buffer that is begun or in a new one
 long_same : (p : Views) (row n : ℕ) (views : List ℕ) (buffers : List (List ℕ)) (begun : List ℕ) → is_valid p.validity row ≡ true → 12 < u32_of (view_at p.views row) 0 → length begun + u32_of (view_at p.views row) 0 ≤ buffer_limit
     → all_laid p (suc row) n (views ++ long_view (value_at p row) (length buffers) (length begun)) buffers (begun ++ value_at p row) ≡ all_laid p row (suc n) views buffers begun
@@ -85,7 +77,7 @@ no_value false y e = refl
 pub value_size : (is_text s : Bool) (p : Views) (row : ℕ) → view_fault is_text s p ≡ None → row < view_rows p.views → is_valid p.validity row ≡ true → 12 < u32_of (view_at p.views row) 0 → length (value_at p row) ≡ u32_of (view_at p.views row) 0
 value_size is_text s p row e h v k =
     let view = view_at p.views row in
-    let good = good_row p row (view_sound is_text s p e) h v in
+    let good = good_row p row (view_sound is_text s p e).seen h v in
     let led = leads p.buffers view good k in
     let buffer = buffer_at p.buffers (u32_of view 8) in
     rw (long_is p.buffers view k) (omega (arith, length-take (u32_of view 0) (drop (u32_of view 12) buffer), length-drop (u32_of view 12) buffer, led.inside))

@@ -17,13 +17,13 @@ use Rattle.arrow_types.specs.NumberLaws.{unsigned_width}
 use Rattle.arrow_types.specs.Physical.{physical_of}
 use Rattle.arrow_types.specs.declared.physical.PhysicalType.{PhysicalType}
 use Rattle.arrow_types.specs.declared.physical.PhysicalType.TheVariants as physical
-use Rattle.arrow_buffers.specs.Layouts.{is_binary, is_text}
+use Rattle.arrow_buffers.specs.Layouts.{is_variable}
 use Rattle.arrow_buffers.specs.Variable.{Variable, place_at, variable_rows, are_offsets}
 use Rattle.arrow_buffers.proofs.Rising.{some_offset, offset_risen}
 use Rattle.arrow_spec.specs.Layout.{up_to}
 use Rattle.ipc_write.specs.Ends.{IsPlace}
-use Rattle.array_writer.specs.Pieces.{layout_in_order, width_of_kind, rebased, offset_bytes, bytes_between, variable_pieces}
-use Rattle.array_writer.proofs.RoundTripFit.{binary_offsets, text_offsets}
+use Rattle.ipc_write_arrays.specs.Pieces.{layout_in_order, width_of_kind, rebased, offset_bytes, bytes_between, variable_pieces}
+use Rattle.ipc_write_arrays.proofs.LayoutKinds.{variable_offsets}
 
 pub length_of_bits : (v : Option (List Bool)) (bits : List Bool) (n : ℕ) → v ≡ Some bits → n ≡ div_ceil (length bits) 8 → n ≡ length (validity_bytes v)
 length_of_bits v bits n hv hn = hn ∙ rw hv (omega (arith, length-packed bits))
@@ -49,11 +49,8 @@ wide : (is_large : Bool) (o : Offsets) → o ≡ offsets_by is_large → byte_le
 wide true o e = ap (λ w. byte_len (offset_width w)) e
 wide false o e = ap (λ w. byte_len (offset_width w)) e
 
-pub binary_width : (is_large : Bool) (k : Kind) → is_binary is_large (physical_of k) ≡ true → byte_len (offset_width (width_of_kind k)) ≡ (if is_large then 8 else 4)
-binary_width is_large k e = wide is_large (width_of_kind k) (binary_offsets is_large k e)
-
-pub text_width : (is_large : Bool) (k : Kind) → is_text is_large (physical_of k) ≡ true → byte_len (offset_width (width_of_kind k)) ≡ (if is_large then 8 else 4)
-text_width is_large k e = wide is_large (width_of_kind k) (text_offsets is_large k e)
+pub variable_width : (is_text is_large : Bool) (k : Kind) → is_variable is_text is_large (physical_of k) ≡ true → byte_len (offset_width (width_of_kind k)) ≡ (if is_large then 8 else 4)
+variable_width is_text is_large k e = wide is_large (width_of_kind k) (variable_offsets is_text is_large k e)
 
 length-written : (o : Offsets) (ns : List ℕ) → length (flat_map (λ n. to_bytes little (offset_width o) n) ns) ≡ byte_len (offset_width o) * length ns
 length-written o [] = omega arith
@@ -102,9 +99,6 @@ pub passed_end : (buffers : List (List ℕ)) (i at all : ℕ) (buffer : List ℕ
 passed_end buffers i at all buffer e h count hc hp ha =
     let next = next_end buffers i at (up_to 64 (at + count)) all buffer e h (ap (λ n. up_to 64 (at + n)) hc) ha in
     omega (arith, next, body_above (map length (drop (i + 1) buffers)) (up_to 64 (at + count)), hp)
-
-pub last_end : (buffers : List (List ℕ)) (i at all : ℕ) → length buffers ≤ i → body_of at (map length (drop i buffers)) ≡ all → at ≡ all
-last_end buffers i at all h ha = ap (λ bs. body_of at (map length bs)) (sym (drop_all i buffers h)) ∙ ha
 
 -- buffers behind two others
 pub then_end : (r : Option ℕ) (at a b next : ℕ) (v w : Option (List Bool)) (views xs : List ℕ) (buffers more : List (List ℕ)) → a ≡ length (validity_bytes v) → v ≡ w → b ≡ length xs → xs ≡ views → more ≡ buffers → next ≡ body_of at (a ∷ b ∷ []) → IsPlace r (body_of next (map length more))

@@ -9,8 +9,8 @@ use Rattle.arrow_arrays.specs.Batches.{Batch, have_rows}
 use Rattle.arrow_arrays.specs.Parts.{Parts, rows_in, cells_in, fault_in}
 use Rattle.arrow_arrays.specs.PartsOf.{parts_of, all_parts_of}
 use Rattle.arrow_arrays.specs.declared.array.Array.{Array}
-use Rattle.written_columns.specs.Columns.{WrittenColumn, Means}
-use Rattle.array_writer.specs.Pieces.{column_in}
+use Rattle.ipc_write_laws.specs.Columns.{WrittenColumn, Means}
+use Rattle.ipc_write_arrays.specs.Pieces.{column_in}
 use Rattle.ipc_write.specs.Batches.{top_column}
 use Rattle.ipc_write.specs.Compaction.{top}
 use Rattle.ipc_write.specs.Laying.{ColumnFits}

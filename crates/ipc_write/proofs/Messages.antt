@@ -11,7 +11,7 @@ use Rattle.arrow_spec.specs.Sent.{placed, views_slot}
 use Rattle.arrow_arrays.specs.Batches.{Batch}
 use Rattle.arrow_arrays.specs.Parts.{Parts}
 use Rattle.arrow_spec.specs.Framing.{body_bytes}
-use Rattle.array_writer.specs.Outputs.{Outputs}
+use Rattle.ipc_write_arrays.specs.Outputs.{Outputs}
 use Rattle.ipc_write.specs.Batches.{columns_written, columns_pieces, batch_message, batch_body, is_within}
 use Rattle.ipc_write.specs.Encoding.{all_outputs, Makes, WritesColumns}
 use Rattle.ipc_write.specs.Metadata.{metadata_node, counts_slot, BuildsMetadata}

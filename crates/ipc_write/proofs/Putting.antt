@@ -7,7 +7,7 @@ use Rattle.std.specs.Io.KnownBytes.{Appends}
 use Rattle.arrow_spec.specs.declared.error.IpcError.{IpcError}
 use Rattle.arrow_spec.specs.declared.error.IpcError.TheVariants as errors
 use Rattle.arrow_spec.specs.Layout.{up_to, zeros}
-use Rattle.ipc_schema.specs.Outside.{AppendsPrefix, Rose}
+use Rattle.ipc_io.specs.Outside.{AppendsPrefix, Rose}
 use Rattle.ipc_write.specs.Outcomes.{continuation, message_frame}
 use Rattle.ipc_write.specs.Puts.{Moved, moved, NoneFalls, PutsPart, PutsText, PutsMessage}
 
@@ -85,16 +85,3 @@ whole_put old one two new f g h i w x y z r padded count n metadata body ms bs h
     let first = padded_text (padded - length ms) ms in
     let front : Appends old two (continuation (pos padded) ++ first) × NoneFalls (moved old two f h w y) = (Appends-trans old one two (continuation (pos padded)) first (subst (λ k. Appends old one (continuation k)) hz p.0) q.0, none_falls old one two f g h w x y p.1 q.1) in
     subst (PutsText (moved old new f i w z) r) (frame_of padded count metadata body ms bs hp hm hb hc) (then_puts old two new f h i w y z r (continuation (pos padded) ++ first) (padded_text count bs) front t)
-
--- what a message's parts say of it
-pub message_part : (m : Moved) (e : IpcError) (padded : ℕ) (bs : List ℕ) → PutsPart m e bs → e ≡ errors.TooLarge → ⊥
-message_part m errors.WriteFault padded bs p h = cc
-message_part m errors.Memory padded bs p h = cc
-message_part m e padded bs p h = absurd p
-
-pub message_errs : {T : Type 0} → (m : Moved) (e : IpcError) (r : Result T IpcError) (padded : ℕ) (bs : List ℕ) → IsErrAnd r (λ f. f ≡ e) → PutsPart m e bs → PutsMessage m r padded bs
-message_errs m e (Ok t) padded bs h p = absurd h
-message_errs m e (Err errors.WriteFault) padded bs h p = subst (λ k. PutsPart m k bs) (sym h) p
-message_errs m e (Err errors.Memory) padded bs h p = subst (λ k. PutsPart m k bs) (sym h) p
-message_errs m e (Err errors.TooLarge) padded bs h p = absurd (subst (λ k. PutsPart m k bs) (sym h) p)
-message_errs m e (Err f) padded bs h p = subst (λ k. PutsPart m k bs) (sym h) p

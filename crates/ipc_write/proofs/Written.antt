@@ -2,32 +2,24 @@
 use Rattle.std.proofs.Common.{◌≡◌, ℕ, ◌+◌, ◌-◌, ◌%◌, ◌^◌, ◌<◌, ◌≤◌, List, [], ◌∷◌, ◌++◌, Bool, true, false, length, map, min, refl, sym, ap, ◌∙◌, arith, append-nil}
 use Rattle.std.specs.Prelude.{nat_le, ◌&&◌}
 use Rattle.std.specs.List.{flat_map}
-use Rattle.std.proofs.lemmas.List.{map-append}
 use Rattle.std.proofs.lemmas.List.Folds.{flat_map-map}
 use Rattle.std.proofs.lemmas.Bool.{le-leb}
 use Rattle.arrow_spec.specs.Flat.{little}
 use Rattle.arrow_spec.specs.Layout.{Node, layout, size, up_to, zeros}
 use Rattle.arrow_spec.specs.Framing.{body_bytes, message_bytes, prefixed}
-use Rattle.arrow_spec.specs.Sent.{message, batch_node, also_written, may_be_sent}
+use Rattle.arrow_spec.specs.Sent.{message, batch_node, may_be_sent}
 use Rattle.arrow_spec.proofs.Bodies.{length-body}
 use Rattle.arrow_spec.proofs.NextMessages.{length-layout}
 use Rattle.arrow_arrays.specs.Batches.{Batch}
 use Rattle.arrow_arrays.specs.Parts.{Parts}
-use Rattle.written_columns.specs.Streams.{written_of, pieces_of, body_for, written_batch, batch_bytes}
-use Rattle.array_writer.specs.Pieces.{pieces_in, written_in}
+use Rattle.ipc_write_laws.specs.Streams.{written_of, pieces_of, body_for, written_batch, batch_bytes}
+use Rattle.ipc_write_arrays.specs.Pieces.{pieces_in}
 use Rattle.ipc_write.specs.Batches.{columns_written, columns_pieces, batch_message, batch_body, is_within, top_column, written_batch_of}
 use Rattle.ipc_write.specs.Compaction.{top}
 use Rattle.ipc_write.specs.Outcomes.{message_frame}
 use Rattle.ipc_write.proofs.ColumnSteps.{aligned_end}
 
 -- ── columns ──
-
-same_written : (ps : List Parts) → columns_written ps ≡ written_of (map top_column ps)
-same_written [] = refl
-same_written (p ∷ ps) =
-    let t = top p in
-    let cs = map top_column ps in
-    ap (also_written (written_in t)) (same_written ps) ∙ ap (λ ns. record { nodes = (top_column p).nodes ++ flat_map (λ c. c.nodes) cs; lengths = ns; views = (top_column p).views ++ flat_map (λ c. c.views) cs }) (sym (map-append length (pieces_in little t) (pieces_of cs)))
 
 same_pieces : (ps : List Parts) → columns_pieces ps ≡ pieces_of (map top_column ps)
 same_pieces ps = sym (flat_map-map (λ c. c.pieces) top_column ps)
@@ -39,8 +31,7 @@ same_body b = ap (body_bytes 0) (same_pieces b.arrays)
 
 pub same_message : (b : Batch) → batch_message b ≡ written_batch (written_batch_of b)
 unfolding batch_message
-same_message b =
-    ap (λ w. message 3 (batch_node b.height w) (length (batch_body b)) []) (same_written b.arrays) ∙ ap (λ xs. message 3 (batch_node b.height (written_of (written_batch_of b).columns)) (length xs) []) (same_body b)
+same_message b = ap (λ xs. message 3 (batch_node b.height (written_of (written_batch_of b).columns)) (length xs) []) (same_body b)
 
 aligned_body : (b : Batch) → length (batch_body b) % 64 ≡ 0
 aligned_body b =
@@ -84,9 +75,6 @@ same_tests n x y most height h =
 same_limits : (b : Batch) → b.height < 2 ^ 63 → is_within 2147483647 b ≡ may_be_sent (batch_message b)
 unfolding is_within may_be_sent
 same_limits b few = same_tests 2147483647 (up_to 8 (size (batch_message b).node)) (batch_message b).body 9223372036854775807 b.height (omega arith)
-
-pub sent_is_within : (b : Batch) → b.height < 2 ^ 63 → may_be_sent (batch_message b) ≡ true → is_within 2147483647 b ≡ true
-sent_is_within b few h = same_limits b few ∙ h
 
 pub within_is_sent : (b : Batch) → is_within 2147483647 b ≡ true → may_be_sent (batch_message b) ≡ true
 unfolding is_within may_be_sent

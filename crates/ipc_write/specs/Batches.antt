@@ -5,17 +5,21 @@ use Rattle.arrow_spec.specs.Flat.{little}
 use Rattle.arrow_spec.specs.Layout.{up_to, size}
 use Rattle.arrow_spec.specs.Counts.{Written}
 use Rattle.arrow_spec.specs.Framing.{body_bytes}
-use Rattle.arrow_spec.specs.Sent.{SentMessage, message, batch_node, all_written}
+use Rattle.arrow_spec.specs.Sent.{SentMessage, message, batch_node}
 use Rattle.arrow_arrays.specs.Batches.{Batch}
 use Rattle.arrow_arrays.specs.Parts.{Parts}
-use Rattle.written_columns.specs.Columns.{WrittenColumn}
-use Rattle.written_columns.specs.Streams.{WrittenBatch}
-use Rattle.array_writer.specs.Pieces.{written_in, pieces_in, column_in}
+use Rattle.ipc_write_laws.specs.Columns.{WrittenColumn}
+use Rattle.ipc_write_laws.specs.Streams.{WrittenBatch, written_of}
+use Rattle.ipc_write_arrays.specs.Pieces.{pieces_in, column_in}
 use Rattle.ipc_write.specs.Compaction.{top}
+
+-- a top column as it is written
+abbrev pub top_column : Parts → WrittenColumn
+top_column p = column_in little (top p)
 
 -- what columns are written with
 abbrev pub columns_written : List Parts → Written
-columns_written ps = all_written (map (λ p. written_in (top p)) ps)
+columns_written ps = written_of (map top_column ps)
 
 -- their buffers
 abbrev pub columns_pieces : List Parts → List (List ℕ)
@@ -34,9 +38,6 @@ unfoldable pub is_within : ℕ → Batch → Bool
 is_within limit b = nat_le (up_to 8 (size (batch_message b).node)) (min limit 2147483647) && nat_le (batch_message b).body 9223372036854775807
     && nat_le b.height 9223372036854775807
 
--- a top column as it is written, and a batch of them
-abbrev pub top_column : Parts → WrittenColumn
-top_column p = column_in little (top p)
-
+-- a batch of columns as they are written
 abbrev pub written_batch_of : Batch → WrittenBatch
 written_batch_of b = record { rows = b.height; columns = map top_column b.arrays; custom = [] }

@@ -9,8 +9,8 @@ use Rattle.arrow_spec.specs.Sent.{placed}
 use Rattle.arrow_spec.specs.Layout.{layout}
 use Rattle.arrow_arrays.specs.Batches.{Batch}
 use Rattle.arrow_arrays.specs.Parts.{Parts, rows_in, cells_in}
-use Rattle.written_columns.specs.Columns.{Means}
-use Rattle.array_writer.specs.Outputs.{Outputs, outputs, written_behind}
+use Rattle.ipc_write_laws.specs.Columns.{Means}
+use Rattle.ipc_write_arrays.specs.Outputs.{Outputs, outputs, written_behind}
 use Rattle.ipc_write.specs.Batches.{columns_written, columns_pieces, batch_message, batch_body, is_within, top_column}
 use Rattle.ipc_write.specs.Compaction.{top}
 use Rattle.ipc_write.specs.Ends.{end_of_array}

@@ -3,7 +3,7 @@ use Rattle.std.specs.Prelude.{◌≡◌, ℕ, ◌^◌, ◌<◌, ◌≤◌, lengt
 use Rattle.arrow_spec.specs.Flat.{little}
 use Rattle.arrow_spec.specs.Sent.{body_of}
 use Rattle.arrow_arrays.specs.Parts.{Parts}
-use Rattle.array_writer.specs.Pieces.{pieces_in}
+use Rattle.ipc_write_arrays.specs.Pieces.{pieces_in}
 
 -- a place, where it is below 2^63
 abbrev pub IsPlace : Option ℕ → ℕ → Type 0

@@ -3,7 +3,7 @@ use Rattle.std.specs.Prelude.{◌≡◌, ℕ, ◌^◌, ◌≤◌, List, Option, 
 use Rattle.std.specs.Io.KnownBytes.{Appends}
 use Rattle.arrow_spec.specs.declared.error.IpcError.{IpcError}
 use Rattle.arrow_spec.specs.declared.error.IpcError.TheVariants as errors
-use Rattle.ipc_schema.specs.Outside.{AppendsPrefix, Rose}
+use Rattle.ipc_io.specs.Outside.{AppendsPrefix, Rose}
 
 -- a sink before a call and behind it: the bytes that are told, and the counts of faults and of wants
 pub record Moved : Type 0 where

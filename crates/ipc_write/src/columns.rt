@@ -5,17 +5,17 @@ ghost use Rattle.arrow_spec.specs.Flat.{little};
 ghost use Rattle.arrow_arrays.specs.Batches.{have_rows};
 ghost use Rattle.arrow_arrays.specs.Parts.{rows_in};
 ghost use Rattle.arrow_arrays.specs.PartsOf.{parts_of, all_parts_of};
-ghost use Rattle.written_columns.specs.Columns.{Means};
-ghost use Rattle.array_writer.specs.Pieces.{column_in};
+ghost use Rattle.ipc_write_laws.specs.Columns.{Means};
+ghost use Rattle.ipc_write_arrays.specs.Pieces.{column_in};
 ghost use Rattle.ipc_write.specs.Compaction.{top};
 ghost use Rattle.ipc_write.specs.Laying.{ColumnFits};
 ghost use Rattle.ipc_write.specs.Encoding.{outputs_of, Adds, AllMean, IsTop, TopMeans, WritesColumns};
 
 use crate::compaction::compact;
 use crate::ends::array_end;
-use array_writer::write;
 use arrow_arrays::Array;
 use arrow_spec::{FieldNode, IpcBuffer, IpcError};
+use ipc_write_arrays::write;
 use std::alloc::{AllocError, Global};
 
 /// What columns are written as: their nodes, buffers, body and view counts.

@@ -3,7 +3,7 @@ ghost use Rattle.std.specs.Prelude.{◌≡◌, [], map, IfOk};
 ghost use Rattle.std.specs.List.{AllByRecursion};
 ghost use Rattle.arrow_spec.specs.Flat.{little};
 ghost use Rattle.arrow_arrays.specs.Parts.{cells_in};
-ghost use Rattle.written_columns.specs.Columns.{Means};
+ghost use Rattle.ipc_write_laws.specs.Columns.{Means};
 ghost use Rattle.ipc_write.specs.Batches.{written_batch_of};
 ghost use Rattle.ipc_write.specs.Encoding.{AllMean, Makes};
 ghost use Rattle.ipc_write.specs.Outcomes.{Encodes};

@@ -6,14 +6,14 @@ ghost use Rattle.arrow_spec.specs.Layout.{up_to};
 ghost use Rattle.arrow_spec.specs.Sent.{body_of};
 ghost use Rattle.arrow_spec.specs.Framing.{validity_bytes};
 ghost use Rattle.arrow_buffers.specs.Variable.{place_at, variable_rows, are_offsets};
-ghost use Rattle.arrow_arrays.specs.Parts.{bits, numbers, binary, text, as_bytes};
+ghost use Rattle.arrow_arrays.specs.Parts.{bits, numbers, as_bytes};
 ghost use Rattle.arrow_arrays.specs.PartsOf.{parts_of};
-ghost use Rattle.array_writer.specs.Pieces.{view_pieces};
+ghost use Rattle.ipc_write_arrays.specs.Pieces.{variable_pieces, view_pieces};
 ghost use Rattle.ipc_write.specs.Ends.{IsPlace, end_of_array};
 
 use arrow_arrays::Array;
 use arrow_buffers::{
-    BinaryArray, BinaryViewArrayGeneric, Bitmap, Buffer, PrimitiveArray, Utf8Array, ViewType,
+    BinaryViewArrayGeneric, Bitmap, Buffer, PrimitiveArray, VariableArray, ViewType,
 };
 use arrow_types::{NativeType, Offset};
 
@@ -73,8 +73,8 @@ fn place_of<O: Offset>(offsets: &[O], i: usize, limit: usize) -> usize
     offsets[i].to_usize().unwrap()
 }
 
-/// Where an array of byte strings ends.
-fn variable_end<O: Offset>(
+/// Where a validity, offsets and the bytes between them end.
+fn between_end<O: Offset>(
     at: usize,
     validity: Option<&Bitmap>,
     offsets: &[O],
@@ -92,29 +92,14 @@ fn variable_end<O: Offset>(
     buffer_end(next, last.saturating_sub(first) as u128)
 }
 
-/// Where an array of byte strings ends.
-fn binary_end<O: Offset>(at: usize, array: &BinaryArray<O>) -> Option<usize>
+/// Where an array of byte strings or texts ends.
+fn variable_end<O: Offset, V: ViewType>(at: usize, array: &VariableArray<O, V>) -> Option<usize>
     requires at { at < 2 ^ 63 }
     requires width { O.WIDTH ≡ (if O.IS_LARGE then 8 else 4) }
-    ensures { IsPlace result (end_of_array at (binary array.now)) }
+    ensures { IsPlace result (body_of at (map length (variable_pieces little array.now))) }
 {
     let _rows = array.len();
-    variable_end(
-        at,
-        array.validity(),
-        array.offsets().as_slice(),
-        array.values().len(),
-    )
-}
-
-/// Where an array of texts ends.
-fn text_end<O: Offset>(at: usize, array: &Utf8Array<O>) -> Option<usize>
-    requires at { at < 2 ^ 63 }
-    requires width { O.WIDTH ≡ (if O.IS_LARGE then 8 else 4) }
-    ensures { IsPlace result (end_of_array at (text array.now)) }
-{
-    let _rows = array.len();
-    variable_end(
+    between_end(
         at,
         array.validity(),
         array.offsets().as_slice(),
@@ -167,10 +152,10 @@ pub(crate) fn array_end(at: usize, array: &Array) -> Option<usize>
         Array::UInt64(array) => numbers_end(at, array),
         Array::DaysMs(array) => numbers_end(at, array),
         Array::MonthsDaysNs(array) => numbers_end(at, array),
-        Array::Binary(array) => binary_end(at, array),
-        Array::LargeBinary(array) => binary_end(at, array),
-        Array::Utf8(array) => text_end(at, array),
-        Array::LargeUtf8(array) => text_end(at, array),
+        Array::Binary(array) => variable_end(at, array),
+        Array::LargeBinary(array) => variable_end(at, array),
+        Array::Utf8(array) => variable_end(at, array),
+        Array::LargeUtf8(array) => variable_end(at, array),
         Array::BinaryView(array) => views_end(at, array),
         Array::Utf8View(array) => views_end(at, array),
         Array::FixedSizeBinary(array) => two_end(

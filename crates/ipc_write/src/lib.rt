@@ -11,9 +11,9 @@ mod metadata;
 mod options;
 mod record;
 
-pub use array_writer::write;
 pub use encode::encode_record_batch;
 pub use encoded::EncodedData;
 pub use frame::{message_to_bytes, pad_to_64, write_continuation, write_message};
+pub use ipc_write_arrays::write;
 pub use options::{Compression, WriteOptions};
 pub use record::Record;

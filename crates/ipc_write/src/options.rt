@@ -1,14 +1,14 @@
 //! How record batches are written.
 
 /// How the buffers of a body are compressed (Message.fbs, CompressionType). No body is written so.
-#[derive(Clone, Copy, Debug, PartialEq, Eq, Hash)]
+#[derive(Clone, Copy, Debug, PartialEq, Eq)]
 pub enum Compression {
     LZ4,
     ZSTD,
 }
 
 /// How record batches are written.
-#[derive(Clone, Copy, Debug, PartialEq, Eq, Hash)]
+#[derive(Clone, Copy, Debug, PartialEq, Eq)]
 pub struct WriteOptions {
     /// How buffers are compressed.
     pub compression: Option<Compression>,

@@ -8,7 +8,7 @@ use Rattle.arrow_types.specs.declared.data_type.Field.{Field}
 use Rattle.ipc_fields.specs.IpcFields.{ids_of}
 use Rattle.ipc_fields.specs.declared.ipc_field.IpcField.{IpcField}
 use Rattle.schema_writer.specs.Nodes.{field_table}
-use Rattle.schema_writer.specs.Built.{below_nodes, nodes_with, kind_sized, all_sized, onto}
+use Rattle.schema_writer.specs.Tables.{below_nodes, nodes_with, kind_sized, all_sized, onto}
 use Rattle.ipc_fields.specs.Uses.{other_ids, first_ids, first_id}
 
 pub onto_last : (xs : List Node) (x : Node) (ns : Nodes) → onto (xs ++ x ∷ []) ns ≡ onto xs (layout.also x ns)

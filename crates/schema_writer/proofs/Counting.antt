@@ -21,23 +21,11 @@ use Rattle.schema_writer.specs.Defaults.{is_apart, are_apart, IsDefault, AreDefa
 
 -- ── kinds with fields ──
 
-pub list_default : (o : Offsets) (fs : Fields) (s n : ℕ) (own : Ids) → AreDefault fs s n own → IsDefault (kind.«list» o fs) s n None own
-list_default o fs s n own h = record { counted = h.counted; shaped = h.shaped; ids = λ a. ap (kind.«list» o) (h.ids a) }
-
 pub fixed_default : (m : ℕ) (fs : Fields) (s n : ℕ) (own : Ids) → AreDefault fs s n own → IsDefault (kind.fixed_size_list m fs) s n None own
 fixed_default m fs s n own h = record { counted = h.counted; shaped = h.shaped; ids = λ a. ap (kind.fixed_size_list m) (h.ids a) }
 
 pub map_default : (sorted : Bool) (fs : Fields) (s n : ℕ) (own : Ids) → AreDefault fs s n own → IsDefault (kind.map sorted fs) s n None own
 map_default sorted fs s n own h = record { counted = h.counted; shaped = h.shaped; ids = λ a. ap (kind.map sorted) (h.ids a) }
-
-pub struct_default : (fs : Fields) (s n : ℕ) (own : Ids) → AreDefault fs s n own → IsDefault (kind.struct fs) s n None own
-struct_default fs s n own h = record { counted = h.counted; shaped = h.shaped; ids = λ a. ap kind.struct (h.ids a) }
-
-pub union_default : (m : UnionMode) (stated : Bool) (types : List ℤ) (fs : Fields) (s n : ℕ) (own : Ids) → AreDefault fs s n own → IsDefault (kind.union m stated types fs) s n None own
-union_default m stated types fs s n own h = record { counted = h.counted; shaped = h.shaped; ids = λ a. ap (kind.union m stated types) (h.ids a) }
-
-pub extension_default : (name : List ℕ) (m : Option (List ℕ)) (k : Kind) (s n : ℕ) (id : Option ℤ) (own : Ids) → IsDefault k s n id own → IsDefault (kind.extension name m k) s n id own
-extension_default name m k s n id own h = record { counted = h.counted; shaped = h.shaped; ids = λ a. ap (kind.extension name m) (h.ids a) }
 
 -- ── dictionaries ──
 
@@ -80,13 +68,6 @@ dictionary_default index ordered old k s n id own h = record {
 }
 
 -- ── fields ──
-
-pub one_default : (c : Child) (s n : ℕ) (t : Tree) → IsDefault c.kind s n t.id t.children → AreDefault (one_field c) s n (ids_from (t ∷ []))
-one_default c s n t h = record {
-  counted = omega (arith, h.counted);
-  shaped = ap (λ b. b && true) h.shaped;
-  ids = λ a. ap (λ k. kind.field c.name c.nullable c.metadata k kind.none) (h.ids (and_parts (is_apart c.kind) true a).0);
-}
 
 counts_more : (xs : List Child) (c : Child) → dictionary_counts (fields_from (xs ++ c ∷ [])) ≡ dictionary_counts (fields_from xs) + dictionary_count c.kind
 counts_more [] c = omega arith
@@ -139,12 +120,6 @@ default_step xs ys ts us c t s m n hy hu h g =
           ids_more xs ts c t s h.shaped (h.ids parts.0) (g.ids parts.1 ∙ ap (numbered_kind c.kind) h.counted);
     } in
     subst (λ us. AreDefault (fields_from ys) s n (ids_from us)) (sym hu) (subst (λ ys. AreDefault (fields_from ys) s n (ids_from (ts ++ t ∷ []))) (sym hy) whole)
-
-pub none_default : (s : ℕ) → AreDefault kind.none s s no_fields
-none_default s = record { counted = omega arith; shaped = refl; ids = λ a. refl }
-
-pub from_zero : (fs : Fields) (n : ℕ) (own : Ids) → AreDefault fs 0 n own → IsNumbered fs own
-from_zero fs n own h = record { shaped = h.shaped; ids = h.ids }
 
 -- ── kinds of types ──
 

@@ -10,7 +10,7 @@ use Rattle.arrow_spec.specs.Sent.{flag, type_tag, type_node, encoding_slot, fiel
 use Rattle.arrow_flat.specs.Nodes.{in_front}
 use Rattle.ipc_fields.specs.IpcFields.{Ids, no_fields, ids, kind_with, fields_with}
 use Rattle.schema_writer.specs.Nodes.{pairs_value, encoding_value, field_table}
-use Rattle.schema_writer.specs.Built.{below_nodes, nodes_with}
+use Rattle.schema_writer.specs.Tables.{below_nodes, nodes_with}
 
 tag_with : (k : Kind) (id : Option ℤ) (own : Ids) → type_tag (kind_with k id own) ≡ type_tag k
 tag_with (kind.«list» small fs) id own = refl

@@ -151,11 +151,3 @@ schema_keeps order fs pairs =
     let last : Few 1 ps = pairs_few 0 (pair_nodes pairs) layout.no_more (pairs_keep pairs) none_few in
     let fields : Few 2 (layout.child (layout.tables (field_nodes fs)) ps) = child_few 1 (layout.tables (field_nodes fs)) ps (fields_keep fs) last in
     few_keeps 3 (schema_slots order fs pairs) (omega arith) (order_few 2 order (layout.child (layout.tables (field_nodes fs)) ps) fields)
-
-pub message_keeps : (tag : ℕ) (header : Node) (body : ℕ) → KeepsSlotLimit header → KeepsSlotLimit (layout.table (message_slots tag header body []))
-message_keeps tag header body keeps =
-    let end = unless_zero w64 (pos body) layout.no_more in
-    let last : Few 1 end = zero_few 0 w64 (pos body) layout.no_more none_few in
-    let held : Few 2 (layout.child header end) = child_few 1 header end keeps last in
-    let tagged : Few 3 (layout.value w8 (pos tag) (layout.child header end)) = value_few 2 w8 (pos tag) (layout.child header end) held in
-    few_keeps 4 (message_slots tag header body []) (omega arith) (value_few 3 w16 (pos 4) (layout.value w8 (pos tag) (layout.child header end)) tagged)

@@ -17,7 +17,7 @@ use Rattle.arrow_types.specs.KindOf.{kind_of, child_of, fields_of, are_stated, i
 use Rattle.arrow_types.specs.declared.data_type.Field.{Field}
 use Rattle.ipc_fields.specs.IpcFields.{Ids, no_fields, ids, ids_of, kind_with, fields_with}
 use Rattle.ipc_fields.specs.declared.ipc_field.IpcField.{IpcField}
-use Rattle.schema_writer.specs.Built.{kind_fits, fits_below, all_fit, sizes_fit, sized_below, all_sized}
+use Rattle.schema_writer.specs.Tables.{kind_fits, fits_below, all_fit, sizes_fit, sized_below, all_sized}
 use Rattle.ipc_fields.specs.Uses.{other_ids, first_ids, first_id}
 use Rattle.ipc_fields.specs.UnionIds.{are_right}
 use Rattle.ipc_fields.proofs.UnionSteps.{same_when, counted_wrong}

@@ -31,20 +31,3 @@ uses_next s ts i c old new whole e h g =
 
 pub uses_done : (s : List Keyed) (ts : List IpcField) (i : ℕ) (us whole : List Use) → length s ≤ i → us ++ uses_left s ts i ≡ whole → us ≡ whole
 uses_done s ts i us whole le h = sym (append-nil us) ∙ ap (λ xs. us ++ uses_in (fields_with (fields_in xs) (ids_of (drop i ts)))) (sym (none_behind s i le)) ∙ h
-
--- a refusal that is not for want of memory says that the uses do not agree
-pub disagree : (e : IpcError) (r : Reading (Unit {0})) → Refuses e (refusals r) → IsOfBytes e → e ≢ Memory → false ≡ has_meaning r
-disagree e (Err es) told quiet other = refl
-disagree (OutOfSpec kind) (Ok u) told quiet other = absurd told
-disagree (Unsupported feature) (Ok u) told quiet other = absurd told
-disagree TooDeep (Ok u) told quiet other = absurd told
-disagree (TooMany counted) (Ok u) told quiet other = absurd told
-disagree (Projection index) (Ok u) told quiet other = absurd told
-disagree TooLarge (Ok u) told quiet other = absurd told
-disagree SchemaMismatch (Ok u) told quiet other = absurd told
-disagree (DictionaryReplaced id) (Ok u) told quiet other = absurd told
-disagree NotRepresentable (Ok u) told quiet other = absurd told
-disagree State (Ok u) told quiet other = absurd told
-disagree ReadFault (Ok u) told quiet other = absurd quiet
-disagree WriteFault (Ok u) told quiet other = absurd quiet
-disagree Memory (Ok u) told quiet other = absurd (other refl)

@@ -17,7 +17,7 @@ use Rattle.arrow_flat.specs.Nodes.{node_of, IsTable, KeepsSlotLimit}
 use Rattle.arrow_flat.specs.declared.node.Node.{Node as Built}
 use Rattle.ipc_fields.specs.IpcFields.{Ids, fields_with, have_shapes}
 use Rattle.schema_writer.specs.Serialized.{serialized, written, belong_to, has_meaning, message_node, IsOfTable, IsOfMessage}
-use Rattle.schema_writer.proofs.Limits.{schema_keeps, message_keeps}
+use Rattle.schema_writer.proofs.Limits.{schema_keeps}
 
 abbrev tested : Bool → Bool → Node → Reading Node
 tested b c n = bind (unless b SchemaMismatch) (λ own. bind (unless c NotRepresentable) (λ sayable. Ok n))
@@ -86,9 +86,6 @@ given_keeps order fs own pairs (Err e) h = tt
 
 -- ── bytes ──
 
-pub header_keeps : (n header : Node) → n ≡ message_node header → KeepsSlotLimit header → KeepsSlotLimit n
-header_keeps n header h k = subst KeepsSlotLimit (sym h) (message_keeps 1 header 0 k)
-
 abbrev sized : Node → Reading (List ℕ)
 sized n = bind (unless (nat_le (size n) 2147483647) TooLarge) (λ small. Ok (layout n))
 
@@ -130,9 +127,3 @@ handed e (Ok x) f h = absurd h
 
 pub refused_first : (order : Order) (fs : Fields) (own : Ids) (pairs : Metadata) (e : IpcError) → Refuses e (refusals (serialized order fs own pairs)) → Refuses e (refusals (written order fs own pairs))
 refused_first order fs own pairs e h = subst (λ r. Refuses e (refusals r)) (sym (is_written order fs own pairs)) (handed e (serialized order fs own pairs) _ h)
-
-pub of_bytes : (e : IpcError) → IsOfTable e → IsOfMessage e
-of_bytes errors.SchemaMismatch h = tt
-of_bytes errors.NotRepresentable h = tt
-of_bytes errors.Memory h = tt
-of_bytes e h = absurd h

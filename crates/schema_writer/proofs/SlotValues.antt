@@ -15,17 +15,6 @@ pub front_flag : (b : Bool) (s : Slots) → in_front (flag_value b) s ≡ flag b
 front_flag true s = refl
 front_flag false s = refl
 
-pub front_nonzero : (w : Width) (z : ℤ) (s : Slots) → in_front (nonzero w z) s ≡ unless_zero w z s
-front_nonzero w (pos zero) s = refl
-front_nonzero w (pos (suc n)) s = refl
-front_nonzero w (negsuc n) s = refl
-
-pub front_unit : (u : TimeUnit) (s : Slots) → in_front (unit_value u) s ≡ unit_slot u s
-front_unit Second s = refl
-front_unit Millisecond s = refl
-front_unit Microsecond s = refl
-front_unit Nanosecond s = refl
-
 pub front_text : (t : Option (List ℕ)) (s : Slots) → in_front (text_value t) s ≡ text_slot t s
 front_text None s = refl
 front_text (Some t) s = refl

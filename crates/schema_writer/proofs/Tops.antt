@@ -15,7 +15,7 @@ use Rattle.arrow_types.specs.Schemas.{Keyed, fields_in}
 use Rattle.ipc_fields.specs.IpcFields.{Ids, no_fields, ids, ids_of, has_shape, have_shapes, kind_with, fields_with}
 use Rattle.ipc_fields.specs.declared.ipc_field.IpcField.{IpcField}
 use Rattle.schema_writer.specs.Nodes.{field_table, pairs_value}
-use Rattle.schema_writer.specs.Built.{below_nodes, nodes_with, kind_sized, all_sized, kind_fits, all_fit, onto}
+use Rattle.schema_writer.specs.Tables.{below_nodes, nodes_with, kind_sized, all_sized, kind_fits, all_fit, onto}
 use Rattle.ipc_fields.specs.Uses.{other_ids, first_ids, first_id}
 use Rattle.schema_writer.specs.SlotValues.{order_value}
 use Rattle.schema_writer.proofs.Building.{onto_last, onto_none, others_at, rest_at, none_behind, and_left, and_right}

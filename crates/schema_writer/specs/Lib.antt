@@ -1,4 +1,4 @@
-pub mod Built
+pub mod Tables
 pub mod Defaults
 pub mod Nodes
 pub mod Serialized

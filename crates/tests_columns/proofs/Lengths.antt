@@ -21,8 +21,8 @@ use Rattle.arrow_types.specs.declared.physical.PrimitiveType.TheVariants as prim
 use Rattle.arrow_buffers.specs.Variable.{Variable}
 use Rattle.arrow_arrays.specs.Parts.{Parts, nulls, bits, numbers, fixed, binary, text, binary_views, text_views}
 use Rattle.arrow_arrays.specs.Batches.{Batch}
-use Rattle.array_writer.specs.Pieces.{in_order, layout_in_order, rebased, offset_bytes, width_of_kind, bytes_between, variable_pieces, pieces_in}
-use Rattle.array_writer.specs.Outputs.{MayHaveOrder}
+use Rattle.ipc_write_arrays.specs.Pieces.{in_order, layout_in_order, rebased, offset_bytes, width_of_kind, bytes_between, variable_pieces, pieces_in}
+use Rattle.ipc_write_arrays.specs.Outputs.{MayHaveOrder}
 use Rattle.ipc_write.specs.Batches.{batch_body, columns_pieces, is_within, batch_message}
 use Rattle.ipc_write.specs.Compaction.{top}
 

@@ -1,2 +1,2 @@
 mod Lengths
-mod FlatArrays
+mod LeafArrays

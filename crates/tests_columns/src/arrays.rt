@@ -1,11 +1,13 @@
 //! Arrays of four rows, of which the third is null.
+use arrow_arrays::Array;
 use arrow_buffers::{
-    BinaryArray, BinaryViewArrayGeneric, Bitmap, BooleanArray, Buffer, FixedSizeBinaryArray,
-    PrimitiveArray, Utf8Array, ViewType,
+    ArrayError, BinaryViewArrayGeneric, Bitmap, BooleanArray, Buffer, ByteRows,
+    FixedSizeBinaryArray, NullArray, PrimitiveArray, TextRows, VariableArray, ViewType,
 };
-use arrow_types::{ArrowDataType, NativeType, Offset};
+use arrow_types::{
+    ArrowDataType, ExtensionType, IntervalUnit, NativeType, Offset, days_ms, months_days_ns,
+};
 use std::alloc::{AllocError, Global};
-use std::test::Fail;
 
 /// The bytes of the strings and texts between offsets.
 const TEXT: &[u8] = b"ab\xC3\xA9-c";
@@ -22,53 +24,160 @@ fn bytes(alloc: Global, bytes: &[u8]) -> Result<Buffer<u8>, AllocError> {
     Buffer::from_vec(bytes.to_vec(alloc)?)
 }
 
-pub(crate) fn numbers<T: NativeType>(
+fn items<T: NativeType>(alloc: Global, values: &[T]) -> Result<Buffer<T>, AllocError> {
+    Buffer::from_vec(values.to_vec(alloc)?)
+}
+
+fn numbers<T: NativeType>(
     alloc: Global,
     dtype: ArrowDataType,
     values: &[T],
-) -> Result<PrimitiveArray<T>, Fail> {
-    let values = Buffer::from_vec(values.to_vec(alloc)?)?;
-    Ok(PrimitiveArray::try_new(dtype, values, validity(alloc)?)?)
+) -> Result<PrimitiveArray<T>, ArrayError> {
+    let values = items(alloc, values)?;
+    PrimitiveArray::try_new(dtype, values, validity(alloc)?)
 }
 
-pub(crate) fn flags(alloc: Global, dtype: ArrowDataType) -> Result<BooleanArray, Fail> {
+pub(crate) fn flags(alloc: Global) -> Result<Array, ArrayError> {
     let values = Bitmap::from_vec([0b1110_1010].to_vec(alloc)?, 4)?;
-    Ok(BooleanArray::try_new(dtype, values, validity(alloc)?)?)
+    let validity = validity(alloc)?;
+    Ok(Array::Boolean(BooleanArray::try_new(ArrowDataType::Boolean, values, validity)?))
 }
 
-pub(crate) fn fixed(alloc: Global, dtype: ArrowDataType) -> Result<FixedSizeBinaryArray, Fail> {
+pub(crate) fn fixed(alloc: Global) -> Result<Array, ArrayError> {
     let values = bytes(alloc, b"abcdefgh")?;
-    Ok(FixedSizeBinaryArray::try_new(dtype, values, validity(alloc)?)?)
+    let pairs = ArrowDataType::FixedSizeBinary(2);
+    Ok(Array::FixedSizeBinary(FixedSizeBinaryArray::try_new(pairs, values, validity(alloc)?)?))
 }
 
-/// The strings between offsets into `TEXT`.
-pub(crate) fn strings<O: Offset>(
+fn places<O: Offset>(alloc: Global, offsets: &[O]) -> Result<Buffer<O>, AllocError> {
+    Buffer::from_vec(offsets.to_vec(alloc)?)
+}
+
+/// The strings or texts between offsets into `TEXT`.
+fn between<O: Offset, V: ViewType>(
     alloc: Global,
     dtype: ArrowDataType,
     offsets: &[O],
-) -> Result<BinaryArray<O>, Fail> {
-    let offsets = Buffer::from_vec(offsets.to_vec(alloc)?)?;
+) -> Result<VariableArray<O, V>, ArrayError> {
+    let offsets = places(alloc, offsets)?;
     let values = bytes(alloc, TEXT)?;
-    Ok(BinaryArray::try_new(dtype, offsets, values, validity(alloc)?)?)
+    VariableArray::try_new(dtype, offsets, values, validity(alloc)?)
 }
 
-/// The texts between offsets into `TEXT`.
-pub(crate) fn texts<O: Offset>(
-    alloc: Global,
-    dtype: ArrowDataType,
-    offsets: &[O],
-) -> Result<Utf8Array<O>, Fail> {
-    let offsets = Buffer::from_vec(offsets.to_vec(alloc)?)?;
-    let values = bytes(alloc, TEXT)?;
-    Ok(Utf8Array::try_new(dtype, offsets, values, validity(alloc)?)?)
+fn one_buffer(alloc: Global) -> Result<Vec<Buffer<u8>>, AllocError> {
+    Ok(vec![in alloc; bytes(alloc, b"-abcdefghijklm")?]?)
 }
 
 /// The views over one buffer.
-pub(crate) fn views<V: ViewType>(
+fn views<V: ViewType>(
     alloc: Global,
     dtype: ArrowDataType,
-) -> Result<BinaryViewArrayGeneric<V>, Fail> {
-    let held = vec![in alloc; bytes(alloc, b"-abcdefghijklm")?]?;
+) -> Result<BinaryViewArrayGeneric<V>, ArrayError> {
+    let held = one_buffer(alloc)?;
     let views = bytes(alloc, VIEWS)?;
-    Ok(BinaryViewArrayGeneric::try_new(dtype, views, held, validity(alloc)?)?)
+    BinaryViewArrayGeneric::try_new(dtype, views, held, validity(alloc)?)
+}
+
+pub(crate) fn nulls() -> Result<Array, ArrayError> {
+    Ok(Array::Null(NullArray::try_new(ArrowDataType::Null, 4)?))
+}
+
+pub(crate) fn int8(alloc: Global) -> Result<Array, ArrayError> {
+    Ok(Array::Int8(numbers(alloc, ArrowDataType::Int8, &[1, -2, 3, i8::MIN])?))
+}
+
+pub(crate) fn int16(alloc: Global) -> Result<Array, ArrayError> {
+    Ok(Array::Int16(numbers(alloc, ArrowDataType::Int16, &[1, -2, 3, i16::MIN])?))
+}
+
+pub(crate) fn int32(alloc: Global) -> Result<Array, ArrayError> {
+    Ok(Array::Int32(numbers(alloc, ArrowDataType::Int32, &[1, -2, 3, i32::MIN])?))
+}
+
+pub(crate) fn int64(alloc: Global) -> Result<Array, ArrayError> {
+    Ok(Array::Int64(numbers(alloc, ArrowDataType::Int64, &[1, -2, 3, i64::MIN])?))
+}
+
+pub(crate) fn decimals(alloc: Global) -> Result<Array, ArrayError> {
+    let dtype = ArrowDataType::Decimal(38, 10);
+    Ok(Array::Int128(numbers(alloc, dtype, &[1, -2, 3, i128::MIN])?))
+}
+
+pub(crate) fn uint8(alloc: Global) -> Result<Array, ArrayError> {
+    Ok(Array::UInt8(numbers(alloc, ArrowDataType::UInt8, &[1, 2, 3, u8::MAX])?))
+}
+
+pub(crate) fn uint16(alloc: Global) -> Result<Array, ArrayError> {
+    Ok(Array::UInt16(numbers(alloc, ArrowDataType::UInt16, &[1, 2, 3, u16::MAX])?))
+}
+
+pub(crate) fn uint32(alloc: Global) -> Result<Array, ArrayError> {
+    Ok(Array::UInt32(numbers(alloc, ArrowDataType::UInt32, &[1, 2, 3, u32::MAX])?))
+}
+
+pub(crate) fn uint64(alloc: Global) -> Result<Array, ArrayError> {
+    Ok(Array::UInt64(numbers(alloc, ArrowDataType::UInt64, &[1, 2, 3, u64::MAX])?))
+}
+
+const DAY: days_ms = days_ms {
+    days: -1,
+    milliseconds: 0x0102_0304,
+};
+
+pub(crate) fn days(alloc: Global) -> Result<Array, ArrayError> {
+    let dtype = ArrowDataType::Interval(IntervalUnit::DayTime);
+    Ok(Array::DaysMs(numbers(alloc, dtype, &[DAY; 4])?))
+}
+
+const MONTH: months_days_ns = months_days_ns {
+    months: 0x0102_0304,
+    days: -2,
+    ns: 0x0102_0304_0506_0708,
+};
+
+pub(crate) fn months(alloc: Global) -> Result<Array, ArrayError> {
+    let dtype = ArrowDataType::Interval(IntervalUnit::MonthDayNano);
+    Ok(Array::MonthsDaysNs(numbers(alloc, dtype, &[MONTH; 4])?))
+}
+
+pub(crate) fn binary(alloc: Global) -> Result<Array, ArrayError> {
+    Ok(Array::Binary(between::<i32, ByteRows>(alloc, ArrowDataType::Binary, &[1, 2, 4, 5, 6])?))
+}
+
+pub(crate) fn large_binary(alloc: Global) -> Result<Array, ArrayError> {
+    Ok(Array::LargeBinary(between::<i64, ByteRows>(
+        alloc,
+        ArrowDataType::LargeBinary,
+        &[1, 2, 4, 5, 6],
+    )?))
+}
+
+pub(crate) fn utf8(alloc: Global) -> Result<Array, ArrayError> {
+    Ok(Array::Utf8(between::<i32, TextRows>(alloc, ArrowDataType::Utf8, &[1, 2, 4, 5, 6])?))
+}
+
+pub(crate) fn large_utf8(alloc: Global) -> Result<Array, ArrayError> {
+    Ok(Array::LargeUtf8(between::<i64, TextRows>(
+        alloc,
+        ArrowDataType::LargeUtf8,
+        &[1, 2, 4, 5, 6],
+    )?))
+}
+
+pub(crate) fn binary_views(alloc: Global) -> Result<Array, ArrayError> {
+    Ok(Array::BinaryView(views::<ByteRows>(alloc, ArrowDataType::BinaryView)?))
+}
+
+/// An extension over views of texts.
+fn own(alloc: Global) -> Result<ArrowDataType, AllocError> {
+    let extension = ExtensionType {
+        name: String::from_str(alloc, "own")?,
+        inner: ArrowDataType::Utf8View,
+        metadata: None,
+    };
+    Ok(ArrowDataType::Extension(Box::new(alloc, extension)?))
+}
+
+pub(crate) fn text_views(alloc: Global) -> Result<Array, ArrayError> {
+    Ok(Array::Utf8View(views::<TextRows>(alloc, own(alloc)?)?))
 }

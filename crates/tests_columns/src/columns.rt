@@ -1,11 +1,12 @@
 //! Worked columns over memory, read and passed over.
 ghost use Rattle.std.specs.Prelude.{◌≡◌, true};
 ghost use Rattle.arrow_types.specs.KindOf.{kind_of};
-ghost use Rattle.arrow_arrays.specs.FlatKinds.{is_flat_kind};
+ghost use Rattle.arrow_arrays.specs.LeafKinds.{is_leaf_kind};
 
 use arrow_arrays::Array;
+use arrow_buffers::PrimitiveArray;
 use arrow_spec::{FieldNode, IpcBuffer, IpcError, MetadataVersion, OutOfSpecKind};
-use arrow_types::{ArrowDataType, Field, Metadata};
+use arrow_types::{ArrowDataType, Field};
 use ipc_fields::IpcField;
 use ipc_read::{Body, read, read_null, read_primitive, skip_binview};
 use ipc_schema::{MemorySource, Source};
@@ -62,7 +63,7 @@ fn next(
     dtype: ArrowDataType,
     rows: usize,
 ) -> Result<Array, IpcError>
-    requires flat { is_flat_kind (kind_of dtype) ≡ true }
+    requires leaf { is_leaf_kind (kind_of dtype) ≡ true }
 {
     if source.size()? < 50 {
         return Err(IpcError::State);
@@ -71,12 +72,7 @@ fn next(
         offset: 2,
         length: 48,
     };
-    let field = Field {
-        name: String::new(alloc),
-        dtype,
-        is_nullable: true,
-        metadata: Metadata::new(alloc),
-    };
+    let field = Field::new(alloc, String::new(alloc), dtype, true);
     read(
         alloc,
         &mut queues.nodes,
@@ -103,60 +99,62 @@ fn three_rows(alloc: Global, places: &[(i64, i64)]) -> Result<Queues, AllocError
     })
 }
 
+/// The first column of such a batch.
+fn first(alloc: Global, places: &[(i64, i64)], dtype: ArrowDataType) -> Result<Array, Fail>
+    requires leaf { is_leaf_kind (kind_of dtype) ≡ true }
+{
+    let mut queues = three_rows(alloc, places)?;
+    let mut source = source(alloc, TABLE)?;
+    Ok(next(alloc, &mut queues, &mut source, dtype, 3)?)
+}
+
+/// Whether numbers have these values, and one null.
+fn holds_numbers(numbers: &Array, values: &[u8]) -> bool {
+    match numbers {
+        Array::UInt8(numbers) => numbers.values().as_slice() == values && numbers.null_count() == 1,
+        _ => false,
+    }
+}
+
 #[test]
 fn numbers_have_their_values_and_their_nulls(rt: HostRuntime) -> Result<(), Fail> {
-    let mut source = source(rt.alloc(), TABLE)?;
-    let mut queues = three_rows(rt.alloc(), &[(0, 1), (8, 3)])?;
-    let read = next(
-        rt.alloc(),
-        &mut queues,
-        &mut source,
-        ArrowDataType::UInt8,
-        3,
-    )?;
-    let Array::UInt8(numbers) = read else {
-        return Err(Fail::from("no numbers"));
-    };
-    assert_eq!(rt; numbers.values().as_slice(), [1, 0, 3].as_slice());
-    assert_eq!(rt; numbers.null_count(), 1);
+    let numbers = first(rt.alloc(), &[(0, 1), (8, 3)], ArrowDataType::UInt8)?;
+    assert!(rt; holds_numbers(&numbers, &[1, 0, 3]));
+    drop(numbers);
     Ok(())
+}
+
+/// Whether texts have these offsets into these bytes, and one null.
+fn holds_texts(texts: &Array, offsets: &[i32], values: &[u8]) -> bool {
+    match texts {
+        Array::Utf8(texts) => texts.offsets().as_slice() == offsets
+            && texts.values().as_slice() == values
+            && texts.null_count() == 1,
+        _ => false,
+    }
 }
 
 #[test]
 fn texts_have_their_values_and_their_nulls(rt: HostRuntime) -> Result<(), Fail> {
-    let mut source = source(rt.alloc(), TABLE)?;
-    let mut queues = three_rows(rt.alloc(), &[(16, 1), (24, 16), (40, 3)])?;
-    let read = next(rt.alloc(), &mut queues, &mut source, ArrowDataType::Utf8, 3)?;
-    let Array::Utf8(texts) = read else {
-        return Err(Fail::from("no texts"));
-    };
-    assert_eq!(rt; texts.offsets().as_slice(), [0, 1, 3, 3].as_slice());
-    assert_eq!(rt; texts.values().as_slice(), b"xyz".as_slice());
-    assert_eq!(rt; texts.null_count(), 1);
+    let places = [(16, 1), (24, 16), (40, 3)];
+    let texts = first(rt.alloc(), &places, ArrowDataType::Utf8)?;
+    assert!(rt; holds_texts(&texts, &[0, 1, 3, 3], b"xyz"));
+    drop(texts);
     Ok(())
+}
+
+/// What is refused behind the first column of a batch of one.
+fn second(alloc: Global) -> Result<Option<IpcError>, Fail> {
+    let mut queues = three_rows(alloc, &[(0, 1), (8, 3)])?;
+    let mut source = source(alloc, TABLE)?;
+    drop(next(alloc, &mut queues, &mut source, ArrowDataType::UInt8, 3)?);
+    Ok(next(alloc, &mut queues, &mut source, ArrowDataType::UInt8, 3).err())
 }
 
 #[test]
 fn the_next_column_has_the_next_node(rt: HostRuntime) -> Result<(), Fail> {
-    let mut source = source(rt.alloc(), TABLE)?;
-    let mut queues = three_rows(rt.alloc(), &[(0, 1), (8, 3)])?;
-    let first = next(
-        rt.alloc(),
-        &mut queues,
-        &mut source,
-        ArrowDataType::UInt8,
-        3,
-    );
-    assert!(rt; first.is_ok());
-    let none = next(
-        rt.alloc(),
-        &mut queues,
-        &mut source,
-        ArrowDataType::UInt8,
-        3,
-    );
     let missing = IpcError::OutOfSpec(OutOfSpecKind::ExpectedBuffer);
-    assert_eq!(rt; none.err(), Some(missing));
+    assert!(rt; second(rt.alloc())? == Some(missing));
     Ok(())
 }
 
@@ -171,56 +169,59 @@ fn nulls_take_no_buffers(rt: HostRuntime) -> Result<(), Fail> {
         &ArrowDataType::Null,
         4_611_686_018_427_387_904,
     )?;
-    assert_eq!(rt; array.len(), 4_611_686_018_427_387_904);
-    assert_eq!(rt; array.null_count(), 4_611_686_018_427_387_904);
+    assert!(rt; array.len() == 4_611_686_018_427_387_904 && array.null_count() == array.len());
     Ok(())
 }
 
+/// The tables of a column of views, before one of numbers.
+fn views_and_numbers(alloc: Global) -> Result<Queues, AllocError> {
+    let places = [(0, 0), (0, 32), (64, 13), (128, 13), (192, 0), (192, 16)];
+    let mut variadic = VecDeque::new(alloc);
+    variadic.push_back(2)?;
+    Ok(Queues {
+        nodes: nodes(alloc, &[(2, 0), (2, 0)])?,
+        buffers: buffers(alloc, &places)?,
+        variadic,
+    })
+}
+
 /// The numbers of a body of 208 bytes, of which views stand before them.
-fn behind_views(alloc: Global, source: &mut MemorySource) -> Result<Array, IpcError> {
+fn behind_views(alloc: Global, source: &mut MemorySource) -> Result<PrimitiveArray<i64>, Fail> {
     if source.size()? < 210 {
-        return Err(IpcError::State);
+        return Err(Fail::from("a short source"));
     }
     let body = Body {
         offset: 2,
         length: 208,
     };
-    let places = [(0, 0), (0, 32), (64, 13), (128, 13), (192, 0), (192, 16)];
-    let (Ok(mut nodes), Ok(mut buffers)) = (
-        nodes(alloc, &[(2, 0), (2, 0)]),
-        buffers(alloc, &places),
-    ) else {
-        return Err(IpcError::Memory);
-    };
-    let mut variadic = VecDeque::new(alloc);
-    if variadic.push_back(2).is_err() {
-        return Err(IpcError::Memory);
-    }
-    skip_binview(&mut nodes, &mut buffers, &mut variadic)?;
-    let array = read_primitive::<i64, MemorySource>(
+    let mut queues = views_and_numbers(alloc)?;
+    skip_binview(&mut queues.nodes, &mut queues.buffers, &mut queues.variadic)?;
+    let mut scratch = Vec::new(alloc);
+    Ok(read_primitive::<i64, MemorySource>(
         alloc,
-        &mut nodes,
+        &mut queues.nodes,
         &ArrowDataType::Int64,
-        &mut buffers,
+        &mut queues.buffers,
         source,
         body,
         true,
         2,
-        &mut Vec::new(alloc),
-    )?;
-    Ok(Array::Int64(array))
+        &mut scratch,
+    )?)
+}
+
+/// Zeros where views and their buffers stand, and the numbers 7 and 8.
+fn body_of_views(alloc: Global) -> Result<Vec<u8>, AllocError> {
+    let mut body = Vec::new(alloc);
+    body.resize(192, 0)?;
+    body.extend_from_slice(&[7, 0, 0, 0, 0, 0, 0, 0, 8, 0, 0, 0, 0, 0, 0, 0])?;
+    Ok(body)
 }
 
 #[test]
 fn all_buffers_of_views_are_passed_over(rt: HostRuntime) -> Result<(), Fail> {
-    let alloc = rt.alloc();
-    let mut body = Vec::new(alloc);
-    body.resize(192, 0)?;
-    body.extend_from_slice(&[7, 0, 0, 0, 0, 0, 0, 0, 8, 0, 0, 0, 0, 0, 0, 0])?;
-    let mut source = source(alloc, &body)?;
-    match behind_views(alloc, &mut source)? {
-        Array::Int64(numbers) => assert_eq!(rt; numbers.values().as_slice(), [7, 8].as_slice()),
-        _ => panic!(rt; "no numbers"),
-    }
+    let mut source = source(rt.alloc(), &body_of_views(rt.alloc())?)?;
+    let numbers = behind_views(rt.alloc(), &mut source)?;
+    assert!(rt; numbers.values().as_slice() == [7, 8].as_slice());
     Ok(())
 }

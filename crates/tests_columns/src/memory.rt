@@ -1,4 +1,6 @@
 //! Tables of calls of the objects over memory.
+ghost use Rattle.std.specs.Prelude.{◌≤◌};
+
 use ipc_schema::{
     Entry, Failed, Feed, Got, MemoryFeed, MemoryShelf, MemorySink, MemorySource, PutError, Shelf,
     ShelfError, Sink, Source,
@@ -26,7 +28,7 @@ fn a_source_is_read_at_places(rt: HostRuntime) -> Result<(), Fail> {
     let failing = numbers(alloc, &[5])?;
     let places = numbers(alloc, &[6])?;
     let mut source = MemorySource::new(b"abcdefgh".to_vec(alloc)?, failing, places);
-    assert_eq!(rt; source.size(), Ok(8));
+    assert!(rt; source.size() == Ok(8));
     let cases = [
         (0, Ok(Some(*b"abc"))),
         (3, Ok(Some(*b"def"))),
@@ -37,38 +39,40 @@ fn a_source_is_read_at_places(rt: HostRuntime) -> Result<(), Fail> {
         (u64::MAX, Ok(None)),
     ];
     for (at, want) in cases {
-        assert_eq!(rt; three(&mut source, at), want, "at {at}");
+        assert!(rt; three(&mut source, at) == want);
     }
     Ok(())
 }
 
+/// The bytes of one pull into so much room, and zeros behind them.
+fn pulled(feed: &mut MemoryFeed, room: usize) -> Result<(usize, [u8; 4]), Failed>
+    requires { room ≤ 4 }
+{
+    let mut out = [0; 4];
+    let count = feed.pull(&mut out[..room])?;
+    Ok((count, out))
+}
+
 #[test]
 fn a_feed_gives_its_bytes_once(rt: HostRuntime) -> Result<(), Fail> {
-    let alloc = rt.alloc();
-    let mut feed = MemoryFeed::new(b"abcde".to_vec(alloc)?, 3, numbers(alloc, &[1])?);
-    let cases = [
-        (4, Ok(b"abc".as_slice())),
+    let failing = numbers(rt.alloc(), &[1])?;
+    let mut feed = MemoryFeed::new(b"abcde".to_vec(rt.alloc())?, 3, failing);
+    for (room, want) in [
+        (4, Ok((3, *b"abc\0"))),
         (4, Err(Failed)),
-        (1, Ok(b"d".as_slice())),
-        (4, Ok(b"e".as_slice())),
-        (4, Ok(b"".as_slice())),
-    ];
-    for (room, want) in cases {
-        let mut out = [0; 4];
-        let given = feed.pull(&mut out[..room]).map(|count| count.min(4));
-        match (given, want) {
-            (Ok(count), Ok(bytes)) => assert_eq!(rt; &out[..count], bytes),
-            (given, want) => assert_eq!(rt; given.is_err(), want.is_err()),
-        }
+        (1, Ok((1, *b"d\0\0\0"))),
+        (4, Ok((1, *b"e\0\0\0"))),
+        (4, Ok((0, [0; 4]))),
+    ] {
+        assert!(rt; pulled(&mut feed, room) == want);
     }
     Ok(())
 }
 
 fn check_puts(rt: &impl Abort, sink: &mut MemorySink, cases: &[(&[u8], bool, &[u8])]) {
     for (bytes, fails, want) in cases {
-        let put = sink.put(bytes);
-        assert_eq!(rt; put == Err(PutError::Failed), *fails);
-        assert_eq!(rt; sink.bytes(), *want);
+        let has_failed = sink.put(bytes) == Err(PutError::Failed);
+        assert!(rt; has_failed == *fails && sink.bytes() == *want);
     }
 }
 
@@ -135,7 +139,7 @@ fn a_shelf_opens_by_name(rt: HostRuntime) -> Result<(), Fail> {
         ("a", Ok(*b"abc")),
     ];
     for (name, want) in cases {
-        assert_eq!(rt; front(&mut shelf, name), want, "under {name}");
+        assert!(rt; front(&mut shelf, name) == want);
     }
     Ok(())
 }
@@ -158,8 +162,8 @@ fn a_lent_source_is_a_source(rt: HostRuntime) -> Result<(), Fail> {
     let mut reader = Reader {
         source: &mut source,
     };
-    assert_eq!(rt; reader.front(), Ok(Some(*b"abc")));
+    assert!(rt; reader.front() == Ok(Some(*b"abc")));
     let Reader { source: lent } = reader;
-    assert_eq!(rt; lent.size(), Ok(4));
+    assert!(rt; lent.size() == Ok(4));
     Ok(())
 }

@@ -3,21 +3,21 @@ ghost use Rattle.std.specs.Prelude.{◌≡◌, ◌^◌, ◌<◌, [], ◌∷◌, 
 ghost use Rattle.arrow_spec.specs.Flat.{little, order_by};
 ghost use Rattle.arrow_spec.specs.Sent.{body_of};
 ghost use Rattle.arrow_types.specs.KindOf.{kind_of};
-ghost use Rattle.arrow_arrays.specs.FlatKinds.{is_flat_kind};
+ghost use Rattle.arrow_arrays.specs.LeafKinds.{is_leaf_kind};
 ghost use Rattle.arrow_arrays.specs.Parts.{rows_in};
 ghost use Rattle.arrow_arrays.specs.PartsOf.{parts_of};
-ghost use Rattle.array_writer.specs.Pieces.{pieces_in};
-ghost use Rattle.array_writer.specs.Outputs.{MayHaveOrder};
+ghost use Rattle.ipc_write_arrays.specs.Pieces.{pieces_in};
+ghost use Rattle.ipc_write_arrays.specs.Outputs.{MayHaveOrder};
 ghost use Rattle.ipc_write.specs.Compaction.{top};
 
-use array_writer::write;
 use arrow_arrays::{Array, RecordBatch};
 use arrow_spec::{FieldNode, IpcBuffer, IpcError, MetadataVersion};
-use arrow_types::{ArrowDataType, ArrowSchema, Field, Metadata};
+use arrow_types::{ArrowDataType, ArrowSchema, Field};
 use ipc_fields::IpcField;
 use ipc_read::{Body, Dictionaries, read};
 use ipc_schema::{MemorySource, Source, read_record_message};
 use ipc_write::{EncodedData, WriteOptions, encode_record_batch};
+use ipc_write_arrays::write;
 use std::alloc::{AllocError, Global};
 use std::collections::VecDeque;
 use std::rc::Rc;
@@ -97,6 +97,29 @@ fn queue_of<T: Copy>(alloc: Global, items: &[T]) -> Result<VecDeque<T>, AllocErr
     Ok(queue)
 }
 
+/// What was written, but the body.
+#[derive(Drop)]
+struct Queues {
+    nodes: VecDeque<FieldNode>,
+    buffers: VecDeque<IpcBuffer>,
+    views: VecDeque<i64>,
+}
+
+fn queues_of(alloc: Global, written: &Written) -> Result<Queues, AllocError> {
+    Ok(Queues {
+        nodes: queue_of(alloc, &written.nodes)?,
+        buffers: queue_of(alloc, &written.buffers)?,
+        views: queue_of(alloc, &written.views)?,
+    })
+}
+
+fn field_of(alloc: Global, dtype: &ArrowDataType) -> Result<Field, AllocError>
+    ensures { IfOk result (λ f. kind_of f.dtype ≡ kind_of dtype.now) }
+{
+    let dtype = dtype.try_clone(alloc)?;
+    Ok(Field::new(alloc, String::new(alloc), dtype, true))
+}
+
 /// The array of so many rows that is read from what was written.
 pub(crate) fn read_back(
     alloc: Global,
@@ -105,26 +128,22 @@ pub(crate) fn read_back(
     written: Written,
     is_little_endian: bool,
 ) -> Result<Result<Array, IpcError>, Fail>
-    requires { is_flat_kind (kind_of dtype.now) ≡ true }
+    requires { is_leaf_kind (kind_of dtype.now) ≡ true }
 {
+    let mut queues = queues_of(alloc, &written)?;
+    let field = field_of(alloc, dtype)?;
     let mut source = MemorySource::new(written.body, Vec::new(alloc), Vec::new(alloc));
     let body = Body {
         offset: 0,
         length: source.size()?,
     };
-    let field = Field {
-        name: String::new(alloc),
-        dtype: dtype.try_clone(alloc)?,
-        is_nullable: true,
-        metadata: Metadata::new(alloc),
-    };
     Ok(read(
         alloc,
-        &mut queue_of(alloc, &written.nodes)?,
-        &mut queue_of(alloc, &written.views)?,
+        &mut queues.nodes,
+        &mut queues.views,
         &field,
         &IpcField::new(alloc),
-        &mut queue_of(alloc, &written.buffers)?,
+        &mut queues.buffers,
         &mut source,
         &Dictionaries::new(alloc),
         body,

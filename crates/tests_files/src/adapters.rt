@@ -50,7 +50,7 @@ fn a_feed_reads_its_reader(rt: HostRuntime) -> Result<(), Fail> {
     let cases = [b"abc".as_slice(), b"de".as_slice(), b"".as_slice()];
     for want in cases {
         let count = feed.pull(&mut out)?;
-        assert_eq!(rt; &out[..count], want);
+        assert!(rt; &out[..count] == want);
     }
     Ok(())
 }
@@ -61,7 +61,7 @@ fn a_sink_writes_to_its_writer(rt: HostRuntime) -> Result<(), Fail> {
     let mut sink = OutputSink::new(&mut bytes);
     sink.put(b"abc")?;
     sink.put(b"de")?;
-    assert_eq!(rt; bytes.as_slice(), b"abcde".as_slice());
+    assert!(rt; bytes.as_slice() == b"abcde".as_slice());
     Ok(())
 }
 
@@ -88,7 +88,7 @@ fn a_read_that_is_interrupted_is_begun_again(rt: HostRuntime) {
         (0, ErrorKind::Other, Err(Failed)),
         (1, ErrorKind::Other, Err(Failed)),
     ] {
-        assert_eq!(rt; second_pull(before, kind), answer);
+        assert!(rt; second_pull(before, kind) == answer);
     }
 }
 
@@ -112,7 +112,7 @@ fn a_write_that_is_interrupted_is_begun_again(rt: HostRuntime) {
             before,
             kind,
         });
-        assert_eq!(rt; sink.put(b"abcde"), *answer);
-        assert_eq!(rt; bytes.as_slice(), *want);
+        assert!(rt; sink.put(b"abcde") == *answer);
+        assert!(rt; bytes.as_slice() == *want);
     }
 }

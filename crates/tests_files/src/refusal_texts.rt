@@ -1,6 +1,9 @@
 //! The texts of refusals, and of what devices answer.
 use ipc_schema::{Failed, IpcError, OutOfSpecKind, PutError, ShelfError};
 use ipc_tool::Refusal;
+use std::alloc::Global;
+use std::fmt::Display;
+use std::process::Abort;
 use std::test::Fail;
 
 const TEXTS: &[(Refusal, &str)] = &[
@@ -18,35 +21,28 @@ const TEXTS: &[(Refusal, &str)] = &[
     (Refusal::NoName, "nothing stands under the name"),
 ];
 
-#[test]
-fn runs_that_are_refused(rt: HostRuntime) -> Result<(), Fail> {
-    let alloc = rt.alloc();
-    for (refusal, text) in TEXTS {
-        assert_eq!(rt; format!(in alloc; "{refusal}")?.as_str(), *text);
+const OF_SINKS: &[(PutError, &str)] = &[
+    (PutError::Failed, "the device failed"),
+    (PutError::Memory, "out of memory"),
+];
+
+const OF_SHELVES: &[(ShelfError, &str)] = &[
+    (ShelfError::Failed, "the shelf failed"),
+    (ShelfError::Memory, "out of memory"),
+    (ShelfError::Unknown, "no such name"),
+];
+
+fn have_texts<E: Display>(rt: &impl Abort, alloc: Global, rows: &[(E, &str)]) -> Result<(), Fail> {
+    for (error, text) in rows {
+        assert!(rt; format!(in alloc; "{error}")?.as_str() == *text, "{text}");
     }
     Ok(())
 }
 
 #[test]
-fn devices_that_fail(rt: HostRuntime) -> Result<(), Fail> {
-    let alloc = rt.alloc();
-    let failed = Failed;
-    assert_eq!(rt;
-        format!(in alloc; "{failed}")?.as_str(),
-        "the device failed"
-    );
-    for (error, text) in [
-        (PutError::Failed, "the device failed"),
-        (PutError::Memory, "out of memory"),
-    ] {
-        assert_eq!(rt; format!(in alloc; "{error}")?.as_str(), text);
-    }
-    for (error, text) in [
-        (ShelfError::Failed, "the shelf failed"),
-        (ShelfError::Memory, "out of memory"),
-        (ShelfError::Unknown, "no such name"),
-    ] {
-        assert_eq!(rt; format!(in alloc; "{error}")?.as_str(), text);
-    }
-    Ok(())
+fn refusals_and_devices_that_fail(rt: HostRuntime) -> Result<(), Fail> {
+    have_texts(&rt, rt.alloc(), TEXTS)?;
+    have_texts(&rt, rt.alloc(), &[(Failed, "the device failed")])?;
+    have_texts(&rt, rt.alloc(), OF_SINKS)?;
+    have_texts(&rt, rt.alloc(), OF_SHELVES)
 }

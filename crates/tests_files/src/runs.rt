@@ -203,26 +203,32 @@ const OF_SCHEMAS: &[Case] = &[
     },
 ];
 
+/// A run over the input's text, with a shelf on which nothing stands.
+fn run_over(
+    alloc: Global,
+    case: &Case,
+    output: &mut MemorySink,
+    notes: &mut MemorySink,
+) -> Result<u8, Fail> {
+    let mut shelf = MemoryShelf::new(alloc, Vec::new(alloc), Vec::new(alloc));
+    let pulls = case.failing_pulls.to_vec(alloc)?;
+    let mut input = MemoryFeed::new(text_of(alloc, case.input)?, 100, pulls);
+    Ok(run(alloc, case.words, &mut shelf, &mut input, output, notes))
+}
+
+/// Whether the run has the case's status, and puts its text and its notes.
+fn has_outcome(alloc: Global, case: &Case) -> Result<bool, Fail> {
+    let mut output = MemorySink::new(alloc, case.room, Vec::new(alloc));
+    let mut notes = MemorySink::new(alloc, case.notes_room, Vec::new(alloc));
+    let status = run_over(alloc, case, &mut output, &mut notes)?;
+    let mut text = text_of(alloc, case.text)?;
+    text.truncate(case.added);
+    Ok(status == case.status && output.bytes() == text.as_slice() && notes.bytes() == case.notes)
+}
+
 fn run_cases(rt: &impl Abort, alloc: Global, cases: &[Case]) -> Result<(), Fail> {
     for case in cases {
-        let mut shelf = MemoryShelf::new(alloc, Vec::new(alloc), Vec::new(alloc));
-        let pulls = case.failing_pulls.to_vec(alloc)?;
-        let mut input = MemoryFeed::new(text_of(alloc, case.input)?, 100, pulls);
-        let mut output = MemorySink::new(alloc, case.room, Vec::new(alloc));
-        let mut notes = MemorySink::new(alloc, case.notes_room, Vec::new(alloc));
-        let status = run(
-            alloc,
-            case.words,
-            &mut shelf,
-            &mut input,
-            &mut output,
-            &mut notes,
-        );
-        assert_eq!(rt; status, case.status, "{}", case.title);
-        let mut text = text_of(alloc, case.text)?;
-        text.truncate(case.added);
-        assert_eq!(rt; output.bytes(), text.as_slice(), "{}", case.title);
-        assert_eq!(rt; notes.bytes(), case.notes, "{}", case.title);
+        assert!(rt; has_outcome(alloc, case)?, "{}", case.title);
     }
     Ok(())
 }

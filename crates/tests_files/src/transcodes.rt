@@ -9,7 +9,7 @@ use crate::kinds::{
 };
 use ipc_schema::{Feature, IpcError, MemorySink, MemorySource, OutOfSpecKind};
 use ipc_tool::{Summary, transcode};
-use std::alloc::Global;
+use std::alloc::{AllocError, Global};
 use std::process::Abort;
 use std::test::Fail;
 
@@ -469,7 +469,7 @@ const OF_KINDS: &[Case] = &[
     },
 ];
 
-fn source(alloc: Global, case: &Case) -> Result<MemorySource, Fail> {
+fn file(alloc: Global, case: &Case) -> Result<Vec<u8>, Fail> {
     let mut bytes = bytes_of(alloc, case.file)?;
     for (at, value) in case.changes {
         if let Some(byte) = bytes.get_mut(*at) {
@@ -477,24 +477,40 @@ fn source(alloc: Global, case: &Case) -> Result<MemorySource, Fail> {
         }
     }
     bytes.truncate(case.length);
+    Ok(bytes)
+}
+
+fn unreadable(alloc: Global, case: &Case) -> Result<Vec<u64>, AllocError> {
     let mut places = Vec::new(alloc);
     for (start, end) in case.unreadable {
         for place in *start..*end {
             places.push(place)?;
         }
     }
-    Ok(MemorySource::new(bytes, Vec::new(alloc), places))
+    Ok(places)
+}
+
+fn source(alloc: Global, case: &Case) -> Result<MemorySource, Fail> {
+    Ok(MemorySource::new(
+        file(alloc, case)?,
+        Vec::new(alloc),
+        unreadable(alloc, case)?,
+    ))
+}
+
+/// Whether transcoding has the case's answer, and puts its stream.
+fn has_outcome(alloc: Global, case: &Case) -> Result<bool, Fail> {
+    let mut source = source(alloc, case)?;
+    let mut sink = MemorySink::new(alloc, case.room, Vec::new(alloc));
+    let answer = transcode(alloc, &mut source, &mut sink, None, None);
+    let mut stream = bytes_of(alloc, case.stream)?;
+    stream.truncate(case.added);
+    Ok(answer == case.answer && sink.bytes() == stream.as_slice())
 }
 
 fn transcode_cases(rt: &impl Abort, alloc: Global, cases: &[Case]) -> Result<(), Fail> {
     for case in cases {
-        let mut source = source(alloc, case)?;
-        let mut sink = MemorySink::new(alloc, case.room, Vec::new(alloc));
-        let answer = transcode(alloc, &mut source, &mut sink, None, None);
-        assert_eq!(rt; answer, case.answer, "{}", case.title);
-        let mut stream = bytes_of(alloc, case.stream)?;
-        stream.truncate(case.added);
-        assert_eq!(rt; sink.bytes(), stream.as_slice(), "{}", case.title);
+        assert!(rt; has_outcome(alloc, case)?, "{}", case.title);
     }
     Ok(())
 }
@@ -509,16 +525,26 @@ fn a_file_of_each_kind_gives_its_stream_or_its_refusal(rt: HostRuntime) -> Resul
     transcode_cases(&rt, rt.alloc(), OF_KINDS)
 }
 
+/// What a request for columns or rows is answered, where nothing was put.
+fn answered(
+    alloc: Global,
+    columns: Option<&[usize]>,
+    limit: Option<usize>,
+) -> Result<Result<Summary, IpcError>, Fail> {
+    let mut source = source(alloc, &WHOLE)?;
+    let mut sink = MemorySink::new(alloc, None, Vec::new(alloc));
+    let answer = transcode(alloc, &mut source, &mut sink, columns, limit);
+    if sink.bytes().is_empty() {
+        Ok(answer)
+    } else {
+        Err(Fail::from("bytes were put"))
+    }
+}
+
 #[test]
 fn columns_and_a_limit_are_not_built_yet(rt: HostRuntime) -> Result<(), Fail> {
-    let alloc = rt.alloc();
-    let requests = [(Some([0].as_slice()), None), (None, Some(3))];
-    for (columns, limit) in requests {
-        let mut source = source(alloc, &WHOLE)?;
-        let mut sink = MemorySink::new(alloc, None, Vec::new(alloc));
-        let answer = transcode(alloc, &mut source, &mut sink, columns, limit);
-        assert_eq!(rt; answer, Err(IpcError::Unsupported(Feature::NotYet)));
-        assert_eq!(rt; sink.bytes(), b"".as_slice());
-    }
+    let refusal = Err(IpcError::Unsupported(Feature::NotYet));
+    assert!(rt; answered(rt.alloc(), Some(&[0]), None)? == refusal);
+    assert!(rt; answered(rt.alloc(), None, Some(3))? == refusal);
     Ok(())
 }

@@ -2,14 +2,12 @@
 #![tactic(auto)]
 
 #[cfg(test)]
-mod every_field;
-#[cfg(test)]
-mod every_type;
-#[cfg(test)]
 mod headers;
 #[cfg(test)]
-mod read;
+mod laid_by_hand;
 #[cfg(test)]
-mod text;
+mod refused;
 #[cfg(test)]
-mod written;
+mod rows;
+#[cfg(test)]
+mod schemas;

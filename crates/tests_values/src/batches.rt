@@ -1,24 +1,26 @@
 //! Parts, copies and equality of arrays and of batches.
+ghost use Rattle.std.specs.Prelude.{◌≡◌, true};
+ghost use Rattle.arrow_types.specs.KindOf.{kind_of};
+ghost use Rattle.arrow_arrays.specs.LeafKinds.{is_leaf_kind};
+
 use arrow_arrays::{Array, BatchError, RecordBatch, extend_from_lengths, new_empty_array};
-use arrow_buffers::{Bitmap, Buffer, PrimitiveArray};
+use arrow_buffers::{ArrayError, Bitmap, Buffer, PrimitiveArray};
 use arrow_types::{ArrowDataType, ArrowSchema, Field, TimeUnit};
 use std::alloc::{AllocError, Global};
 use std::rc::Rc;
 use std::test::Fail;
 
 /// The numbers 1, 2 and 3 as an array, of which the second row is null.
-fn three_numbers(alloc: Global) -> Result<Array, Fail> {
+fn three_numbers(alloc: Global) -> Result<Array, ArrayError> {
     around_null(alloc, 2)
 }
 
 /// The numbers 1 and 3 as an array, and between them a null in whose row a number is held.
-fn around_null(alloc: Global, held: i16) -> Result<Array, Fail> {
+fn around_null(alloc: Global, held: i16) -> Result<Array, ArrayError> {
     let values = Buffer::from_vec([1, held, 3].to_vec(alloc)?)?;
     let validity = Bitmap::from_vec([0b101].to_vec(alloc)?, 3)?;
-    match PrimitiveArray::try_new(ArrowDataType::Int16, values, Some(validity)) {
-        Ok(array) => Ok(Array::Int16(array)),
-        Err(_) => Err(Fail::from("an array")),
-    }
+    let array = PrimitiveArray::try_new(ArrowDataType::Int16, values, Some(validity))?;
+    Ok(Array::Int16(array))
 }
 
 fn named(alloc: Global, name: &str, dtype: ArrowDataType) -> Result<Field, AllocError> {
@@ -29,8 +31,8 @@ fn named(alloc: Global, name: &str, dtype: ArrowDataType) -> Result<Field, Alloc
 fn a_copy_of_an_array_is_equal(rt: HostRuntime) -> Result<(), Fail> {
     let alloc = rt.alloc();
     let array = three_numbers(alloc)?;
-    assert_eq!(rt; array.len(), 3);
-    assert_eq!(rt; array.null_count(), 1);
+    assert!(rt; array.len() == 3);
+    assert!(rt; array.null_count() == 1);
     assert!(rt; *array.dtype() == ArrowDataType::Int16);
     assert!(rt; array.try_clone(alloc)? == array);
     Ok(())
@@ -39,12 +41,11 @@ fn a_copy_of_an_array_is_equal(rt: HostRuntime) -> Result<(), Fail> {
 #[test]
 fn a_part_of_an_array(rt: HostRuntime) -> Result<(), Fail> {
     let array = three_numbers(rt.alloc())?;
-    assert_eq!(rt; array.len(), 3);
+    assert!(rt; array.len() == 3);
     prove!(array.len() >= 3);
     let part = array.sliced(2, 1);
-    assert_eq!(rt; part.len(), 1);
-    assert_eq!(rt; part.null_count(), 0);
-    assert!(rt; part.validity().is_some());
+    assert!(rt; part.len() == 1 && part.null_count() == 0 && part.validity().is_some());
+    drop(part);
     Ok(())
 }
 
@@ -90,37 +91,49 @@ fn a_copy_of_a_batch_is_equal(rt: HostRuntime) -> Result<(), Fail> {
 #[test]
 fn a_batch_lends_and_gives_its_parts(rt: HostRuntime) -> Result<(), Fail> {
     let batch = batch(rt.alloc(), 3, true)?.ok().ok_or("a batch")?;
-    assert_eq!(rt; batch.schema().len(), 1);
-    assert_eq!(rt; batch.columns().len(), 1);
-    assert_eq!(rt; batch.into_arrays().len(), 1);
+    assert!(rt; batch.schema().len() == 1);
+    assert!(rt; batch.columns().len() == 1);
+    assert!(rt; batch.into_arrays().len() == 1);
     Ok(())
+}
+
+/// Whether the empty array of a kind has no rows and that kind.
+fn is_empty(alloc: Global, dtype: ArrowDataType) -> Result<bool, AllocError>
+    requires { is_leaf_kind (kind_of dtype) ≡ true }
+{
+    let asked = dtype.try_clone(alloc)?;
+    let array = new_empty_array(alloc, dtype)?;
+    let is_empty = array.len() == 0 && *array.dtype() == asked;
+    drop(array);
+    Ok(is_empty)
 }
 
 #[test]
 fn arrays_without_rows(rt: HostRuntime) -> Result<(), Fail> {
-    let alloc = rt.alloc();
-    let times = new_empty_array(alloc, ArrowDataType::Time64(TimeUnit::Microsecond))?;
-    assert!(rt; matches!(&times, Array::Int64(_)) && times.len() == 0);
-    let texts = new_empty_array(alloc, ArrowDataType::LargeUtf8)?;
-    assert!(rt; matches!(&texts, Array::LargeUtf8(_)) && texts.len() == 0);
-    let bytes = new_empty_array(alloc, ArrowDataType::FixedSizeBinary(3))?;
-    assert!(rt; matches!(&bytes, Array::FixedSizeBinary(_)) && bytes.len() == 0);
+    assert!(rt; is_empty(rt.alloc(), ArrowDataType::Time64(TimeUnit::Microsecond))?);
+    assert!(rt; is_empty(rt.alloc(), ArrowDataType::LargeUtf8)?);
+    assert!(rt; is_empty(rt.alloc(), ArrowDataType::FixedSizeBinary(3))?);
     Ok(())
+}
+
+/// Whether a row of an array of views has these bytes.
+fn has_row(array: &Array, row: usize, bytes: &[u8]) -> bool {
+    match array {
+        Array::BinaryView(array) => row < array.len()
+            && array.value(row).is_some_and(|value| value == bytes),
+        _ => false,
+    }
 }
 
 #[test]
 fn pieces_in_and_beside_their_views(rt: HostRuntime) -> Result<(), Fail> {
-    let alloc = rt.alloc();
-    let bytes = Buffer::from_vec(b"twelve bytesand thirteen.".to_vec(alloc)?)?;
-    assert_eq!(rt; bytes.len(), 25);
+    let bytes = Buffer::from_vec(b"twelve bytesand thirteen.".to_vec(rt.alloc())?)?;
+    assert!(rt; bytes.len() == 25);
     prove!(bytes.len() >= 25);
-    let Array::BinaryView(array) = extend_from_lengths(alloc, bytes, &[12, 13, 0])? else {
-        return Err(Fail::from("views"));
-    };
-    assert!(rt; array.len() == 3);
-    assert!(rt; array.value(0).ok_or("a row")? == b"twelve bytes".as_slice());
-    assert!(rt; array.value(1).ok_or("a row")? == b"and thirteen.".as_slice());
-    assert!(rt; array.value(2).ok_or("a row")?.is_empty());
+    let array = extend_from_lengths(rt.alloc(), bytes, &[12, 13, 0])?;
+    assert!(rt; array.len() == 3 && has_row(&array, 0, b"twelve bytes"));
+    assert!(rt; has_row(&array, 1, b"and thirteen.") && has_row(&array, 2, b""));
+    drop(array);
     Ok(())
 }
 
@@ -128,7 +141,8 @@ fn pieces_in_and_beside_their_views(rt: HostRuntime) -> Result<(), Fail> {
 fn no_pieces_are_no_rows(rt: HostRuntime) -> Result<(), Fail> {
     let bytes = Buffer::from_vec(Vec::new(rt.alloc()))?;
     let array = extend_from_lengths(rt.alloc(), bytes, &[])?;
-    assert_eq!(rt; array.len(), 0);
+    assert!(rt; array.len() == 0);
+    drop(array);
     Ok(())
 }
 
@@ -138,7 +152,7 @@ fn arrays_are_equal_by_their_cells(rt: HostRuntime) -> Result<(), Fail> {
     let array = three_numbers(alloc)?;
     let fellow = around_null(alloc, 7)?;
     assert!(rt; array == fellow);
-    assert_eq!(rt; fellow.len(), 3);
+    assert!(rt; fellow.len() == 3);
     prove!(fellow.len() >= 2);
     assert!(rt; array != fellow.sliced(0, 2));
     Ok(())

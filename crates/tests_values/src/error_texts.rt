@@ -3,6 +3,9 @@ use arrow_arrays::BatchError;
 use arrow_buffers::ArrayError;
 use arrow_flat::BuildError;
 use arrow_spec::{Counted, Feature, FlatError, IpcError, OutOfSpecKind};
+use std::alloc::Global;
+use std::fmt::Display;
+use std::process::Abort;
 use std::test::Fail;
 
 const FLAT: &[(FlatError, &str)] = &[
@@ -224,77 +227,47 @@ const OF_ARRAYS: &[(ArrayError, &str)] = &[
     (ArrayError::Memory, "out of memory"),
 ];
 
-#[test]
-fn a_flatbuffer_that_is_wrong(rt: HostRuntime) -> Result<(), Fail> {
-    let alloc = rt.alloc();
-    for (error, text) in FLAT {
-        assert_eq!(rt; format!(in alloc; "{error}")?.as_str(), *text);
+const OF_BATCHES: &[(BatchError, &str)] = &[
+    (
+        BatchError::Width,
+        "the number of columns is not that of the schema's fields",
+    ),
+    (
+        BatchError::Height,
+        "a column does not have the batch's number of rows",
+    ),
+];
+
+const OF_BUILDING: &[(BuildError, &str)] = &[
+    (BuildError::TooLarge, "too large"),
+    (BuildError::Memory, "out of memory"),
+];
+
+fn have_texts<E: Display>(rt: &impl Abort, alloc: Global, rows: &[(E, &str)]) -> Result<(), Fail> {
+    for (error, text) in rows {
+        assert!(rt; format!(in alloc; "{error}")?.as_str() == *text, "{text}");
     }
     Ok(())
 }
 
 #[test]
-fn bytes_that_are_not_as_they_should_be(rt: HostRuntime) -> Result<(), Fail> {
-    let alloc = rt.alloc();
-    for kinds in [PLAIN, OF_FLATBUFFERS, OF_PARTS] {
-        for (kind, text) in kinds {
-            assert_eq!(rt; format!(in alloc; "{kind}")?.as_str(), *text);
-        }
-    }
-    Ok(())
+fn what_is_wrong_with_bytes(rt: HostRuntime) -> Result<(), Fail> {
+    have_texts(&rt, rt.alloc(), FLAT)?;
+    have_texts(&rt, rt.alloc(), PLAIN)?;
+    have_texts(&rt, rt.alloc(), OF_FLATBUFFERS)?;
+    have_texts(&rt, rt.alloc(), OF_PARTS)
 }
 
 #[test]
-fn features_and_what_is_counted(rt: HostRuntime) -> Result<(), Fail> {
-    let alloc = rt.alloc();
-    for (feature, text) in FEATURES {
-        assert_eq!(rt; format!(in alloc; "{feature}")?.as_str(), *text);
-    }
-    for (counted, text) in COUNTED {
-        assert_eq!(rt; format!(in alloc; "{counted}")?.as_str(), *text);
-    }
-    Ok(())
+fn what_refuses_a_call(rt: HostRuntime) -> Result<(), Fail> {
+    have_texts(&rt, rt.alloc(), FEATURES)?;
+    have_texts(&rt, rt.alloc(), COUNTED)?;
+    have_texts(&rt, rt.alloc(), ERRORS)
 }
 
 #[test]
-fn calls_that_are_refused(rt: HostRuntime) -> Result<(), Fail> {
-    let alloc = rt.alloc();
-    for (error, text) in ERRORS {
-        assert_eq!(rt; format!(in alloc; "{error}")?.as_str(), *text);
-    }
-    Ok(())
-}
-
-#[test]
-fn parts_that_make_no_array(rt: HostRuntime) -> Result<(), Fail> {
-    let alloc = rt.alloc();
-    for (error, text) in OF_ARRAYS {
-        assert_eq!(rt; format!(in alloc; "{error}")?.as_str(), *text);
-    }
-    Ok(())
-}
-
-#[test]
-fn parts_that_make_no_batch_or_flatbuffer(rt: HostRuntime) -> Result<(), Fail> {
-    let alloc = rt.alloc();
-    let batches = [
-        (
-            BatchError::Width,
-            "the number of columns is not that of the schema's fields",
-        ),
-        (
-            BatchError::Height,
-            "a column does not have the batch's number of rows",
-        ),
-    ];
-    for (error, text) in batches {
-        assert_eq!(rt; format!(in alloc; "{error}")?.as_str(), text);
-    }
-    for (error, text) in [
-        (BuildError::TooLarge, "too large"),
-        (BuildError::Memory, "out of memory"),
-    ] {
-        assert_eq!(rt; format!(in alloc; "{error}")?.as_str(), text);
-    }
-    Ok(())
+fn what_makes_no_value(rt: HostRuntime) -> Result<(), Fail> {
+    have_texts(&rt, rt.alloc(), OF_ARRAYS)?;
+    have_texts(&rt, rt.alloc(), OF_BATCHES)?;
+    have_texts(&rt, rt.alloc(), OF_BUILDING)
 }

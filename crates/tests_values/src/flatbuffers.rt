@@ -2,27 +2,36 @@
 ghost use Rattle.std.specs.Prelude.{IfOk};
 ghost use Rattle.arrow_flat.specs.Nodes.{node_of, IsTable, KeepsSlotLimit};
 
-use arrow_flat::{ChoiceWidth, Flat, FlatError, Node, Slot, finish, size_of};
+use arrow_flat::{ChoiceWidth, Flat, FlatError, Node, Slot, Table, finish, size_of};
 use std::alloc::{AllocError, Global};
 use std::test::Fail;
 
-// The metadata of a schema message of one nullable Int32 column `a`.
-const SCHEMA: [u8; 128] = [
-    16, 0, 0, 0, 0, 0, 10, 0, 12, 0, 4, 0, 6, 0, 8, 0, 10, 0, 0, 0, 4, 0, 1, 0, 16, 0, 0, 0, 0, 0,
-    0, 0, 8, 0, 8, 0, 0, 0, 4, 0, 8, 0, 0, 0, 4, 0, 0, 0, 1, 0, 0, 0, 20, 0, 0, 0, 16, 0, 20, 0, 4,
-    0, 8, 0, 9, 0, 12, 0, 0, 0, 16, 0, 16, 0, 0, 0, 16, 0, 0, 0, 1, 2, 0, 0, 28, 0, 0, 0, 36, 0, 0,
-    0, 1, 0, 0, 0, 97, 0, 0, 0, 0, 0, 0, 0, 8, 0, 9, 0, 4, 0, 8, 0, 8, 0, 0, 0, 32, 0, 0, 0, 1, 0,
-    0, 0, 0, 0, 0, 0,
+// The vtable of 4 slots at 4, the table at 16 with the offsets at 24 and 28; the first vector at 32,
+// the second at 44.
+const VECTORS: [u8; 56] = [
+    16, 0, 0, 0, 12, 0, 16, 0, 4, 0, 0, 0, 8, 0, 12, 0, 12, 0, 0, 0, 255, 0, 0, 0, 8, 0, 0, 0, 16,
+    0, 0, 0, 2, 0, 0, 0, 1, 0, 0, 0, 254, 255, 255, 255, 1, 0, 0, 0, 253, 255, 255, 255, 255, 255,
+    255, 255,
 ];
 
-// The metadata of a record batch message of three rows of that column, one of them null.
-const BATCH: [u8; 144] = [
-    16, 0, 0, 0, 12, 0, 24, 0, 4, 0, 6, 0, 8, 0, 16, 0, 12, 0, 0, 0, 4, 0, 3, 0, 32, 0, 0, 0, 0, 0,
-    0, 0, 128, 0, 0, 0, 0, 0, 0, 0, 0, 0, 0, 0, 0, 0, 10, 0, 24, 0, 8, 0, 16, 0, 20, 0, 10, 0, 0,
-    0, 0, 0, 0, 0, 3, 0, 0, 0, 0, 0, 0, 0, 12, 0, 0, 0, 32, 0, 0, 0, 0, 0, 0, 0, 1, 0, 0, 0, 3, 0,
-    0, 0, 0, 0, 0, 0, 1, 0, 0, 0, 0, 0, 0, 0, 0, 0, 0, 0, 2, 0, 0, 0, 0, 0, 0, 0, 0, 0, 0, 0, 1, 0,
-    0, 0, 0, 0, 0, 0, 64, 0, 0, 0, 0, 0, 0, 0, 12, 0, 0, 0, 0, 0, 0, 0,
-];
+fn each_kind(alloc: Global) -> Result<Node, AllocError>
+    ensures root { IfOk result (λ n. IsTable (node_of n)) }
+    ensures slot_limit { IfOk result (λ n. KeepsSlotLimit (node_of n)) }
+{
+    let small = Slot::Child(Node::I32s(vec![in alloc; 1, -2]?));
+    let large = Slot::Child(Node::I64s(vec![in alloc; -3]?));
+    let slots = vec![in alloc; Slot::i8(-1, 0), Slot::Absent, small, large, Slot::u8(0, 0)]?;
+    Ok(Node::Table(slots))
+}
+
+#[test]
+fn builds_each_kind_of_slot_and_vector(rt: HostRuntime) -> Result<(), Fail> {
+    let table = each_kind(rt.alloc())?;
+    assert!(rt; size_of(&table) == 56);
+    let bytes = finish(rt.alloc(), &table)?;
+    assert!(rt; bytes.as_slice() == VECTORS.as_slice());
+    Ok(())
+}
 
 // A table at 32 with its vtable at 8. Slots: 0 a byte 254, 1 the i16 -3, 2 the i32 -5, 3 absent, 4 the i64 -7,
 // 5 the text "hi", 6 a vector of one table, 7 that table, 8 a value past the end, 9 a text that is not UTF-8.
@@ -33,127 +42,62 @@ const TABLE: [u8; 100] = [
     0, 255, 0, 0, 0, 1, 0, 0, 0, 8, 0, 0, 0, 0, 0, 0, 0, 88, 0, 0, 0,
 ];
 
-fn field(alloc: Global) -> Result<Node, AllocError>
-    ensures { IfOk result (λ n. KeepsSlotLimit (node_of n)) }
-{
-    let name = Slot::Child(Node::Text(String::from_str(alloc, "a")?));
-    let int = Node::Table(vec![in alloc; Slot::i32(32, 0), Slot::boolean(true, false)]?);
-    let children = Slot::Child(Node::Tables(Vec::new(alloc)));
-    Ok(Node::Table(vec![in alloc;
-        name,
-        Slot::boolean(true, false),
-        Slot::u8(2, 0),
-        Slot::Child(int),
-        Slot::Absent,
-        children,
-    ]?))
+/// A call that reads a number from a slot, with a default of 7, of -7, or of a truth value.
+#[derive(Clone, Copy)]
+enum Scalar {
+    U8,
+    I8,
+    I16,
+    I32,
+    I64,
+    TrueByDefault,
+    FalseByDefault,
 }
 
-fn schema_message(alloc: Global) -> Result<Node, AllocError>
-    ensures root { IfOk result (λ n. IsTable (node_of n)) }
-    ensures slot_limit { IfOk result (λ n. KeepsSlotLimit (node_of n)) }
-{
-    let fields = Node::Tables(vec![in alloc; field(alloc)?]?);
-    let schema = Node::Table(vec![in alloc; Slot::i16(0, 0), Slot::Child(fields)]?);
-    let header = Slot::Child(schema);
-    Ok(Node::Table(vec![in alloc; Slot::i16(4, 0), Slot::u8(1, 0), header, Slot::i64(0, 0)]?))
-}
-
-fn i64_bytes(alloc: Global, numbers: &[i64]) -> Result<Vec<u8>, AllocError> {
-    let mut bytes = Vec::new(alloc);
-    for number in numbers {
-        bytes.extend_from_slice(&number.to_le_bytes())?;
+fn scalar_at(table: &Table, scalar: Scalar, slot: usize) -> Result<i64, FlatError> {
+    match scalar {
+        Scalar::U8 => Ok(i64::from(table.slot_u8(slot, 7)?)),
+        Scalar::I8 => Ok(i64::from(table.slot_i8(slot, -7)?)),
+        Scalar::I16 => Ok(i64::from(table.slot_i16(slot, -7)?)),
+        Scalar::I32 => Ok(i64::from(table.slot_i32(slot, -7)?)),
+        Scalar::I64 => table.slot_i64(slot, -7),
+        Scalar::TrueByDefault => Ok(i64::from(table.slot_bool(slot, true)?)),
+        Scalar::FalseByDefault => Ok(i64::from(table.slot_bool(slot, false)?)),
     }
-    Ok(bytes)
 }
 
-fn batch_message(alloc: Global) -> Result<Node, AllocError>
-    ensures root { IfOk result (λ n. IsTable (node_of n)) }
-    ensures slot_limit { IfOk result (λ n. KeepsSlotLimit (node_of n)) }
-{
-    let nodes = Node::Structs(1, i64_bytes(alloc, &[3, 1])?);
-    let buffers = Node::Structs(2, i64_bytes(alloc, &[0, 1, 64, 12])?);
-    let batch = Node::Table(vec![in alloc;
-        Slot::i64(3, 0),
-        Slot::Child(nodes),
-        Slot::Child(buffers),
-    ]?);
-    let header = Slot::Child(batch);
-    Ok(Node::Table(vec![in alloc; Slot::i16(4, 0), Slot::u8(3, 0), header, Slot::i64(128, 0)]?))
-}
-
-#[test]
-fn builds_the_metadata_of_a_schema(rt: HostRuntime) -> Result<(), Fail> {
-    let schema = schema_message(rt.alloc())?;
-    assert_eq!(rt; size_of(&schema), 128);
-    assert_eq!(rt; finish(rt.alloc(), &schema)?.as_slice(), SCHEMA.as_slice());
-    Ok(())
-}
-
-#[test]
-fn builds_the_metadata_of_a_batch(rt: HostRuntime) -> Result<(), Fail> {
-    let batch = batch_message(rt.alloc())?;
-    assert_eq!(rt; size_of(&batch), 144);
-    assert_eq!(rt; finish(rt.alloc(), &batch)?.as_slice(), BATCH.as_slice());
-    Ok(())
-}
-
-// The vtable of 4 slots at 4, the table at 16 with the offsets at 24 and 28; the first vector at 32,
-// the second at 44.
-const VECTORS: [u8; 56] = [
-    16, 0, 0, 0, 12, 0, 16, 0, 4, 0, 0, 0, 8, 0, 12, 0, 12, 0, 0, 0, 255, 0, 0, 0, 8, 0, 0, 0, 16,
-    0, 0, 0, 2, 0, 0, 0, 1, 0, 0, 0, 254, 255, 255, 255, 1, 0, 0, 0, 253, 255, 255, 255, 255, 255,
-    255, 255,
+/// The number at a slot that has one, and at slots that have none.
+const SCALARS: &[(Scalar, usize, i64, i64)] = &[
+    (Scalar::U8, 0, 254, 7),
+    (Scalar::I8, 0, -2, -7),
+    (Scalar::I16, 1, -3, -7),
+    (Scalar::I32, 2, -5, -7),
+    (Scalar::I64, 4, -7, -7),
+    (Scalar::TrueByDefault, 0, 1, 1),
+    (Scalar::FalseByDefault, 0, 1, 0),
 ];
-
-#[test]
-fn builds_each_kind_of_slot_and_vector(rt: HostRuntime) -> Result<(), Fail> {
-    let alloc = rt.alloc();
-    let small = Slot::Child(Node::I32s(vec![in alloc; 1, -2]?));
-    let large = Slot::Child(Node::I64s(vec![in alloc; -3]?));
-    let slots = vec![in alloc; Slot::i8(-1, 0), Slot::Absent, small, large, Slot::u8(0, 0)]?;
-    let bytes = finish(alloc, &Node::Table(slots))?;
-    assert_eq!(rt; bytes.as_slice(), VECTORS.as_slice());
-    Ok(())
-}
 
 #[test]
 fn reads_scalars(rt: HostRuntime) -> Result<(), Fail> {
     let table = Flat::root(&TABLE)?;
-    assert_eq!(rt; table.slot_u8(0, 7), Ok(254));
-    assert_eq!(rt; table.slot_i8(0, 7), Ok(-2));
-    assert_eq!(rt; table.slot_bool(0, false), Ok(true));
-    assert_eq!(rt; table.slot_i16(1, 7), Ok(-3));
-    assert_eq!(rt; table.slot_i32(2, 7), Ok(-5));
-    assert_eq!(rt; table.slot_i64(4, 7), Ok(-7));
-    Ok(())
-}
-
-#[test]
-fn absent_slots_have_their_default(rt: HostRuntime) -> Result<(), Fail> {
-    let table = Flat::root(&TABLE)?;
-    for slot in [3, 10] {
-        assert_eq!(rt; table.has_slot(slot), Ok(false), "{slot}");
-        assert_eq!(rt; table.slot_u8(slot, 7), Ok(7), "{slot}");
-        assert_eq!(rt; table.slot_i8(slot, -7), Ok(-7), "{slot}");
-        assert_eq!(rt; table.slot_bool(slot, true), Ok(true), "{slot}");
-        assert_eq!(rt; table.slot_i16(slot, -7), Ok(-7), "{slot}");
-        assert_eq!(rt; table.slot_i32(slot, -7), Ok(-7), "{slot}");
-        assert_eq!(rt; table.slot_i64(slot, -7), Ok(-7), "{slot}");
+    for (scalar, slot, value, default) in SCALARS {
+        assert!(rt; scalar_at(&table, *scalar, *slot) == Ok(*value), "{slot}");
+        assert!(rt; scalar_at(&table, *scalar, 3) == Ok(*default), "{slot}");
+        assert!(rt; scalar_at(&table, *scalar, 10) == Ok(*default), "{slot}");
+        assert!(rt;
+            scalar_at(&table, *scalar, 8) == Err(FlatError::Range),
+            "{slot}"
+        );
     }
     Ok(())
 }
 
 #[test]
-fn values_past_the_end_are_refused(rt: HostRuntime) -> Result<(), Fail> {
+fn slots_are_there_or_not(rt: HostRuntime) -> Result<(), Fail> {
     let table = Flat::root(&TABLE)?;
-    assert_eq!(rt; table.has_slot(8), Ok(true));
-    assert_eq!(rt; table.slot_u8(8, 7), Err(FlatError::Range));
-    assert_eq!(rt; table.slot_i8(8, 7), Err(FlatError::Range));
-    assert_eq!(rt; table.slot_bool(8, true), Err(FlatError::Range));
-    assert_eq!(rt; table.slot_i16(8, 7), Err(FlatError::Range));
-    assert_eq!(rt; table.slot_i32(8, 7), Err(FlatError::Range));
-    assert_eq!(rt; table.slot_i64(8, 7), Err(FlatError::Range));
+    for (slot, is_there) in [(3, false), (10, false), (8, true)] {
+        assert!(rt; table.has_slot(slot) == Ok(is_there));
+    }
     Ok(())
 }
 
@@ -169,9 +113,8 @@ fn reads_choices(rt: HostRuntime) -> Result<(), Fail> {
         (3, ChoiceWidth::One, 2, 2, Err(FlatError::Number)),
         (8, ChoiceWidth::One, 2, 3, Err(FlatError::Range)),
     ] {
-        assert_eq!(rt;
-            table.slot_choice(slot, width, default, count),
-            want,
+        assert!(rt;
+            table.slot_choice(slot, width, default, count) == want,
             "{slot} {count}"
         );
     }
@@ -181,21 +124,36 @@ fn reads_choices(rt: HostRuntime) -> Result<(), Fail> {
 #[test]
 fn reads_texts(rt: HostRuntime) -> Result<(), Fail> {
     let table = Flat::root(&TABLE)?;
-    assert_eq!(rt; table.slot_text(5)?, Some("hi"));
-    assert_eq!(rt; table.slot_text(3)?, None);
-    assert_eq!(rt; table.slot_text(8).err(), Some(FlatError::Range));
-    assert_eq!(rt; table.slot_text(9).err(), Some(FlatError::Utf8));
+    for (slot, want) in [
+        (5, Ok(Some("hi"))),
+        (3, Ok(None)),
+        (8, Err(FlatError::Range)),
+        (9, Err(FlatError::Utf8)),
+    ] {
+        assert!(rt; table.slot_text(slot) == want, "{slot}");
+    }
     Ok(())
+}
+
+/// The number at a slot of the table at a slot.
+fn inner_number(table: &Table, slot: usize, inner: usize) -> Result<Option<u8>, FlatError> {
+    match table.slot_table(slot)? {
+        None => Ok(None),
+        Some(table) => Ok(Some(table.slot_u8(inner, 7)?)),
+    }
 }
 
 #[test]
 fn reads_tables(rt: HostRuntime) -> Result<(), Fail> {
     let table = Flat::root(&TABLE)?;
-    assert!(rt; table.slot_table(3)?.is_none());
-    assert!(rt; table.slot_table(8).is_err());
-    let inner = table.slot_table(7)?.ok_or("no table")?;
-    assert_eq!(rt; inner.slot_u8(3, 7), Ok(7));
-    assert_eq!(rt; inner.slot_u8(0, 7), Err(FlatError::Range));
+    for (slot, inner, want) in [
+        (3, 0, Ok(None)),
+        (8, 0, Err(FlatError::Range)),
+        (7, 3, Ok(Some(7))),
+        (7, 0, Err(FlatError::Range)),
+    ] {
+        assert!(rt; inner_number(&table, slot, inner) == want, "{slot}");
+    }
     Ok(())
 }
 
@@ -203,22 +161,32 @@ fn reads_tables(rt: HostRuntime) -> Result<(), Fail> {
 fn reads_a_vector(rt: HostRuntime) -> Result<(), Fail> {
     let table = Flat::root(&TABLE)?;
     let vector = table.slot_vector(6, 4)?.ok_or("no vector")?;
-    assert_eq!(rt; vector.len(), 1);
-    assert!(rt; !vector.is_empty());
-    assert_eq!(rt; vector.get(0), [8, 0, 0, 0].as_slice());
-    assert_eq!(rt; vector.get_table(0)?.slot_u8(3, 9), Ok(9));
+    assert!(rt; vector.len() == 1);
+    assert!(rt; !vector.is_empty() && vector.get(0) == [8, 0, 0, 0].as_slice());
+    assert!(rt; vector.get_table(0)?.slot_u8(3, 9) == Ok(9));
     Ok(())
+}
+
+fn item_count(table: &Table, slot: usize, width: usize) -> Result<Option<usize>, FlatError> {
+    match table.slot_vector(slot, width)? {
+        None => Ok(None),
+        Some(vector) => Ok(Some(vector.len())),
+    }
 }
 
 #[test]
 fn vectors_end_within_the_bytes(rt: HostRuntime) -> Result<(), Fail> {
     let table = Flat::root(&TABLE)?;
-    assert!(rt; table.slot_vector(3, 4)?.is_none());
-    assert!(rt; table.slot_vector(8, 4).is_err());
-    // The vector's one item begins at 88 of 100.
-    assert!(rt; table.slot_vector(6, 12).is_ok());
-    assert!(rt; table.slot_vector(6, 13).is_err());
-    assert!(rt; table.slot_vector(6, usize::MAX).is_err());
+    // The one item of the vector at slot 6 begins at 88 of 100.
+    for (slot, width, want) in [
+        (3, 4, Ok(None)),
+        (8, 4, Err(FlatError::Range)),
+        (6, 12, Ok(Some(1))),
+        (6, 13, Err(FlatError::Range)),
+        (6, usize::MAX, Err(FlatError::Range)),
+    ] {
+        assert!(rt; item_count(&table, slot, width) == want, "{slot}");
+    }
     Ok(())
 }
 
@@ -232,6 +200,6 @@ fn roots_that_are_none_are_refused(rt: HostRuntime) {
         (b"\x06\0\0\0\x02\0\x02\0\0\0", Some(FlatError::Range)),
         (b"\x06\0\0\0\x04\0\x02\0\0\0", None),
     ] {
-        assert_eq!(rt; Flat::root(bytes).err(), error);
+        assert!(rt; Flat::root(bytes).err() == error);
     }
 }

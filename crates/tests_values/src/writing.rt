@@ -6,15 +6,15 @@ ghost use Rattle.arrow_spec.specs.Kinds.{boolean, integer, interval, small, utf8
 ghost use Rattle.arrow_spec.specs.Sent.{body_of};
 ghost use Rattle.arrow_arrays.specs.Parts.{bits, numbers, text, text_views, rows_in};
 ghost use Rattle.arrow_arrays.specs.PartsOf.{parts_of};
-ghost use Rattle.array_writer.specs.Pieces.{pieces_in};
-ghost use Rattle.array_writer.specs.Outputs.{MayHaveOrder};
+ghost use Rattle.ipc_write_arrays.specs.Pieces.{pieces_in};
+ghost use Rattle.ipc_write_arrays.specs.Outputs.{MayHaveOrder};
 ghost use Rattle.arrow_spec.specs.Flat.{order_by};
 
-use array_writer::write;
 use arrow_arrays::Array;
 use arrow_buffers::{Bitmap, BooleanArray, Buffer, PrimitiveArray, Utf8Array, Utf8ViewArray};
 use arrow_spec::{FieldNode, IpcBuffer};
 use arrow_types::{ArrowDataType, IntervalUnit, days_ms};
+use ipc_write_arrays::write;
 use std::alloc::Global;
 use std::test::Fail;
 

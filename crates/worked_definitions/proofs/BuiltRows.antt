@@ -19,8 +19,8 @@ use Rattle.worked_definitions.proofs.Rows.{batches, int, option_fields}
 use Rattle.worked_definitions.proofs.Damage.{int32_file_with}
 use Rattle.worked_definitions.proofs.CustomRows.{broken, file_with, one, two}
 use Rattle.worked_definitions.proofs.PairRows.{pairs_file, pairs_table}
-use Rattle.sent_files.specs.Built.{so_far}
-use Rattle.sent_files.specs.Meaning.{file_table}
+use Rattle.transcode_laws.specs.Built.{so_far}
+use Rattle.transcode_laws.specs.Meaning.{file_table}
 
 abbrev pub why : List ℕ → Request → List IpcError
 why b r = refusals (file_reading so_far to_send b r None)

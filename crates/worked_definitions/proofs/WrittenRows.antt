@@ -8,8 +8,8 @@ use Rattle.arrow_spec.specs.Sent.{schema_message}
 use Rattle.arrow_spec.specs.Framing.{message_bytes}
 use Rattle.worked_definitions.proofs.Vectors.{int32_stream}
 use Rattle.worked_definitions.proofs.Int32Table.{int32_table}
-use Rattle.written_columns.specs.Columns.{WrittenColumn}
-use Rattle.written_columns.specs.Streams.{WrittenBatch, written_stream, written_table}
+use Rattle.ipc_write_laws.specs.Columns.{WrittenColumn}
+use Rattle.ipc_write_laws.specs.Streams.{WrittenBatch, written_stream, written_table}
 
 abbrev fields : Fields
 fields = field (97 ∷ []) true [] (integer Int32) none

@@ -10,7 +10,7 @@ ghost use Rattle.arrow_types.specs.Child.{one_field};
 ghost use Rattle.arrow_types.specs.KindOf.{kind_of, child_of, fields_of};
 ghost use Rattle.ipc_fields.specs.IpcFields.{ids_of};
 ghost use Rattle.schema_writer.specs.Nodes as specs;
-ghost use Rattle.schema_writer.specs.Built.{below_nodes, nodes_with, sizes_fit, kind_sized, sized_below, all_sized};
+ghost use Rattle.schema_writer.specs.Tables.{below_nodes, nodes_with, sizes_fit, kind_sized, sized_below, all_sized};
 ghost use Rattle.schema_writer.specs.Texts.{PairsAscend, KindSaysTexts, FieldsSayTexts};
 ghost use Rattle.ipc_fields.specs.Uses.{first_ids, first_id};
 

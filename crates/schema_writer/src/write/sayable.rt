@@ -5,7 +5,7 @@ ghost use Rattle.arrow_spec.specs.Regular as regular;
 ghost use Rattle.arrow_types.specs.Child.{one_field};
 ghost use Rattle.arrow_types.specs.KindOf.{kind_of, union_kind_of, child_of, fields_of, are_stated, ids_of as union_ids};
 ghost use Rattle.ipc_fields.specs.IpcFields.{ids_of, kind_with, fields_with};
-ghost use Rattle.schema_writer.specs.Built as specs;
+ghost use Rattle.schema_writer.specs.Tables as specs;
 
 use arrow_types::{ArrowDataType, Field, UnionType};
 use ipc_fields::IpcField;

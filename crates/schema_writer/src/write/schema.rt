@@ -7,7 +7,7 @@ ghost use Rattle.arrow_types.specs.KindOf.{child_of};
 ghost use Rattle.arrow_types.specs.Schemas.{fields_in};
 ghost use Rattle.ipc_fields.specs.IpcFields as specs;
 ghost use Rattle.ipc_fields.specs.IpcFields.{ids_of, fields_with, metadata_in};
-ghost use Rattle.schema_writer.specs.Built.{nodes_with, all_sized};
+ghost use Rattle.schema_writer.specs.Tables.{nodes_with, all_sized};
 ghost use Rattle.schema_writer.specs.Nodes.{pairs_value};
 ghost use Rattle.arrow_spec.specs.Flat.{order_by};
 ghost use Rattle.schema_writer.specs.SlotValues.{order_value};

@@ -10,7 +10,7 @@ ghost use Rattle.arrow_spec.specs.Regular.{is_size};
 ghost use Rattle.arrow_spec.specs.Sent as sent;
 ghost use Rattle.arrow_flat.specs.Nodes.{node_of, slot_of, slots_of};
 ghost use Rattle.arrow_types.specs.KindOf.{kind_of, are_stated, ids_of};
-ghost use Rattle.schema_writer.specs.Built.{sizes_fit};
+ghost use Rattle.schema_writer.specs.Tables.{sizes_fit};
 ghost use Rattle.schema_writer.specs.SlotValues.{flag_value, nonzero, unit_value, mode_value, text_value};
 
 use arrow_flat::{Node, Slot};

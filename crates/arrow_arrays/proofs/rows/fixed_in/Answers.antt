@@ -3,7 +3,7 @@ use Rattle.std.specs.Option.{option_map}
 use Rattle.arrow_spec.specs.Cells as cells
 use Rattle.arrow_buffers.specs.Rows.{is_valid}
 use Rattle.arrow_buffers.specs.Layouts.{binary_size}
-use Rattle.arrow_buffers.specs.Flat.{fixed_row, fixed_rows}
+use Rattle.arrow_buffers.specs.Leaf.{fixed_row, fixed_rows}
 use Rattle.arrow_arrays.proofs.CellRows.{read_valid, null_told, valid_told}
 use Rattle.arrow_arrays.proofs.rows.fixed_in.Goals as goal
 

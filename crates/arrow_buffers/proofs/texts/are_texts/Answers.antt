@@ -1,6 +1,6 @@
 use Rattle.std.proofs.Common.{map, sym, ap}
 use Rattle.std.specs.Prelude.{not}
-use Rattle.arrow_buffers.proofs.Variable.{all_texts}
+use Rattle.arrow_buffers.proofs.VariableParts.{all_texts}
 use Rattle.arrow_buffers.proofs.texts.are_texts.Goals as goal
 
 pub returns-then-are_one_text : goal.returns-then-are_one_text

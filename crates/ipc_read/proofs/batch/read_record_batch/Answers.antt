@@ -1,29 +1,31 @@
-use Rattle.std.proofs.Common.{◌≡◌, Err, length, sym, ap, ◌∙◌, arith}
+use Rattle.std.proofs.Common.{◌≡◌, Err, length, sym, ap, ◌∙◌, rules}
 use Rattle.std.proofs.lemmas.List.{length-map}
 use Rattle.std.specs.Rc.{rc_value}
 use Rattle.arrow_spec.specs.Counts.{first_place, magnitude}
 use Rattle.arrow_types.specs.Schemas.{fields_in}
 use Rattle.arrow_arrays.specs.PartsOf.{parts_of, all_parts_of}
-use Rattle.read_columns.specs.Batches.{columns_read}
+use Rattle.ipc_read_laws.specs.Batches.{columns_read}
 use Rattle.ipc_schema.specs.Views.{header_of}
 use Rattle.ipc_read.specs.Batches.{batch_reading, batch_fetched, table_of}
 use Rattle.arrow_spec.specs.Flat.{order_by}
 use Rattle.arrow_spec.specs.Files.{record_batch_of}
 use Rattle.ipc_read.specs.Sources.{bytes_in}
 use Rattle.ipc_read.proofs.Passing.{is_err}
-use Rattle.ipc_read.proofs.BatchTables.{some_refused, some_given, some_same, batch_fine}
+use Rattle.ipc_read.proofs.BatchTables.{some_refused, some_given, some_same, some_err, batch_fine}
+use Rattle.ipc_read.proofs.Refusals.{memory_refuses}
+use Rattle.ipc_read.proofs.ReaderSteps.{fetched_on}
 use Rattle.ipc_read.proofs.batch.read_record_batch.Goals as goal
 
 pub returns-in_err-columns-clause-gives : goal.returns-in_err-columns-clause-gives
 returns-in_err-columns-clause-gives g c =
-    let e : c.from_residual.result ≡ Err c.in_err-columns.field-0.0 = is_err _ _ _ c.from_residual.ensures.0 c.from_residual.ensures.1 (λ f h. h) in
-    some_refused _ table_of c.from_residual.result c.in_err-columns.field-0.0 (λ s b. batch_reading c.args.ipc_schema.now.is_little_endian (fields_in s) c.args.size c.args.version (header_of c.args.header.now) (bytes_in c.args.body b)) c.deref.result.now (rc_value c.args.schema.now) e c.deref.ensures c.in_err-columns.ensures.gives
+    let e : c.from_residual-in_err-columns.result ≡ Err c.in_err-columns.field-0.0 = is_err _ _ _ c.from_residual-in_err-columns.ensures.0 c.from_residual-in_err-columns.ensures.1 (λ f h. h) in
+    some_refused _ table_of c.from_residual-in_err-columns.result c.in_err-columns.field-0.0 (λ s b. batch_reading c.args.ipc_schema.now.is_little_endian (fields_in s) c.args.size c.args.version (header_of c.args.header.now) (bytes_in c.args.body b)) c.deref.result.now (rc_value c.args.schema.now) e c.deref.ensures c.in_err-columns.ensures.gives
 
 pub returns-in_err-columns-clause-fetched : goal.returns-in_err-columns-clause-fetched
 returns-in_err-columns-clause-fetched g c = λ bytes.
     let k = c.read_arrays.ensures.fetched bytes in
     let n = ap (λ s. batch_fetched (record_batch_of (order_by c.args.ipc_schema.now.is_little_endian) c.args.version (header_of c.args.header.now) bytes) (fields_in s) (magnitude c.args.header.now.length)) c.deref.ensures in
-    omega (arith, k, n)
+    fetched_on _ _ _ _ _ (search rules) k n
 
 pub new-requires : goal.new-requires
 new-requires g c =
@@ -40,4 +42,9 @@ pub returns-clause-fetched : goal.returns-clause-fetched
 returns-clause-fetched g c = λ bytes.
     let k = c.read_arrays.ensures.fetched bytes in
     let n = ap (λ s. batch_fetched (record_batch_of (order_by c.args.ipc_schema.now.is_little_endian) c.args.version (header_of c.args.header.now) bytes) (fields_in s) (magnitude c.args.header.now.length)) c.deref.ensures in
-    omega (arith, k, n)
+    fetched_on _ _ _ _ _ (search rules) k n
+
+pub returns-in_err-queues-clause-gives : goal.returns-in_err-queues-clause-gives
+returns-in_err-queues-clause-gives g c =
+    let e : c.from_residual.result ≡ Err c.in_err-queues.field-0.0 = is_err _ _ _ c.from_residual.ensures.0 c.from_residual.ensures.1 (λ f h. h) in
+    some_err c.from_residual.result c.in_err-queues.field-0.0 (g.S.Source.content c.args.source.now) table_of (λ b. batch_reading c.args.ipc_schema.now.is_little_endian (fields_in (rc_value c.args.schema.now)) c.args.size c.args.version (header_of c.args.header.now) (bytes_in c.args.body b)) e (λ b. memory_refuses _ _ c.in_err-queues.ensures.err)

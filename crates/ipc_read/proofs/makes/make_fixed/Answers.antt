@@ -1,7 +1,7 @@
 use Rattle.std.proofs.Common.{◌≡◌, subst, Some}
 use Rattle.arrow_types.specs.KindOf.{kind_of}
-use Rattle.arrow_buffers.specs.Flat.{fixed_fault}
-use Rattle.ipc_read.proofs.FlatArrays.{fixed_none}
+use Rattle.arrow_buffers.specs.Leaf.{fixed_fault}
+use Rattle.ipc_read.proofs.LeafArrays.{fixed_none}
 use Rattle.ipc_read.proofs.makes.make_fixed.Goals as goal
 
 pub unreachable-requires : goal.unreachable-requires

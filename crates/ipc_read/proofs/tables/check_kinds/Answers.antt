@@ -6,7 +6,7 @@ use Rattle.arrow_buffers.specs.Layouts.{binary_size}
 use Rattle.arrow_types.specs.Physical.{physical_of}
 use Rattle.ipc_read.specs.Skips.{is_plain_kind}
 use Rattle.ipc_read.proofs.Passing.{is_err, answers_err}
-use Rattle.ipc_read.proofs.ColumnKinds.{columns_next, column_is_plain, column_is_flat, flat_next, floats_next, floats_refused, floats_end, flat_end}
+use Rattle.ipc_read.proofs.ColumnKinds.{columns_next, column_is_plain, column_is_leaf, leaf_next, floats_next, floats_refused, floats_end, leaf_end}
 use Rattle.ipc_read.proofs.tables.check_kinds.Goals as goal
 
 pub check_kind-requires : goal.check_kind-requires
@@ -26,7 +26,7 @@ returns-in_err-check_kind-clause-exact c =
 pub returns : goal.returns
 returns c = record {
   exact = record { ok = (c.loop-i.invariant.floats ∙ floats_end c.args.schema.now c.loop-i.i (omega arith), refl); err = tt };
-  flat = c.loop-i.invariant.flat ∙ flat_end c.args.schema.now c.loop-i.i (omega arith);
+  leaf = c.loop-i.invariant.leaf ∙ leaf_end c.args.schema.now c.loop-i.i (omega arith);
   cause = tt;
 }
 
@@ -39,5 +39,5 @@ loop-i-preserved c =
       within = omega arith;
       floats = c.loop-i.invariant.floats ∙ floats_next c.args.schema.now c.loop-i.i _ f.at z;
       columns = n.1;
-      flat = c.loop-i.invariant.flat ∙ flat_next c.args.schema.now c.loop-i.i _ f.at (column_is_flat (child_of c.field_at-field.result.now).kind n.0 z);
+      leaf = c.loop-i.invariant.leaf ∙ leaf_next c.args.schema.now c.loop-i.i _ f.at (column_is_leaf (child_of c.field_at-field.result.now).kind n.0 z);
     }

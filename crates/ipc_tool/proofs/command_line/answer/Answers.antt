@@ -1,11 +1,11 @@
 use Rattle.std.proofs.Common.{◌≡◌, ◌∙◌, refl, ap, inl, inr, map, string_bytes, subst, sym, Option, Some}
 use Rattle.arrow_spec.specs.Words.{Held}
-use Rattle.ipc_schema.specs.Memory.{held_in}
+use Rattle.ipc_io.specs.Memory.{held_in}
 use Rattle.ipc_tool.specs.CommandLine.{Ran, Seen, beside, noted_of, seen_of}
 use Rattle.ipc_tool.specs.Refusal.{number_of}
 use Rattle.ipc_tool.specs.Request.{texts}
 use Rattle.ipc_tool.specs.Run.{IsNoted}
-use Rattle.ipc_tool.proofs.SentFiles.{keeps_same}
+use Rattle.ipc_files.proofs.SentFiles.{keeps_same}
 use Rattle.std.specs.Io.KnownBytes.{Keeps}
 use Rattle.ipc_tool.proofs.command_line.answer.Goals as goal
 

@@ -1,6 +1,6 @@
 use Rattle.std.proofs.Common.{◌≡◌}
 use Rattle.std.proofs.KnownBytes.{Appends-trans}
-use Rattle.ipc_schema.proofs.Known.{AppendsPrefix-within, AppendsPrefix-after, Puts-err, PutsFront-of_put, PutsFront-after, PutsFront-stopped}
+use Rattle.ipc_io.proofs.Known.{AppendsPrefix-within, AppendsPrefix-after, Puts-err, PutsFront-of_put, PutsFront-after, PutsFront-stopped}
 use Rattle.ipc_tool.specs.Refusal.{name_of}
 use Rattle.ipc_tool.proofs.note.put_line.Goals as goal
 

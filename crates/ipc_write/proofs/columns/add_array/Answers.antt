@@ -1,7 +1,7 @@
 use Rattle.arrow_spec.specs.Flat.{little}
 use Rattle.arrow_arrays.specs.Parts.{rows_in}
 use Rattle.arrow_arrays.specs.PartsOf.{parts_of}
-use Rattle.array_writer.specs.Pieces.{column_in}
+use Rattle.ipc_write_arrays.specs.Pieces.{column_in}
 use Rattle.ipc_write.proofs.Meanings.{means_alone}
 use Rattle.ipc_write.proofs.columns.add_array.Goals as goal
 

@@ -2,7 +2,7 @@ use Rattle.std.proofs.Common.{sym, ap, ◌∙◌, map, ◌*◌}
 use Rattle.std.specs.List.{flat_map}
 use Rattle.arrow_spec.specs.Flat.{little}
 use Rattle.arrow_types.specs.Physical.{physical_of}
-use Rattle.array_writer.specs.Pieces.{layout_in_order}
+use Rattle.ipc_write_arrays.specs.Pieces.{layout_in_order}
 use Rattle.ipc_write.proofs.Lengths.{two_same, length-numbers}
 use Rattle.ipc_write.proofs.ends.numbers_end.Goals as goal
 

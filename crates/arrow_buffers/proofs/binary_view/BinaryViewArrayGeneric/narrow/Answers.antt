@@ -16,4 +16,4 @@ pub returns-clause-cells : goal.returns-clause-cells
 returns-clause-cells g c =
     let whole : Views = record { kind = kind_of c.self.inside.dtype; views = c.self.inside.views; buffers = c.self.inside.data_buffers.items; validity = c.self.inside.validity } in
     let req : c.args.offset + c.args.rows ≤ view_rows whole.views = rw (← c.self.view_is) at c.requires in
-    rw (← c.self.view_is, c.narrow.ensures, c.narrow_validity.ensures) (view_cells-part g.V.ViewType.IS_TEXT c.args.offset c.args.rows whole (view_sound g.V.ViewType.IS_TEXT (is_view g.V.ViewType.IS_TEXT (physical_of (kind_of c.self.inside.dtype))) whole c.self.invariant) req)
+    rw (← c.self.view_is, c.narrow.ensures, c.narrow_validity.ensures) (view_cells-part g.V.ViewType.IS_TEXT c.args.offset c.args.rows whole (view_sound g.V.ViewType.IS_TEXT (is_view g.V.ViewType.IS_TEXT (physical_of (kind_of c.self.inside.dtype))) whole c.self.invariant).seen req)

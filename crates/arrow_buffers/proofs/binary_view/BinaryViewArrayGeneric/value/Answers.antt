@@ -10,5 +10,5 @@ pub bytes_in-requires-clause-good : goal.bytes_in-requires-clause-good
 bytes_in-requires-clause-good g c =
     let whole : Views = record { kind = kind_of c.self.inside.dtype; views = c.self.inside.views; buffers = c.self.inside.data_buffers.items; validity = c.self.inside.validity } in
     let req : c.args.row < view_rows whole.views = rw (← c.self.view_is) at c.requires in
-    let good = good_row whole c.args.row (view_sound g.V.ViewType.IS_TEXT (is_view g.V.ViewType.IS_TEXT (physical_of (kind_of c.self.inside.dtype))) whole c.self.invariant) req (sym c.validity_at.ensures ∙ c.if-not-validity_at.false) in
+    let good = good_row whole c.args.row (view_sound g.V.ViewType.IS_TEXT (is_view g.V.ViewType.IS_TEXT (physical_of (kind_of c.self.inside.dtype))) whole c.self.invariant).seen req (sym c.validity_at.ensures ∙ c.if-not-validity_at.false) in
     rw (c.as_slice-2.ensures.value, c.view_at-view.ensures.view, c.as_slice.ensures) good

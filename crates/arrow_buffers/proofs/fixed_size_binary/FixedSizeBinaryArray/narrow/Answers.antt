@@ -1,14 +1,14 @@
 use Rattle.std.proofs.Common.{ℕ, ◌+◌, ◌^◌, ◌≤◌, ◌<◌, length, arith}
 use Rattle.arrow_types.specs.KindOf.{kind_of}
 use Rattle.arrow_buffers.specs.Layouts.{binary_size}
-use Rattle.arrow_buffers.specs.Flat.{Flat, fixed_rows}
+use Rattle.arrow_buffers.specs.Leaf.{Leaf, fixed_rows}
 use Rattle.arrow_buffers.proofs.Fixed.{bounded, fixed_fault-part, fixed_cells-part}
 use Rattle.arrow_buffers.proofs.Sound.{fixed_sound}
 use Rattle.arrow_buffers.proofs.fixed_size_binary.FixedSizeBinaryArray.narrow.Goals as goal
 
 pub overflow_add-offset : goal.overflow_add-offset
 overflow_add-offset c =
-    let whole : Flat ℕ = record { kind = kind_of c.self.inside.dtype; values = c.self.inside.values; validity = c.self.inside.validity } in
+    let whole : Leaf ℕ = record { kind = kind_of c.self.inside.dtype; values = c.self.inside.values; validity = c.self.inside.validity } in
     let req : c.args.offset + c.args.rows ≤ fixed_rows whole = rw (← c.self.view_is) at c.requires in
     let len : length c.self.inside.values < 2 ^ 64 = omega arith in
     omega (arith, (bounded (binary_size (kind_of c.self.inside.dtype)) (length c.self.inside.values) c.args.offset c.args.rows (fixed_sound whole c.self.invariant).sized len req).2)

@@ -2,11 +2,11 @@ use Rattle.std.proofs.Common.{length, ◌∙◌, sym}
 use Rattle.arrow_types.specs.KindOf.{kind_of}
 use Rattle.arrow_types.specs.Physical.{physical_of}
 use Rattle.arrow_buffers.specs.Layouts.{is_primitive}
-use Rattle.arrow_buffers.proofs.Masks.{length-flat}
-use Rattle.arrow_buffers.proofs.Sound.{flat_sound}
+use Rattle.arrow_buffers.proofs.Masks.{length-leaf}
+use Rattle.arrow_buffers.proofs.Sound.{leaf_sound}
 use Rattle.arrow_buffers.proofs.primitive.PrimitiveArray.len.Goals as goal
 
 pub returns-clause-cells : goal.returns-clause-cells
 returns-clause-cells g c =
-    let rows = flat_sound (is_primitive g.T.NativeType.PRIMITIVE (physical_of (kind_of c.self.inside.dtype))) (length c.self.inside.values) c.self.inside.validity c.self.invariant in
-    rw (← c.self.view_is) (c.len.ensures ∙ sym (length-flat g.T.NativeType.cell c.self.inside.values c.self.inside.validity rows))
+    let rows = leaf_sound (is_primitive g.T.NativeType.PRIMITIVE (physical_of (kind_of c.self.inside.dtype))) (length c.self.inside.values) c.self.inside.validity c.self.invariant in
+    rw (← c.self.view_is) (c.len.ensures ∙ sym (length-leaf g.T.NativeType.cell c.self.inside.values c.self.inside.validity rows))

@@ -5,7 +5,7 @@ use Rattle.arrow_types.specs.KindOf.{child_of, kind_of}
 use Rattle.arrow_types.specs.declared.data_type.ArrowDataType.{the_lemmas as type_lemmas}
 use Rattle.ipc_fields.specs.IpcFields.{ids_of}
 use Rattle.schema_writer.specs.Nodes.{field_table}
-use Rattle.schema_writer.specs.Built.{below_nodes}
+use Rattle.schema_writer.specs.Tables.{below_nodes}
 use Rattle.ipc_fields.specs.Uses.{first_ids, first_id}
 use Rattle.schema_writer.proofs.Building.{node_step, nodes_done, fits_at}
 use Rattle.schema_writer.proofs.Texts.{extension_said, field_texts, texts_more, texts_done, textless_said, timestamp_said}

@@ -2,7 +2,7 @@ use Rattle.std.proofs.Common.{◌≡◌, true, map, drop}
 use Rattle.arrow_flat.specs.Nodes.{node_of}
 use Rattle.arrow_types.specs.KindOf.{fields_of}
 use Rattle.ipc_fields.specs.IpcFields.{ids_of}
-use Rattle.schema_writer.specs.Built.{nodes_with, all_sized, onto}
+use Rattle.schema_writer.specs.Tables.{nodes_with, all_sized, onto}
 use Rattle.schema_writer.specs.Texts.{FieldsSayTexts}
 use Rattle.schema_writer.proofs.write.fields.+nodes.Given as goal
 

@@ -5,7 +5,7 @@ use Rattle.arrow_types.specs.KindOf.{kind_of, child_of, fields_of}
 use Rattle.arrow_types.specs.declared.data_type.UnionType.{out-UnionType}
 use Rattle.arrow_types.proofs.Sameness.{union_kind_of_is}
 use Rattle.ipc_fields.specs.IpcFields.{ids_of, kind_with, fields_with}
-use Rattle.schema_writer.specs.Built.{kind_fits, all_fit}
+use Rattle.schema_writer.specs.Tables.{kind_fits, all_fit}
 use Rattle.schema_writer.proofs.Saying.{fit_next, fit_wrong, fit_done, found_fits, kind_of_Map, union_said}
 use Rattle.schema_writer.proofs.write.sayable.+fits.Goals as goal
 

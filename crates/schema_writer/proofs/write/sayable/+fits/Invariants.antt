@@ -1,7 +1,7 @@
 use Rattle.std.proofs.Common.{◌≡◌}
 use Rattle.arrow_types.specs.KindOf.{fields_of}
 use Rattle.ipc_fields.specs.IpcFields.{ids_of, fields_with}
-use Rattle.schema_writer.specs.Built.{all_fit}
+use Rattle.schema_writer.specs.Tables.{all_fit}
 use Rattle.schema_writer.proofs.Saying.{left_fit}
 use Rattle.schema_writer.proofs.write.sayable.+fits.Given as goal
 

@@ -4,7 +4,7 @@ use Rattle.arrow_flat.specs.Nodes.{node_of}
 use Rattle.arrow_types.specs.KindOf.{child_of}
 use Rattle.ipc_fields.specs.IpcFields.{ids_of}
 use Rattle.schema_writer.specs.Nodes.{field_table}
-use Rattle.schema_writer.specs.Built.{below_nodes}
+use Rattle.schema_writer.specs.Tables.{below_nodes}
 use Rattle.ipc_fields.specs.Uses.{first_ids, first_id}
 use Rattle.schema_writer.proofs.Tops.{node_next, sized_at, nodes_done}
 use Rattle.schema_writer.proofs.Texts.{keyed_more, keyed_done}

@@ -1,7 +1,7 @@
 use Rattle.std.proofs.Common.{◌≡◌}
 use Rattle.arrow_types.specs.Schemas.{fields_in}
 use Rattle.ipc_fields.specs.IpcFields.{ids_of, fields_with}
-use Rattle.schema_writer.specs.Built.{all_fit}
+use Rattle.schema_writer.specs.Tables.{all_fit}
 use Rattle.schema_writer.proofs.Tops.{fit_left}
 use Rattle.schema_writer.proofs.write.schema.is_sayable.Given as goal
 

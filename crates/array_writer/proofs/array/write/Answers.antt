@@ -1,6 +1,0 @@
-use Rattle.arrow_arrays.specs.PartsOf.{parts_of}
-use Rattle.array_writer.proofs.RoundTrip.{column_means}
-use Rattle.array_writer.proofs.array.write.Goals as goal
-
-pub returns-in-Ok-clause-means : goal.returns-in-Ok-clause-means
-returns-in-Ok-clause-means c = λ d. column_means c.args.is_little_endian d (parts_of c.args.array.now) c.in-Ok.ensures.sound c.in-Ok.ensures.fit c.requires.order

@@ -1,0 +1,3 @@
+//! Runs of bits that share their memory.
+
+pub use arrow_buffers::Bitmap;

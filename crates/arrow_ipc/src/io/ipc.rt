@@ -1,0 +1,8 @@
+//! Arrow files and streams (Arrow Columnar Format, "Serialization and Interprocess Communication").
+
+pub mod read;
+pub mod write;
+
+pub use arrow_spec::{Counted, Feature, FlatError, IpcError, OutOfSpecKind};
+pub use ipc_fields::{IpcField, IpcSchema};
+pub use ipc_files::{Summary, transcode};

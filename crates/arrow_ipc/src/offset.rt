@@ -1,0 +1,3 @@
+//! The widths of offsets.
+
+pub use arrow_types::Offset;

@@ -1,0 +1,3 @@
+//! Record batches: columns of one height under a schema.
+
+pub use arrow_arrays::{BatchError, RecordBatch, RecordBatchT};

@@ -1,0 +1,162 @@
+-- The blocks of a file, sent one after another.
+use Rattle.std.proofs.Common.{◌≡◌, inr, ℕ, zero, suc, ◌+◌, ◌<◌, ◌≤◌, List, [], ◌∷◌, ◌++◌, length, take, drop, get_or, Option, Some, None, IfSome, refl, sym, ap, ◌∙◌, subst, Bool, arith, map, option_map, add-one, slice_get, sum_by}
+use Rattle.std.proofs.Math.Seq.{take-suc}
+use Rattle.std.proofs.lemmas.List.{length-append, length-map, length-take-le, take_all}
+use Rattle.std.proofs.lemmas.List.Sums.{sum_by-append, sum_by-cons}
+use Rattle.std.proofs.lemmas.Option.{get_or_from_slice_get, slice_get-get_or, slice_get-map, slice_get_within}
+use Rattle.std.proofs.KnownBytes.{Appends-kept}
+use Rattle.std.specs.Io.KnownBytes.{Appends}
+use Rattle.arrow_spec.specs.declared.error.IpcError.{IpcError}
+use Rattle.arrow_spec.specs.declared.error.IpcError.TheVariants as errors
+use Rattle.arrow_spec.specs.declared.message.Block.{Block}
+use Rattle.arrow_spec.specs.Readings.{Refuses, refusals}
+use Rattle.arrow_spec.specs.Files.{«all», FileBlock, Meta, Request, file_reading, to_send}
+use Rattle.ipc_write_laws.specs.Streams.{bare_table, batch_bytes, table_batch, written_so_far}
+use Rattle.transcode_laws.specs.Built.{so_far}
+use Rattle.transcode_laws.specs.Files.{HaveNoDictionaries, IsFrontOf, SentSoFar, StopsBehind}
+use Rattle.transcode_laws.proofs.Blocks.{none_sent, one_more_sent}
+use Rattle.transcode_laws.proofs.Refusals.{block_refuses}
+use Rattle.transcode_laws.proofs.Streams.{one_more_batch}
+use Rattle.ipc_files.specs.FileBlocks.{file_block}
+use Rattle.ipc_files.specs.Sends.{Begun, BlockRefused, BlockSent, Refused, SentBlocks}
+use Rattle.ipc_files.specs.Transcode.{AddsFront, AddsPart, PutTextCause, text_of}
+use Rattle.ipc_files.specs.declared.conversion.Summary.{Summary}
+use Rattle.ipc_files.proofs.FileStreams.{front_of}
+use Rattle.ipc_files.proofs.Sending.{Appends-text, IsNext, piece_refused}
+use Rattle.ipc_files.specs.declared.encoding.Encoding.{Encoding}
+
+-- ── blocks, one after another ──
+
+pub take_next : {A : Type 0} (xs : List A) (i : ℕ) (x : A) → slice_get xs i ≡ Some x → take (i + 1) xs ≡ take i xs ++ x ∷ []
+take_next xs i x h = rw add-one (take-suc xs i x (slice_get_within xs i x h) ∙ ap (λ y. take i xs ++ y ∷ []) (get_or_from_slice_get xs i x x h))
+
+split_at : {A : Type 0} (xs : List A) (i : ℕ) (x : A) → slice_get xs i ≡ Some x → xs ≡ take i xs ++ x ∷ drop (i + 1) xs
+split_at [] i x h = cc
+split_at (y ∷ ys) zero x h = ap (λ z. z ∷ ys) cc
+split_at (y ∷ ys) (suc i) x h = let e : suc i + 1 ≡ suc (i + 1) = omega arith in rw e (ap (λ l. y ∷ l) (split_at ys i x h))
+
+blocks_begun : (b : List ℕ) (meta : Meta) (encoding : Encoding) (start old : Option (List ℕ)) (n : ℕ) → Begun b meta encoding start old n → SentBlocks b meta [] encoding start old (record { batches = 0; rows = 0; bytes = n })
+blocks_begun b meta encoding start old n begun = record { batches = []; sent = none_sent so_far b meta.schema.fields; same = refl; added = begun.added; batches_are = refl; rows_are = refl; bytes_are = begun.bytes_are }
+
+sums : (a b x y whole : ℕ) → a ≡ x → b ≡ y → whole ≡ x + (y + 0) → a + b ≡ whole
+sums a b x y whole p q h = omega (arith, p, q, h)
+
+lengths : (a b : ℕ) (xs ys whole : List ℕ) → whole ≡ xs ++ ys → a ≡ length xs → b ≡ length ys → a + b ≡ length whole
+lengths a b xs ys whole h p q = rw (p, q) (sym (ap length h ∙ length-append xs ys))
+
+one_more_block : (b : List ℕ) (meta : Meta) (block : FileBlock) (i : ℕ) (encoding : Encoding) (start mid new : Option (List ℕ)) (s : Summary) (rows bytes : ℕ) → slice_get meta.blocks i ≡ Some block → HaveNoDictionaries meta.schema.fields → SentBlocks b meta (take i meta.blocks) encoding start mid s → BlockSent b meta.schema.fields block encoding mid new rows bytes
+    → SentBlocks b meta (take (i + 1) meta.blocks) encoding start new (record { batches = s.batches + 1; rows = s.rows + rows; bytes = s.bytes + bytes })
+one_more_block b meta block i encoding start mid new s rows bytes h none behind one =
+    let fs = meta.schema.fields in
+    let pairs = meta.schema.metadata in
+    let grown = one_more_batch fs pairs [] behind.batches one.batch in
+    let t : take (i + 1) meta.blocks ≡ take i meta.blocks ++ block ∷ [] = take_next meta.blocks i block h in
+    record {
+      batches = behind.batches ++ one.batch ∷ [];
+      sent = subst (λ l. SentSoFar so_far b fs l (behind.batches ++ one.batch ∷ [])) (sym t) (one_more_sent so_far b fs (take i meta.blocks) block behind.batches one.batch none behind.sent one.is_sent);
+      same = length-append behind.batches (one.batch ∷ []) ∙ ap (λ n. n + 1) behind.same ∙ sym (ap length t ∙ length-append (take i meta.blocks) (block ∷ []));
+      added = subst (λ l. Appends start new (text_of encoding l)) (sym grown) (Appends-text encoding start mid new (written_so_far fs pairs [] behind.batches) (batch_bytes one.batch) behind.added one.added);
+      batches_are = ap (λ n. n + 1) behind.batches_are ∙ sym (length-append behind.batches (one.batch ∷ []));
+      rows_are = sums s.rows rows (sum_by (λ x. x.rows) behind.batches) one.batch.rows _ behind.rows_are one.rows_are (sum_by-append (λ x. x.rows) behind.batches (one.batch ∷ []) ∙ ap (λ n. sum_by (λ x. x.rows) behind.batches + n) (sum_by-cons (λ x. x.rows) one.batch []));
+      bytes_are = lengths s.bytes bytes (written_so_far fs pairs [] behind.batches) (batch_bytes one.batch) _ grown behind.bytes_are one.bytes_are;
+    }
+
+-- ── a block that is not sent ──
+
+-- a front that stands there, and stops at what is refused
+front_stays : (e : IpcError) (b : List ℕ) (r : Request) (text : List ℕ → List ℕ) (old new : Option (List ℕ)) (f : AddsFront b r text old new) → StopsBehind so_far b r (length f.table.batches) e → AddsPart e b r text old new
+front_stays errors.WriteFault b r text old new f stops = record { bytes = f.bytes; table = f.table; piece = inr (f.stream, (length (text f.bytes), subst (Appends old new) (sym (take_all (length (text f.bytes)) (text f.bytes) (omega arith))) f.added)) }
+front_stays errors.Memory b r text old new f stops = inr (f, stops)
+front_stays errors.ReadFault b r text old new f stops = inr (f, stops)
+front_stays (errors.OutOfSpec kind) b r text old new f stops = inr (f, stops)
+front_stays (errors.Unsupported feature) b r text old new f stops = inr (f, stops)
+front_stays errors.TooDeep b r text old new f stops = inr (f, stops)
+front_stays (errors.TooMany counted) b r text old new f stops = inr (f, stops)
+front_stays (errors.Projection index) b r text old new f stops = inr (f, stops)
+front_stays errors.TooLarge b r text old new f stops = inr (f, stops)
+front_stays errors.SchemaMismatch b r text old new f stops = inr (f, stops)
+front_stays (errors.DictionaryReplaced id) b r text old new f stops = inr (f, stops)
+front_stays errors.NotRepresentable b r text old new f stops = inr (f, stops)
+front_stays errors.State b r text old new f stops = inr (f, stops)
+
+-- what could not be put says nothing of the bytes
+pub put_refuses : (e : IpcError) (es : List IpcError) (faults faults' : ℕ) → PutTextCause e faults faults' → Refuses e es
+put_refuses errors.WriteFault es faults faults' h = tt
+put_refuses errors.Memory es faults faults' h = tt
+put_refuses errors.ReadFault es faults faults' h = tt
+put_refuses (errors.OutOfSpec kind) es faults faults' h = absurd h
+put_refuses (errors.Unsupported feature) es faults faults' h = absurd h
+put_refuses errors.TooDeep es faults faults' h = absurd h
+put_refuses (errors.TooMany counted) es faults faults' h = absurd h
+put_refuses (errors.Projection index) es faults faults' h = absurd h
+put_refuses errors.TooLarge es faults faults' h = absurd h
+put_refuses errors.SchemaMismatch es faults faults' h = absurd h
+put_refuses (errors.DictionaryReplaced id) es faults faults' h = absurd h
+put_refuses errors.NotRepresentable es faults faults' h = absurd h
+put_refuses errors.State es faults faults' h = absurd h
+
+-- the bytes of the blocks so far are a front
+pub front_so_far : (b : List ℕ) (meta : Meta) (i : ℕ) (encoding : Encoding) (start old mid : Option (List ℕ)) (n : ℕ) (s : Summary) → i ≤ length meta.blocks → Begun b meta encoding start old n → SentBlocks b meta (take i meta.blocks) encoding start mid s → AddsFront b «all» (text_of encoding) start mid
+front_so_far b meta i encoding start old mid n s within begun sent = record {
+  bytes = written_so_far meta.schema.fields meta.schema.metadata [] sent.batches;
+  table = bare_table meta.schema.fields meta.schema.metadata [] sent.batches;
+  stream = front_of b meta i sent.batches begun.file sent.sent (sent.same ∙ length-take-le i meta.blocks within);
+  added = sent.added;
+}
+
+blocks_refused : (e : IpcError) (b : List ℕ) (meta : Meta) (i : ℕ) (block : FileBlock) (encoding : Encoding) (start old mid new : Option (List ℕ)) (n : ℕ) (s : Summary) (faults faults' : ℕ) → slice_get meta.blocks i ≡ Some block → Begun b meta encoding start old n → SentBlocks b meta (take i meta.blocks) encoding start mid s → BlockRefused b meta.schema.fields block encoding mid new e faults faults' → Refused e b encoding start new
+unfolding front_so_far
+blocks_refused e b meta i block encoding start old mid new n s faults faults' h begun sent (BlockRefused.refused kept refuses) =
+    let within : i < length meta.blocks = slice_get_within meta.blocks i block h in
+    let front = front_so_far b meta i encoding start old mid n s (omega (arith, within)) begun sent in
+    let both = block_refuses so_far e b meta [] (take i meta.blocks) block (drop (i + 1) meta.blocks) sent.batches begun.file (split_at meta.blocks i block h) sent.sent refuses in
+    let count : length (take i meta.blocks) ≡ length (map table_batch sent.batches) = sym (length-map sent.batches table_batch ∙ sent.same) in
+    record {
+      refused = both.0;
+      part = front_stays e b «all» (text_of encoding) start new (record { bytes = front.bytes; table = front.table; stream = front.stream; added = Appends-kept start mid new (text_of encoding front.bytes) front.added kept })
+          (subst (λ k. StopsBehind so_far b «all» k e) count both.1);
+    }
+blocks_refused e b meta i block encoding start old mid new n s faults faults' h begun sent (BlockRefused.not_put x is_sent put cause) =
+    let fs = meta.schema.fields in
+    let pairs = meta.schema.metadata in
+    let within : i < length meta.blocks = slice_get_within meta.blocks i block h in
+    let front = front_so_far b meta i encoding start old mid n s (omega (arith, within)) begun sent in
+    let t : take (i + 1) meta.blocks ≡ take i meta.blocks ++ block ∷ [] = take_next meta.blocks i block h in
+    let sent_more = subst (λ l. SentSoFar so_far b fs l (sent.batches ++ x ∷ [])) (sym t) (one_more_sent so_far b fs (take i meta.blocks) block sent.batches x begun.file.schema.no_dictionaries sent.sent is_sent) in
+    let count : length (sent.batches ++ x ∷ []) ≡ i + 1 = length-append sent.batches (x ∷ []) ∙ ap (λ k. k + 1) (sent.same ∙ length-take-le i meta.blocks (omega (arith, within))) in
+    let table = bare_table fs pairs [] (sent.batches ++ x ∷ []) in
+    let next : IsNext b «all» (written_so_far fs pairs [] sent.batches ++ batch_bytes x) = record { table = table; stream = inr (subst (λ y. IsFrontOf so_far b «all» y table) (one_more_batch fs pairs [] sent.batches x) (front_of b meta (i + 1) (sent.batches ++ x ∷ []) begun.file sent_more count)) } in
+    record {
+      refused = put_refuses e (refusals (file_reading so_far to_send b «all» None)) faults faults' cause;
+      part = piece_refused e b «all» encoding start mid new (written_so_far fs pairs [] sent.batches) (batch_bytes x) faults faults' (inr front) sent.added next put cause;
+    }
+
+-- ── as the loop has them ──
+
+abbrev pub SentUpTo : List ℕ → Meta → ℕ → Encoding → Option (List ℕ) → Option (List ℕ) → ℕ → Summary → Type 0
+SentUpTo b meta i encoding old new n s = (start : Option (List ℕ)) → Begun b meta encoding start old n → SentBlocks b meta (take i meta.blocks) encoding start new s
+
+-- a block at its place, by the items that the loop goes over
+pub at_index : (blocks items : List Block) (i : ℕ) (d : Block) → items ≡ blocks → i < length items → slice_get (map file_block blocks) i ≡ Some (file_block (get_or items i d))
+at_index blocks items i d same h = subst (λ l. slice_get (map file_block l) i ≡ Some (file_block (get_or items i d))) same (slice_get-map file_block items i ∙ ap (option_map file_block) (slice_get-get_or items i d h))
+
+pub begun_so_far : (content : Option (List ℕ)) (meta : Meta) (encoding : Encoding) (old : Option (List ℕ)) (n : ℕ) → IfSome content (λ b. SentUpTo b meta 0 encoding old old n (record { batches = 0; rows = 0; bytes = n }))
+begun_so_far None meta encoding old n = tt
+begun_so_far (Some b) meta encoding old n = λ start begun. blocks_begun b meta encoding start old n begun
+
+pub more_so_far : (content content' : Option (List ℕ)) (meta : Meta) (i : ℕ) (block : FileBlock) (encoding : Encoding) (old mid new : Option (List ℕ)) (n : ℕ) (s : Summary) (rows bytes : ℕ) → slice_get meta.blocks i ≡ Some block → content' ≡ content → IfSome content (λ b. SentUpTo b meta i encoding old mid n s)
+    → IfSome content' (λ b. BlockSent b meta.schema.fields block encoding mid new rows bytes) → IfSome content (λ b. SentUpTo b meta (i + 1) encoding old new n (record { batches = s.batches + 1; rows = s.rows + rows; bytes = s.bytes + bytes }))
+more_so_far None content' meta i block encoding old mid new n s rows bytes h kept sent one = tt
+more_so_far (Some b) content' meta i block encoding old mid new n s rows bytes h kept sent one = λ start begun.
+    one_more_block b meta block i encoding start mid new s rows bytes h begun.file.schema.no_dictionaries (sent start begun) (subst (λ o. IfSome o (λ c. BlockSent c meta.schema.fields block encoding mid new rows bytes)) kept one)
+
+pub refused_so_far : (e : IpcError) (content content' : Option (List ℕ)) (meta : Meta) (i : ℕ) (block : FileBlock) (encoding : Encoding) (old mid new : Option (List ℕ)) (n : ℕ) (s : Summary) (faults faults' : ℕ) → slice_get meta.blocks i ≡ Some block → content' ≡ content → IfSome content (λ b. SentUpTo b meta i encoding old mid n s)
+    → IfSome content' (λ b. BlockRefused b meta.schema.fields block encoding mid new e faults faults') → IfSome content (λ b. (start : Option (List ℕ)) → Begun b meta encoding start old n → Refused e b encoding start new)
+refused_so_far e None content' meta i block encoding old mid new n s faults faults' h kept sent one = tt
+refused_so_far e (Some b) content' meta i block encoding old mid new n s faults faults' h kept sent one = λ start begun.
+    blocks_refused e b meta i block encoding start old mid new n s faults faults' h begun (sent start begun) (subst (λ o. IfSome o (λ c. BlockRefused c meta.schema.fields block encoding mid new e faults faults')) kept one)
+
+pub all_so_far : (content : Option (List ℕ)) (meta : Meta) (i : ℕ) (encoding : Encoding) (old new : Option (List ℕ)) (n : ℕ) (s : Summary) → length meta.blocks ≤ i → IfSome content (λ b. SentUpTo b meta i encoding old new n s)
+    → IfSome content (λ b. (start : Option (List ℕ)) → Begun b meta encoding start old n → SentBlocks b meta meta.blocks encoding start new s)
+all_so_far None meta i encoding old new n s end sent = tt
+all_so_far (Some b) meta i encoding old new n s end sent = λ start begun. subst (λ l. SentBlocks b meta l encoding start new s) (take_all i meta.blocks end) (sent start begun)

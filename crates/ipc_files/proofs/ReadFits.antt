@@ -1,0 +1,55 @@
+-- What was read of a file's bytes fits: its schema may be written, and the numbers of a block's message have 64 bits.
+use Rattle.std.proofs.Common.{◌≡◌, ℕ, ◌^◌, ◌<◌, List, Result, Ok, Err, IfOk, true, ap, sym, ◌∙◌, subst}
+use Rattle.std.specs.Rc.{rc_value}
+use Rattle.arrow_spec.specs.declared.error.IpcError.{IpcError}
+use Rattle.arrow_spec.specs.Files.{Meta, meta_in}
+use Rattle.arrow_spec.specs.Laws.{AreBytes}
+use Rattle.arrow_spec.specs.Messages.{record_message}
+use Rattle.arrow_spec.specs.Readings.{Gives}
+use Rattle.arrow_spec.specs.WrittenSchemas.{SchemaMayBeWritten}
+use Rattle.arrow_spec.proofs.ReadFiles.{footer_schema_may}
+use Rattle.arrow_types.specs.Schemas.{Keyed, fields_in}
+use Rattle.ipc_fields.specs.IpcFields.{have_shapes, ids_of, schema_view}
+use Rattle.ipc_schema.specs.Footers.{footer_view}
+use Rattle.ipc_schema.specs.Views.{message_of}
+use Rattle.ipc_schema.specs.declared.footer.Footer.{Footer}
+use Rattle.ipc_schema.specs.declared.message.RecordMessage.{RecordMessage}
+use Rattle.transcode_laws.specs.Files.{HeaderFits}
+use Rattle.transcode_laws.proofs.Headers as headers
+use Rattle.ipc_files.specs.FileViews.{meta_view, WasRead}
+use Rattle.ipc_files.specs.declared.metadata.FileMetadata.{FileMetadata}
+use Rattle.ipc_files.proofs.LeafFields.{column_kinds}
+
+-- a block's message
+pub header_fits : (bytes : List ℕ) (r : Result RecordMessage IpcError) → AreBytes bytes → Gives message_of r (record_message bytes) → IfOk r (λ m. HeaderFits (message_of m).tables)
+header_fits bytes (Ok m) b h = headers.message_read bytes (message_of m) b h
+header_fits bytes (Err e) b h = tt
+
+-- metadata means what its footer does, whose schema it shares
+pub same_meta : (m : FileMetadata) (footer : Footer) → rc_value m.schema ≡ footer.schema → m.ipc_schema ≡ footer.ipc_schema → m.custom_schema_metadata ≡ footer.custom_metadata → m.blocks ≡ footer.blocks → m.dictionaries ≡ footer.dictionaries → meta_view m ≡ footer_view footer
+same_meta m footer s i p b d =
+    let by : List Keyed → Meta = λ k. record { schema = schema_view (k, footer.ipc_schema, footer.custom_metadata); blocks = (footer_view footer).blocks; dictionaries = (footer_view footer).dictionaries } in
+    rw (i, p, b, d) (ap by s)
+
+-- and says what its footer does
+pub said_same : (m : FileMetadata) (footer : Footer) (text bytes : List ℕ) → meta_view m ≡ footer_view footer → text ≡ bytes → meta_in text ≡ Ok (footer_view footer) → meta_in bytes ≡ Ok (meta_view m)
+said_same m footer text bytes same t h = ap meta_in (sym t) ∙ h ∙ ap Ok (sym same)
+
+-- a footer's schema
+pub footer_may : (bytes : List ℕ) (r : Result Footer IpcError) → AreBytes bytes → Gives footer_view r (meta_in bytes) → IfOk r (λ f. SchemaMayBeWritten (footer_view f).schema.fields (footer_view f).schema.metadata)
+footer_may bytes (Ok f) b h = (footer_schema_may bytes (footer_view f) b h).0
+footer_may bytes (Err e) b h = tt
+
+-- metadata
+pub was_read : (m : FileMetadata) (footer : Footer) → SchemaMayBeWritten (footer_view footer).schema.fields (footer_view footer).schema.metadata → meta_view m ≡ footer_view footer → rc_value m.schema ≡ footer.schema → m.ipc_schema ≡ footer.ipc_schema
+    → have_shapes (fields_in footer.schema) (ids_of footer.ipc_schema.fields.items) ≡ true → m.size < 2 ^ 63 → WasRead m
+was_read m footer may same schema ipc shapes most =
+    let is : SchemaMayBeWritten (meta_view m).schema.fields (meta_view m).schema.metadata = subst (λ (x : Meta). SchemaMayBeWritten x.schema.fields x.schema.metadata) (sym same) may in
+    record {
+      may = is;
+      readable = record {
+        shapes = rw (schema, ipc) shapes;
+        sizes = λ leaf. column_kinds (rc_value m.schema) (ids_of m.ipc_schema.fields.items) is.fit leaf;
+        most = most;
+      };
+    }

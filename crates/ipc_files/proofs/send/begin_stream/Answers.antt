@@ -1,0 +1,25 @@
+use Rattle.std.proofs.Common.{◌≡◌, Err, ◌∙◌, ap, length, sym}
+use Rattle.ipc_files.specs.FileViews.{meta_view}
+use Rattle.ipc_files.proofs.Errors.{is_err}
+use Rattle.ipc_files.proofs.LeafFields.{sendable}
+use Rattle.ipc_files.proofs.SentFiles.{of_err}
+use Rattle.ipc_files.proofs.StreamSteps.{dictionaries_not_built, schema_not_put, schema_not_written, schema_put}
+use Rattle.ipc_files.proofs.send.begin_stream.Goals as goal
+
+pub returns-in_err-message-clause-refused : goal.returns-in_err-message-clause-refused
+returns-in_err-message-clause-refused g c =
+    let e : c.from_residual.result ≡ Err c.in_err-message.field-0.0 = is_err _ _ _ c.from_residual.ensures.0 c.from_residual.ensures.1 (λ f h. h) in
+    of_err c.from_residual.result c.in_err-message.field-0.0 _ e (λ b h. schema_not_written c.in_err-message.field-0.0 b (meta_view c.args.file.now) c.args.encoding (g.W.Sink.written c.args.sink.now) h (sendable c.args.file.now c.requires.built c.requires.read) c.in_err-message.ensures)
+
+pub returns-then-reads_dictionaries-clause-refused : goal.returns-then-reads_dictionaries-clause-refused
+returns-then-reads_dictionaries-clause-refused g c = λ b h. dictionaries_not_built b (meta_view c.args.file.now) c.args.encoding (g.W.Sink.written c.args.sink.now) h (sendable c.args.file.now c.requires.built c.requires.read) c.in_ok-message.ensures.0 (sym c.reads_dictionaries.ensures ∙ c.if-reads_dictionaries.true)
+
+pub returns-in_err-put_text-clause-refused : goal.returns-in_err-put_text-clause-refused
+returns-in_err-put_text-clause-refused g c =
+    let e : c.from_residual-in_err-put_text.result ≡ Err c.in_err-put_text.field-0.0 = is_err _ _ _ c.from_residual-in_err-put_text.ensures.0 c.from_residual-in_err-put_text.ensures.1 (λ f h. h) in
+    of_err c.from_residual-in_err-put_text.result c.in_err-put_text.field-0.0 _ e
+    (λ b h. schema_not_put c.in_err-put_text.field-0.0 b (meta_view c.args.file.now) c.args.encoding (g.W.Sink.written c.args.sink.now) _ _ _ _ h (sendable c.args.file.now c.requires.built c.requires.read) c.in_ok-message.ensures.0 (sym c.reads_dictionaries.ensures ∙ c.if-reads_dictionaries.false) (c.deref.ensures.value ∙ c.in_ok-message.ensures.1) c.in_err-put_text.ensures.bytes c.in_err-put_text.ensures.cause)
+
+pub returns-clause-begun : goal.returns-clause-begun
+returns-clause-begun g c =
+    λ b h. schema_put b (meta_view c.args.file.now) c.args.encoding (g.W.Sink.written c.args.sink.now) _ _ _ h (sendable c.args.file.now c.requires.built c.requires.read) c.in_ok-message.ensures.0 (sym c.reads_dictionaries.ensures ∙ c.if-reads_dictionaries.false) (c.deref.ensures.value ∙ c.in_ok-message.ensures.1) (c.len.ensures ∙ c.in_ok-message.message.ok.0 ∙ ap length (sym c.deref.ensures.value)) c.in_ok-put_text.ensures.bytes

@@ -1,0 +1,59 @@
+-- How many bytes are fetched of a file at most.
+use Rattle.std.specs.Prelude.{◌≡◌, ℕ, ◌+◌, ◌≤◌, List, take, drop, length, ⊤, Option, Result, Ok, Err, None, Some, IsSome, option_map, sum_by, true}
+use Rattle.arrow_spec.specs.Readings.{Reading, meaning}
+use Rattle.arrow_spec.specs.Files.{FileBlock, Meta, Request, TableBatch, «all», all_asked, batch_of, batches_of, footer_of, to_read}
+use Rattle.arrow_spec.specs.Messages.{RecordMessage, prefix_of}
+use Rattle.arrow_spec.specs.Needed.{lengths, or_nothing}
+use Rattle.file_laws.specs.Fetched.{batch_fetched, fetched as ranges_fetched}
+use Rattle.ipc_files.specs.FileBlocks.{block_metadata, block_record}
+use Rattle.transcode_laws.specs.Built.{so_far}
+use Rattle.transcode_laws.specs.Meaning.{file_table}
+
+-- a prefix with the metadata behind it
+abbrev pub both_of : Reading (ℕ × ℕ) → ℕ
+both_of (Ok p) = p.0 + p.1
+both_of (Err es) = 0
+
+-- the prefix and the metadata of a block's message
+abbrev pub message_cost : List ℕ → FileBlock → ℕ
+message_cost b block = both_of (prefix_of (block_metadata b block))
+
+-- these, and the buffers that are looked at
+abbrev pub block_cost : List ℕ → Meta → FileBlock → ℕ
+block_cost b meta block = lengths (or_nothing (option_map (λ x. x.0) (meaning (batch_fetched b meta «all» block None))))
+
+-- ── what a count of fetched bytes has risen by, where bytes are told ──
+
+-- of a message in so many bytes from a place on, at most its prefix
+abbrev pub FrontFetched : Option (List ℕ) → ℕ → ℕ → ℕ → ℕ → Type 0
+FrontFetched None at size fetched fetched' = ⊤
+FrontFetched (Some b) at size fetched fetched' = (p : ℕ × ℕ) → prefix_of (take size (drop at b)) ≡ Ok p → fetched' ≤ fetched + p.0
+
+-- of a block's message, at most its prefix and its metadata
+abbrev pub MessageFetched : Option (List ℕ) → FileBlock → ℕ → ℕ → Type 0
+MessageFetched None block fetched fetched' = ⊤
+MessageFetched (Some b) block fetched fetched' = (m : RecordMessage) → block_record b block ≡ Ok m → fetched' ≤ fetched + message_cost b block
+
+-- of a block that means a batch, at most what it costs
+abbrev pub BlockFetched : Option (List ℕ) → Meta → FileBlock → ℕ → ℕ → Type 0
+BlockFetched None meta block fetched fetched' = ⊤
+BlockFetched (Some b) meta block fetched fetched' =
+    (x : TableBatch) → batch_of so_far.custom to_read b (all_asked meta.schema.order meta.schema.fields (length b)) block None ≡ Ok x
+    → fetched' ≤ fetched + block_cost b meta block
+
+-- of some blocks that mean batches, at most what they cost
+abbrev pub BlocksFetched : Option (List ℕ) → Meta → List FileBlock → ℕ → ℕ → Type 0
+BlocksFetched None meta blocks fetched fetched' = ⊤
+BlocksFetched (Some b) meta blocks fetched fetched' =
+    (xs : List TableBatch) → batches_of so_far.custom to_read b (all_asked meta.schema.order meta.schema.fields (length b)) true meta.blocks None ≡ Ok xs
+    → fetched' ≤ fetched + sum_by (block_cost b meta) blocks
+
+-- of a footer, at most the end of the file and its own length
+abbrev pub FooterFetched : Option (List ℕ) → ℕ → ℕ → Type 0
+FooterFetched None fetched fetched' = ⊤
+FooterFetched (Some b) fetched fetched' = (f : List ℕ) → footer_of b ≡ Ok f → fetched' ≤ fetched + 10 + length f
+
+-- of a file that means a table under a request, at most the ranges that the request fetches
+abbrev pub FileFetched : Option (List ℕ) → Request → ℕ → ℕ → Type 0
+FileFetched None r fetched fetched' = ⊤
+FileFetched (Some b) r fetched fetched' = IsSome (file_table b r) → fetched' ≤ fetched + lengths (ranges_fetched b r)

@@ -1,0 +1,67 @@
+-- What is read of a file's footer and of its blocks.
+use Rattle.std.specs.Prelude.{◌≡◌, ◌⊎◌, ℕ, ◌+◌, ◌≤◌, List, [], length, take, drop, ⊤, Option, Some, None, Ok, Result, nat_le}
+use Rattle.arrow_spec.specs.declared.error.IpcError.{IpcError}
+use Rattle.arrow_spec.specs.declared.error.IpcError.TheVariants as errors
+use Rattle.arrow_spec.specs.declared.error.OutOfSpecKind.TheVariants as kinds
+use Rattle.arrow_spec.specs.Readings.{Reading, Gives, ◌>>=◌, only_if}
+use Rattle.arrow_spec.specs.Messages.{RecordMessage, message_pairs, prefix_of, record_message}
+use Rattle.transcode_laws.specs.Built.{so_far}
+use Rattle.arrow_spec.specs.Kinds.{Metadata}
+use Rattle.arrow_spec.specs.Files.{FileBlock}
+pub use Rattle.ipc_schema.specs.Footers.{file_block}
+use Rattle.ipc_schema.specs.Views.{message_of}
+use Rattle.ipc_schema.specs.declared.message.RecordMessage.{RecordMessage as MessageRead}
+
+-- the metadata of a block
+abbrev pub block_metadata : List ℕ → FileBlock → List ℕ
+block_metadata b block = take block.metadata (drop block.offset b)
+
+-- the message of a record batch by its metadata, which has no pairs that are not carried
+unfoldable pub plain_message : List ℕ → Reading RecordMessage
+plain_message bytes = do
+  m ← record_message bytes
+  pairs ← message_pairs so_far.custom bytes
+  Ok m
+
+-- the message of a record batch in a block
+unfoldable pub block_record : List ℕ → FileBlock → Reading RecordMessage
+block_record b block = do
+  range ← only_if (nat_le (block.offset + block.metadata + block.body) (length b)) kinds.BlockRange
+  prefix ← prefix_of (block_metadata b block)
+  plain_message (take prefix.1 (drop (block.offset + prefix.0) b))
+
+-- ── a source's bytes, where they are told ──
+
+-- so many bytes from a place on lie inside
+abbrev pub Lies : Option (List ℕ) → ℕ → ℕ → Type 0
+Lies None at n = ⊤
+Lies (Some b) at n = at + n ≤ length b
+
+-- these are so many bytes from a place on
+abbrev pub Fetched : Option (List ℕ) → ℕ → ℕ → List ℕ → Type 0
+Fetched None at n out = ⊤
+Fetched (Some b) at n out = out ≡ take n (drop at b)
+
+-- the refusal is the device's or for want of memory
+abbrev pub Faulted : Option (List ℕ) → IpcError → Type 0
+Faulted None e = ⊤
+Faulted (Some b) e = (e ≡ errors.Memory) ⊎ (e ≡ errors.ReadFault)
+
+-- the prefix of the message in so many bytes from a place on
+abbrev pub PrefixIn : Option (List ℕ) → ℕ → ℕ → Result (ℕ × ℕ) IpcError → Type 0
+PrefixIn None at size r = ⊤
+PrefixIn (Some b) at size r = Gives (λ p. p) r (prefix_of (take size (drop at b)))
+
+-- the record batch's message of a block
+abbrev pub BlockIn : Option (List ℕ) → FileBlock → Result MessageRead IpcError → Type 0
+BlockIn None block r = ⊤
+BlockIn (Some b) block r = Gives message_of r (block_record b block)
+
+-- a call gives what a reading says of the bytes
+abbrev pub GivesIn : {X Y : Type 0} → Option (List ℕ) → (X → Y) → Result X IpcError → (List ℕ → Reading Y) → Type 0
+GivesIn None view r reading = ⊤
+GivesIn (Some b) view r reading = Gives view r (reading b)
+
+-- no pairs
+abbrev pub no_map : Unit {0} → Metadata
+no_map u = []

@@ -1,0 +1,51 @@
+-- What the values of a file that is read stand for.
+use Rattle.std.specs.Prelude.{◌≡◌, ℕ, ◌^◌, ◌<◌, List, [], Ok, map, true, ⊤}
+use Rattle.std.specs.Rc.{rc_value}
+use Rattle.arrow_spec.specs.declared.error.IpcError.{IpcError}
+use Rattle.arrow_spec.specs.declared.error.IpcError.TheVariants.{OutOfSpec, Unsupported, TooMany, TooDeep, ReadFault, Memory}
+use Rattle.arrow_spec.specs.Files.{Meta, custom_of, meta_of}
+use Rattle.arrow_spec.specs.WrittenSchemas.{SchemaMayBeWritten}
+use Rattle.arrow_types.specs.Schemas.{fields_in}
+use Rattle.ipc_fields.specs.IpcFields.{have_shapes, ids_of, schema_view}
+use Rattle.ipc_io.specs.Outside.{Rose}
+use Rattle.transcode_laws.specs.Built.{are_leaf_fields, so_far}
+use Rattle.ipc_read.specs.Batches.{are_column_kinds}
+use Rattle.ipc_files.specs.FileBlocks.{file_block}
+use Rattle.ipc_files.specs.declared.metadata.FileMetadata.{FileMetadata}
+
+abbrev pub meta_view : FileMetadata → Meta
+meta_view m = record {
+  schema = schema_view (rc_value m.schema, m.ipc_schema, m.custom_schema_metadata);
+  blocks = map file_block m.blocks.items;
+  dictionaries = map file_block m.dictionaries.items;
+}
+
+-- what the footer of a file says, which has no pairs that are not carried
+pub record FileSays (b : List ℕ) (meta : Meta) : Type 0 where
+  pub read : meta_of b ≡ Ok meta
+  pub no_pairs : custom_of so_far.custom b ≡ Ok []
+
+-- the columns of a file are built, and its byte order is
+abbrev pub IsBuilt : Meta → Type 0
+IsBuilt meta = so_far.chosen meta.schema.order meta.schema.fields ≡ true
+
+-- metadata by which batches are read: the IPC fields are those of its schema, no byte string has the size 0, and the file's size is below 2^63
+pub record IsReadable (m : FileMetadata) : Type 0 where
+  pub shapes : have_shapes (fields_in (rc_value m.schema)) (ids_of m.ipc_schema.fields.items) ≡ true
+  pub sizes : are_leaf_fields (fields_in (rc_value m.schema)) ≡ true → are_column_kinds (rc_value m.schema) ≡ true
+  pub most : m.size < 2 ^ 63
+
+-- metadata that was read of bytes: its schema may be written too
+pub record WasRead (m : FileMetadata) : Type 0 where
+  pub may : SchemaMayBeWritten (meta_view m).schema.fields (meta_view m).schema.metadata
+  pub readable : IsReadable m
+
+-- why metadata is refused: what the bytes say, want of memory, or a fault of the source
+abbrev pub FileCause : IpcError → ℕ → ℕ → Type 0
+FileCause (OutOfSpec kind) faults faults' = ⊤
+FileCause (Unsupported feature) faults faults' = ⊤
+FileCause (TooMany counted) faults faults' = ⊤
+FileCause TooDeep faults faults' = ⊤
+FileCause ReadFault faults faults' = Rose faults faults'
+FileCause Memory faults faults' = ⊤
+FileCause e faults faults' = ⊥

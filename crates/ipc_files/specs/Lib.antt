@@ -1,0 +1,8 @@
+pub mod Built
+pub mod FileViews
+pub mod FileBlocks
+pub mod Transcode
+pub mod Blocks
+pub mod Sends
+pub mod Fetching
+pub mod Written

@@ -1,0 +1,98 @@
+//! The messages of a file's blocks.
+ghost use Rattle.std.specs.Prelude.{◌≡◌, ◌+◌, ◌≤◌, ◌<◌, ◌^◌, IfOk, IfErr, OnOk};
+ghost use Rattle.arrow_spec.specs.Readings.{Gives};
+ghost use Rattle.ipc_fields.specs.Causes.{IsOfBytes};
+ghost use Rattle.ipc_io.specs.Outside.{IsSize};
+ghost use Rattle.ipc_schema.specs.Views.{message_of};
+ghost use Rattle.transcode_laws.specs.Files.{HeaderFits};
+ghost use Rattle.ipc_files.specs.FileBlocks.{plain_message, Lies, PrefixIn, BlockIn, file_block};
+ghost use Rattle.ipc_files.specs.FileViews.{FileCause};
+ghost use Rattle.ipc_files.specs.Fetching.{FrontFetched, MessageFetched};
+
+use crate::fetch::fetch;
+use crate::integers::magnitude;
+use arrow_spec::{Block, IpcError, OutOfSpecKind};
+use ipc_schema::{
+    RecordMessage, Source, is_continuation, metadata_length, read_record_message,
+    refuse_message_pairs,
+};
+use std::alloc::Global;
+
+/// Where the metadata begins behind a place, and its length, in a message whose prefix and metadata take `size` bytes
+/// there. What follows the prefix is not read.
+#[tactic(auto, using(crate::proofs::BlockPrefixes::too_short, crate::proofs::BlockPrefixes::plain, crate::proofs::BlockPrefixes::cut_off, crate::proofs::BlockPrefixes::marked, crate::proofs::BlockPrefixes::faulted, crate::proofs::Fetching::front_four, crate::proofs::Fetching::front_eight))]
+fn read_prefix<S: Source>(
+    alloc: Global,
+    source: &mut S,
+    at: u64,
+    size: usize,
+) -> Result<(usize, usize), IpcError>
+    requires inside { Lies (S.content source.old) at size }
+    requires small { at < 2 ^ 63 }
+    ensures prefix { PrefixIn (S.content source.old) at size result }
+    ensures within { IfOk result (λ p. p.0 + p.1 ≤ size) }
+    ensures content { S.content source.new ≡ S.content source.old }
+    ensures faults { S.faults source.old ≤ S.faults source.new }
+    ensures cause { IfErr result (λ e. FileCause e (S.faults source.old) (S.faults source.new)) }
+    ensures fetched { FrontFetched (S.content source.old) at size (S.fetched source.old) (S.fetched source.new) }
+    ensures same_source { S.references source.new ≡ S.references source.old }
+{
+    if size < 4 {
+        return Err(IpcError::OutOfSpec(OutOfSpecKind::MessageRange));
+    }
+    let front = fetch(alloc, source, at, 4)?;
+    if !is_continuation(&front) {
+        return metadata_length(&front, 4, size);
+    }
+    if size < 8 {
+        return Err(IpcError::OutOfSpec(OutOfSpecKind::MessageRange));
+    }
+    let four = fetch(alloc, source, at + 4, 4)?;
+    metadata_length(&four, 8, size)
+}
+
+/// The record batch's message in some bytes, which has no pairs that are not carried.
+#[tactic(auto, unfolding(arrow_spec::specs::Readings::bind, crate::specs::FileBlocks::plain_message))]
+fn message_in(alloc: Global, bytes: &[u8]) -> Result<RecordMessage, IpcError>
+    ensures gives { Gives message_of result (plain_message bytes.now) }
+    ensures fits { IfOk result (λ m. HeaderFits (message_of m).tables) }
+    ensures quiet { IfErr result IsOfBytes }
+{
+    let message = read_record_message(alloc, bytes)?;
+    refuse_message_pairs(bytes)?;
+    Ok(message)
+}
+
+/// The message of a record batch in a block of a file of `size` bytes; of the block, the prefix and the metadata are read.
+///
+/// # Errors
+///
+/// `OutOfSpec(BlockRange)` where the block passes the end of the file, `OutOfSpec` with the kind of the part that is not
+/// as the format says, `Unsupported(Version)`, `ReadFault` and `Memory`.
+#[tactic(auto, using(crate::proofs::BlockMessages::out_of_range, crate::proofs::BlockMessages::prefix_refused, crate::proofs::BlockMessages::block_faulted, crate::proofs::BlockMessages::message_read))]
+pub(crate) fn read_block_message<S: Source>(
+    alloc: Global,
+    source: &mut S,
+    block: &Block,
+    size: u64,
+) -> Result<RecordMessage, IpcError>
+    requires { IsSize (S.content source.old) size }
+    ensures within { OnOk result ((file_block block.now).offset + (file_block block.now).metadata + (file_block block.now).body ≤ size) }
+    ensures message { BlockIn (S.content source.old) (file_block block.now) result }
+    ensures fits { IfOk result (λ m. HeaderFits (message_of m).tables) }
+    ensures content { S.content source.new ≡ S.content source.old }
+    ensures faults { S.faults source.old ≤ S.faults source.new }
+    ensures cause { IfErr result (λ e. FileCause e (S.faults source.old) (S.faults source.new)) }
+    ensures fetched { MessageFetched (S.content source.old) (file_block block.now) (S.fetched source.old) (S.fetched source.new) }
+    ensures same_source { S.references source.new ≡ S.references source.old }
+{
+    let offset = magnitude(block.offset);
+    let metadata = magnitude(i64::from(block.meta_data_length));
+    let body = magnitude(block.body_length);
+    if offset > size || metadata > size - offset || body > size - offset - metadata {
+        return Err(IpcError::OutOfSpec(OutOfSpecKind::BlockRange));
+    }
+    let (start, length) = read_prefix(alloc, source, offset, metadata as usize)?;
+    let bytes = fetch(alloc, source, offset + start as u64, length)?;
+    message_in(alloc, &bytes)
+}

@@ -1,0 +1,20 @@
+//! Arrow files: what the footer says, record batches by their block, and the stream that means what a file means, for columns without children (Arrow Columnar Format, "IPC File Format").
+#![tactic(auto)]
+
+mod batch;
+mod block;
+mod built;
+mod conversion;
+mod encoding;
+mod fetch;
+mod integers;
+mod messages;
+mod metadata;
+mod send;
+
+pub use batch::read_batch;
+pub use conversion::{Summary, transcode, transcode_as};
+pub use encoding::Encoding;
+pub use ipc_read::Dictionaries;
+pub use ipc_schema::{Footer, decode_footer_len, deserialize_footer};
+pub use metadata::{FileMetadata, metadata_of, read_file_metadata};

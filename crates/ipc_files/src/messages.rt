@@ -1,0 +1,45 @@
+//! Messages in one piece (Arrow Columnar Format, "Encapsulated message format").
+ghost use Rattle.std.specs.Prelude.{◌≡◌, ◌^◌, ◌<◌, [], map, IfOk};
+ghost use Rattle.std.specs.List.{AllByRecursion};
+ghost use Rattle.arrow_spec.specs.Flat.{little};
+ghost use Rattle.arrow_arrays.specs.Parts.{cells_in};
+ghost use Rattle.ipc_write_laws.specs.Columns.{Means};
+ghost use Rattle.ipc_write_laws.specs.Streams.{batch_bytes, written_batch};
+ghost use Rattle.ipc_write.specs.Batches.{written_batch_of};
+ghost use Rattle.ipc_files.specs.FileViews.{meta_view, IsBuilt, WasRead};
+ghost use Rattle.ipc_files.specs.Written.{Writes, WritesSchema};
+
+use crate::metadata::{FileMetadata, metadata_of};
+use arrow_arrays::RecordBatch;
+use arrow_spec::IpcError;
+use ipc_schema::{default_ipc_fields, schema_to_bytes};
+use ipc_write::{EncodedData, WriteOptions, encode_record_batch, message_to_bytes};
+use std::alloc::Global;
+
+/// The end of a stream: a prefix of length 0.
+pub(crate) const END_MARK: [u8; 8] = [255, 255, 255, 255, 0, 0, 0, 0];
+
+/// The message of a file's schema, with its metadata and without dictionaries.
+pub(crate) fn schema_message(alloc: Global, file: &FileMetadata) -> Result<Vec<u8>, IpcError>
+    requires built { IsBuilt (meta_view file.now) }
+    requires read { WasRead file.now }
+    ensures { WritesSchema result (meta_view file.now).schema.fields (meta_view file.now).schema.metadata }
+{
+    let Ok(ipc_fields) = default_ipc_fields(alloc, &file.schema) else {
+        return Err(IpcError::Memory);
+    };
+    let metadata = schema_to_bytes(alloc, &file.schema, &ipc_fields, metadata_of(file))?;
+    message_to_bytes(alloc, &metadata, &[])
+}
+
+/// The message of a record batch, with its body.
+pub(crate) fn batch_message(alloc: Global, batch: &RecordBatch) -> Result<Vec<u8>, IpcError>
+    requires few { batch.now.height < 2 ^ 63 }
+    ensures writes { Writes result (written_batch (written_batch_of batch.now)) (batch_bytes (written_batch_of batch.now)) }
+    ensures means { IfOk result (λ _. AllByRecursion (λ c. Means little [] batch.now.height c) (written_batch_of batch.now).columns) }
+    ensures cells { IfOk result (λ _. map (λ c. c.cells) (written_batch_of batch.now).columns ≡ map cells_in batch.now.arrays) }
+{
+    let mut encoded = EncodedData::new(alloc);
+    encode_record_batch(alloc, batch, &WriteOptions::default(), &mut encoded)?;
+    message_to_bytes(alloc, &encoded.ipc_message, &encoded.arrow_data)
+}

@@ -1,0 +1,159 @@
+//! What a file's footer says (Arrow Columnar Format, "IPC File Format", File.fbs).
+ghost use Rattle.std.specs.Prelude.{◌≡◌, ◌+◌, ◌≤◌, ◌<◌, ◌^◌, true, length, None, IfOk, IfErr, IfSome};
+ghost use Rattle.arrow_spec.specs.Readings.{Gives, Refuses, refusals};
+ghost use Rattle.arrow_spec.specs.Files.{«all», file_reading, footer_of, meta_in, meta_of, to_send};
+ghost use Rattle.arrow_spec.specs.WrittenSchemas.{SchemaMayBeWritten};
+ghost use Rattle.arrow_types.specs.Schemas.{fields_in};
+ghost use Rattle.ipc_fields.specs.IpcFields.{have_shapes, ids_of, metadata_in};
+ghost use Rattle.ipc_fields.specs.Causes.{IsOfBytes};
+ghost use Rattle.ipc_schema.specs.Footers.{footer_view};
+ghost use Rattle.transcode_laws.specs.Built.{so_far};
+ghost use Rattle.ipc_files.specs.FileBlocks.{GivesIn};
+ghost use Rattle.ipc_files.specs.FileViews.{meta_view, FileCause, FileSays, WasRead};
+ghost use Rattle.ipc_files.specs.Fetching.{FooterFetched};
+ghost use Rattle.ipc_io.specs.Outside.{IsSize};
+
+use crate::fetch::fetch;
+use arrow_spec::{Block, IpcError, OutOfSpecKind};
+use arrow_types::{ArrowSchemaRef, Metadata};
+use ipc_schema::{
+    Footer, IpcSchema, Source, decode_footer_len, deserialize_footer, refuse_footer_pairs,
+};
+use std::alloc::Global;
+use std::rc::Rc;
+
+/// The schema with its IPC schema and its metadata, the blocks of record batches and of dictionaries in the footer's
+/// order, and the file's size in bytes.
+#[derive(Drop)]
+pub struct FileMetadata {
+    pub schema: ArrowSchemaRef,
+    pub ipc_schema: IpcSchema,
+    pub custom_schema_metadata: Option<Metadata>,
+    pub blocks: Vec<Block>,
+    pub dictionaries: Vec<Block>,
+    pub size: u64,
+}
+
+/// The bytes of the footer of a file of `size` bytes.
+#[tactic(auto, using(crate::proofs::FileFooters::cut_short, crate::proofs::FileFooters::footer_faulted))]
+fn fetch_footer<S: Source>(alloc: Global, source: &mut S, size: u64) -> Result<Vec<u8>, IpcError>
+    requires { IsSize (S.content source.old) size }
+    ensures footer { GivesIn (S.content source.old) (λ v. v.items) result footer_of }
+    ensures cause { IfErr result (λ e. FileCause e (S.faults source.old) (S.faults source.new)) }
+    ensures content { S.content source.new ≡ S.content source.old }
+    ensures faults { S.faults source.old ≤ S.faults source.new }
+    ensures fetched { FooterFetched (S.content source.old) (S.fetched source.old) (S.fetched source.new) }
+    ensures same_source { S.references source.new ≡ S.references source.old }
+{
+    if size < 10 {
+        return Err(IpcError::OutOfSpec(OutOfSpecKind::Truncated));
+    }
+    let end = fetch(alloc, source, size - 10, 10)?;
+    let length = decode_footer_len(&end, size)?;
+    let bytes = fetch(alloc, source, size - 10 - length as u64, length)?;
+    Ok(bytes)
+}
+
+/// The bytes of a file's footer, and how many bytes the file has.
+#[derive(Drop)]
+struct FooterBytes {
+    bytes: Vec<u8>,
+    size: u64,
+}
+
+/// Fetches the footer of a file.
+fn read_footer<S: Source>(alloc: Global, source: &mut S) -> Result<FooterBytes, IpcError>
+    ensures footer { GivesIn (S.content source.old) (λ f. f.bytes.items) result footer_of }
+    ensures size { IfOk result (λ f. IsSize (S.content source.old) f.size) }
+    ensures bound { IfOk result (λ f. f.size < 2 ^ 63) }
+    ensures cause { IfErr result (λ e. FileCause e (S.faults source.old) (S.faults source.new)) }
+    ensures content { S.content source.new ≡ S.content source.old }
+    ensures faults { S.faults source.old ≤ S.faults source.new }
+    ensures fetched { FooterFetched (S.content source.old) (S.fetched source.old) (S.fetched source.new) }
+    ensures same_source { S.references source.new ≡ S.references source.old }
+{
+    let size = source.size()?;
+    let bytes = fetch_footer(alloc, source, size)?;
+    Ok(FooterBytes { bytes, size })
+}
+
+/// The footer in some bytes.
+fn footer_in(alloc: Global, bytes: &[u8]) -> Result<Footer, IpcError>
+    ensures gives { Gives footer_view result (meta_in bytes.now) }
+    ensures may { IfOk result (λ f. SchemaMayBeWritten (footer_view f).schema.fields (footer_view f).schema.metadata) }
+    ensures shapes { IfOk result (λ f. have_shapes (fields_in f.schema) (ids_of f.ipc_schema.fields.items) ≡ true) }
+    ensures quiet { IfErr result IsOfBytes }
+{
+    deserialize_footer(alloc, bytes)
+}
+
+/// What a footer says of its file.
+fn metadata_in(alloc: Global, footer: &FooterBytes) -> Result<FileMetadata, IpcError>
+    requires { footer.now.size < 2 ^ 63 }
+    ensures gives { Gives meta_view result (meta_in footer.now.bytes.items) }
+    ensures size { IfOk result (λ m. m.size ≡ footer.now.size) }
+    ensures read { IfOk result WasRead }
+    ensures quiet { IfErr result IsOfBytes }
+{
+    let footer_read = footer_in(alloc, &footer.bytes)?;
+    let Ok(schema) = Rc::new(alloc, footer_read.schema) else {
+        return Err(IpcError::Memory);
+    };
+    Ok(FileMetadata {
+        schema,
+        ipc_schema: footer_read.ipc_schema,
+        custom_schema_metadata: footer_read.custom_metadata,
+        blocks: footer_read.blocks,
+        dictionaries: footer_read.dictionaries,
+        size: footer.size,
+    })
+}
+
+/// Reads the footer of a file. Its own pairs are not looked at.
+pub fn read_file_metadata<S: Source>(
+    alloc: Global,
+    source: &mut S,
+) -> Result<FileMetadata, IpcError>
+    ensures gives { IfSome (S.content source.old) (λ b. Gives meta_view result (meta_of b)) }
+    ensures size { IfOk result (λ m. IsSize (S.content source.old) m.size) }
+    ensures read { IfOk result WasRead }
+    ensures cause { IfErr result (λ e. FileCause e (S.faults source.old) (S.faults source.new)) }
+    ensures content { S.content source.new ≡ S.content source.old }
+    ensures faults { S.faults source.old ≤ S.faults source.new }
+    ensures fetched { FooterFetched (S.content source.old) (S.fetched source.old) (S.fetched source.new) }
+    ensures same_source { S.references source.new ≡ S.references source.old }
+{
+    let footer = read_footer(alloc, source)?;
+    metadata_in(alloc, &footer)
+}
+
+/// Reads the footer of a file that is to be sent: pairs of its own are refused, since they are not carried yet.
+pub(crate) fn read_plain_metadata<S: Source>(
+    alloc: Global,
+    source: &mut S,
+) -> Result<FileMetadata, IpcError>
+    ensures says { IfOk result (λ m. IfSome (S.content source.old) (λ b. FileSays b (meta_view m))) }
+    ensures refused { IfErr result (λ e. IfSome (S.content source.old) (λ b. Refuses e (refusals (file_reading so_far to_send b «all» None)))) }
+    ensures size { IfOk result (λ m. IsSize (S.content source.old) m.size) }
+    ensures read { IfOk result WasRead }
+    ensures cause { IfErr result (λ e. FileCause e (S.faults source.old) (S.faults source.new)) }
+    ensures content { S.content source.new ≡ S.content source.old }
+    ensures faults { S.faults source.old ≤ S.faults source.new }
+    ensures fetched { FooterFetched (S.content source.old) (S.fetched source.old) (S.fetched source.new) }
+    ensures same_source { S.references source.new ≡ S.references source.old }
+{
+    let footer = read_footer(alloc, source)?;
+    let file = metadata_in(alloc, &footer)?;
+    refuse_footer_pairs(&footer.bytes)?;
+    Ok(file)
+}
+
+/// The metadata of a file's schema, where it has any.
+pub fn metadata_of(file: &FileMetadata) -> Option<&Metadata>
+    ensures { metadata_in result ≡ (meta_view file.now).schema.metadata }
+{
+    match &file.custom_schema_metadata {
+        Some(metadata) => Some(metadata),
+        None => None,
+    }
+}

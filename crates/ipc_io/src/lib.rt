@@ -1,0 +1,9 @@
+//! The outside of a program as objects that it is lent: sources, feeds, sinks and shelves, and such objects over memory.
+#![tactic(auto)]
+
+mod lent;
+mod memory;
+mod outside;
+
+pub use memory::{Entry, MemoryFeed, MemoryShelf, MemorySink, MemorySource};
+pub use outside::{Failed, Feed, Got, PutError, Shelf, ShelfError, Sink, Source};

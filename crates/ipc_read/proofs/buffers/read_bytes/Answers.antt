@@ -1,9 +1,0 @@
-use Rattle.std.proofs.Common.{◌∙◌}
-use Rattle.ipc_read.proofs.Parts.{told_length, bytes_whole}
-use Rattle.ipc_read.proofs.buffers.read_bytes.Goals as goal
-
-pub returns-in-Ok-clause-gives : goal.returns-in-Ok-clause-gives
-returns-in-Ok-clause-gives g c = λ m i b l t.
-    let size = told_length _ c.args.body m.body c.requires.inside t.told in
-    let k = (c.in_ok-part.ensures.gives m i l size).ok in
-    record { ok = (k.0, c.in-Ok.ensures ∙ bytes_whole _ c.args.body m i c.in_ok-part.part c.in_ok-bytes.bytes.items t.told k.1 c.in_ok-part.ensures.within c.in_ok-bytes.ensures.bytes c.in_ok-bytes.ensures.count); err = tt }

@@ -1,0 +1,5 @@
+use Rattle.ipc_read_laws.proofs.cells_are_read.Goals as goal
+use Rattle.ipc_read_laws.proofs.CellLaws as law
+
+pub returns : goal.returns
+returns c = law.cells_read_of

@@ -1,5 +1,0 @@
-use Rattle.ipc_tool.proofs.ReadFits.{footer_may}
-use Rattle.ipc_tool.proofs.ipc_files.metadata.footer_in.Goals as goal
-
-pub returns-clause-may : goal.returns-clause-may
-returns-clause-may c = footer_may c.args.bytes.now c.deserialize_footer.result (λ i. (c.type_inv.bytes i).fits) c.deserialize_footer.ensures.gives

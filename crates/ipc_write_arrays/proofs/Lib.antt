@@ -1,0 +1,11 @@
+pub mod Adding
+pub mod Bits
+pub mod Offsets
+pub mod RoundTripHeads
+pub mod RoundTripPlain
+pub mod RoundTripTurned
+pub mod RoundTripNumbers
+pub mod RoundTripOffsets
+pub mod RoundTripViews
+pub mod RoundTrip
+pub mod LayoutKinds

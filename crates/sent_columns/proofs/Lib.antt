@@ -1,5 +1,0 @@
-pub mod FlatFields
-pub mod Pieces
-pub mod LaidRows
-pub mod TopColumns
-pub mod Batches

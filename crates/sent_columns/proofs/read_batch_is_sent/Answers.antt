@@ -1,5 +1,0 @@
-use Rattle.sent_columns.proofs.Batches.{read_batch_sent}
-use Rattle.sent_columns.proofs.read_batch_is_sent.Goals as goal
-
-pub returns : goal.returns
-returns c = read_batch_sent

@@ -1,5 +1,0 @@
-use Rattle.sent_columns.proofs.TopColumns.{top_sent}
-use Rattle.sent_columns.proofs.top_is_sent.Goals as goal
-
-pub returns : goal.returns
-returns c = top_sent

@@ -1,2 +1,0 @@
-pub mod FlatFields
-pub mod Laws

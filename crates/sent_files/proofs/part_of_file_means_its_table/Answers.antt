@@ -1,5 +1,0 @@
-use Rattle.sent_files.proofs.Files.{part_of_file}
-use Rattle.sent_files.proofs.part_of_file_means_its_table.Goals as goal
-
-pub returns : goal.returns
-returns c = part_of_file

@@ -1,0 +1,107 @@
+-- How a file is read to be sent before its first block: its footer, its kinds, its schema's size, its dictionaries.
+use Rattle.std.proofs.Common.{◌≡◌, ℕ, zero, suc, List, [], ◌∷◌, ◌++◌, length, take, Option, Some, None, Ok, Err, refl, sym, ap, ◌∙◌, true, false, Bool, not, append-nil}
+use Rattle.std.specs.Prelude.{◌||◌}
+use Rattle.arrow_spec.specs.declared.error.IpcError.{IpcError}
+use Rattle.arrow_spec.specs.declared.error.IpcError.TheVariants.{Unsupported, TooLarge}
+use Rattle.arrow_spec.specs.declared.error.Feature.TheVariants as features
+use Rattle.arrow_spec.specs.Readings.{◌>>=◌, Reading, unless, free_of}
+use Rattle.arrow_spec.specs.Flat.{little}
+use Rattle.arrow_spec.specs.declared.error.OutOfSpecKind.TheVariants.{InvalidFlatbufferFooter}
+use Rattle.arrow_spec.specs.WrittenSchemas.{CustomMayBeWritten}
+use Rattle.arrow_spec.specs.Kinds.{Metadata, bare}
+use Rattle.arrow_spec.specs.Built.{Built}
+use Rattle.arrow_spec.specs.Features.{chosen_floats, feature_faults}
+use Rattle.arrow_spec.specs.Sent.{stream_schema, may_be_sent}
+use Rattle.arrow_spec.specs.Files.{ArrowTable, FileBlock, Meta, Purpose, «all», batches_of, dictionaries_of, dictionaries_read, file_reading, has_any, if_sent, custom_of, meta_of, taken, to_read, to_send, all_asked}
+pub use Rattle.arrow_spec.proofs.SentMessages.{on_err}
+use Rattle.arrow_spec.proofs.FeatureFaults.{features-carried, features-floats, features-none}
+use Rattle.arrow_spec.proofs.Projection.{on, ok-place, place-ok}
+use Rattle.arrow_spec.proofs.ReadPairs.{same_read, through}
+use Rattle.arrow_spec.proofs.ReadPairs.{custom_may as pairs_may}
+use Rattle.transcode_laws.specs.Files.{IsSendable, IsTableOf, table_of}
+
+-- a place that refuses nothing
+pub fine : (x : Bool) (e : IpcError) → unless (x || true) e ≡ Ok tt
+fine true e = refl
+fine false e = refl
+
+-- a footer that is refused
+pub meta_refused : (built : Built) (purpose : Purpose) (b : List ℕ) (j : Option ℕ) (es : List IpcError) → meta_of b ≡ Err es → file_reading built purpose b «all» j ≡ Err es
+unfolding file_reading
+meta_refused built purpose b j es h = on _ _ tt (fine built.requests (Unsupported features.NotYet)) ∙ on_err _ _ es h
+
+-- a footer's pairs that are refused
+pub custom_refused : (built : Built) (purpose : Purpose) (b : List ℕ) (j : Option ℕ) (meta : Meta) (es : List IpcError) → meta_of b ≡ Ok meta → custom_of built.custom b ≡ Err es → file_reading built purpose b «all» j ≡ Err es
+unfolding file_reading
+custom_refused built purpose b j meta es h none = on _ _ tt (fine built.requests (Unsupported features.NotYet)) ∙ on _ _ meta h ∙ on_err _ _ es none
+
+-- a footer's pairs that are read may be written
+pub custom_may : (carried : Bool) (b : List ℕ) (custom : Metadata) → custom_of carried b ≡ Ok custom → CustomMayBeWritten custom
+unfolding custom_of
+custom_may carried b custom h = through _ _ custom h λ f f_is h1. pairs_may carried InvalidFlatbufferFooter f custom h1
+
+-- features that are refused: kinds or an order that are not built, and floats by name
+pub features_refused : (built : Built) (purpose : Purpose) (b : List ℕ) (j : Option ℕ) (meta : Meta) (custom : Metadata) (es : List IpcError) → meta_of b ≡ Ok meta → custom_of built.custom b ≡ Ok custom → free_of (feature_faults None meta.schema.fields (built.chosen meta.schema.order meta.schema.fields)) ≡ Err es → file_reading built purpose b «all» j ≡ Err es
+unfolding file_reading
+features_refused built purpose b j meta custom es h pairs refused = on _ _ tt (fine built.requests (Unsupported features.NotYet)) ∙ on _ _ meta h ∙ on _ _ custom pairs ∙ on _ _ tt refl ∙ on_err _ _ es refused
+
+-- the reading of a file behind its kinds
+behind_kinds : Built → Purpose → List ℕ → Option ℕ → Meta → Metadata → Reading ArrowTable
+behind_kinds built purpose b j meta custom =
+    if_sent purpose (may_be_sent (stream_schema meta.schema.fields meta.schema.metadata custom)) >>= λ size.
+    unless (built.dictionaries || not (has_any (dictionaries_read (taken j meta.blocks) meta.dictionaries))) (Unsupported features.NotYet) >>= λ read.
+    dictionaries_of b meta [] (dictionaries_read (taken j meta.blocks) meta.dictionaries) >>= λ dictionaries.
+    batches_of built.custom purpose b (record { order = little; fields = meta.schema.fields; columns = None; dictionaries = dictionaries; most = length b }) true (taken j meta.blocks) None >>= λ batches.
+    Ok (table_of (bare meta.schema.fields) meta.schema.metadata custom batches)
+
+sendable_reading : (built : Built) (purpose : Purpose) (b : List ℕ) (j : Option ℕ) (meta : Meta) (custom : Metadata) → meta_of b ≡ Ok meta → custom_of built.custom b ≡ Ok custom → IsSendable built meta.schema → file_reading built purpose b «all» j ≡ behind_kinds built purpose b j meta custom
+unfolding file_reading behind_kinds
+sendable_reading built purpose b j meta custom h pairs is =
+    let kinds : free_of (feature_faults None meta.schema.fields (built.chosen meta.schema.order meta.schema.fields)) ≡ Ok tt = rw is.chosen (ok-place _ (features-none None meta.schema.fields is.readable)) in
+    on _ _ tt (fine built.requests (Unsupported features.NotYet)) ∙ on _ _ meta h ∙ on _ _ custom pairs ∙ on _ _ tt refl ∙ on _ _ tt kinds ∙ rw is.order refl
+
+-- a schema message that is too large
+pub schema_refused : (built : Built) (b : List ℕ) (meta : Meta) (custom : Metadata) → meta_of b ≡ Ok meta → custom_of built.custom b ≡ Ok custom → IsSendable built meta.schema → may_be_sent (stream_schema meta.schema.fields meta.schema.metadata custom) ≡ false → file_reading built to_send b «all» None ≡ Err (TooLarge ∷ [])
+unfolding behind_kinds
+schema_refused built b meta custom h pairs is large = sendable_reading built to_send b None meta custom h pairs is ∙ on_err _ _ (TooLarge ∷ []) (rw large refl)
+
+-- dictionaries where there is a block, and none are built
+pub dictionaries_refused : (built : Built) (b : List ℕ) (meta : Meta) (custom : Metadata) → built.dictionaries ≡ false → meta_of b ≡ Ok meta → custom_of built.custom b ≡ Ok custom → IsSendable built meta.schema → may_be_sent (stream_schema meta.schema.fields meta.schema.metadata custom) ≡ true → has_any (dictionaries_read meta.blocks meta.dictionaries) ≡ true → file_reading built to_send b «all» None ≡ Err (Unsupported features.NotYet ∷ [])
+unfolding behind_kinds
+dictionaries_refused built b meta custom none h pairs is small some =
+    let size : if_sent to_send (may_be_sent (stream_schema meta.schema.fields meta.schema.metadata custom)) ≡ Ok tt = rw small refl in
+    sendable_reading built to_send b None meta custom h pairs is ∙ on _ _ tt size ∙ on_err _ _ (Unsupported features.NotYet ∷ []) (rw (none, some) refl)
+
+-- no dictionary is read of the first blocks where none is read of all
+no_dictionaries : (n : ℕ) (blocks dictionaries : List FileBlock) → has_any (dictionaries_read blocks dictionaries) ≡ false → dictionaries_read (take n blocks) dictionaries ≡ []
+no_dictionaries zero blocks ds h = refl
+no_dictionaries (suc n) [] ds h = refl
+no_dictionaries (suc n) (x ∷ xs) [] h = refl
+no_dictionaries (suc n) (x ∷ xs) (d ∷ ds) h = cc
+
+none_of_all : (blocks dictionaries : List FileBlock) → has_any (dictionaries_read blocks dictionaries) ≡ false → dictionaries_read blocks dictionaries ≡ []
+none_of_all [] ds h = refl
+none_of_all (x ∷ xs) [] h = refl
+none_of_all (x ∷ xs) (d ∷ ds) h = cc
+
+none_taken : (j : Option ℕ) (blocks dictionaries : List FileBlock) → has_any (dictionaries_read blocks dictionaries) ≡ false → dictionaries_read (taken j blocks) dictionaries ≡ []
+none_taken None blocks ds h = none_of_all blocks ds h
+none_taken (Some n) blocks ds h = no_dictionaries n blocks ds h
+
+schema_fits : (purpose : Purpose) (b : Bool) → b ≡ true → if_sent purpose b ≡ Ok tt
+schema_fits to_read b h = refl
+schema_fits to_send b h = rw h refl
+
+nothing_read : (b : List ℕ) (meta : Meta) → dictionaries_of b meta [] [] ≡ Ok []
+unfolding dictionaries_of
+nothing_read b meta = refl
+
+-- a file whose schema may be sent and that has no dictionaries is read block by block
+pub first_batches : (built : Built) (purpose : Purpose) (b : List ℕ) (j : Option ℕ) (meta : Meta) (custom : Metadata) → meta_of b ≡ Ok meta → custom_of built.custom b ≡ Ok custom → IsSendable built meta.schema → may_be_sent (stream_schema meta.schema.fields meta.schema.metadata custom) ≡ true → has_any (dictionaries_read meta.blocks meta.dictionaries) ≡ false
+    → file_reading built purpose b «all» j ≡ (batches_of built.custom purpose b (all_asked little meta.schema.fields (length b)) true (taken j meta.blocks) None >>= λ batches. Ok (table_of (bare meta.schema.fields) meta.schema.metadata custom batches))
+unfolding behind_kinds
+first_batches built purpose b j meta custom h pairs is small nothing =
+    let none = none_taken j meta.blocks meta.dictionaries nothing in
+    sendable_reading built purpose b j meta custom h pairs is ∙ on _ _ tt (schema_fits purpose _ small) ∙ rw none (on _ _ tt (fine built.dictionaries (Unsupported features.NotYet)) ∙ on _ _ [] (nothing_read b meta))
+
+-- ── a table that was read ──

@@ -1,0 +1,75 @@
+-- A schema that is read, little-endian and without dictionaries, is one that a stream takes as it is.
+use Rattle.std.proofs.Common.{◌≡◌, ℕ, ◌+◌, List, [], Ok, None, refl, ◌∙◌, ap, subst, arith, true}
+use Rattle.arrow_spec.specs.Flat.{Table, little}
+use Rattle.arrow_spec.specs.Kinds.{Kind, Fields, none, field, null, boolean, integer, float, date32, date64, time32, time64, timestamp, duration, interval, decimal, decimal256, binary, utf8, binary_view, utf8_view, fixed_size_binary, «list», fixed_size_list, struct, map, union, dictionary, extension, dictionary_count, dictionary_counts}
+use Rattle.arrow_spec.specs.Built.{Built}
+use Rattle.arrow_spec.specs.Arrays.{Dictionaries}
+use Rattle.arrow_spec.specs.Features.{chosen_floats}
+use Rattle.arrow_spec.specs.Schema.{Schema, schema_of}
+use Rattle.arrow_spec.specs.Sent.{Sending, send_fields, send_kind}
+use Rattle.arrow_spec.specs.Files.{Meta, meta_in, meta_of}
+use Rattle.arrow_spec.specs.Laws.{AreBytes}
+use Rattle.arrow_spec.specs.WrittenSchemas.{AreSizes, SchemaMayBeWritten, sizes_in}
+use Rattle.arrow_spec.proofs.ReadPairs.{same_read, through}
+use Rattle.arrow_spec.proofs.ReadSchemas.{schema_read}
+use Rattle.ipc_write_laws.proofs.PlainFields.{fields_stay}
+use Rattle.transcode_laws.specs.Files.{IsSendable}
+use Rattle.transcode_laws.specs.Laws.{ReadSchemaIsSendable}
+
+-- ── no dictionaries ──
+
+mutual
+  kind_sends_none : (k : Kind) (d : Dictionaries) (id : ℕ) (s : Sending) → dictionary_count k ≡ 0 → send_kind d k id s ≡ s
+  kind_sends_none null d id w h = refl
+  kind_sends_none boolean d id w h = refl
+  kind_sends_none (integer t) d id w h = refl
+  kind_sends_none (float t) d id w h = refl
+  kind_sends_none date32 d id w h = refl
+  kind_sends_none date64 d id w h = refl
+  kind_sends_none (time32 u) d id w h = refl
+  kind_sends_none (time64 u) d id w h = refl
+  kind_sends_none (timestamp u tz) d id w h = refl
+  kind_sends_none (duration u) d id w h = refl
+  kind_sends_none (interval u) d id w h = refl
+  kind_sends_none (decimal p s) d id w h = refl
+  kind_sends_none (decimal256 p s) d id w h = refl
+  kind_sends_none (binary o) d id w h = refl
+  kind_sends_none (utf8 o) d id w h = refl
+  kind_sends_none binary_view d id w h = refl
+  kind_sends_none utf8_view d id w h = refl
+  kind_sends_none (fixed_size_binary n) d id w h = refl
+  kind_sends_none («list» o fs) d id w h = fields_send_none fs d id w h
+  kind_sends_none (fixed_size_list n fs) d id w h = fields_send_none fs d id w h
+  kind_sends_none (struct fs) d id w h = fields_send_none fs d id w h
+  kind_sends_none (map sorted fs) d id w h = fields_send_none fs d id w h
+  kind_sends_none (union mode stated ids fs) d id w h = fields_send_none fs d id w h
+  kind_sends_none (dictionary t ordered old k) d id w h = absurd (omega (arith, h))
+  kind_sends_none (extension name metadata k) d id w h = kind_sends_none k d id w h
+
+  -- fields without dictionaries have none to send
+  pub fields_send_none : (fs : Fields) (d : Dictionaries) (id : ℕ) (s : Sending) → dictionary_counts fs ≡ 0 → send_fields d fs id s ≡ s
+  fields_send_none none d id w h = refl
+  fields_send_none (field name nullable metadata k others) d id w h =
+      let first : send_kind d k id w ≡ w = kind_sends_none k d id w (omega (arith, h)) in
+      ap (λ u. send_fields d others (id + dictionary_count k) u) first ∙ fields_send_none others d (id + dictionary_count k) w (omega (arith, h))
+
+-- ── the schema ──
+
+-- a little-endian schema of built kinds without dictionaries
+pub plain_sendable : (built : Built) (s : Schema) → s.order ≡ little → built.chosen s.order s.fields ≡ true → chosen_floats None s.fields 0 ≡ [] → dictionary_counts s.fields ≡ 0 → SchemaMayBeWritten s.fields s.metadata → IsSendable built s
+plain_sendable built s order chosen floats none_there may =
+    record { order = order; chosen = chosen; readable = floats; plain = fields_stay s.fields 0 none_there; no_dictionaries = λ d id u. fields_send_none s.fields d id u none_there; may = may }
+
+-- such a schema that was read
+pub schema_sendable : ReadSchemaIsSendable
+schema_sendable built b t s h order chosen floats none_there sizes =
+    let read = schema_read b t s h in
+    plain_sendable built s order chosen floats none_there (read.may sizes)
+
+-- ── the schema of a file ──
+
+schema_in : (f : List ℕ) (meta : Meta) → meta_in f ≡ Ok meta → (t : Table) × (schema_of f t ≡ Ok meta.schema)
+unfolding meta_in
+schema_in f meta h =
+    through _ _ meta h λ t t_is h1. through _ _ meta h1 λ v v_is h2. through _ _ meta h2 λ blocks blocks_are h3. through _ _ meta h3 λ w w_is h4. through _ _ meta h4 λ dictionaries dictionaries_are h5.
+    through _ _ meta h5 λ table table_is h6. through _ _ meta h6 λ s s_is h7. (table, subst (λ (m : Meta). schema_of f table ≡ Ok m.schema) (same_read _ meta h7) s_is)

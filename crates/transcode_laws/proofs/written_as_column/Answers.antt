@@ -1,0 +1,5 @@
+use Rattle.transcode_laws.proofs.Pieces.{column_written}
+use Rattle.transcode_laws.proofs.written_as_column.Goals as goal
+
+pub returns : goal.returns
+returns c = column_written

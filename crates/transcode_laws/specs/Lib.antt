@@ -1,0 +1,6 @@
+pub mod Built
+pub mod Meaning
+pub mod Files
+pub mod Laws
+pub mod LeafFields
+pub mod ColumnLaws

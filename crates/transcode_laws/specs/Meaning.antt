@@ -1,0 +1,18 @@
+-- What a file means as far as its reading is built, and what may refuse it.
+use Rattle.std.specs.Prelude.{ℕ, List, Option, Some, None}
+use Rattle.arrow_spec.specs.declared.error.IpcError.{IpcError}
+use Rattle.arrow_spec.specs.Readings.{IsAmong, meaning, refusals}
+use Rattle.arrow_spec.specs.Files.{ArrowTable, Request, file_reading, to_read, to_send}
+use Rattle.transcode_laws.specs.Built.{so_far}
+
+-- what the first j blocks of a file mean
+unfoldable pub file_part : List ℕ → Request → ℕ → Option ArrowTable
+file_part b r j = meaning (file_reading so_far to_read b r (Some j))
+
+-- what a file means
+unfoldable pub file_table : List ℕ → Request → Option ArrowTable
+file_table b r = meaning (file_reading so_far to_read b r None)
+
+-- a refusal that may be answered where a file is to be sent as a stream
+abbrev pub may : List ℕ → Request → IpcError → Type 0
+may b r e = IsAmong (refusals (file_reading so_far to_send b r None)) e

@@ -1,0 +1,72 @@
+//! Three uses of `arrow_ipc`. An Arrow file comes on standard input: the first column of its first record batch is printed, a batch of numbers is written, and the file is sent as a stream.
+#![tactic(auto)]
+
+mod file_to_stream;
+mod read_column;
+mod write_batch;
+
+use arrow_ipc::io::MemorySource;
+use arrow_ipc::io::ipc::IpcError;
+use file_to_stream::stream_of;
+use read_column::{first_batch, first_column};
+use std::alloc::Global;
+use std::io::Read;
+use std::process::ExitCode;
+use write_batch::message_of;
+
+/// The column, where the file has a batch.
+fn column_of(alloc: Global, source: &mut MemorySource) -> Result<Vec<Option<i32>>, IpcError> {
+    match first_batch(alloc, source)? {
+        Some(batch) => first_column(alloc, &batch),
+        None => Ok(Vec::new(alloc)),
+    }
+}
+
+/// The bytes of standard input.
+fn input(rt: &HostRuntime) -> Result<Vec<u8>, &'static str> {
+    let mut bytes = Vec::new(rt.alloc());
+    match rt.stdin().read_to_end(&mut bytes) {
+        Ok(_) => Ok(bytes),
+        Err(_) => Err("the input fails"),
+    }
+}
+
+/// The lengths of a message of two numbers, and of the stream of a file.
+fn lengths(alloc: Global, source: &mut MemorySource) -> Result<(usize, usize), IpcError> {
+    let message = message_of(alloc, vec![in alloc; 1, 3]?)?;
+    let stream = stream_of(alloc, source)?;
+    Ok((message.len(), stream.bytes().len()))
+}
+
+/// The uses, one after another.
+fn show(rt: &HostRuntime) -> Result<(), &'static str> {
+    let bytes = input(rt)?;
+    let mut source = MemorySource::new(bytes, Vec::new(rt.alloc()), Vec::new(rt.alloc()));
+    let column = match column_of(rt.alloc(), &mut source) {
+        Ok(column) => column,
+        Err(error) => return Err(error.name()),
+    };
+    for row in &column {
+        let _ = match row {
+            Some(number) => println!(rt; "{number}"),
+            None => println!(rt; "null"),
+        };
+    }
+    match lengths(rt.alloc(), &mut source) {
+        Ok((message, stream)) => {
+            let _ = println!(rt; "a message of {message} bytes, a stream of {stream}");
+            Ok(())
+        }
+        Err(error) => Err(error.name()),
+    }
+}
+
+fn main(rt: HostRuntime) -> ExitCode {
+    match show(&rt) {
+        Ok(()) => ExitCode::SUCCESS,
+        Err(reason) => {
+            let _ = eprintln!(rt; "{reason}");
+            ExitCode::FAILURE
+        }
+    }
+}
