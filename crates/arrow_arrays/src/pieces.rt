@@ -92,7 +92,7 @@ pub fn extend_from_lengths(
     ensures kind { IfOk result (λ a. kind_in (parts_of a) ≡ binary_view) }
     ensures cells { IfOk result (λ a. cells_in (parts_of a) ≡ map cells.bytes (pieces lengths.now bytes)) }
 {
-    let views = Buffer::from_vec(views_of(alloc, bytes.as_slice(), lengths)?)?;
+    let views = Buffer::from_bytes(views_of(alloc, bytes.as_slice(), lengths)?)?;
     let buffers = shares_of(alloc, &bytes)?;
     match BinaryViewArray::try_new(ArrowDataType::BinaryView, views, buffers, None) {
         Ok(array) => Ok(Array::BinaryView(array)),

@@ -1,5 +1,7 @@
 pub mod Parts
+pub mod Items
 pub mod Counts
+pub mod Unset
 pub mod Masks
 pub mod Sound
 pub mod Fixed

@@ -1,7 +1,8 @@
 -- What good offsets say of each of them, and a part of them.
-use Rattle.std.proofs.Common.{◌≡◌, ℕ, zero, suc, ◌+◌, ◌≤◌, ◌<◌, ◌&&◌, List, [], ◌∷◌, true, Some, length, get_or, take, drop, nat_le, refl, sym, ap, ◌∙◌, arith, true≢false, map, ◌^◌, Option, inl, inr}
-use Rattle.std.specs.Prelude.{ℤ, pos, negsuc}
-use Rattle.std.proofs.lemmas.Bool.{cases_eq, and_parts, and_from, leb-true, le-leb, lt-ltb}
+use Rattle.std.proofs.Common.{◌≡◌, ◌⊎◌, Bool, false, None, cond, slice_get, ℕ, zero, suc, ◌+◌, ◌≤◌, ◌<◌, ◌&&◌, List, [], ◌∷◌, true, Some, length, get_or, take, drop, nat_le, refl, sym, ap, ◌∙◌, arith, true≢false, map, ◌^◌, Option, inl, inr}
+use Rattle.std.specs.Prelude.{ℤ, pos, negsuc, nat_lt}
+use Rattle.std.proofs.Math.Nat.{suc-add}
+use Rattle.std.proofs.lemmas.Bool.{cases_eq, and_parts, and_from, leb-true, le-leb, lt-ltb, lt-leb, ltb-false}
 use Rattle.std.proofs.lemmas.List.{get_or-take, get_or-drop, get_or_default, length-map}
 use Rattle.arrow_spec.specs.Counts.{magnitude}
 use Rattle.arrow_types.specs.Numbers.{usize_of}
@@ -121,3 +122,46 @@ offset_between offsets limit i h (suc j) l b =
       | inl e ↦ omega (arith, ap (place_at offsets) e)
       | inr n ↦ omega (arith, offset_between offsets limit i h j (omega arith) (omega arith), offset_climbs offsets limit j h b)
     ]
+
+-- ── offsets looked at one by one ──
+
+pub here : {A : Type 0} (number : A → ℤ) (xs : List A) (i : ℕ) (x : A) → slice_get xs i ≡ Some x → map number (drop i xs) ≡ number x ∷ map number (drop (i + 1) xs)
+here number [] i x e = cc
+here number (y ∷ xs) zero x e = let f : y ≡ x = cc in ap (λ z. number z ∷ map number xs) f
+here number (y ∷ xs) (suc i) x e = rw suc-add (here number xs i x e)
+
+and_middle : (a b c : Bool) → b ≡ false → (a && b && c) ≡ false
+and_middle true b c e = ap (λ x. x && c) e
+and_middle false b c e = refl
+
+past_limit : (low n limit : ℕ) (rest : List ℤ) → limit < n → rise_from low (pos n ∷ rest) limit ≡ false
+past_limit low n limit rest h = and_middle (nat_le low n) (nat_le n limit) (rise_from n rest limit) (lt-leb n limit h)
+
+before_low : (low n limit : ℕ) (rest : List ℤ) → n < low → rise_from low (pos n ∷ rest) limit ≡ false
+before_low low n limit rest h = ap (λ b. b && nat_le n limit && rise_from n rest limit) (lt-leb low n h)
+
+rise_on : (low n limit : ℕ) (rest : List ℤ) → low ≤ n → n ≤ limit → rise_from low (pos n ∷ rest) limit ≡ rise_from n rest limit
+rise_on low n limit rest h k = ap (λ b. b && nat_le n limit && rise_from n rest limit) (le-leb low n h) ∙ ap (λ b. b && rise_from n rest limit) (le-leb n limit k)
+
+none_when : (b : Bool) (n : ℕ) → cond b (Some n) None ≡ None → b ≡ false
+none_when true n e = cc
+none_when false n e = refl
+
+some_when : (b : Bool) (n at : ℕ) → cond b (Some n) None ≡ Some at → n ≡ at
+some_when true n at e = cc
+some_when false n at e = cc
+
+usize_is : (z : ℤ) (at : ℕ) → usize_of z ≡ Some at → z ≡ pos at
+usize_is (pos n) at e = ap pos (some_when (nat_lt n (2 ^ 64)) n at e)
+usize_is (negsuc n) at e = cc
+
+pub no_place : (z : ℤ) (low limit : ℕ) (rest : List ℤ) → usize_of z ≡ None → limit < 2 ^ 64 → rise_from low (z ∷ rest) limit ≡ false
+no_place (negsuc n) low limit rest e h = refl
+no_place (pos n) low limit rest e h = past_limit low n limit rest (omega (arith, ltb-false n (2 ^ 64) (none_when (nat_lt n (2 ^ 64)) n e), h))
+
+pub out_of_place : (z : ℤ) (low at limit : ℕ) (rest : List ℤ) → usize_of z ≡ Some at → (at < low) ⊎ ((low ≤ at) × (limit < at)) → rise_from low (z ∷ rest) limit ≡ false
+out_of_place z low at limit rest e (inl h) = ap (λ y. rise_from low (y ∷ rest) limit) (usize_is z at e) ∙ before_low low at limit rest h
+out_of_place z low at limit rest e (inr h) = ap (λ y. rise_from low (y ∷ rest) limit) (usize_is z at e) ∙ past_limit low at limit rest h.1
+
+pub in_place : (z : ℤ) (low at limit : ℕ) (rest : List ℤ) → usize_of z ≡ Some at → low ≤ at → at ≤ limit → rise_from low (z ∷ rest) limit ≡ rise_from at rest limit
+in_place z low at limit rest e h k = ap (λ y. rise_from low (y ∷ rest) limit) (usize_is z at e) ∙ rise_on low at limit rest h k

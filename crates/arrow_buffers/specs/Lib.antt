@@ -1,5 +1,6 @@
 pub mod Rows
 pub mod Bits
+pub mod Items
 pub mod Layouts
 pub mod Leaf
 pub mod Variable

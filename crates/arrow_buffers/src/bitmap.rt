@@ -1,6 +1,8 @@
 //! A run of bits that several owners may share (Arrow Columnar Format, "Validity bitmaps").
-ghost use Rattle.std.specs.Prelude.{◌≡◌, ◌+◌, ◌*◌, ◌≤◌, ◌<◌, length, not, slice_get, Some, IfOk, vec_len};
+ghost use Rattle.std.specs.Prelude.{◌≡◌, ◌+◌, ◌*◌, ◌^◌, ◌≤◌, ◌<◌, length, not, slice_get, Some, IfOk, vec_len};
 ghost use Rattle.std.specs.List.{count_by};
+ghost use Rattle.std.specs.Rc.{rc_slice_items};
+ghost use Rattle.arrow_spec.specs.Arrays.{bit};
 ghost use Rattle.arrow_buffers.specs.Rows.{part};
 ghost use Rattle.arrow_buffers.specs.Bits.{bits_from};
 
@@ -28,6 +30,42 @@ impl Model for Bitmap {
     ghost invariant = { λ b. (b.start + b.count ≤ 8 * length (rc_slice_items b.bytes)) × (b.start + b.count < 2 ^ 64) };
 }
 
+/// Whether a bit is 1.
+fn is_set(bytes: &[u8], at: usize) -> bool
+    requires { at < 8 * length bytes.now }
+    ensures { result ≡ bit bytes.now at }
+{
+    (bytes[at / 8] >> (at % 8)) & 1 == 1
+}
+
+/// How many of the bits from one on are 0, looked at one by one.
+fn unset_bit_by_bit(bytes: &[u8], from: usize, count: usize) -> usize
+    requires inside { from + count ≤ 8 * length bytes.now }
+    requires small { from + count < 2 ^ 64 }
+    ensures { result ≡ count_by not (bits_from bytes.now from count) }
+{
+    let mut unset = 0;
+    for i in 0..count {
+        if !is_set(bytes, from + i) {
+            unset += 1;
+        }
+    }
+    unset
+}
+
+/// How many bits of the bytes from one on are 0.
+fn unset_in_bytes(bytes: &[u8], from: usize, count: usize) -> usize
+    requires inside { from + count ≤ length bytes.now }
+    requires small { 8 * count < 2 ^ 64 }
+    ensures { result ≡ count_by not (bits_from bytes.now (8 * from) (8 * count)) }
+{
+    let mut unset = 0;
+    for i in 0..count {
+        unset += 8 - bytes[from + i].count_ones() as usize;
+    }
+    unset
+}
+
 impl Bitmap {
     /// The first bits of the bytes, which are moved and not copied.
     pub fn from_vec(bytes: Vec<u8>, length: usize) -> Result<Bitmap, AllocError>
@@ -42,6 +80,19 @@ impl Bitmap {
         })
     }
 
+    /// Bits of shared bytes, from a place on. It takes no memory.
+    pub fn shared(bytes: RcSlice<u8>, at: usize, count: usize) -> Bitmap
+        requires held { at + count ≤ 8 * length (rc_slice_items bytes) }
+        requires small { at + count < 2 ^ 64 }
+        ensures { result ≡ bits_from (rc_slice_items bytes) at count }
+    {
+        Bitmap {
+            bytes,
+            start: at,
+            count,
+        }
+    }
+
     pub fn len(&self) -> usize
         ensures { result ≡ length self.now }
     {
@@ -52,22 +103,23 @@ impl Bitmap {
         requires { i < length self.now }
         ensures { slice_get self.now i ≡ Some result }
     {
-        let at = self.start + i;
-        let bytes = self.bytes.as_slice();
-        (bytes[at / 8] >> (at % 8)) & 1 == 1
+        is_set(self.bytes.as_slice(), self.start + i)
     }
 
     /// How many bits are 0.
     pub fn unset_bits(&self) -> usize
         ensures { result ≡ count_by not self.now }
     {
-        let mut unset = 0;
-        for i in 0..self.len() {
-            if !self.get(i) {
-                unset += 1;
-            }
+        let bytes = self.bytes.as_slice();
+        let end = self.start + self.count;
+        let (from, to) = (self.start / 8 + 1, end / 8);
+        if to <= from {
+            return unset_bit_by_bit(bytes, self.start, self.count);
         }
-        unset
+        let first = unset_bit_by_bit(bytes, self.start, 8 * from - self.start);
+        let whole = unset_in_bytes(bytes, from, to - from);
+        let last = unset_bit_by_bit(bytes, 8 * to, end - 8 * to);
+        first + whole + last
     }
 
     /// Leaves only the part, and copies nothing.

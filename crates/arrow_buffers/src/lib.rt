@@ -24,7 +24,7 @@ pub use buffer::Buffer;
 pub use error::ArrayError;
 pub use fixed_size_binary::FixedSizeBinaryArray;
 pub use null::NullArray;
-pub use offsets::rise_within;
+pub use offsets::{place_of, range_of, rise_within};
 pub use primitive::PrimitiveArray;
 pub use validity::{clone_validity, narrow_validity, nulls_in, validity_at, validity_has};
 pub use variable::{BinaryArray, Utf8Array, VariableArray};

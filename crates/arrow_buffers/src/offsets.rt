@@ -2,18 +2,19 @@
 ghost use Rattle.std.specs.Prelude.{◌≡◌, ◌+◌, ◌-◌, ◌≤◌, ◌<◌, length, map, take, drop, suc, true};
 ghost use Rattle.arrow_buffers.specs.Variable.{place_at, are_offsets, row_bytes};
 
+use crate::Buffer;
 use arrow_types::Offset;
 
 /// Whether there is an offset, and none is negative, below the one before it, or past the limit.
-pub fn rise_within<O: Offset>(offsets: &[O], limit: usize) -> bool
+pub fn rise_within<O: Offset>(offsets: &Buffer<O>, limit: usize) -> bool
     ensures { result ≡ are_offsets (map O.number offsets.now) limit }
 {
     if offsets.is_empty() {
         return false;
     }
     let mut low = 0;
-    for offset in offsets {
-        let Some(at) = offset.to_usize() else {
+    for i in 0..offsets.len() {
+        let Some(at) = offsets.get(i).to_usize() else {
             return false;
         };
         if at < low || limit < at {
@@ -25,7 +26,7 @@ pub fn rise_within<O: Offset>(offsets: &[O], limit: usize) -> bool
 }
 
 /// The place of an offset.
-pub(crate) fn place_of<O: Offset>(offsets: &[O], i: usize, limit: usize) -> usize
+pub fn place_of<O: Offset>(offsets: &Buffer<O>, i: usize, limit: usize) -> usize
     requires rise { are_offsets (map O.number offsets.now) limit ≡ true }
     requires below { i < length offsets.now }
     ensures place { result ≡ place_at (map O.number offsets.now) i }
@@ -33,11 +34,11 @@ pub(crate) fn place_of<O: Offset>(offsets: &[O], i: usize, limit: usize) -> usiz
     ensures after { place_at (map O.number offsets.now) 0 ≤ result }
     ensures before { result ≤ place_at (map O.number offsets.now) (length offsets.now - 1) }
 {
-    offsets[i].to_usize().unwrap()
+    offsets.get(i).to_usize().unwrap()
 }
 
 /// The two places between which a row stands.
-fn range_of<O: Offset>(offsets: &[O], row: usize, limit: usize) -> (usize, usize)
+pub fn range_of<O: Offset>(offsets: &Buffer<O>, row: usize, limit: usize) -> (usize, usize)
     requires rise { are_offsets (map O.number offsets.now) limit ≡ true }
     requires below { row + 1 < length offsets.now }
     ensures from { result.0 ≡ place_at (map O.number offsets.now) row }
@@ -45,13 +46,14 @@ fn range_of<O: Offset>(offsets: &[O], row: usize, limit: usize) -> (usize, usize
     ensures ordered { result.0 ≤ result.1 }
     ensures within { result.1 ≤ limit }
 {
+    prove!(row < offsets.len());
     let from = place_of(offsets, row, limit);
     let to = place_of(offsets, row + 1, limit);
     (from, to)
 }
 
 /// The bytes of a row.
-pub(crate) fn bytes_of<'a, O: Offset>(offsets: &[O], values: &'a [u8], row: usize) -> &'a [u8]
+pub(crate) fn bytes_of<'a, O: Offset>(offsets: &Buffer<O>, values: &'a [u8], row: usize) -> &'a [u8]
     requires rise { are_offsets (map O.number offsets.now) (length values.now) ≡ true }
     requires below { row + 1 < length offsets.now }
     ensures { result.now ≡ row_bytes (map O.number offsets.now) values.now row }

@@ -5,7 +5,7 @@ ghost use Rattle.arrow_buffers.specs.Rows.{has_rows};
 ghost use Rattle.arrow_buffers.specs.Variable.{are_offsets, row_bytes, variable_rows, has_bad_text};
 
 use crate::offsets::{bytes_from, bytes_of, place_of};
-use crate::{Bitmap, nulls_in, validity_at};
+use crate::{Bitmap, Buffer, nulls_in, validity_at};
 use arrow_types::Offset;
 
 /// Whether the bytes are UTF-8.
@@ -25,7 +25,7 @@ fn is_boundary(text: &[u8], at: usize) -> bool
 }
 
 /// Whether the bytes that rows use are UTF-8 and each offset stands between two characters. Then every row is text.
-fn are_one_text<O: Offset>(offsets: &[O], values: &[u8]) -> bool
+fn are_one_text<O: Offset>(offsets: &Buffer<O>, values: &[u8]) -> bool
     requires { are_offsets (map O.number offsets.now) (length values.now) ≡ true }
     ensures { IsTrue result → (row : ℕ) → row < variable_rows (map O.number offsets.now) → is_utf8 (row_bytes (map O.number offsets.now) values.now row) ≡ true }
 {
@@ -45,7 +45,7 @@ fn are_one_text<O: Offset>(offsets: &[O], values: &[u8]) -> bool
 }
 
 /// Whether each row that is not null is UTF-8, told row by row.
-fn are_row_texts<O: Offset>(offsets: &[O], values: &[u8], validity: &Option<Bitmap>) -> bool
+fn are_row_texts<O: Offset>(offsets: &Buffer<O>, values: &[u8], validity: &Option<Bitmap>) -> bool
     requires rise { are_offsets (map O.number offsets.now) (length values.now) ≡ true }
     requires rows { has_rows validity.now (variable_rows (map O.number offsets.now)) ≡ true }
     ensures { result ≡ not (has_bad_text (map O.number offsets.now) values.now validity.now) }
@@ -59,7 +59,11 @@ fn are_row_texts<O: Offset>(offsets: &[O], values: &[u8], validity: &Option<Bitm
 }
 
 /// Whether each row that is not null is UTF-8.
-pub(crate) fn are_texts<O: Offset>(offsets: &[O], values: &[u8], validity: &Option<Bitmap>) -> bool
+pub(crate) fn are_texts<O: Offset>(
+    offsets: &Buffer<O>,
+    values: &[u8],
+    validity: &Option<Bitmap>,
+) -> bool
     requires rise { are_offsets (map O.number offsets.now) (length values.now) ≡ true }
     requires rows { has_rows validity.now (variable_rows (map O.number offsets.now)) ≡ true }
     ensures { result ≡ not (has_bad_text (map O.number offsets.now) values.now validity.now) }

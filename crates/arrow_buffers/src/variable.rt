@@ -67,10 +67,10 @@ impl<O: Offset, V: ViewType> VariableArray<O, V> {
         if !validity_has(&validity, offsets.len().saturating_sub(1)) {
             return Err(ArrayError::Length);
         }
-        if !rise_within(offsets.as_slice(), values.len()) {
+        if !rise_within(&offsets, values.len()) {
             return Err(ArrayError::Offsets);
         }
-        if V::IS_TEXT && !are_texts(offsets.as_slice(), values.as_slice(), &validity) {
+        if V::IS_TEXT && !are_texts(&offsets, values.as_slice(), &validity) {
             return Err(ArrayError::Utf8);
         }
         Ok(VariableArray {
@@ -127,7 +127,7 @@ impl<O: Offset, V: ViewType> VariableArray<O, V> {
         requires { row < variable_rows self.now.offsets }
         ensures { result.now ≡ row_bytes self.now.offsets self.now.values row }
     {
-        bytes_of(self.offsets.as_slice(), self.values.as_slice(), row)
+        bytes_of(&self.offsets, self.values.as_slice(), row)
     }
 
     /// Leaves only the part, and copies nothing.

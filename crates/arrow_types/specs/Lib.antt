@@ -8,3 +8,5 @@ pub mod Extensions
 pub mod Numbers
 pub mod NumberLaws
 pub mod IntervalLaws
+pub mod BytesBack
+pub mod UnionIds

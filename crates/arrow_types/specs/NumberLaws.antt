@@ -24,16 +24,16 @@ sum-bytes n (suc k) =
     ap (λ s. s + (n / 256 ^ suc k % 256) * 256 ^ suc k) (sum-bytes n k) ∙
     (let e : n % 256 ^ suc k + (n / 256 ^ suc k % 256) * 256 ^ suc k ≡ n % (256 * 256 ^ suc k) = omega arith in e) ∙ ap (λ p. n % p) (sym power)
 
-turned_2 : (a b : ℕ) → b + a ≡ a + b
+pub turned_2 : (a b : ℕ) → b + a ≡ a + b
 turned_2 a b = omega arith
 
-turned_4 : (a b c d : ℕ) → d + c + b + a ≡ a + b + c + d
+pub turned_4 : (a b c d : ℕ) → d + c + b + a ≡ a + b + c + d
 turned_4 a b c d = omega arith
 
-turned_8 : (a b c d e f g h : ℕ) → h + g + f + e + d + c + b + a ≡ a + b + c + d + e + f + g + h
+pub turned_8 : (a b c d e f g h : ℕ) → h + g + f + e + d + c + b + a ≡ a + b + c + d + e + f + g + h
 turned_8 a b c d e f g h = omega arith
 
-turned_16 : (a b c d e f g h i j k l m n o p : ℕ) → p + o + n + m + l + k + j + i + h + g + f + e + d + c + b + a
+pub turned_16 : (a b c d e f g h i j k l m n o p : ℕ) → p + o + n + m + l + k + j + i + h + g + f + e + d + c + b + a
     ≡ a + b + c + d + e + f + g + h + i + j + k + l + m + n + o + p
 turned_16 a b c d e f g h i j k l m n o p = omega arith
 

@@ -8,6 +8,7 @@ mod numbers;
 mod physical;
 mod same;
 mod schema;
+pub mod union_ids;
 
 pub use arrow_spec::{IntegerType, IntervalUnit, TimeUnit, UnionMode};
 pub use data_type::{ArrowDataType, ExtensionType, Field, Metadata, UnionType};

@@ -2,7 +2,8 @@
 use Rattle.std.proofs.Common.{◌≡◌, List, [], ◌∷◌, Ok, Err, ℤ, refl, sym, ◌∙◌, ap, subst}
 use Rattle.std.specs.BTreeMap.{BTreeMap}
 use Rattle.arrow_spec.specs.declared.error.IpcError.{IpcError}
-use Rattle.arrow_spec.specs.Readings.{bind, Reading, Refuses, refusals}
+use Rattle.arrow_spec.specs.Readings.{bind, Reading, refusals}
+use Rattle.ipc_fields.specs.Causes.{RefusesBytes}
 use Rattle.arrow_spec.specs.Kinds.{Use}
 use Rattle.arrow_spec.specs.Schema.{uses_agree}
 use Rattle.ipc_fields.specs.Latest.{Holds, agreed}
@@ -13,13 +14,13 @@ pub agree_more : (u : Use) (us earlier : List Use) (whole : Reading (Unit {0})) 
 unfolding bind
 agree_more u us earlier whole x h got = sym (ap (λ r. bind r (λ right. uses_agree (u ∷ earlier) us)) got) ∙ h
 
-behind : (e : IpcError) (r : Reading (Unit {0})) (f : Unit {0} → Reading (Unit {0})) → Refuses e (refusals r) → Refuses e (refusals (bind r f))
+behind : (e : IpcError) (r : Reading (Unit {0})) (f : Unit {0} → Reading (Unit {0})) → RefusesBytes e (refusals r) → RefusesBytes e (refusals (bind r f))
 unfolding bind
 behind e (Ok x) f h = none_refused e (refusals (f x)) h
 behind e (Err es) f h = h
 
-pub agree_stopped : (u : Use) (us earlier : List Use) (whole : Reading (Unit {0})) (e : IpcError) → uses_agree earlier (u ∷ us) ≡ whole → Refuses e (refusals (agreed u earlier)) → Refuses e (refusals whole)
-agree_stopped u us earlier whole e h told = subst (λ r. Refuses e (refusals r)) h (behind e (agreed u earlier) (λ right. uses_agree (u ∷ earlier) us) told)
+pub agree_stopped : (u : Use) (us earlier : List Use) (whole : Reading (Unit {0})) (e : IpcError) → uses_agree earlier (u ∷ us) ≡ whole → RefusesBytes e (refusals (agreed u earlier)) → RefusesBytes e (refusals whole)
+agree_stopped u us earlier whole e h told = subst (λ r. RefusesBytes e (refusals r)) h (behind e (agreed u earlier) (λ right. uses_agree (u ∷ earlier) us) told)
 
 pub agree_done : (us earlier : List Use) (whole : Reading (Unit {0})) → us ≡ [] → uses_agree earlier us ≡ whole → whole ≡ Ok tt
 agree_done us earlier whole none h = sym h ∙ ap (uses_agree earlier) none

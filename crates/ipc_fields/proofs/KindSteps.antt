@@ -19,13 +19,14 @@ use Rattle.arrow_types.specs.KindCode.{integer_type_from, integer_type_from-inte
 use Rattle.arrow_types.specs.declared.data_type.Field.{Field}
 use Rattle.ipc_fields.specs.Uses.{first_id, first_ids, other_ids}
 use Rattle.ipc_fields.specs.declared.ipc_field.IpcField.{IpcField}
-use Rattle.ipc_fields.proofs.Widths.{width_with, leaf_with, width_from}
+use Rattle.ipc_fields.proofs.Widths.{width_with, leaf_with}
 use Rattle.ipc_fields.proofs.Steps.{drop_item}
 use Rattle.ipc_fields.proofs.UseSteps.{next_ids}
 use Rattle.arrow_spec.specs.Schema.{counted_ids}
 use Rattle.ipc_fields.specs.Leaves.{is_leaf}
 use Rattle.ipc_fields.specs.IpcFields.{Ids, no_fields, ids, ids_of, kind_with, fields_with}
-use Rattle.ipc_fields.proofs.UnionSteps.{same_when, same_true, same_test, not_true}
+use Rattle.arrow_types.proofs.Children.{width_from}
+use Rattle.arrow_types.proofs.UnionIds.{same_when, same_true, same_test, not_true}
 
 pub ids_equal : (x y : ℤ) → x ≡ y → same x y ≡ true
 ids_equal x y h = same_when x y h

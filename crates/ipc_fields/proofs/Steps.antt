@@ -6,7 +6,8 @@ use Rattle.std.specs.Result.{IsErr, IsErrAnd}
 use Rattle.arrow_spec.specs.declared.error.IpcError.{IpcError}
 use Rattle.arrow_spec.specs.declared.error.IpcError.TheVariants.{OutOfSpec, Unsupported, TooDeep, TooMany, Projection, TooLarge, SchemaMismatch, DictionaryReplaced, NotRepresentable, State, ReadFault, WriteFault, Memory}
 use Rattle.arrow_spec.specs.declared.error.FlatError.{FlatError}
-use Rattle.arrow_spec.specs.Readings.{bind, Reading, Refuses, refusals, Gives}
+use Rattle.arrow_spec.specs.Readings.{bind, Reading, Refuses, Gives, refusals}
+use Rattle.ipc_fields.specs.Causes.{RefusesBytes, Decodes}
 use Rattle.arrow_spec.specs.Flat.{Table, slot, slot_bool, target, table_at, if_present, or_default, unsigned_at}
 use Rattle.arrow_flat.specs.Read.{VectorIn, slot_bool_or, item_table, is_set_or}
 
@@ -29,11 +30,31 @@ bool_slot b t i = bool_of (slot b t i) (unsigned_at w8 b)
 pub table_in : (v : VectorIn) (i : ℕ) → v.width ≡ 4 → item_table v i ≡ bind (target v.bytes (v.vector.first + 4 * i)) (λ p. table_at v.bytes p)
 table_in v i wide = let p : v.vector.first + i * 4 ≡ v.vector.first + 4 * i = omega arith in rw (wide, p) refl
 
+-- what bytes alone refuse is a refusal also where a device may fail
+pub refuses : (e : IpcError) (es : List IpcError) → RefusesBytes e es → Refuses e es
+refuses Memory es h = h
+refuses ReadFault es h = absurd h
+refuses WriteFault es h = absurd h
+refuses (OutOfSpec x) es h = h
+refuses (Unsupported x) es h = h
+refuses TooDeep es h = h
+refuses (TooMany x) es h = h
+refuses (Projection x) es h = absurd h
+refuses TooLarge es h = absurd h
+refuses SchemaMismatch es h = absurd h
+refuses (DictionaryReplaced x) es h = absurd h
+refuses NotRepresentable es h = absurd h
+refuses State es h = absurd h
+
+pub gives : {X Y : Type 0} (view : X → Y) (r : Result X IpcError) (R : Reading Y) → Decodes view r R → Gives view r R
+gives view (Ok x) R h = h
+gives view (Err e) R h = refuses e (refusals R) h
+
 -- a refusal where nothing is refused is one of any refusals
-pub none_refused : (e : IpcError) (es : List IpcError) → Refuses e [] → Refuses e es
+pub none_refused : (e : IpcError) (es : List IpcError) → RefusesBytes e [] → RefusesBytes e es
 none_refused Memory es h = tt
-none_refused ReadFault es h = tt
-none_refused WriteFault es h = tt
+none_refused ReadFault es h = absurd h
+none_refused WriteFault es h = absurd h
 none_refused (OutOfSpec x) es h = absurd h
 none_refused (Unsupported x) es h = absurd h
 none_refused TooDeep es h = absurd h
@@ -49,12 +70,6 @@ pub bind_twice : {A B C E : Type 0} (r : Result A E) (f : A → Result B E) (g :
 unfolding bind
 bind_twice (Ok x) f g = refl
 bind_twice (Err e) f g = refl
-
--- the same first reading, and the same behind it
-pub bind_same : {A B E : Type 0} (r : Result A E) (f g : A → Result B E) → ((x : A) → r ≡ Ok x → f x ≡ g x) → bind r f ≡ bind r g
-unfolding bind
-bind_same (Ok x) f g h = h x refl
-bind_same (Err e) f g h = refl
 
 -- one step of a reading that goes on in the same way
 pub step : {A B C E : Type 0} (r : Result A E) (f : A → Result B E) (g : B → Result C E) (k : A → Result C E) → ((x : A) → r ≡ Ok x → k x ≡ bind (f x) g) → bind r k ≡ bind (bind r f) g
@@ -79,5 +94,5 @@ pub drop_item : {A : Type 0} (xs : List A) (i : ℕ) (x d : A) → i < length xs
 drop_item xs i x d h e = drop-cons xs i d h ∙ ap (λ y. y ∷ drop (suc i) xs) (sym e) ∙ ap (λ n. x ∷ drop n xs) (sym (add-one i))
 
 -- a refusal of a call that is handed on
-pub refused_with : {A B : Type 0} (view : A → B) (r : Result A IpcError) (R : Reading B) (e : IpcError) → r ≡ Err e → Refuses e (refusals R) → Gives view r R
+pub refused_with : {A B : Type 0} (view : A → B) (r : Result A IpcError) (R : Reading B) (e : IpcError) → r ≡ Err e → RefusesBytes e (refusals R) → Decodes view r R
 refused_with view r R e h told = rw h told

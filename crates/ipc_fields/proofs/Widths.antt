@@ -20,7 +20,3 @@ pub width_with : (fs : Fields) (below : Ids) → width (fields_with fs below) �
 width_with kind.none below = refl
 width_with (kind.field name nullable metadata k fs) no_fields = ap suc (width_with fs no_fields)
 width_with (kind.field name nullable metadata k fs) (ids id below others) = ap suc (width_with fs others)
-
-pub width_from : {A : Type 0} (f : A → Child) (xs : List A) → width (fields_from (map f xs)) ≡ length xs
-width_from f [] = refl
-width_from f (x ∷ xs) = ap suc (width_from f xs)

@@ -1,14 +1,15 @@
 -- The ids of unions.
-use Rattle.std.specs.Prelude.{ℕ, ◌+◌, ◌*◌, List, Bool, true, false, ◌&&◌, length, nat_lt, Ok, Option, Some, None, ℤ, nat_eq}
+use Rattle.std.specs.Prelude.{ℕ, ◌+◌, ◌*◌, List, Bool, true, false, Ok, Option, Some, None, ℤ}
 use Rattle.std.specs.Int.{w32}
 use Rattle.std.specs.declared.alloc.Global.{Global}
 use Rattle.std.specs.declared.vec.Vec.{Vec}
 use Rattle.arrow_spec.specs.declared.error.OutOfSpecKind.TheVariants.{InvalidDataType}
 use Rattle.arrow_spec.specs.Readings.{Reading, each, only_if, ◌>>=◌}
 use Rattle.arrow_spec.specs.Flat.{Table, Vector, signed_at, slot_vector}
-use Rattle.arrow_spec.specs.Schema.{schema_part, are_ids, counted_ids}
+use Rattle.arrow_spec.specs.Schema.{schema_part, counted_ids}
 use Rattle.arrow_flat.specs.Read.{VectorIn}
 use Rattle.arrow_types.specs.KindOf.{are_stated, ids_of}
+use Rattle.arrow_types.specs.UnionIds.{are_right}
 
 -- whether the ids are stated, and the ids of so many children
 abbrev pub ids_in : ℕ → Option (Vec ℤ Global) → Bool × List ℤ
@@ -17,10 +18,6 @@ ids_in children ids = (are_stated ids, ids_of ids children)
 -- the numbers of a vector
 abbrev pub numbers_in : VectorIn → Reading (List ℤ)
 numbers_in v = schema_part (each (λ i. signed_at w32 v.bytes (v.vector.first + 4 * i)) 0 v.vector.count)
-
--- the ids of so many children
-abbrev pub are_right : List ℤ → ℕ → Bool
-are_right ids n = are_ids ids && nat_eq (length ids) n && nat_lt 0 n
 
 -- the ids that a union of so many children states
 unfoldable pub stated_at : List ℕ → ℕ → Vector → Reading (Bool × List ℤ)

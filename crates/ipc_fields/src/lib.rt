@@ -4,7 +4,6 @@
 pub mod agree;
 mod ipc_field;
 mod kinds;
-pub mod union_ids;
 pub mod uses;
 
 pub use ipc_field::{IpcField, IpcSchema};

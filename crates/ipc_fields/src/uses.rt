@@ -52,12 +52,8 @@ fn copy_fields(alloc: Global, fields: &[IpcField]) -> Result<Vec<IpcField>, IpcE
 {
     let mut copies = Vec::new(alloc);
     for field in fields {
-        let Ok(copy) = field.try_clone(alloc) else {
-            return Err(IpcError::Memory);
-        };
-        if copies.push(copy).is_err() {
-            return Err(IpcError::Memory);
-        }
+        let copy = field.try_clone(alloc)?;
+        copies.push(copy)?;
     }
     Ok(copies)
 }
@@ -73,18 +69,14 @@ fn push_use(
     ensures ok { IfOk result (λ _. map use_in uses.new.items ≡ map use_in uses.old.items ++ use_as (id_under id) (kind_with (kind_of values.now) None (ids_of fields.now)) ∷ []) }
     ensures memory { OnErr result (result ≡ Err Memory) }
 {
-    let Ok(values) = values.try_clone(alloc) else {
-        return Err(IpcError::Memory);
-    };
+    let values = values.try_clone(alloc)?;
     let fields = copy_fields(alloc, fields)?;
     let id = match id {
         None => 0,
         Some(id) => id,
     };
-    match uses.push(Use { id, values, fields }) {
-        Ok(()) => Ok(()),
-        Err(_) => Err(IpcError::Memory),
-    }
+    uses.push(Use { id, values, fields })?;
+    Ok(())
 }
 
 /// The uses in a type, in preorder.

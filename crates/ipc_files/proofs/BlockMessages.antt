@@ -15,7 +15,9 @@ use Rattle.arrow_spec.specs.Files.{FileBlock, Purpose, Asked, block_message, bat
 use Rattle.ipc_io.specs.Outside.{IsSize}
 use Rattle.ipc_schema.specs.Views.{message_of}
 use Rattle.ipc_schema.specs.declared.message.RecordMessage.{RecordMessage}
-use Rattle.ipc_schema.proofs.Items.{none_refused}
+use Rattle.ipc_fields.specs.Causes.{Decodes}
+use Rattle.ipc_fields.proofs.Steps.{gives}
+use Rattle.ipc_files.proofs.Errors.{none_refused}
 use Rattle.ipc_files.specs.FileBlocks.{block_record, plain_message, block_metadata, Fetched, Faulted, PrefixIn, BlockIn}
 use Rattle.ipc_files.proofs.BlockPrefixes.{memory_or_fault}
 
@@ -48,20 +50,20 @@ pub after_prefix : {A B : Type 0} (r : Reading A) (f : A → Reading B) (x : A) 
 unfolding bind
 after_prefix r f x h = rw h refl
 
-pub message_read : (content : Option (List ℕ)) (size : ℕ) (block : FileBlock) (p : ℕ × ℕ) (bytes : List ℕ) (r : Result RecordMessage IpcError) → IsSize content size → block.offset + block.metadata + block.body ≤ size → PrefixIn content block.offset block.metadata (Ok p) → Fetched content (block.offset + p.0) p.1 bytes → Gives message_of r (plain_message bytes) → BlockIn content block r
+pub message_read : (content : Option (List ℕ)) (size : ℕ) (block : FileBlock) (p : ℕ × ℕ) (bytes : List ℕ) (r : Result RecordMessage IpcError) → IsSize content size → block.offset + block.metadata + block.body ≤ size → PrefixIn content block.offset block.metadata (Ok p) → Fetched content (block.offset + p.0) p.1 bytes → Decodes message_of r (plain_message bytes) → BlockIn content block r
 message_read None size block p bytes r s h prefix f g = tt
 message_read (Some b) size block p bytes r s h prefix f g =
     let e : plain_message bytes ≡ block_record b block = ap plain_message f ∙ after_prefix (prefix_of (block_metadata b block)) (λ p. plain_message (take p.1 (drop (block.offset + p.0) b))) p prefix ∙ sym (in_range b block (omega (arith, s, h))) in
-    subst (Gives message_of r) e g
+    subst (Gives message_of r) e (gives message_of r (plain_message bytes) g)
 
 -- the same by the numbers that were computed
 pub message_from : (content after : Option (List ℕ)) (size : ℕ) (block : FileBlock) (o m n : ℕ) (p : ℕ × ℕ) (bytes text : List ℕ) (r : Result RecordMessage IpcError)
-    → IsSize content size → o ≡ block.offset → m ≡ block.metadata → n ≡ block.body → o + m + n ≤ size → after ≡ content → PrefixIn content o m (Ok p) → Fetched after (o + p.0) p.1 bytes → text ≡ bytes → Gives message_of r (plain_message text) → BlockIn content block r
+    → IsSize content size → o ≡ block.offset → m ≡ block.metadata → n ≡ block.body → o + m + n ≤ size → after ≡ content → PrefixIn content o m (Ok p) → Fetched after (o + p.0) p.1 bytes → text ≡ bytes → Decodes message_of r (plain_message text) → BlockIn content block r
 message_from content after size block o m n p bytes text r s eo em en h same prefix f t g =
     let inside : block.offset + block.metadata + block.body ≤ size = omega (arith, eo, em, en, h) in
     let prefix' : PrefixIn content block.offset block.metadata (Ok p) = subst (λ a. PrefixIn content a block.metadata (Ok p)) eo (subst (λ a. PrefixIn content o a (Ok p)) em prefix) in
     let f' : Fetched content (block.offset + p.0) p.1 bytes = subst (λ a. Fetched content (a + p.0) p.1 bytes) eo (subst (λ a. Fetched a (o + p.0) p.1 bytes) same f) in
-    message_read content size block p bytes r s inside prefix' f' (subst (λ x. Gives message_of r (plain_message x)) t g)
+    message_read content size block p bytes r s inside prefix' f' (subst (λ x. Decodes message_of r (plain_message x)) t g)
 
 bind_twice : {A B C E : Type 0} (r : Result A E) (f : A → Result B E) (g : B → Result C E) → bind (bind r f) g ≡ bind r (λ x. bind (f x) g)
 unfolding bind

@@ -7,6 +7,8 @@ use Rattle.arrow_spec.specs.declared.error.OutOfSpecKind.TheVariants as kinds
 use Rattle.arrow_spec.specs.Readings.{Gives, Reading, Refuses, refusals}
 use Rattle.arrow_spec.specs.Messages.{prefix_of, is_mark}
 use Rattle.ipc_schema.specs.Prefixes.{length_in}
+use Rattle.ipc_fields.specs.Causes.{Decodes}
+use Rattle.ipc_fields.proofs.Steps.{gives}
 use Rattle.ipc_schema.proofs.Prefixed.{prefix_short, prefix_cut, prefix_plain, prefix_marked}
 use Rattle.ipc_files.specs.FileBlocks.{Lies, Fetched, Faulted, PrefixIn}
 
@@ -32,11 +34,11 @@ pub too_short : (content : Option (List ℕ)) (at size : ℕ) → Lies content a
 too_short None at size lies short = tt
 too_short (Some b) at size lies short = let l = region-length b at size lies in prefix_short (take size (drop at b)) (omega (arith, l, short))
 
-pub plain : (content : Option (List ℕ)) (at size : ℕ) (front : List ℕ) (r : Result (ℕ × ℕ) IpcError) → Lies content at size → 4 ≤ size → Fetched content at 4 front → is_mark front ≡ false → Gives (λ p. p) r (length_in front 4 size) → PrefixIn content at size r
+pub plain : (content : Option (List ℕ)) (at size : ℕ) (front : List ℕ) (r : Result (ℕ × ℕ) IpcError) → Lies content at size → 4 ≤ size → Fetched content at 4 front → is_mark front ≡ false → Decodes (λ p. p) r (length_in front 4 size) → PrefixIn content at size r
 plain None at size front r lies long f m h = tt
 plain (Some b) at size front r lies long f m h =
     let l = region-length b at size lies in
-    prefix_plain (take size (drop at b)) front r (omega (arith, l, long)) (f ∙ region-front b at size long) m (subst (λ n. Gives (λ p. p) r (length_in front 4 n)) (sym l) h)
+    gives (λ p. p) r (prefix_of (take size (drop at b))) (prefix_plain (take size (drop at b)) front r (omega (arith, l, long)) (f ∙ region-front b at size long) m (subst (λ n. Decodes (λ p. p) r (length_in front 4 n)) (sym l) h))
 
 pub cut_off : (content : Option (List ℕ)) (at size : ℕ) (front : List ℕ) → Lies content at size → 4 ≤ size → size < 8 → Fetched content at 4 front → is_mark front ≡ true → PrefixIn content at size (Err (OutOfSpec kinds.MessageRange))
 cut_off None at size front lies long short f m = tt
@@ -44,11 +46,11 @@ cut_off (Some b) at size front lies long short f m =
     let l = region-length b at size lies in
     prefix_cut (take size (drop at b)) front (drop 4 (take size (drop at b))) (omega (arith, l, long)) (f ∙ region-front b at size long) refl (omega (arith, l, length-drop 4 (take size (drop at b)))) m
 
-pub marked : (content : Option (List ℕ)) (at size : ℕ) (front four : List ℕ) (r : Result (ℕ × ℕ) IpcError) → Lies content at size → 8 ≤ size → Fetched content at 4 front → Fetched content (at + 4) 4 four → is_mark front ≡ true → Gives (λ p. p) r (length_in four 8 size) → PrefixIn content at size r
+pub marked : (content : Option (List ℕ)) (at size : ℕ) (front four : List ℕ) (r : Result (ℕ × ℕ) IpcError) → Lies content at size → 8 ≤ size → Fetched content at 4 front → Fetched content (at + 4) 4 four → is_mark front ≡ true → Decodes (λ p. p) r (length_in four 8 size) → PrefixIn content at size r
 marked None at size front four r lies long f g m h = tt
 marked (Some b) at size front four r lies long f g m h =
     let l = region-length b at size lies in
-    prefix_marked (take size (drop at b)) front (drop 4 (take size (drop at b))) four r (omega (arith, l, long)) (f ∙ region-front b at size (omega (arith, long))) refl (g ∙ region-rest b at size long) m (subst (λ n. Gives (λ p. p) r (length_in four 8 n)) (sym l) h)
+    gives (λ p. p) r (prefix_of (take size (drop at b))) (prefix_marked (take size (drop at b)) front (drop 4 (take size (drop at b))) four r (omega (arith, l, long)) (f ∙ region-front b at size (omega (arith, long))) refl (g ∙ region-rest b at size long) m (subst (λ n. Decodes (λ p. p) r (length_in four 8 n)) (sym l) h))
 
 pub memory_or_fault : {A : Type 0} (e : IpcError) (read : Reading A) → (e ≡ Memory) ⊎ (e ≡ ReadFault) → Refuses e (refusals read)
 memory_or_fault e read (inl h) = subst (λ x. Refuses x (refusals read)) (sym h) tt

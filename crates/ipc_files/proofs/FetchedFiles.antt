@@ -31,10 +31,6 @@ use Rattle.ipc_files.proofs.FileFooters.{SaysFooter, end_of}
 
 -- ── the message of a block ──
 
-pub message_none : (content : Option (List ℕ)) (block : FileBlock) (f f' : ℕ) → f' ≤ f → MessageFetched content block f f'
-message_none None block f f' h = tt
-message_none (Some b) block f f' h = λ m is. omega (arith, h)
-
 record HasPrefix (b : List ℕ) (block : FileBlock) : Type 0 where
   prefix : ℕ × ℕ
   is : prefix_of (block_metadata b block) ≡ Ok prefix
@@ -142,10 +138,6 @@ among_all None meta i f f' h = tt
 among_all (Some b) meta i f f' h = λ xs is. omega (arith, h xs is, sum_by-take-le (block_cost b meta) meta.blocks i)
 
 -- ── the footer ──
-
-pub footer_front : (content : Option (List ℕ)) (f f' : ℕ) → f' ≤ f + 10 → FooterFetched content f f'
-footer_front None f f' h = tt
-footer_front (Some b) f f' h = λ x is. omega (arith, h)
 
 pub footer_whole : (content : Option (List ℕ)) (size : ℕ) (end text : List ℕ) (n f f' : ℕ) → IsSize content size → 10 ≤ size → Fetched content (size - 10) 10 end → text ≡ end → SaysFooter size text (Ok n) → n + 10 ≤ size → f' ≤ f + 10 + n → FooterFetched content f f'
 footer_whole None size end text n f f' s long g t says within h = tt

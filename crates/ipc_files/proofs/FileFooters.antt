@@ -4,7 +4,6 @@ use Rattle.std.specs.Prelude.{IfErr, IfSome}
 use Rattle.std.proofs.lemmas.List.{take_all}
 use Rattle.arrow_spec.specs.declared.error.IpcError.{IpcError}
 use Rattle.arrow_spec.specs.declared.error.IpcError.TheVariants.{OutOfSpec}
-use Rattle.arrow_spec.specs.declared.error.IpcError.TheVariants as errors
 use Rattle.arrow_spec.specs.declared.error.OutOfSpecKind.TheVariants as kinds
 use Rattle.arrow_spec.specs.Readings.{Gives, Reading, Refuses, refusals}
 use Rattle.arrow_spec.specs.Files.{«all», Meta, custom_of, file_reading, footer_of, meta_in, meta_of, to_send}
@@ -14,8 +13,9 @@ use Rattle.transcode_laws.proofs.Refusals.{custom_refuses, meta_refuses}
 use Rattle.ipc_io.specs.Outside.{IsSize}
 use Rattle.ipc_schema.proofs.Footers.{footer_cut}
 use Rattle.ipc_files.specs.FileBlocks.{Fetched, Faulted, GivesIn, no_map}
-use Rattle.ipc_fields.specs.Causes.{IsOfBytes}
-use Rattle.ipc_files.specs.FileViews.{FileCause, FileSays}
+use Rattle.ipc_fields.specs.Causes.{Decodes}
+use Rattle.ipc_fields.proofs.Steps.{gives, refuses}
+use Rattle.ipc_files.specs.FileViews.{FileSays}
 use Rattle.ipc_files.proofs.BlockPrefixes.{memory_or_fault}
 use Rattle.ipc_files.proofs.BlockMessages.{refused_first, after_prefix}
 
@@ -35,11 +35,11 @@ end_of b size end text s long f t =
 
 -- what the ten bytes at the end say of a file of so many bytes
 abbrev pub SaysFooter : ℕ → List ℕ → Result ℕ IpcError → Type 0
-SaysFooter size end r = (b : List ℕ) → length b ≡ size → drop (size - 10) b ≡ end → Gives (λ n. take n (drop (size - 10 - n) b)) r (footer_of b)
+SaysFooter size end r = (b : List ℕ) → length b ≡ size → drop (size - 10) b ≡ end → Decodes (λ n. take n (drop (size - 10 - n) b)) r (footer_of b)
 
 pub length_refused : {X : Type 0} (content : Option (List ℕ)) (size : ℕ) (end text : List ℕ) (view : X → List ℕ) (e : IpcError) → IsSize content size → 10 ≤ size → Fetched content (size - 10) 10 end → text ≡ end → SaysFooter size text (Err e) → GivesIn content view (Err e) footer_of
 length_refused None size end text view e s long f t h = tt
-length_refused (Some b) size end text view e s long f t h = h b (sym s) (end_of b size end text s long f t)
+length_refused (Some b) size end text view e s long f t h = refuses e (refusals (footer_of b)) (h b (sym s) (end_of b size end text s long f t))
 
 pub footer_fetched : {X : Type 0} (content after : Option (List ℕ)) (size : ℕ) (end text : List ℕ) (view : X → List ℕ) (n : ℕ) (x : X)
     → IsSize content size → 10 ≤ size → Fetched content (size - 10) 10 end → text ≡ end → SaysFooter size text (Ok n) → after ≡ content → Fetched after (size - 10 - n) n (view x) → GivesIn content view (Ok x) footer_of
@@ -82,9 +82,9 @@ footer_refused None view meta r e is h = tt
 footer_refused (Some b) view meta r e is h = subst (λ q. Gives meta q (meta_of b)) (sym is) (not_fetched b e h)
 
 -- it was fetched, and says so
-pub meta_said : {X Y : Type 0} (content : Option (List ℕ)) (view : X → List ℕ) (x : X) (meta : Y → Meta) (r : Result Y IpcError) → GivesIn content view (Ok x) footer_of → Gives meta r (meta_in (view x)) → IfSome content (λ b. Gives meta r (meta_of b))
+pub meta_said : {X Y : Type 0} (content : Option (List ℕ)) (view : X → List ℕ) (x : X) (meta : Y → Meta) (r : Result Y IpcError) → GivesIn content view (Ok x) footer_of → Decodes meta r (meta_in (view x)) → IfSome content (λ b. Gives meta r (meta_of b))
 meta_said None view x meta r h g = tt
-meta_said (Some b) view x meta r h g = subst (λ q. Gives meta r q) (of_footer b view x h) g
+meta_said (Some b) view x meta r h g = subst (λ q. Gives meta r q) (of_footer b view x h) (gives meta r (meta_in (view x)) g)
 
 -- ── a file that is to be sent ──
 
@@ -97,38 +97,21 @@ footer_not_fetched None view e h = tt
 footer_not_fetched (Some b) view e h = meta_refuses so_far e b (not_fetched b e h)
 
 -- it says nothing that is a footer
-pub footer_not_read : {X Y : Type 0} (content : Option (List ℕ)) (view : X → List ℕ) (x : X) (meta : Y → Meta) (e : IpcError) → GivesIn content view (Ok x) footer_of → Gives meta (Err e) (meta_in (view x)) → IfSome content (λ b. RefusesToSend e b)
+pub footer_not_read : {X Y : Type 0} (content : Option (List ℕ)) (view : X → List ℕ) (x : X) (meta : Y → Meta) (e : IpcError) → GivesIn content view (Ok x) footer_of → Decodes meta (Err e) (meta_in (view x)) → IfSome content (λ b. RefusesToSend e b)
 footer_not_read None view x meta e h g = tt
-footer_not_read (Some b) view x meta e h g = meta_refuses so_far e b (subst (λ q. Refuses e (refusals q)) (of_footer b view x h) g)
+footer_not_read (Some b) view x meta e h g = meta_refuses so_far e b (subst (λ q. Refuses e (refusals q)) (of_footer b view x h) (refuses e (refusals (meta_in (view x))) g))
 
 -- it has pairs, or what stands there is damaged
-pub pairs_not_carried : {X Y : Type 0} (content : Option (List ℕ)) (view : X → List ℕ) (x : X) (text : List ℕ) (meta : Y → Meta) (y : Y) (e : IpcError) → GivesIn content view (Ok x) footer_of → Gives meta (Ok y) (meta_in (view x)) → text ≡ view x → Gives no_map (Err e) (footer_pairs so_far.custom text) → IfSome content (λ b. RefusesToSend e b)
+pub pairs_not_carried : {X Y : Type 0} (content : Option (List ℕ)) (view : X → List ℕ) (x : X) (text : List ℕ) (meta : Y → Meta) (y : Y) (e : IpcError) → GivesIn content view (Ok x) footer_of → Decodes meta (Ok y) (meta_in (view x)) → text ≡ view x → Decodes no_map (Err e) (footer_pairs so_far.custom text) → IfSome content (λ b. RefusesToSend e b)
 pairs_not_carried None view x text meta y e h g t p = tt
 pairs_not_carried (Some b) view x text meta y e h g t p =
     let read : meta_of b ≡ Ok (meta y) = sym (of_footer b view x h) ∙ g in
-    custom_refuses so_far e b (meta y) read (subst (λ q. Refuses e (refusals q)) (ap (λ f. footer_pairs so_far.custom f) t ∙ pairs_of_footer b view x h) p)
+    custom_refuses so_far e b (meta y) read (subst (λ q. Refuses e (refusals q)) (ap (λ f. footer_pairs so_far.custom f) t ∙ pairs_of_footer b view x h) (refuses e (refusals (footer_pairs so_far.custom text)) p))
 
 -- it says so, and has no pairs
-pub plain_said : {X Y : Type 0} (content : Option (List ℕ)) (view : X → List ℕ) (x : X) (text : List ℕ) (meta : Y → Meta) (y : Y) → GivesIn content view (Ok x) footer_of → Gives meta (Ok y) (meta_in (view x)) → text ≡ view x → Gives no_map (Ok tt) (footer_pairs so_far.custom text) → IfSome content (λ b. FileSays b (meta y))
+pub plain_said : {X Y : Type 0} (content : Option (List ℕ)) (view : X → List ℕ) (x : X) (text : List ℕ) (meta : Y → Meta) (y : Y) → GivesIn content view (Ok x) footer_of → Decodes meta (Ok y) (meta_in (view x)) → text ≡ view x → Decodes no_map (Ok tt) (footer_pairs so_far.custom text) → IfSome content (λ b. FileSays b (meta y))
 plain_said None view x text meta y h g t p = tt
 plain_said (Some b) view x text meta y h g t p = record {
   read = sym (of_footer b view x h) ∙ g;
   no_pairs = sym (ap (λ f. footer_pairs so_far.custom f) t ∙ pairs_of_footer b view x h) ∙ p;
 }
-
--- what only bytes or memory refuse is no fault of the source
-pub quiet_cause : {A : Type 0} (r : Result A IpcError) (n m : ℕ) → IfErr r IsOfBytes → IfErr r (λ e. FileCause e n m)
-quiet_cause (Ok x) n m h = tt
-quiet_cause (Err (errors.OutOfSpec kind)) n m h = tt
-quiet_cause (Err (errors.Unsupported feature)) n m h = tt
-quiet_cause (Err (errors.TooMany counted)) n m h = tt
-quiet_cause (Err errors.TooDeep) n m h = tt
-quiet_cause (Err errors.Memory) n m h = tt
-quiet_cause (Err errors.ReadFault) n m h = absurd h
-quiet_cause (Err errors.WriteFault) n m h = absurd h
-quiet_cause (Err (errors.Projection index)) n m h = absurd h
-quiet_cause (Err errors.TooLarge) n m h = absurd h
-quiet_cause (Err errors.SchemaMismatch) n m h = absurd h
-quiet_cause (Err (errors.DictionaryReplaced id)) n m h = absurd h
-quiet_cause (Err errors.NotRepresentable) n m h = absurd h
-quiet_cause (Err errors.State) n m h = absurd h

@@ -5,7 +5,7 @@ use Rattle.arrow_spec.specs.declared.error.IpcError.{IpcError}
 use Rattle.arrow_spec.specs.Files.{Meta, meta_in}
 use Rattle.arrow_spec.specs.Laws.{AreBytes}
 use Rattle.arrow_spec.specs.Messages.{record_message}
-use Rattle.arrow_spec.specs.Readings.{Gives}
+use Rattle.ipc_fields.specs.Causes.{Decodes}
 use Rattle.arrow_spec.specs.WrittenSchemas.{SchemaMayBeWritten}
 use Rattle.arrow_spec.proofs.ReadFiles.{footer_schema_may}
 use Rattle.arrow_types.specs.Schemas.{Keyed, fields_in}
@@ -21,7 +21,7 @@ use Rattle.ipc_files.specs.declared.metadata.FileMetadata.{FileMetadata}
 use Rattle.ipc_files.proofs.LeafFields.{column_kinds}
 
 -- a block's message
-pub header_fits : (bytes : List ℕ) (r : Result RecordMessage IpcError) → AreBytes bytes → Gives message_of r (record_message bytes) → IfOk r (λ m. HeaderFits (message_of m).tables)
+pub header_fits : (bytes : List ℕ) (r : Result RecordMessage IpcError) → AreBytes bytes → Decodes message_of r (record_message bytes) → IfOk r (λ m. HeaderFits (message_of m).tables)
 header_fits bytes (Ok m) b h = headers.message_read bytes (message_of m) b h
 header_fits bytes (Err e) b h = tt
 
@@ -36,7 +36,7 @@ pub said_same : (m : FileMetadata) (footer : Footer) (text bytes : List ℕ) →
 said_same m footer text bytes same t h = ap meta_in (sym t) ∙ h ∙ ap Ok (sym same)
 
 -- a footer's schema
-pub footer_may : (bytes : List ℕ) (r : Result Footer IpcError) → AreBytes bytes → Gives footer_view r (meta_in bytes) → IfOk r (λ f. SchemaMayBeWritten (footer_view f).schema.fields (footer_view f).schema.metadata)
+pub footer_may : (bytes : List ℕ) (r : Result Footer IpcError) → AreBytes bytes → Decodes footer_view r (meta_in bytes) → IfOk r (λ f. SchemaMayBeWritten (footer_view f).schema.fields (footer_view f).schema.metadata)
 footer_may bytes (Ok f) b h = (footer_schema_may bytes (footer_view f) b h).0
 footer_may bytes (Err e) b h = tt
 

@@ -30,7 +30,8 @@ pub record BlockSent (b : List ℕ) (fs : Fields) (block : FileBlock) (encoding 
   pub bytes_are : bytes ≡ length (batch_bytes batch)
 
 -- a block that was not sent: it is refused and nothing was put, or its message could not be put
-pub data BlockRefused (b : List ℕ) (fs : Fields) (block : FileBlock) (encoding : Encoding) (old new : Option (List ℕ)) (e : IpcError) (faults faults' : ℕ) : Type 0 where
+pub data BlockRefused (b : List ℕ) (fs : Fields) (block : FileBlock) (encoding : Encoding) (old new : Option (List ℕ)) (e : IpcError)
+    (faults faults' : ℕ) : Type 0 where
   refused : Keeps old new → Refuses e (refusals (batch_of so_far.custom to_send b (all_asked little fs (length b)) block None))
       → BlockRefused b fs block encoding old new e faults faults'
   not_put : (x : WrittenBatch) → IsSentBatch so_far b fs block x → PutsText old new (Err e) (text_of encoding (batch_bytes x)) → PutTextCause e faults faults'

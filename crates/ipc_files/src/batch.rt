@@ -3,7 +3,7 @@ ghost use Rattle.std.specs.Prelude.{◌≡◌, ◌+◌, ◌^◌, ◌<◌, ◌≤
 ghost use Rattle.std.specs.Rc.{rc_value};
 ghost use Rattle.arrow_spec.specs.Files.{FileBlock};
 ghost use Rattle.arrow_spec.specs.Readings.{Gives};
-ghost use Rattle.ipc_io.specs.Outside.{IsSize};
+ghost use Rattle.ipc_io.specs.Outside.{IsSize, SourceKept};
 ghost use Rattle.ipc_read.specs.Batches.{table_of};
 ghost use Rattle.ipc_files.specs.Blocks.{batch_in, body_place, ReadsBlock};
 ghost use Rattle.ipc_files.specs.FileBlocks.{file_block};
@@ -45,10 +45,8 @@ pub(crate) fn read_block<S: Source>(
     ensures few { IfOk result (λ x. x.height < 2 ^ 63) }
     ensures schema { IfOk result (λ x. x.schema ≡ rc_value file.now.schema) }
     ensures cause { IfErr result (λ e. FileCause e (S.faults source.old) (S.faults source.new)) }
-    ensures content { S.content source.new ≡ S.content source.old }
-    ensures faults { S.faults source.old ≤ S.faults source.new }
     ensures fetched { BlockFetched (S.content source.old) (meta_view file.now) (file_block block.now) (S.fetched source.old) (S.fetched source.new) }
-    ensures same_source { S.references source.new ≡ S.references source.old }
+    ensures kept { SourceKept S.content S.faults S.references source.old source.new }
 {
     let message = read_block_message(alloc, source, block, file.size)?;
     let dictionaries = Dictionaries::new(alloc);
@@ -95,12 +93,10 @@ pub fn read_batch<S: Source>(
     ensures gives { (block : FileBlock) → slice_get (meta_view metadata.now).blocks index ≡ Some block → IfSome (S.content source.old) (λ b. Gives table_of result (batch_in (is_none projection.entry && is_none limit) b (meta_view metadata.now) block)) }
     ensures schema { IfOk result (λ x. x.schema ≡ rc_value metadata.now.schema) }
     ensures cause { IfErr result (λ e. FileCause e (S.faults source.old) (S.faults source.new)) }
-    ensures content { S.content source.new ≡ S.content source.old }
-    ensures faults { S.faults source.old ≤ S.faults source.new }
 
     // Of a block that means a batch, its prefix, its metadata and the buffers that are looked at are fetched, and no buffer where there are no rows.
     ensures fetched { (block : FileBlock) → slice_get (meta_view metadata.now).blocks index ≡ Some block → BlockFetched (S.content source.old) (meta_view metadata.now) block (S.fetched source.old) (S.fetched source.new) }
-    ensures same_source { S.references source.new ≡ S.references source.old }
+    ensures kept { SourceKept S.content S.faults S.references source.old source.new }
 {
     let _ = dictionaries;
     if projection.is_some() || limit.is_some() {

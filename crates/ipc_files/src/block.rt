@@ -1,8 +1,7 @@
 //! The messages of a file's blocks.
 ghost use Rattle.std.specs.Prelude.{◌≡◌, ◌+◌, ◌≤◌, ◌<◌, ◌^◌, IfOk, IfErr, OnOk};
-ghost use Rattle.arrow_spec.specs.Readings.{Gives};
-ghost use Rattle.ipc_fields.specs.Causes.{IsOfBytes};
-ghost use Rattle.ipc_io.specs.Outside.{IsSize};
+ghost use Rattle.ipc_fields.specs.Causes.{Decodes};
+ghost use Rattle.ipc_io.specs.Outside.{IsSize, SourceKept};
 ghost use Rattle.ipc_schema.specs.Views.{message_of};
 ghost use Rattle.transcode_laws.specs.Files.{HeaderFits};
 ghost use Rattle.ipc_files.specs.FileBlocks.{plain_message, Lies, PrefixIn, BlockIn, file_block};
@@ -31,11 +30,9 @@ fn read_prefix<S: Source>(
     requires small { at < 2 ^ 63 }
     ensures prefix { PrefixIn (S.content source.old) at size result }
     ensures within { IfOk result (λ p. p.0 + p.1 ≤ size) }
-    ensures content { S.content source.new ≡ S.content source.old }
-    ensures faults { S.faults source.old ≤ S.faults source.new }
     ensures cause { IfErr result (λ e. FileCause e (S.faults source.old) (S.faults source.new)) }
     ensures fetched { FrontFetched (S.content source.old) at size (S.fetched source.old) (S.fetched source.new) }
-    ensures same_source { S.references source.new ≡ S.references source.old }
+    ensures kept { SourceKept S.content S.faults S.references source.old source.new }
 {
     if size < 4 {
         return Err(IpcError::OutOfSpec(OutOfSpecKind::MessageRange));
@@ -54,9 +51,8 @@ fn read_prefix<S: Source>(
 /// The record batch's message in some bytes, which has no pairs that are not carried.
 #[tactic(auto, unfolding(arrow_spec::specs::Readings::bind, crate::specs::FileBlocks::plain_message))]
 fn message_in(alloc: Global, bytes: &[u8]) -> Result<RecordMessage, IpcError>
-    ensures gives { Gives message_of result (plain_message bytes.now) }
+    ensures gives { Decodes message_of result (plain_message bytes.now) }
     ensures fits { IfOk result (λ m. HeaderFits (message_of m).tables) }
-    ensures quiet { IfErr result IsOfBytes }
 {
     let message = read_record_message(alloc, bytes)?;
     refuse_message_pairs(bytes)?;
@@ -80,11 +76,9 @@ pub(crate) fn read_block_message<S: Source>(
     ensures within { OnOk result ((file_block block.now).offset + (file_block block.now).metadata + (file_block block.now).body ≤ size) }
     ensures message { BlockIn (S.content source.old) (file_block block.now) result }
     ensures fits { IfOk result (λ m. HeaderFits (message_of m).tables) }
-    ensures content { S.content source.new ≡ S.content source.old }
-    ensures faults { S.faults source.old ≤ S.faults source.new }
     ensures cause { IfErr result (λ e. FileCause e (S.faults source.old) (S.faults source.new)) }
     ensures fetched { MessageFetched (S.content source.old) (file_block block.now) (S.fetched source.old) (S.fetched source.new) }
-    ensures same_source { S.references source.new ≡ S.references source.old }
+    ensures kept { SourceKept S.content S.faults S.references source.old source.new }
 {
     let offset = magnitude(block.offset);
     let metadata = magnitude(i64::from(block.meta_data_length));

@@ -1,7 +1,7 @@
 //! From a file to a stream (Arrow Columnar Format, IPC File Format and IPC Streaming Format).
 ghost use Rattle.std.specs.Prelude.{◌≡◌, ◌≤◌, true, IfOk, IfErr, IfSome, IsSome, option_map};
 ghost use Rattle.transcode_laws.specs.Meaning.{file_table};
-ghost use Rattle.ipc_io.specs.Outside.{Stands};
+ghost use Rattle.ipc_io.specs.Outside.{Stands, SourceKept, SinkKept};
 ghost use Rattle.ipc_files.specs.Fetching.{FileFetched};
 ghost use Rattle.ipc_files.specs.Transcode.{asked, text_of, Transcodes, AddsPart, TranscodeCause, IsSmallRefusal};
 
@@ -38,15 +38,10 @@ pub fn transcode_as<S: Source, W: Sink>(
     ensures complete { let r = asked (option_map (λ c. c.now) columns.entry) limit in
         IfSome (S.content source.old) (λ b. IsSome (file_table b r) → Stands (S.faults source.old) (S.faults source.new) → Stands (W.faults sink.old) (W.faults sink.new) → IfErr result (IsSmallRefusal b r)) }
 
-    ensures content { S.content source.new ≡ S.content source.old }
-    ensures reads { S.faults source.old ≤ S.faults source.new }
-    ensures writes { W.faults sink.old ≤ W.faults sink.new }
-    ensures wants { W.wants sink.old ≤ W.wants sink.new }
-
     // Of a file that means a table no more is fetched than the request needs, and no buffer of what is read for no rows.
     ensures fetched { FileFetched (S.content source.old) (asked (option_map (λ c. c.now) columns.entry) limit) (S.fetched source.old) (S.fetched source.new) }
-    ensures same_source { S.references source.new ≡ S.references source.old }
-    ensures same_sink { W.references sink.new ≡ W.references sink.old }
+    ensures kept { SourceKept S.content S.faults S.references source.old source.new }
+    ensures sink { SinkKept W.faults W.wants W.references sink.old sink.new }
 {
     if columns.is_some() || limit.is_some() {
         return Err(IpcError::Unsupported(Feature::NotYet));
@@ -74,15 +69,10 @@ pub fn transcode<S: Source, W: Sink>(
     ensures complete { let r = asked (option_map (λ c. c.now) columns.entry) limit in
         IfSome (S.content source.old) (λ b. IsSome (file_table b r) → Stands (S.faults source.old) (S.faults source.new) → Stands (W.faults sink.old) (W.faults sink.new) → IfErr result (IsSmallRefusal b r)) }
 
-    ensures content { S.content source.new ≡ S.content source.old }
-    ensures reads { S.faults source.old ≤ S.faults source.new }
-    ensures writes { W.faults sink.old ≤ W.faults sink.new }
-    ensures wants { W.wants sink.old ≤ W.wants sink.new }
-
     // Of a file that means a table no more is fetched than the request needs, and no buffer of what is read for no rows.
     ensures fetched { FileFetched (S.content source.old) (asked (option_map (λ c. c.now) columns.entry) limit) (S.fetched source.old) (S.fetched source.new) }
-    ensures same_source { S.references source.new ≡ S.references source.old }
-    ensures same_sink { W.references sink.new ≡ W.references sink.old }
+    ensures kept { SourceKept S.content S.faults S.references source.old source.new }
+    ensures sink { SinkKept W.faults W.wants W.references sink.old sink.new }
 {
     transcode_as(alloc, source, sink, columns, limit, Encoding::Bytes)
 }

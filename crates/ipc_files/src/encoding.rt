@@ -1,6 +1,7 @@
 //! The bytes of a stream as they are put.
 ghost use Rattle.std.specs.Prelude.{◌≡◌, ◌≤◌, IfErr};
 ghost use Rattle.ipc_files.specs.Transcode.{text_of, PutsText, PutTextCause};
+ghost use Rattle.ipc_io.specs.Outside.{SinkKept};
 
 use arrow_spec::IpcError;
 use ipc_schema::Sink;
@@ -24,18 +25,11 @@ pub(crate) fn put_text<W: Sink>(
 ) -> Result<(), IpcError>
     ensures bytes { PutsText (W.written sink.old) (W.written sink.new) result (text_of encoding bytes.now) }
     ensures cause { IfErr result (λ e. PutTextCause e (W.faults sink.old) (W.faults sink.new)) }
-    ensures writes { W.faults sink.old ≤ W.faults sink.new }
-    ensures wants { W.wants sink.old ≤ W.wants sink.new }
-    ensures same_sink { W.references sink.new ≡ W.references sink.old }
+    ensures sink { SinkKept W.faults W.wants W.references sink.old sink.new }
 {
     match encoding {
         Encoding::Bytes => sink.put(bytes)?,
-        Encoding::HexText => {
-            let Ok(text) = hex::encode(alloc, bytes) else {
-                return Err(IpcError::Memory);
-            };
-            sink.put(text.as_bytes())?;
-        }
+        Encoding::HexText => sink.put(hex::encode(alloc, bytes)?.as_bytes())?,
     }
     Ok(())
 }

@@ -2,6 +2,7 @@
 ghost use Rattle.std.specs.Prelude.{◌≡◌, ◌+◌, ◌≤◌, length, IfOk, IfErr};
 ghost use Rattle.ipc_files.specs.FileBlocks.{Lies, Fetched, Faulted};
 ghost use Rattle.ipc_files.specs.FileViews.{FileCause};
+ghost use Rattle.ipc_io.specs.Outside.{SourceKept};
 
 use arrow_spec::{IpcError, OutOfSpecKind};
 use ipc_schema::{Got, Source};
@@ -18,19 +19,14 @@ pub(crate) fn fetch<S: Source>(
     ensures bytes { IfOk result (λ v. Fetched (S.content source.old) at count v.items) }
     ensures count { IfOk result (λ v. length v.items ≡ count) }
     ensures refused { IfErr result (λ e. Faulted (S.content source.old) e) }
-    ensures content { S.content source.new ≡ S.content source.old }
-    ensures faults { S.faults source.old ≤ S.faults source.new }
     ensures cause { IfErr result (λ e. FileCause e (S.faults source.old) (S.faults source.new)) }
     ensures fetched { S.fetched source.new ≤ S.fetched source.old + count }
-    ensures same_source { S.references source.new ≡ S.references source.old }
+    ensures kept { SourceKept S.content S.faults S.references source.old source.new }
 {
     let mut bytes = Vec::new(alloc);
-    if bytes.resize(count, 0).is_err() {
-        return Err(IpcError::Memory);
-    }
-    match source.read_at(at, &mut bytes) {
-        Ok(Got::Full) => Ok(bytes),
-        Ok(Got::Short) => Err(IpcError::OutOfSpec(OutOfSpecKind::Truncated)),
-        Err(_) => Err(IpcError::ReadFault),
+    bytes.resize(count, 0)?;
+    match source.read_at(at, &mut bytes)? {
+        Got::Full => Ok(bytes),
+        Got::Short => Err(IpcError::OutOfSpec(OutOfSpecKind::Truncated)),
     }
 }

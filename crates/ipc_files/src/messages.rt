@@ -25,9 +25,7 @@ pub(crate) fn schema_message(alloc: Global, file: &FileMetadata) -> Result<Vec<u
     requires read { WasRead file.now }
     ensures { WritesSchema result (meta_view file.now).schema.fields (meta_view file.now).schema.metadata }
 {
-    let Ok(ipc_fields) = default_ipc_fields(alloc, &file.schema) else {
-        return Err(IpcError::Memory);
-    };
+    let ipc_fields = default_ipc_fields(alloc, &file.schema)?;
     let metadata = schema_to_bytes(alloc, &file.schema, &ipc_fields, metadata_of(file))?;
     message_to_bytes(alloc, &metadata, &[])
 }

@@ -5,13 +5,13 @@ ghost use Rattle.arrow_spec.specs.Files.{«all», file_reading, footer_of, meta_
 ghost use Rattle.arrow_spec.specs.WrittenSchemas.{SchemaMayBeWritten};
 ghost use Rattle.arrow_types.specs.Schemas.{fields_in};
 ghost use Rattle.ipc_fields.specs.IpcFields.{have_shapes, ids_of, metadata_in};
-ghost use Rattle.ipc_fields.specs.Causes.{IsOfBytes};
+ghost use Rattle.ipc_fields.specs.Causes.{Decodes};
 ghost use Rattle.ipc_schema.specs.Footers.{footer_view};
 ghost use Rattle.transcode_laws.specs.Built.{so_far};
 ghost use Rattle.ipc_files.specs.FileBlocks.{GivesIn};
 ghost use Rattle.ipc_files.specs.FileViews.{meta_view, FileCause, FileSays, WasRead};
 ghost use Rattle.ipc_files.specs.Fetching.{FooterFetched};
-ghost use Rattle.ipc_io.specs.Outside.{IsSize};
+ghost use Rattle.ipc_io.specs.Outside.{IsSize, SourceKept};
 
 use crate::fetch::fetch;
 use arrow_spec::{Block, IpcError, OutOfSpecKind};
@@ -40,10 +40,8 @@ fn fetch_footer<S: Source>(alloc: Global, source: &mut S, size: u64) -> Result<V
     requires { IsSize (S.content source.old) size }
     ensures footer { GivesIn (S.content source.old) (λ v. v.items) result footer_of }
     ensures cause { IfErr result (λ e. FileCause e (S.faults source.old) (S.faults source.new)) }
-    ensures content { S.content source.new ≡ S.content source.old }
-    ensures faults { S.faults source.old ≤ S.faults source.new }
     ensures fetched { FooterFetched (S.content source.old) (S.fetched source.old) (S.fetched source.new) }
-    ensures same_source { S.references source.new ≡ S.references source.old }
+    ensures kept { SourceKept S.content S.faults S.references source.old source.new }
 {
     if size < 10 {
         return Err(IpcError::OutOfSpec(OutOfSpecKind::Truncated));
@@ -67,10 +65,8 @@ fn read_footer<S: Source>(alloc: Global, source: &mut S) -> Result<FooterBytes, 
     ensures size { IfOk result (λ f. IsSize (S.content source.old) f.size) }
     ensures bound { IfOk result (λ f. f.size < 2 ^ 63) }
     ensures cause { IfErr result (λ e. FileCause e (S.faults source.old) (S.faults source.new)) }
-    ensures content { S.content source.new ≡ S.content source.old }
-    ensures faults { S.faults source.old ≤ S.faults source.new }
     ensures fetched { FooterFetched (S.content source.old) (S.fetched source.old) (S.fetched source.new) }
-    ensures same_source { S.references source.new ≡ S.references source.old }
+    ensures kept { SourceKept S.content S.faults S.references source.old source.new }
 {
     let size = source.size()?;
     let bytes = fetch_footer(alloc, source, size)?;
@@ -79,10 +75,9 @@ fn read_footer<S: Source>(alloc: Global, source: &mut S) -> Result<FooterBytes, 
 
 /// The footer in some bytes.
 fn footer_in(alloc: Global, bytes: &[u8]) -> Result<Footer, IpcError>
-    ensures gives { Gives footer_view result (meta_in bytes.now) }
+    ensures gives { Decodes footer_view result (meta_in bytes.now) }
     ensures may { IfOk result (λ f. SchemaMayBeWritten (footer_view f).schema.fields (footer_view f).schema.metadata) }
     ensures shapes { IfOk result (λ f. have_shapes (fields_in f.schema) (ids_of f.ipc_schema.fields.items) ≡ true) }
-    ensures quiet { IfErr result IsOfBytes }
 {
     deserialize_footer(alloc, bytes)
 }
@@ -90,15 +85,12 @@ fn footer_in(alloc: Global, bytes: &[u8]) -> Result<Footer, IpcError>
 /// What a footer says of its file.
 fn metadata_in(alloc: Global, footer: &FooterBytes) -> Result<FileMetadata, IpcError>
     requires { footer.now.size < 2 ^ 63 }
-    ensures gives { Gives meta_view result (meta_in footer.now.bytes.items) }
+    ensures gives { Decodes meta_view result (meta_in footer.now.bytes.items) }
     ensures size { IfOk result (λ m. m.size ≡ footer.now.size) }
     ensures read { IfOk result WasRead }
-    ensures quiet { IfErr result IsOfBytes }
 {
     let footer_read = footer_in(alloc, &footer.bytes)?;
-    let Ok(schema) = Rc::new(alloc, footer_read.schema) else {
-        return Err(IpcError::Memory);
-    };
+    let schema = Rc::new(alloc, footer_read.schema)?;
     Ok(FileMetadata {
         schema,
         ipc_schema: footer_read.ipc_schema,
@@ -118,10 +110,8 @@ pub fn read_file_metadata<S: Source>(
     ensures size { IfOk result (λ m. IsSize (S.content source.old) m.size) }
     ensures read { IfOk result WasRead }
     ensures cause { IfErr result (λ e. FileCause e (S.faults source.old) (S.faults source.new)) }
-    ensures content { S.content source.new ≡ S.content source.old }
-    ensures faults { S.faults source.old ≤ S.faults source.new }
     ensures fetched { FooterFetched (S.content source.old) (S.fetched source.old) (S.fetched source.new) }
-    ensures same_source { S.references source.new ≡ S.references source.old }
+    ensures kept { SourceKept S.content S.faults S.references source.old source.new }
 {
     let footer = read_footer(alloc, source)?;
     metadata_in(alloc, &footer)
@@ -137,10 +127,8 @@ pub(crate) fn read_plain_metadata<S: Source>(
     ensures size { IfOk result (λ m. IsSize (S.content source.old) m.size) }
     ensures read { IfOk result WasRead }
     ensures cause { IfErr result (λ e. FileCause e (S.faults source.old) (S.faults source.new)) }
-    ensures content { S.content source.new ≡ S.content source.old }
-    ensures faults { S.faults source.old ≤ S.faults source.new }
     ensures fetched { FooterFetched (S.content source.old) (S.fetched source.old) (S.fetched source.new) }
-    ensures same_source { S.references source.new ≡ S.references source.old }
+    ensures kept { SourceKept S.content S.faults S.references source.old source.new }
 {
     let footer = read_footer(alloc, source)?;
     let file = metadata_in(alloc, &footer)?;

@@ -1,7 +1,7 @@
 //! A file's table, sent batch by batch.
 ghost use Rattle.std.specs.Prelude.{◌≡◌, ◌+◌, ◌*◌, ◌^◌, ◌<◌, ◌≤◌, List, Option, length, IfOk, IfErr, IfSome, Ok, ℕ};
 ghost use Rattle.arrow_spec.specs.Files.{«all», dictionaries_read, has_any};
-ghost use Rattle.ipc_io.specs.Outside.{IsSize};
+ghost use Rattle.ipc_io.specs.Outside.{IsSize, SourceKept, SinkKept};
 ghost use Rattle.ipc_files.specs.FileBlocks.{file_block};
 ghost use Rattle.ipc_files.specs.FileViews.{meta_view, FileSays, IsBuilt, WasRead};
 ghost use Rattle.ipc_files.specs.Fetching.{BlockFetched, BlocksFetched, FileFetched};
@@ -43,13 +43,9 @@ fn send_block<S: Source, W: Sink>(
     ensures small { IfOk result (λ s. s.bytes < 2 ^ 63) }
     ensures few { IfOk result (λ s. s.rows < 2 ^ 63) }
     ensures cause { IfErr result (λ e. SendCause e (S.faults source.old) (S.faults source.new) (W.faults sink.old) (W.faults sink.new)) }
-    ensures content { S.content source.new ≡ S.content source.old }
-    ensures reads { S.faults source.old ≤ S.faults source.new }
-    ensures writes { W.faults sink.old ≤ W.faults sink.new }
-    ensures wants { W.wants sink.old ≤ W.wants sink.new }
     ensures fetched { BlockFetched (S.content source.old) (meta_view file.now) (file_block block.now) (S.fetched source.old) (S.fetched source.new) }
-    ensures same_source { S.references source.new ≡ S.references source.old }
-    ensures same_sink { W.references sink.new ≡ W.references sink.old }
+    ensures kept { SourceKept S.content S.faults S.references source.old source.new }
+    ensures sink { SinkKept W.faults W.wants W.references sink.old sink.new }
 {
     let batch = read_block(alloc, source, block, file, scratch)?;
     let rows = batch.height();
@@ -78,13 +74,9 @@ fn send_blocks<S: Source, W: Sink>(
     ensures refused { IfErr result (λ e. IfSome (S.content source.old) (λ b. (start : Option (List ℕ)) → Begun b (meta_view file.now) encoding start (W.written sink.old) schema_length → Refused e b encoding start (W.written sink.new))) }
     ensures small { IfOk result (λ s. s.bytes ≤ (length file.now.blocks.items + 1) * 2 ^ 64) }
     ensures cause { IfErr result (λ e. SendCause e (S.faults source.old) (S.faults source.new) (W.faults sink.old) (W.faults sink.new)) }
-    ensures content { S.content source.new ≡ S.content source.old }
-    ensures reads { S.faults source.old ≤ S.faults source.new }
-    ensures writes { W.faults sink.old ≤ W.faults sink.new }
-    ensures wants { W.wants sink.old ≤ W.wants sink.new }
     ensures fetched { BlocksFetched (S.content source.old) (meta_view file.now) (meta_view file.now).blocks (S.fetched source.old) (S.fetched source.new) }
-    ensures same_source { S.references source.new ≡ S.references source.old }
-    ensures same_sink { W.references sink.new ≡ W.references sink.old }
+    ensures kept { SourceKept S.content S.faults S.references source.old source.new }
+    ensures sink { SinkKept W.faults W.wants W.references sink.old sink.new }
 {
     let mut scratch = Vec::new(alloc);
     let mut summary = Summary {
@@ -121,9 +113,7 @@ fn begin_stream<W: Sink>(
     ensures refused { IfErr result (λ e. (b : List ℕ) → FileSays b (meta_view file.now) → Refused e b encoding (W.written sink.old) (W.written sink.new)) }
     ensures small { IfOk result (λ n. n < 2 ^ 63) }
     ensures cause { IfErr result (λ e. SendCause e 0 0 (W.faults sink.old) (W.faults sink.new)) }
-    ensures writes { W.faults sink.old ≤ W.faults sink.new }
-    ensures wants { W.wants sink.old ≤ W.wants sink.new }
-    ensures same_sink { W.references sink.new ≡ W.references sink.old }
+    ensures sink { SinkKept W.faults W.wants W.references sink.old sink.new }
 {
     let message = schema_message(alloc, file)?;
     if reads_dictionaries(file) {
@@ -147,13 +137,9 @@ fn send_table<S: Source, W: Sink>(
     ensures whole { IfOk result (λ s. IfSome (S.content source.old) (λ b. FileSays b (meta_view file.now) → Transcodes s b «all» (text_of encoding) (W.written sink.old) (W.written sink.new))) }
     ensures refused { IfErr result (λ e. IfSome (S.content source.old) (λ b. FileSays b (meta_view file.now) → Refused e b encoding (W.written sink.old) (W.written sink.new))) }
     ensures cause { IfErr result (λ e. SendCause e (S.faults source.old) (S.faults source.new) (W.faults sink.old) (W.faults sink.new)) }
-    ensures content { S.content source.new ≡ S.content source.old }
-    ensures reads { S.faults source.old ≤ S.faults source.new }
-    ensures writes { W.faults sink.old ≤ W.faults sink.new }
-    ensures wants { W.wants sink.old ≤ W.wants sink.new }
     ensures fetched { BlocksFetched (S.content source.old) (meta_view file.now) (meta_view file.now).blocks (S.fetched source.old) (S.fetched source.new) }
-    ensures same_source { S.references source.new ≡ S.references source.old }
-    ensures same_sink { W.references sink.new ≡ W.references sink.old }
+    ensures kept { SourceKept S.content S.faults S.references source.old source.new }
+    ensures sink { SinkKept W.faults W.wants W.references sink.old sink.new }
 {
     let begun = begin_stream(alloc, sink, file, encoding)?;
     let mut summary = send_blocks(alloc, source, sink, file, begun, encoding)?;
@@ -172,13 +158,9 @@ pub(crate) fn send_file<S: Source, W: Sink>(
     ensures whole { IfOk result (λ s. IfSome (S.content source.old) (λ b. Transcodes s b «all» (text_of encoding) (W.written sink.old) (W.written sink.new))) }
     ensures refused { IfErr result (λ e. IfSome (S.content source.old) (λ b. Refused e b encoding (W.written sink.old) (W.written sink.new))) }
     ensures cause { IfErr result (λ e. SendCause e (S.faults source.old) (S.faults source.new) (W.faults sink.old) (W.faults sink.new)) }
-    ensures content { S.content source.new ≡ S.content source.old }
-    ensures reads { S.faults source.old ≤ S.faults source.new }
-    ensures writes { W.faults sink.old ≤ W.faults sink.new }
-    ensures wants { W.wants sink.old ≤ W.wants sink.new }
     ensures fetched { FileFetched (S.content source.old) «all» (S.fetched source.old) (S.fetched source.new) }
-    ensures same_source { S.references source.new ≡ S.references source.old }
-    ensures same_sink { W.references sink.new ≡ W.references sink.old }
+    ensures kept { SourceKept S.content S.faults S.references source.old source.new }
+    ensures sink { SinkKept W.faults W.wants W.references sink.old sink.new }
 {
     let file = read_plain_metadata(alloc, source)?;
     if !is_built(&file) {

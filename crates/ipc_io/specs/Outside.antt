@@ -94,3 +94,15 @@ pub record PutsHaveCause {E : Type 0} (faults faults' wants wants' : ℕ) (resul
   pub later : faults ≤ faults'
   pub wants_later : wants ≤ wants'
   pub rose : OnErr result (Rose faults faults' ⊎ Rose wants wants')
+
+-- a source tells the same bytes, its faults have not fallen, and it holds the same references
+pub record SourceKept {S : Type 0} (content_of : S → Option (List ℕ)) (faults_of : S → ℕ) (references_of : S → List ℕ) (s s' : S) : Type 0 where
+  pub content : content_of s' ≡ content_of s
+  pub faults : faults_of s ≤ faults_of s'
+  pub references : references_of s' ≡ references_of s
+
+-- no count of a sink falls, and it holds the same references
+pub record SinkKept {W : Type 0} (faults_of wants_of : W → ℕ) (references_of : W → List ℕ) (w w' : W) : Type 0 where
+  pub faults : faults_of w ≤ faults_of w'
+  pub wants : wants_of w ≤ wants_of w'
+  pub references : references_of w' ≡ references_of w

@@ -30,10 +30,10 @@ use Rattle.arrow_spec.specs.Counts.{after, views}
 use Rattle.arrow_spec.specs.declared.message.FieldNode.{FieldNode}
 use Rattle.arrow_spec.specs.declared.message.IpcBuffer.{IpcBuffer}
 use Rattle.ipc_read.specs.Queues.{NodesAt, At}
-use Rattle.ipc_read.specs.Skips.{is_plain_kind, is_plain_layout}
+use Rattle.ipc_read.specs.Skips.{is_childless_kind, is_childless_layout}
 use Rattle.ipc_read.specs.Sources.{Answers}
 use Rattle.ipc_read.specs.Readers.{LeafTaken, ColumnTaken, LeafShortened, ColumnShortened}
-use Rattle.ipc_read.proofs.Passing.{at_all, left_same, plain_views, own_views, leaf_after}
+use Rattle.ipc_read.proofs.Passing.{at_all, left_same, flat_views, own_views, leaf_after}
 
 pub map_from_on : {A B : Type 0} → (g : A → B) (f : ℕ → A) (h : ℕ → B) (i n : ℕ) → ((j : ℕ) → g (f j) ≡ h j) → map g (from_on f i n) ≡ from_on h i n
 map_from_on g f h i zero e = refl
@@ -58,30 +58,30 @@ size_known k h e =
 -- ── of all queues, where a column takes no view count ──
 
 -- a kind that an array holds has no children
-pub leaf_is_plain : (k : Kind) → is_leaf_kind k ≡ true → is_plain_kind k ≡ true
-leaf_is_plain k h = layout_is_plain (physical_of k) (binary_size k) h
+pub leaf_is_flat : (k : Kind) → is_leaf_kind k ≡ true → is_childless_kind k ≡ true
+leaf_is_flat k h = layout_is_flat (physical_of k) (binary_size k) h
   where
-    layout_is_plain : (layout : PhysicalType) (size : ℕ) → is_leaf_layout layout size ≡ true → is_plain_layout layout ≡ true
-    layout_is_plain physical.Null size h = refl
-    layout_is_plain physical.Boolean size h = refl
-    layout_is_plain (physical.Primitive t) size h = refl
-    layout_is_plain physical.Binary size h = refl
-    layout_is_plain physical.LargeBinary size h = refl
-    layout_is_plain physical.FixedSizeBinary size h = refl
-    layout_is_plain physical.Utf8 size h = refl
-    layout_is_plain physical.LargeUtf8 size h = refl
-    layout_is_plain physical.BinaryView size h = refl
-    layout_is_plain physical.Utf8View size h = refl
-    layout_is_plain physical.List size h = cc
-    layout_is_plain physical.LargeList size h = cc
-    layout_is_plain physical.FixedSizeList size h = cc
-    layout_is_plain physical.Struct size h = cc
-    layout_is_plain physical.Union size h = cc
-    layout_is_plain physical.Map size h = cc
-    layout_is_plain (physical.Dictionary i) size h = cc
+    layout_is_flat : (layout : PhysicalType) (size : ℕ) → is_leaf_layout layout size ≡ true → is_childless_layout layout ≡ true
+    layout_is_flat physical.Null size h = refl
+    layout_is_flat physical.Boolean size h = refl
+    layout_is_flat (physical.Primitive t) size h = refl
+    layout_is_flat physical.Binary size h = refl
+    layout_is_flat physical.LargeBinary size h = refl
+    layout_is_flat physical.FixedSizeBinary size h = refl
+    layout_is_flat physical.Utf8 size h = refl
+    layout_is_flat physical.LargeUtf8 size h = refl
+    layout_is_flat physical.BinaryView size h = refl
+    layout_is_flat physical.Utf8View size h = refl
+    layout_is_flat physical.List size h = cc
+    layout_is_flat physical.LargeList size h = cc
+    layout_is_flat physical.FixedSizeList size h = cc
+    layout_is_flat physical.Struct size h = cc
+    layout_is_flat physical.Union size h = cc
+    layout_is_flat physical.Map size h = cc
+    layout_is_flat (physical.Dictionary i) size h = cc
 
 pub no_views : (k : Kind) (layout : PhysicalType) → is_leaf_kind k ≡ true → physical_of k ≡ layout → own_views layout ≡ 0 → views k ≡ 0
-no_views k layout h e v = plain_views k (leaf_is_plain k h) ∙ ap own_views e ∙ v
+no_views k layout h e v = flat_views k (leaf_is_flat k h) ∙ ap own_views e ∙ v
 
 pub all_queues : {X : Type 0} → (r : Result X IpcError) (k : Kind) (ns ns' : List FieldNode) (bs bs' : List IpcBuffer) (vs vs' : List ℤ) → views k ≡ 0 → vs' ≡ vs → LeafTaken k ns ns' bs bs' r → ColumnTaken k ns ns' bs bs' vs vs' r
 all_queues (Err x) k ns ns' bs bs' vs vs' v e q = tt
@@ -96,7 +96,7 @@ all_shortened k ns ns' bs bs' vs vs' e h = λ version. rw e (h version vs)
 -- the same of nulls, which take a node alone
 pub null_at : (m : RecordBatch) (k : Kind) (p : Place) (ns ns' : List FieldNode) (bs : List IpcBuffer) → physical_of k ≡ physical.Null → At m p ns bs → NodesAt m (after m k p) ns' → At m (after m k p) ns' bs
 null_at m k p ns ns' bs e a c =
-    let l : p.buffer ≡ (after m k p).buffer = sym (ap (λ (q : Place). q.buffer) (leaf_after m k physical.Null 0 p (ap is_plain_layout e) e (λ n. refl) refl) ∙ add-zero p.buffer) in
+    let l : p.buffer ≡ (after m k p).buffer = sym (ap (λ (q : Place). q.buffer) (leaf_after m k physical.Null 0 p (ap is_childless_layout e) e (λ n. refl) refl) ∙ add-zero p.buffer) in
     record { nodes = c.nodes; buffers = left_same m.buffers p.buffer _ bs l a.buffers; within = c.within }
 
 -- a layout that is read alike takes no view count, and has no numbers

@@ -5,6 +5,8 @@ pub mod LeafArrays
 pub mod OffsetReads
 pub mod VariableArrays
 pub mod Passing
+pub mod Places
+pub mod DataTypes
 pub mod Arrays
 pub mod DataReads
 pub mod ViewArrays
@@ -12,4 +14,5 @@ pub mod BatchTables
 pub mod ColumnKinds
 pub mod Columns
 pub mod Shortened
+pub mod Passed
 pub mod ReaderSteps

@@ -25,13 +25,6 @@ use Rattle.ipc_read.proofs.Refusals.{among_cause, no_cause, none_at, refuses_sou
 
 -- ── lists by place ──
 
-from_on_end : {A : Type 0} → (f : ℕ → A) (i n : ℕ) → from_on f i (suc n) ≡ from_on f i n ++ f (i + n) ∷ []
-from_on_end f i zero = rw (add-zero i) refl
-from_on_end f i (suc n) = let e : i + suc n ≡ suc i + n = omega arith in rw (from_on_end f (suc i) n, e) refl
-
-pub from_on_next : {A : Type 0} → (f : ℕ → A) (n : ℕ) → from_on f 0 (n + 1) ≡ from_on f 0 n ++ f n ∷ []
-from_on_next f n = rw add-one (let e : 0 + n ≡ n = omega arith in from_on_end f 0 n ∙ ap (λ k. from_on f 0 n ++ f k ∷ []) e)
-
 pub length-told : {A : Type 0} → (f : ℕ → A) (i n : ℕ) (xs : List A) → xs ≡ from_on f i n → length xs ≡ n
 length-told f i n xs h = ap length h ∙ count f i n
   where

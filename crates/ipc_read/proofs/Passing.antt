@@ -16,7 +16,7 @@ use Rattle.arrow_types.specs.declared.physical.PhysicalType.TheVariants as physi
 use Rattle.arrow_spec.specs.declared.message.FieldNode.{FieldNode}
 use Rattle.arrow_spec.specs.declared.message.IpcBuffer.{IpcBuffer}
 use Rattle.ipc_read.specs.Queues.{Left, NodesAt, At, AllAt}
-use Rattle.ipc_read.specs.Skips.{moved, is_plain_kind, IsNextCount}
+use Rattle.ipc_read.specs.Skips.{moved, is_childless_kind, IsNextCount}
 use Rattle.ipc_read.specs.Sources.{Answers}
 use Rattle.ipc_read.proofs.Refusals.{refuses_right}
 
@@ -100,65 +100,65 @@ own_views physical.BinaryView = 1
 own_views physical.Utf8View = 1
 own_views layout = 0
 
-pub plain_views : (k : Kind) → is_plain_kind k ≡ true → views k ≡ own_views (physical_of k)
-plain_views null h = refl
-plain_views boolean h = refl
-plain_views (integer t) h = refl
-plain_views (float t) h = refl
-plain_views date32 h = refl
-plain_views date64 h = refl
-plain_views (time32 u) h = refl
-plain_views (time64 u) h = refl
-plain_views (timestamp u z) h = refl
-plain_views (duration u) h = refl
-plain_views (interval u) h = refl
-plain_views (decimal p s) h = refl
-plain_views (decimal256 p s) h = refl
-plain_views (binary small) h = refl
-plain_views (binary large) h = refl
-plain_views (utf8 small) h = refl
-plain_views (utf8 large) h = refl
-plain_views binary_view h = refl
-plain_views utf8_view h = refl
-plain_views (fixed_size_binary n) h = refl
-plain_views («list» small fs) h = cc
-plain_views («list» large fs) h = cc
-plain_views (fixed_size_list n fs) h = cc
-plain_views (struct fs) h = cc
-plain_views (map sorted fs) h = cc
-plain_views (union mode stated ids fs) h = cc
-plain_views (dictionary i ordered id k) h = cc
-plain_views (extension name metadata k) h = plain_views k h
+pub flat_views : (k : Kind) → is_childless_kind k ≡ true → views k ≡ own_views (physical_of k)
+flat_views null h = refl
+flat_views boolean h = refl
+flat_views (integer t) h = refl
+flat_views (float t) h = refl
+flat_views date32 h = refl
+flat_views date64 h = refl
+flat_views (time32 u) h = refl
+flat_views (time64 u) h = refl
+flat_views (timestamp u z) h = refl
+flat_views (duration u) h = refl
+flat_views (interval u) h = refl
+flat_views (decimal p s) h = refl
+flat_views (decimal256 p s) h = refl
+flat_views (binary small) h = refl
+flat_views (binary large) h = refl
+flat_views (utf8 small) h = refl
+flat_views (utf8 large) h = refl
+flat_views binary_view h = refl
+flat_views utf8_view h = refl
+flat_views (fixed_size_binary n) h = refl
+flat_views («list» small fs) h = cc
+flat_views («list» large fs) h = cc
+flat_views (fixed_size_list n fs) h = cc
+flat_views (struct fs) h = cc
+flat_views (map sorted fs) h = cc
+flat_views (union mode stated ids fs) h = cc
+flat_views (dictionary i ordered id k) h = refl
+flat_views (extension name metadata k) h = flat_views k h
 
-pub plain_after : (m : RecordBatch) (k : Kind) (p : Place) → is_plain_kind k ≡ true → after m k p ≡ moved 1 (own_buffers (physical_of k) (count_at m p.view)) (own_views (physical_of k)) p
-plain_after m null p h = refl
-plain_after m boolean p h = refl
-plain_after m (integer t) p h = refl
-plain_after m (float t) p h = refl
-plain_after m date32 p h = refl
-plain_after m date64 p h = refl
-plain_after m (time32 u) p h = refl
-plain_after m (time64 u) p h = refl
-plain_after m (timestamp u z) p h = refl
-plain_after m (duration u) p h = refl
-plain_after m (interval u) p h = refl
-plain_after m (decimal precision scale) p h = refl
-plain_after m (decimal256 precision scale) p h = refl
-plain_after m (binary small) p h = refl
-plain_after m (binary large) p h = refl
-plain_after m (utf8 small) p h = refl
-plain_after m (utf8 large) p h = refl
-plain_after m binary_view p h = refl
-plain_after m utf8_view p h = refl
-plain_after m (fixed_size_binary n) p h = refl
-plain_after m («list» small fs) p h = cc
-plain_after m («list» large fs) p h = cc
-plain_after m (fixed_size_list n fs) p h = cc
-plain_after m (struct fs) p h = cc
-plain_after m (map sorted fs) p h = cc
-plain_after m (union mode stated ids fs) p h = cc
-plain_after m (dictionary i ordered id k) p h = cc
-plain_after m (extension name metadata k) p h = plain_after m k p h
+pub flat_after : (m : RecordBatch) (k : Kind) (p : Place) → is_childless_kind k ≡ true → after m k p ≡ moved 1 (own_buffers (physical_of k) (count_at m p.view)) (own_views (physical_of k)) p
+flat_after m null p h = refl
+flat_after m boolean p h = refl
+flat_after m (integer t) p h = refl
+flat_after m (float t) p h = refl
+flat_after m date32 p h = refl
+flat_after m date64 p h = refl
+flat_after m (time32 u) p h = refl
+flat_after m (time64 u) p h = refl
+flat_after m (timestamp u z) p h = refl
+flat_after m (duration u) p h = refl
+flat_after m (interval u) p h = refl
+flat_after m (decimal precision scale) p h = refl
+flat_after m (decimal256 precision scale) p h = refl
+flat_after m (binary small) p h = refl
+flat_after m (binary large) p h = refl
+flat_after m (utf8 small) p h = refl
+flat_after m (utf8 large) p h = refl
+flat_after m binary_view p h = refl
+flat_after m utf8_view p h = refl
+flat_after m (fixed_size_binary n) p h = refl
+flat_after m («list» small fs) p h = cc
+flat_after m («list» large fs) p h = cc
+flat_after m (fixed_size_list n fs) p h = cc
+flat_after m (struct fs) p h = cc
+flat_after m (map sorted fs) p h = cc
+flat_after m (union mode stated ids fs) p h = cc
+flat_after m (dictionary i ordered id k) p h = refl
+flat_after m (extension name metadata k) p h = flat_after m k p h
 
 -- ── arrays that are passed over ──
 
@@ -174,17 +174,17 @@ no_view_faults m k p e h =
     let f : nat_lt (length m.variadic) (p.view + 0) ≡ false = le-ltb _ _ (omega (arith, h)) in
     rw (e, f) refl
 
-pub leaf_after : (m : RecordBatch) (k : Kind) (layout : PhysicalType) (n : ℕ) (p : Place) → is_plain_kind k ≡ true → physical_of k ≡ layout → ((c : ℕ) → own_buffers layout c ≡ n) → own_views layout ≡ 0 → after m k p ≡ moved 1 n 0 p
-leaf_after m k layout n p h e b v = plain_after m k p h ∙ rw (e, v, b (count_at m p.view)) refl
+pub leaf_after : (m : RecordBatch) (k : Kind) (layout : PhysicalType) (n : ℕ) (p : Place) → is_childless_kind k ≡ true → physical_of k ≡ layout → ((c : ℕ) → own_buffers layout c ≡ n) → own_views layout ≡ 0 → after m k p ≡ moved 1 n 0 p
+leaf_after m k layout n p h e b v = flat_after m k p h ∙ rw (e, v, b (count_at m p.view)) refl
 
-pub leaf_count : (m : RecordBatch) (k : Kind) (layout : PhysicalType) (n : ℕ) (p : Place) → is_plain_kind k ≡ true → physical_of k ≡ layout → ((c : ℕ) → own_buffers layout c ≡ n) → own_views layout ≡ 0 → p.view ≤ length m.variadic → counts_faults m (moved 1 n 0 p) ≡ count_faults m k p
+pub leaf_count : (m : RecordBatch) (k : Kind) (layout : PhysicalType) (n : ℕ) (p : Place) → is_childless_kind k ≡ true → physical_of k ≡ layout → ((c : ℕ) → own_buffers layout c ≡ n) → own_views layout ≡ 0 → p.view ≤ length m.variadic → counts_faults m (moved 1 n 0 p) ≡ count_faults m k p
 unfolding count_faults
 leaf_count m k layout n p h e b v w =
-    let none : view_count_faults m k p ≡ [] = no_view_faults m k p (plain_views k h ∙ ap own_views e ∙ v) w in
+    let none : view_count_faults m k p ≡ [] = no_view_faults m k p (flat_views k h ∙ ap own_views e ∙ v) w in
     sym (append-nil (counts_faults m (moved 1 n 0 p))) ∙ ap (λ es. counts_faults m (moved 1 n 0 p) ++ es) (sym none) ∙ ap (λ q. counts_faults m q ++ view_count_faults m k p) (sym (leaf_after m k layout n p h e b v))
 
 pub leaf_queues : {X : Type 0} → (r : Result X IpcError) (k : Kind) (layout : PhysicalType) (n : ℕ) (ns ns' : List FieldNode) (bs bs' : List IpcBuffer) (vs : List ℤ)
-    → is_plain_kind k ≡ true → physical_of k ≡ layout → ((c : ℕ) → own_buffers layout c ≡ n) → own_views layout ≡ 0
+    → is_childless_kind k ≡ true → physical_of k ≡ layout → ((c : ℕ) → own_buffers layout c ≡ n) → own_views layout ≡ 0
     → IfOk r (λ _. (m : RecordBatch) (p : Place) → At m p ns bs → At m (moved 1 n 0 p) ns' bs')
     → IfOk r (λ _. (m : RecordBatch) (p : Place) → AllAt m p ns bs vs → AllAt m (after m k p) ns' bs' vs)
 leaf_queues (Err x) k layout n ns ns' bs bs' vs h e b v q = tt
@@ -194,7 +194,7 @@ leaf_queues (Ok x) k layout n ns ns' bs bs' vs h e b v q = λ m p a.
     rw (leaf_after m k layout n p h e b v) (record { nodes = c.nodes; buffers = c.buffers; views = left_same m.variadic p.view (p.view + 0) vs l a.views })
 
 pub leaf_exact : {X Y : Type 0} → (view : X → Y) (y : Y) (r : Result X IpcError) (k : Kind) (layout : PhysicalType) (n : ℕ) (ns : List FieldNode) (bs : List IpcBuffer) (vs : List ℤ)
-    → is_plain_kind k ≡ true → physical_of k ≡ layout → ((c : ℕ) → own_buffers layout c ≡ n) → own_views layout ≡ 0
+    → is_childless_kind k ≡ true → physical_of k ≡ layout → ((c : ℕ) → own_buffers layout c ≡ n) → own_views layout ≡ 0
     → ((m : RecordBatch) (p : Place) → At m p ns bs → Answers view r (counts_faults m (moved 1 n 0 p)) y)
     → (m : RecordBatch) (p : Place) → AllAt m p ns bs vs → Answers view r (count_faults m k p) y
 leaf_exact view y r k layout n ns bs vs h e b v x m p a = answers_same view r _ _ y (leaf_count m k layout n p h e b v a.views.within) (x m p (at_all a))
@@ -211,17 +211,17 @@ null_queues (Ok x) ns ns' bs q = λ m p a.
 
 -- the same of views
 pub views_queues : {X : Type 0} → (r : Result X IpcError) (k : Kind) (layout : PhysicalType) (ns ns' : List FieldNode) (bs bs' : List IpcBuffer) (vs vs' : List ℤ)
-    → is_plain_kind k ≡ true → physical_of k ≡ layout → ((c : ℕ) → own_buffers layout c ≡ 2 + c) → own_views layout ≡ 1
+    → is_childless_kind k ≡ true → physical_of k ≡ layout → ((c : ℕ) → own_buffers layout c ≡ 2 + c) → own_views layout ≡ 1
     → IfOk r (λ _. (m : RecordBatch) (p : Place) → AllAt m p ns bs vs → AllAt m (moved 1 (2 + count_at m p.view) 1 p) ns' bs' vs')
     → IfOk r (λ _. (m : RecordBatch) (p : Place) → AllAt m p ns bs vs → AllAt m (after m k p) ns' bs' vs')
 views_queues (Err x) k layout ns ns' bs bs' vs vs' h e b v q = tt
-views_queues (Ok x) k layout ns ns' bs bs' vs vs' h e b v q = λ m p a. rw (plain_after m k p h, e, v, b (count_at m p.view)) (q m p a)
+views_queues (Ok x) k layout ns ns' bs bs' vs vs' h e b v q = λ m p a. rw (flat_after m k p h, e, v, b (count_at m p.view)) (q m p a)
 
-pub views_count : (m : RecordBatch) (k : Kind) (layout : PhysicalType) (p : Place) → is_plain_kind k ≡ true → physical_of k ≡ layout → ((c : ℕ) → own_buffers layout c ≡ 2 + c) → own_views layout ≡ 1 → count_faults m binary_view p ≡ count_faults m k p
+pub views_count : (m : RecordBatch) (k : Kind) (layout : PhysicalType) (p : Place) → is_childless_kind k ≡ true → physical_of k ≡ layout → ((c : ℕ) → own_buffers layout c ≡ 2 + c) → own_views layout ≡ 1 → count_faults m binary_view p ≡ count_faults m k p
 unfolding count_faults
 views_count m k layout p h e b v =
-    let place : after m binary_view p ≡ after m k p = sym (plain_after m k p h ∙ rw (e, v, b (count_at m p.view)) refl) in
-    let count : 1 ≡ views k = sym (plain_views k h ∙ ap own_views e ∙ v) in
+    let place : after m binary_view p ≡ after m k p = sym (flat_after m k p h ∙ rw (e, v, b (count_at m p.view)) refl) in
+    let count : 1 ≡ views k = sym (flat_views k h ∙ ap own_views e ∙ v) in
     ap (λ q. counts_faults m q ++ view_count_faults m binary_view p) place
     ∙ ap (λ n. counts_faults m (after m k p) ++ (cause (nat_lt (length m.variadic) (p.view + n)) (OutOfSpec MissingVariadicCount) ++ cause (some_negative (take n (drop p.view m.variadic))) (OutOfSpec UnexpectedNegativeInteger))) count
 

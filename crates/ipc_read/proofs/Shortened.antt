@@ -17,12 +17,12 @@ use Rattle.arrow_types.specs.declared.physical.PhysicalType.TheVariants as physi
 use Rattle.ipc_read.specs.Queues.{Left, NodesAt, AllAt, Shortened, ShortenedBy}
 use Rattle.ipc_read.specs.Sources.{Answers}
 use Rattle.ipc_read.specs.Readers.{LeafShortened, ColumnShortened}
-use Rattle.ipc_read.specs.Skips.{is_plain_kind, moved, IsDamage, PassesParts, PassesColumn}
+use Rattle.ipc_read.specs.Skips.{is_childless_kind, moved, IsDamage, PassesParts, PassesChildless}
 use Rattle.ipc_read.proofs.Counted.{Counted}
 use Rattle.ipc_read.proofs.LeafArrays.{LeafArray, null_layout, counted_at}
 use Rattle.ipc_read.proofs.VariableArrays.{VariableArray}
 use Rattle.ipc_read.proofs.ViewArrays.{ViewArray}
-use Rattle.ipc_read.proofs.Passing.{plain_after, own_buffers, own_views, null_queues, nodes_at, leaf_queues, leaf_exact, views_queues, views_count, answers_same}
+use Rattle.ipc_read.proofs.Passing.{flat_after, own_buffers, own_views, null_queues, nodes_at, leaf_queues, leaf_exact, views_queues, views_count, answers_same}
 
 -- ── a queue ──
 
@@ -86,10 +86,10 @@ view_shortened {vs = vs} version n h f a b v = record {
   views = taken_more v (omega (arith, f.counted.views));
 }
 
-pub plain_shortened : {ns ns' : List FieldNode} {bs bs' : List IpcBuffer} {vs vs' : List ℤ} → (k : Kind) (layout : PhysicalType) (version : MetadataVersion) (n i : ℕ) → is_plain_kind k ≡ true → physical_of k ≡ layout → own_buffers layout (count_among vs 0) ≡ n → own_views layout ≡ i
+pub flat_shortened : {ns ns' : List FieldNode} {bs bs' : List IpcBuffer} {vs vs' : List ℤ} → (k : Kind) (layout : PhysicalType) (version : MetadataVersion) (n i : ℕ) → is_childless_kind k ≡ true → physical_of k ≡ layout → own_buffers layout (count_among vs 0) ≡ n → own_views layout ≡ i
     → Shortened ns 1 ns' → Shortened bs n bs' → Shortened vs i vs' → ShortenedBy k version ns ns' bs bs' vs vs'
-plain_shortened {vs = vs} k layout version n i h e b w x y z =
-    let after = plain_after (only_counts version vs) k first_place h in
+flat_shortened {vs = vs} k layout version n i h e b w x y z =
+    let after = flat_after (only_counts version vs) k first_place h in
     record {
       nodes = taken_more x (omega (arith, ap (λ (q : Place). q.node) after));
       buffers = taken_more y (omega (arith, ap (λ (q : Place). q.buffer) after, ap (λ l. own_buffers l (count_among vs 0)) e, b));
@@ -109,20 +109,20 @@ pub null_passes : {ns ns' : List FieldNode} {bs : List IpcBuffer} → (r : Resul
     → Shortened ns 1 ns' → IfErr r IsDamage → PassesParts 0 ns ns' bs bs r
 null_passes {bs = bs} r q e n d = record { queues = null_queues r _ _ bs q; exact = λ m p a. e m p (nodes_at a); nodes = n; buffers = none_taken 0 bs; damage = d }
 
-pub leaf_passes : {ns ns' : List FieldNode} {bs bs' : List IpcBuffer} {vs : List ℤ} → (r : Result (Unit {0}) IpcError) (k : Kind) (layout : PhysicalType) (n : ℕ) → is_plain_kind k ≡ true → physical_of k ≡ layout → ((c : ℕ) → own_buffers layout c ≡ n) → own_views layout ≡ 0 → PassesParts n ns ns' bs bs' r → PassesColumn k ns ns' bs bs' vs vs r
+pub leaf_passes : {ns ns' : List FieldNode} {bs bs' : List IpcBuffer} {vs : List ℤ} → (r : Result (Unit {0}) IpcError) (k : Kind) (layout : PhysicalType) (n : ℕ) → is_childless_kind k ≡ true → physical_of k ≡ layout → ((c : ℕ) → own_buffers layout c ≡ n) → own_views layout ≡ 0 → PassesParts n ns ns' bs bs' r → PassesChildless k ns ns' bs bs' vs vs r
 leaf_passes {ns = ns} {bs = bs} {vs = vs} r k layout n h e b v q = record {
   queues = leaf_queues r k layout n _ _ _ _ vs h e b v q.queues;
   exact = leaf_exact (λ u. u) tt r k layout n ns bs vs h e b v q.exact;
-  shortened = λ version. plain_shortened k layout version n 0 h e (b (count_among vs 0)) v q.nodes q.buffers (none_taken 0 vs);
+  shortened = λ version. flat_shortened k layout version n 0 h e (b (count_among vs 0)) v q.nodes q.buffers (none_taken 0 vs);
   damage = q.damage;
 }
 
-pub views_pass : {ns ns' : List FieldNode} {bs bs' : List IpcBuffer} {vs vs' : List ℤ} → (r : Result (Unit {0}) IpcError) (k : Kind) (layout : PhysicalType) → is_plain_kind k ≡ true → physical_of k ≡ layout → ((c : ℕ) → own_buffers layout c ≡ 2 + c) → own_views layout ≡ 1
+pub views_pass : {ns ns' : List FieldNode} {bs bs' : List IpcBuffer} {vs vs' : List ℤ} → (r : Result (Unit {0}) IpcError) (k : Kind) (layout : PhysicalType) → is_childless_kind k ≡ true → physical_of k ≡ layout → ((c : ℕ) → own_buffers layout c ≡ 2 + c) → own_views layout ≡ 1
     → IfOk r (λ _. (m : RecordBatch) (p : Place) → AllAt m p ns bs vs → AllAt m (moved 1 (2 + count_at m p.view) 1 p) ns' bs' vs') → ((m : RecordBatch) (p : Place) → AllAt m p ns bs vs → Answers (λ u. u) r (count_faults m binary_view p) tt)
-    → Shortened ns 1 ns' → Shortened bs (2 + count_among vs 0) bs' → Shortened vs 1 vs' → IfErr r IsDamage → PassesColumn k ns ns' bs bs' vs vs' r
+    → Shortened ns 1 ns' → Shortened bs (2 + count_among vs 0) bs' → Shortened vs 1 vs' → IfErr r IsDamage → PassesChildless k ns ns' bs bs' vs vs' r
 views_pass {vs = vs} r k layout h e b v q x n s w d = record {
   queues = views_queues r k layout _ _ _ _ _ _ h e b v q;
   exact = λ m p a. answers_same _ r _ _ tt (views_count m k layout p h e b v) (x m p a);
-  shortened = λ version. plain_shortened k layout version (2 + count_among vs 0) 1 h e (b (count_among vs 0)) v n s w;
+  shortened = λ version. flat_shortened k layout version (2 + count_among vs 0) 1 h e (b (count_among vs 0)) v n s w;
   damage = d;
 }

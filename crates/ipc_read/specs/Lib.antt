@@ -1,5 +1,6 @@
 pub mod DataBuffers
 pub mod Queues
+pub mod Places
 pub mod Sources
 pub mod Readers
 pub mod Skips

@@ -6,6 +6,7 @@ use Rattle.arrow_spec.specs.declared.message.IpcBuffer.{IpcBuffer}
 use Rattle.arrow_spec.specs.declared.message.MetadataVersion.{MetadataVersion}
 use Rattle.arrow_spec.specs.Kinds.{Kind}
 use Rattle.arrow_spec.specs.Counts.{RecordBatch, Place, after}
+use Rattle.ipc_io.specs.Outside.{SourceKept}
 use Rattle.ipc_read_laws.specs.Faults.{read_faults, fetched_at_most}
 use Rattle.ipc_read.specs.declared.body.Body.{Body}
 use Rattle.ipc_read.specs.declared.readers.BufferReader.{BufferReader}
@@ -19,12 +20,6 @@ use Rattle.ipc_read.specs.Sources.{Answers, Inside, Told, Known, BodyReadCause}
 pub record Readable (content : Option (List ℕ)) (body : Body) : Type 0 where
   pub room : body.offset + body.length < 2 ^ 63
   pub inside : Inside content body
-
--- a source tells the same bytes, its faults have not fallen, and it holds the same references
-pub record SourceKept {S : Type 0} (content_of : S → Option (List ℕ)) (faults_of : S → ℕ) (references_of : S → List ℕ) (s s' : S) : Type 0 where
-  pub content : content_of s' ≡ content_of s
-  pub faults : faults_of s ≤ faults_of s'
-  pub references : references_of s' ≡ references_of s
 
 -- a refusal is what the bytes say, want of memory, or a fault of the source, whose count rose
 abbrev pub HasReadCause : {X : Type 0} → ℕ → ℕ → Result X IpcError → Type 0

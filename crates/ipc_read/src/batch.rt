@@ -22,6 +22,7 @@ ghost use Rattle.ipc_read.specs.Batches.{AreQueuesOf, table_in, are_column_kinds
 ghost use Rattle.arrow_spec.specs.Files.{record_batch_of};
 ghost use Rattle.ipc_read.specs.Readers.{QueuesAt, KnownTo, Readable, CanRead, KeepsQueues, FailsToReadColumn, HasReadCause, TakesColumn, FetchesColumn};
 ghost use Rattle.ipc_read.specs.Sources.{Answers, Inside, BodyReadCause, bytes_in};
+ghost use Rattle.ipc_io.specs.Outside.{SourceKept};
 
 use crate::Body;
 use crate::readers::{BufferReader, ColumnReader};
@@ -67,9 +68,7 @@ impl<'n, 'a, S: Source> ColumnReader<'n, 'a, S> {
         for i in 0..schema.len() {
             let field = field_at(schema, i);
             let array = self.read_column(&field.dtype, rows)?;
-            if arrays.push(array).is_err() {
-                return Err(IpcError::Memory);
-            }
+            arrays.push(array)?;
         }
         Ok(arrays)
     }
@@ -137,12 +136,10 @@ pub fn read_record_batch<S: Source>(
     ensures schema { IfOk result (λ x. x.schema ≡ rc_value schema.now) }
     ensures height { IfOk result (λ x. x.height ≡ magnitude header.now.length) }
     ensures cause { IfErr result (λ e. BodyReadCause e (S.faults source.old) (S.faults source.new)) }
-    ensures content { S.content source.new ≡ S.content source.old }
-    ensures faults { S.faults source.old ≤ S.faults source.new }
 
     // A validity is fetched only where there are rows and nulls, and other buffers only where there are rows.
     ensures fetched { (bytes : List ℕ) → S.fetched source.new ≤ S.fetched source.old + batch_fetched (record_batch_of (order_by ipc_schema.now.is_little_endian) version (header_of header.now) bytes) (fields_in (rc_value schema.now)) (magnitude header.now.length) }
-    ensures same_source { S.references source.new ≡ S.references source.old }
+    ensures kept { SourceKept S.content S.faults S.references source.old source.new }
 {
     let queues = queues_of(alloc, header)?;
     let (mut nodes, mut buffers, mut variadic) = queues;
@@ -155,14 +152,10 @@ pub fn read_record_batch<S: Source>(
             source,
             body,
             is_little_endian: ipc_schema.is_little_endian,
-            scratch,
         },
         version,
     };
     let columns = reader.read_arrays(header, schema, size)?;
     let (rows, arrays) = columns;
-    let Ok(shared) = schema.clone() else {
-        return Err(IpcError::Memory);
-    };
-    Ok(RecordBatch::new(rows, shared, arrays))
+    Ok(RecordBatch::new(rows, schema.clone()?, arrays))
 }

@@ -1,15 +1,15 @@
 //! One buffer of a body (Arrow Columnar Format, Message.fbs, Buffer).
-ghost use Rattle.std.specs.Prelude.{◌≡◌, ◌⊎◌, ℕ, suc, ◌+◌, ◌*◌, ◌/◌, ◌^◌, ◌<◌, ◌≤◌, ◌++◌, ◌&&◌, Bool, Some, None, length, take, nat_lt, true, slice_get, drop, List, IfOk, IfErr};
+ghost use Rattle.std.specs.Prelude.{◌≡◌, ◌⊎◌, ℕ, suc, ◌+◌, ◌*◌, ◌/◌, ◌^◌, ◌<◌, ◌≤◌, ◌++◌, ◌&&◌, Bool, Some, None, length, take, nat_lt, true, slice_get, drop, List, IfOk, IfErr, vec_len};
 ghost use Rattle.arrow_spec.specs.Counts.{RecordBatch as Batch, Place, magnitude};
 ghost use Rattle.arrow_spec.specs.Arrays.{buf, from_on, range_of};
 ghost use Rattle.arrow_spec.specs.Faults.{range_causes, range_faults, bitmap_faults, numbers_faults, validity_faults};
 ghost use Rattle.arrow_spec.specs.Laws.{AreBytes};
 ghost use Rattle.arrow_spec.specs.declared.error.IpcError.TheVariants.{Memory, ReadFault};
 ghost use Rattle.arrow_buffers.specs.Rows.{has_rows};
-ghost use Rattle.ipc_io.specs.Outside.{StandsAt};
+ghost use Rattle.ipc_io.specs.Outside.{StandsAt, SourceKept};
 ghost use Rattle.ipc_read.specs.Queues.{Left, Takes, short_of, Shortened};
 ghost use Rattle.ipc_read.specs.Sources.{Answers, Inside, Told, Known, IsRefusal, part_of, validity_fetched};
-ghost use Rattle.ipc_read.specs.Readers.{KnownTo, Readable, SourceKept, HasReadCause, BufferTaken, BytesGiven, NumbersGiven, BufferFetched, CanRead, KeepsSource, FailsToRead, TakesBuffer, ShortensBuffers, GivesBytes, GivesNumbers, FetchesBuffer};
+ghost use Rattle.ipc_read.specs.Readers.{KnownTo, Readable, HasReadCause, BufferTaken, BytesGiven, NumbersGiven, BufferFetched, CanRead, KeepsSource, FailsToRead, TakesBuffer, ShortensBuffers, GivesBytes, GivesNumbers, FetchesBuffer};
 ghost use Rattle.arrow_spec.specs.Flat.{order_by};
 ghost use Rattle.ipc_read_laws.specs.PartsRead.{bits_read, items_read, validity_read};
 ghost use Rattle.ipc_read_laws.specs.Faults.{stated};
@@ -23,6 +23,7 @@ use arrow_types::NativeType;
 use ipc_schema::{Got, Source};
 use std::alloc::Global;
 use std::collections::VecDeque;
+use std::rc::RcSlice;
 
 /// Takes the first of a queue.
 pub(crate) fn take_one<T: Drop>(queue: &mut VecDeque<T>) -> Result<T, IpcError>
@@ -113,26 +114,6 @@ pub(crate) fn items_part(
     })
 }
 
-/// Fills the bytes with those that stand in a place of the source.
-fn fetch_into<S: Source>(source: &mut S, part: Body, bytes: &mut Vec<u8>) -> Result<(), IpcError>
-    requires readable { Readable (S.content source.old) part }
-    ensures bytes { IfOk result (λ _. StandsAt (S.content source.old) part.offset bytes.new.items) }
-    ensures count { IfOk result (λ _. length bytes.new.items ≡ part.length) }
-    ensures err { IfErr result (λ e. ((e ≡ Memory) ⊎ (e ≡ ReadFault)) ⊎ (S.content source.old ≡ None)) }
-    ensures cause { HasReadCause (S.faults source.old) (S.faults source.new) result }
-    ensures kept { SourceKept S.content S.faults S.references source.old source.new }
-    ensures fetched { S.fetched source.new ≤ S.fetched source.old + part.length }
-{
-    if bytes.resize(part.length as usize, 0).is_err() {
-        return Err(IpcError::Memory);
-    }
-    match source.read_at(part.offset, bytes) {
-        Ok(Got::Full) => Ok(()),
-        Ok(Got::Short) => Err(IpcError::OutOfSpec(OutOfSpecKind::Truncated)),
-        Err(_) => Err(IpcError::ReadFault),
-    }
-}
-
 /// The bytes that stand in a place of the source.
 fn fetch<S: Source>(alloc: Global, source: &mut S, part: Body) -> Result<Vec<u8>, IpcError>
     requires readable { Readable (S.content source.old) part }
@@ -144,8 +125,11 @@ fn fetch<S: Source>(alloc: Global, source: &mut S, part: Body) -> Result<Vec<u8>
     ensures fetched { S.fetched source.new ≤ S.fetched source.old + part.length }
 {
     let mut bytes = Vec::new(alloc);
-    fetch_into(source, part, &mut bytes)?;
-    Ok(bytes)
+    bytes.resize(part.length as usize, 0)?;
+    match source.read_at(part.offset, &mut bytes)? {
+        Got::Full => Ok(bytes),
+        Got::Short => Err(IpcError::OutOfSpec(OutOfSpecKind::Truncated)),
+    }
 }
 
 /// How many bytes hold the bits of so many rows.
@@ -155,39 +139,27 @@ fn bytes_for(rows: usize) -> u64
     ((rows as u128 + 7) / 8) as u64
 }
 
-/// The number in the bytes of an item.
-fn number_at<T: NativeType>(bytes: &[u8], at: usize, is_little_endian: bool) -> T
-    requires { at + T.WIDTH ≤ length bytes.now }
-    ensures { result ≡ T.read (order_by is_little_endian) (take T.WIDTH (drop at bytes.now)) }
+/// What a slice of bytes holds are bytes.
+fn are_bytes(bytes: &[u8])
+    ensures { AreBytes bytes.now }
 {
-    let item = &bytes[at..at + T::WIDTH];
-    if is_little_endian {
-        T::from_le_bytes(item)
-    } else {
-        T::from_be_bytes(item)
-    }
+    let _ = bytes;
 }
 
-/// The first numbers that stand in some bytes.
+/// The bytes as numbers in an order. They are not copied.
 fn numbers_of<T: NativeType>(
-    alloc: Global,
-    bytes: &[u8],
+    bytes: Vec<u8>,
     rows: usize,
     is_little_endian: bool,
-) -> Result<Vec<T>, IpcError>
-    requires { T.WIDTH * rows ≤ length bytes.now }
-    ensures numbers { IfOk result (λ v. v.items ≡ from_on (λ j. T.read (order_by is_little_endian) (take T.WIDTH (drop (T.WIDTH * j) bytes.now))) 0 rows) }
-    ensures bytes { IfOk result (λ _. AreBytes bytes.now) }
+) -> Result<Buffer<T>, IpcError>
+    requires { T.WIDTH * rows ≤ vec_len bytes }
+    ensures numbers { IfOk result (λ b. b ≡ from_on (λ j. T.read (order_by is_little_endian) (take T.WIDTH (drop (T.WIDTH * j) bytes.items))) 0 rows) }
+    ensures bytes { IfOk result (λ _. AreBytes bytes.items) }
     ensures memory { IfErr result (λ e. e ≡ Memory) }
 {
-    let mut numbers = Vec::new(alloc);
-    for row in 0..rows {
-        let number = number_at(bytes, T::WIDTH * row, is_little_endian);
-        if numbers.push(number).is_err() {
-            return Err(IpcError::Memory);
-        }
-    }
-    Ok(numbers)
+    are_bytes(bytes.as_slice());
+    let bytes = RcSlice::from_vec(bytes)?;
+    Ok(Buffer::shared(bytes, 0, rows, !is_little_endian))
 }
 
 /// Whether a validity is read.
@@ -210,10 +182,7 @@ impl<'a, S: Source> BufferReader<'a, S> {
     {
         let part = next_part(self.queue, self.body)?;
         let bytes = fetch(self.alloc, self.source, part)?;
-        match Buffer::from_vec(bytes) {
-            Ok(buffer) => Ok(buffer),
-            Err(_) => Err(IpcError::Memory),
-        }
+        Ok(Buffer::from_bytes(bytes)?)
     }
 
     /// Takes the next buffer and reads its first bits.
@@ -240,10 +209,7 @@ impl<'a, S: Source> BufferReader<'a, S> {
             length: bytes_for(rows),
         };
         let bytes = fetch(self.alloc, self.source, needed)?;
-        match Bitmap::from_vec(bytes, rows) {
-            Ok(bits) => Ok(bits),
-            Err(_) => Err(IpcError::Memory),
-        }
+        Ok(Bitmap::from_vec(bytes, rows)?)
     }
 
     /// Takes the next buffer and reads its first numbers.
@@ -260,12 +226,9 @@ impl<'a, S: Source> BufferReader<'a, S> {
         ensures rows { IfOk result (λ b. length b ≡ rows) }
     {
         let part = items_part(self.queue, self.body, T::WIDTH, rows)?;
-        fetch_into(self.source, part, self.scratch)?;
-        let numbers = numbers_of(self.alloc, self.scratch, rows, self.is_little_endian)?;
-        match Buffer::from_vec(numbers) {
-            Ok(values) => Ok(values),
-            Err(_) => Err(IpcError::Memory),
-        }
+        let bytes = fetch(self.alloc, self.source, part)?;
+        let numbers = numbers_of(bytes, rows, self.is_little_endian)?;
+        Ok(numbers)
     }
 
     /// Takes the next buffer and reads its first rows of a size.
@@ -281,10 +244,7 @@ impl<'a, S: Source> BufferReader<'a, S> {
     {
         let part = items_part(self.queue, self.body, size, rows)?;
         let bytes = fetch(self.alloc, self.source, part)?;
-        match Buffer::from_vec(bytes) {
-            Ok(buffer) => Ok(buffer),
-            Err(_) => Err(IpcError::Memory),
-        }
+        Ok(Buffer::from_bytes(bytes)?)
     }
 
     /// Takes the next buffer, and reads its first bits where there are rows and the node counts nulls.
@@ -337,7 +297,6 @@ pub fn read_bytes<S: Source>(
         source,
         body,
         is_little_endian: true,
-        scratch,
     };
     reader.read_bytes()
 }
@@ -371,7 +330,6 @@ pub fn read_bitmap<S: Source>(
         source,
         body,
         is_little_endian: true,
-        scratch,
     };
     reader.read_bitmap(rows)
 }
@@ -407,7 +365,6 @@ pub fn read_buffer<T: NativeType, S: Source>(
         source,
         body,
         is_little_endian,
-        scratch,
     };
     reader.read_numbers(rows)
 }
@@ -441,7 +398,6 @@ pub fn read_validity<S: Source>(
         source,
         body,
         is_little_endian: true,
-        scratch,
     };
     reader.read_validity(rows, node)
 }

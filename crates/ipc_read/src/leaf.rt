@@ -5,7 +5,7 @@ ghost use Rattle.arrow_types.specs.KindOf.{kind_of};
 ghost use Rattle.arrow_types.specs.Physical.{physical_of};
 ghost use Rattle.ipc_read.specs.Queues.{NodesAt, At, ShortenedBy};
 ghost use Rattle.ipc_read.specs.Sources.{Answers, Known, BodyReadCause, IsRefusal};
-ghost use Rattle.ipc_read.specs.Readers.{LeafAt, KnownTo, Readable, SourceKept, HasReadCause, LeafTaken, LeafGiven, LeafFetched, LeafShortened, CanRead, KeepsQueues, FailsToReadColumn, TakesLeaf, GivesLeaf, FetchesLeaf, ShortensLeaf};
+ghost use Rattle.ipc_read.specs.Readers.{LeafAt, KnownTo, Readable, HasReadCause, LeafTaken, LeafGiven, LeafFetched, LeafShortened, CanRead, KeepsQueues, FailsToReadColumn, TakesLeaf, GivesLeaf, FetchesLeaf, ShortensLeaf};
 ghost use Rattle.ipc_read_laws.specs.Faults.{read_faults};
 ghost use Rattle.arrow_buffers.specs.Layouts.{is_null, is_boolean, is_primitive, binary_size};
 ghost use Rattle.ipc_read_laws.specs.PartsRead.{boolean_read, primitive_read, fixed_read, numbers_bytes};
@@ -14,6 +14,7 @@ ghost use Rattle.arrow_buffers.specs.Leaf.{fixed_rows};
 ghost use Rattle.arrow_spec.specs.declared.error.IpcError.TheVariants.{Memory};
 ghost use Rattle.arrow_spec.specs.declared.message.MetadataVersion.{MetadataVersion};
 ghost use Rattle.arrow_spec.specs.declared.message.IpcBuffer.{IpcBuffer};
+ghost use Rattle.ipc_io.specs.Outside.{SourceKept};
 
 use crate::Body;
 use crate::makes::{binary_size as size_of, make_boolean, make_fixed, make_null, make_primitive};
@@ -155,7 +156,6 @@ pub fn read_boolean<S: Source>(
             source,
             body,
             is_little_endian,
-            scratch,
         },
         version: MetadataVersion::V5,
     };
@@ -199,7 +199,6 @@ pub fn read_primitive<T: NativeType, S: Source>(
             source,
             body,
             is_little_endian,
-            scratch,
         },
         version: MetadataVersion::V5,
     };
@@ -242,7 +241,6 @@ pub fn read_fixed_size_binary<S: Source>(
             source,
             body,
             is_little_endian,
-            scratch,
         },
         version: MetadataVersion::V5,
     };

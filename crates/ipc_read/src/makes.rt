@@ -22,9 +22,7 @@ pub(crate) fn make_null(
     ensures parts { IfOk result (λ a. a ≡ record { kind = kind_of dtype.now; rows = rows }) }
     ensures memory { IfErr result (λ e. e ≡ Memory) }
 {
-    let Ok(dtype) = dtype.try_clone(alloc) else {
-        return Err(IpcError::Memory);
-    };
+    let dtype = dtype.try_clone(alloc)?;
     match NullArray::try_new(dtype, rows) {
         Ok(array) => Ok(array),
         Err(_) => unreachable!(),
@@ -42,9 +40,7 @@ pub(crate) fn make_boolean(
     ensures parts { IfOk result (λ a. a ≡ record { kind = kind_of dtype.now; values = values; validity = validity }) }
     ensures memory { IfErr result (λ e. e ≡ Memory) }
 {
-    let Ok(dtype) = dtype.try_clone(alloc) else {
-        return Err(IpcError::Memory);
-    };
+    let dtype = dtype.try_clone(alloc)?;
     match BooleanArray::try_new(dtype, values, validity) {
         Ok(array) => Ok(array),
         Err(_) => unreachable!(),
@@ -62,9 +58,7 @@ pub(crate) fn make_primitive<T: NativeType>(
     ensures parts { IfOk result (λ a. a ≡ record { kind = kind_of dtype.now; values = values; validity = validity }) }
     ensures memory { IfErr result (λ e. e ≡ Memory) }
 {
-    let Ok(dtype) = dtype.try_clone(alloc) else {
-        return Err(IpcError::Memory);
-    };
+    let dtype = dtype.try_clone(alloc)?;
     match PrimitiveArray::try_new(dtype, values, validity) {
         Ok(array) => Ok(array),
         Err(_) => unreachable!(),
@@ -85,9 +79,7 @@ pub(crate) fn make_fixed(
     ensures memory { IfErr result (λ e. e ≡ Memory) }
 {
     let _ = rows;
-    let Ok(dtype) = dtype.try_clone(alloc) else {
-        return Err(IpcError::Memory);
-    };
+    let dtype = dtype.try_clone(alloc)?;
     match FixedSizeBinaryArray::try_new(dtype, values, validity) {
         Ok(array) => Ok(array),
         Err(_) => unreachable!(),

@@ -14,7 +14,6 @@ pub(crate) struct BufferReader<'a, S: Source> {
     pub source: &'a mut S,
     pub body: Body,
     pub is_little_endian: bool,
-    pub scratch: &'a mut Vec<u8>,
 }
 
 /// Reads the columns of a record batch, one after another, by its nodes, its buffers and its view counts.

@@ -12,7 +12,8 @@ ghost use Rattle.arrow_spec.specs.Laws.{AreBytes};
 ghost use Rattle.arrow_spec.specs.Arrays.{from_on};
 ghost use Rattle.arrow_spec.specs.ArrayCells.{cell};
 ghost use Rattle.ipc_read.specs.Readings.{is_of_values, is_of_views};
-ghost use Rattle.ipc_read.specs.Readers.{LeafAt, KnownTo, Readable, SourceKept, HasReadCause, ColumnTaken, ColumnGiven, ColumnFetched, ColumnShortened, CanRead, KeepsQueues, FailsToReadColumn, TakesLeaf, GivesLeaf, FetchesLeaf, ShortensLeaf, TakesColumn, GivesColumn, FetchesColumn, ShortensColumn};
+ghost use Rattle.ipc_read.specs.Readers.{LeafAt, KnownTo, Readable, HasReadCause, ColumnTaken, ColumnGiven, ColumnFetched, ColumnShortened, CanRead, KeepsQueues, FailsToReadColumn, TakesLeaf, GivesLeaf, FetchesLeaf, ShortensLeaf, TakesColumn, GivesColumn, FetchesColumn, ShortensColumn};
+ghost use Rattle.ipc_io.specs.Outside.{SourceKept};
 
 use crate::Body;
 use crate::leaf::read_null;
@@ -247,7 +248,6 @@ pub fn read<S: Source>(
             source,
             body,
             is_little_endian,
-            scratch,
         },
         version,
     };

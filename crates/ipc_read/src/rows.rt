@@ -67,10 +67,7 @@ impl<'a, S: Source> BufferReader<'a, S> {
             return self.read_bitmap(rows);
         }
         pass_buffer(self.queue)?;
-        match Bitmap::from_vec(Vec::new(self.alloc), 0) {
-            Ok(bits) => Ok(bits),
-            Err(_) => Err(IpcError::Memory),
-        }
+        Ok(Bitmap::from_vec(Vec::new(self.alloc), 0)?)
     }
 
     /// Takes the next buffer, and reads its first numbers where there are rows.
@@ -89,10 +86,7 @@ impl<'a, S: Source> BufferReader<'a, S> {
             return self.read_numbers(rows);
         }
         pass_buffer(self.queue)?;
-        match Buffer::from_vec(Vec::new(self.alloc)) {
-            Ok(values) => Ok(values),
-            Err(_) => Err(IpcError::Memory),
-        }
+        Ok(Buffer::from_vec(Vec::new(self.alloc))?)
     }
 
     /// Takes the next buffer, and reads its first rows of a size where there are any.
@@ -110,10 +104,7 @@ impl<'a, S: Source> BufferReader<'a, S> {
             return self.read_first(size, rows);
         }
         pass_buffer(self.queue)?;
-        match Buffer::from_vec(Vec::new(self.alloc)) {
-            Ok(values) => Ok(values),
-            Err(_) => Err(IpcError::Memory),
-        }
+        Ok(Buffer::from_vec(Vec::new(self.alloc))?)
     }
 }
 

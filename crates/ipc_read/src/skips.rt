@@ -5,15 +5,17 @@ ghost use Rattle.arrow_spec.specs.Faults.{count_faults, counts_faults};
 ghost use Rattle.arrow_spec.specs.Kinds.{binary_view};
 ghost use Rattle.arrow_spec.specs.declared.error.IpcError.TheVariants.{OutOfSpec};
 ghost use Rattle.arrow_spec.specs.declared.error.OutOfSpecKind.TheVariants.{ExpectedBuffer};
-ghost use Rattle.arrow_types.specs.KindOf.{kind_of};
+ghost use Rattle.arrow_spec.specs.Counts.{union_buffers as own_buffers};
+ghost use Rattle.arrow_types.specs.KindOf.{kind_of, fields_of};
 ghost use Rattle.ipc_read.specs.Queues.{NodesAt, At, AllAt, Shortened};
-ghost use Rattle.ipc_read.specs.Skips.{moved, is_plain_kind, IsDamage, PassesParts, PassesColumn};
+ghost use Rattle.ipc_read.specs.Skips.{moved, is_childless_kind, IsDamage, PassesParts, PassesChildless, PassesColumn, PassesTop};
 ghost use Rattle.ipc_read.specs.Sources.{Answers};
 
 use crate::counts::take_count;
-use arrow_spec::{FieldNode, IpcBuffer, IpcError, MetadataVersion, OutOfSpecKind};
-use arrow_types::{ArrowDataType, PhysicalType};
+use arrow_spec::{FieldNode, IpcBuffer, IpcError, MetadataVersion, OutOfSpecKind, UnionMode};
+use arrow_types::{ArrowDataType, Field, PhysicalType};
 use std::collections::VecDeque;
+use std::slice::from_ref;
 
 /// Passes over the first ones of a queue.
 pub(crate) fn pass<T: Drop>(queue: &mut VecDeque<T>, count: usize) -> Result<(), IpcError>
@@ -154,26 +156,20 @@ pub fn skip_binview(
     skip_parts(nodes, buffers, 2 + count)
 }
 
-/// Passes over an array of a type without children that is no dictionary. Its message's version makes no difference.
-///
-/// # Errors
-///
-/// `ExpectedBuffer` where the node or a buffer is missing; of views also `MissingVariadicCount` and
-/// `UnexpectedNegativeInteger`.
-pub fn skip(
+/// Passes over an array of a type without children; of a dictionary's it passes over the keys.
+fn skip_childless(
     nodes: &mut VecDeque<FieldNode>,
     dtype: &ArrowDataType,
     buffers: &mut VecDeque<IpcBuffer>,
     variadic: &mut VecDeque<i64>,
-    _version: MetadataVersion,
 ) -> Result<(), IpcError>
-    requires plain { is_plain_kind (kind_of dtype.now) ≡ true }
-    ensures { PassesColumn (kind_of dtype.now) nodes.old.items nodes.new.items buffers.old.items buffers.new.items variadic.old.items variadic.new.items result }
+    requires flat { is_childless_kind (kind_of dtype.now) ≡ true }
+    ensures { PassesChildless (kind_of dtype.now) nodes.old.items nodes.new.items buffers.old.items buffers.new.items variadic.old.items variadic.new.items result }
 {
     match dtype.to_physical_type() {
         PhysicalType::Null => skip_null(nodes),
         PhysicalType::Boolean => skip_boolean(nodes, buffers),
-        PhysicalType::Primitive(_) => skip_primitive(nodes, buffers),
+        PhysicalType::Primitive(_) | PhysicalType::Dictionary(_) => skip_primitive(nodes, buffers),
         PhysicalType::Binary | PhysicalType::LargeBinary => skip_binary(nodes, buffers),
         PhysicalType::Utf8 | PhysicalType::LargeUtf8 => skip_utf8(nodes, buffers),
         PhysicalType::FixedSizeBinary => skip_fixed_size_binary(nodes, buffers),
@@ -182,4 +178,88 @@ pub fn skip(
         }
         _ => unreachable!(),
     }
+}
+
+/// How many buffers a union has of its own: before V5 a validity, then types, and offsets where it is dense.
+fn union_buffers(version: MetadataVersion, mode: UnionMode) -> usize
+    ensures { result ≡ own_buffers version mode }
+{
+    let parts = match mode {
+        UnionMode::Sparse => 1,
+        UnionMode::Dense => 2,
+    };
+    match version {
+        MetadataVersion::V5 => parts,
+        _ => parts + 1,
+    }
+}
+
+/// Passes over an array of any type and over its children, as messages of a version have them. It goes as deep as the
+/// type's tree.
+///
+/// # Errors
+///
+/// `ExpectedBuffer` where a node or a buffer is missing; of views also `MissingVariadicCount` and
+/// `UnexpectedNegativeInteger`.
+#[cycle(skip)]
+pub fn skip(
+    nodes: &mut VecDeque<FieldNode>,
+    dtype: &ArrowDataType,
+    buffers: &mut VecDeque<IpcBuffer>,
+    variadic: &mut VecDeque<i64>,
+    version: MetadataVersion,
+) -> Result<(), IpcError>
+    ensures { PassesColumn (kind_of dtype.now) version nodes.old.items nodes.new.items buffers.old.items buffers.new.items variadic.old.items variadic.new.items result }
+{
+    match dtype {
+        ArrowDataType::List(child) => {
+            skip_children(nodes, from_ref(child), buffers, 2, variadic, version)
+        }
+        ArrowDataType::LargeList(child) => {
+            skip_children(nodes, from_ref(child), buffers, 2, variadic, version)
+        }
+        ArrowDataType::Map(child, _) => {
+            skip_children(nodes, from_ref(child), buffers, 2, variadic, version)
+        }
+        ArrowDataType::FixedSizeList(child, _) => {
+            skip_children(nodes, from_ref(child), buffers, 1, variadic, version)
+        }
+        ArrowDataType::Struct(children) => {
+            skip_children(nodes, children.as_slice(), buffers, 1, variadic, version)
+        }
+        ArrowDataType::Union(union) => {
+            let own = union_buffers(version, union.mode);
+            skip_children(
+                nodes,
+                union.fields.as_slice(),
+                buffers,
+                own,
+                variadic,
+                version,
+            )
+        }
+        ArrowDataType::Extension(extension) => {
+            skip(nodes, &extension.inner, buffers, variadic, version)
+        }
+        _ => skip_childless(nodes, dtype, buffers, variadic),
+    }
+}
+
+/// Passes over a node, so many buffers, and the children behind them.
+#[cycle(skip)]
+fn skip_children(
+    nodes: &mut VecDeque<FieldNode>,
+    children: &[Field],
+    buffers: &mut VecDeque<IpcBuffer>,
+    own: usize,
+    variadic: &mut VecDeque<i64>,
+    version: MetadataVersion,
+) -> Result<(), IpcError>
+    ensures { PassesTop own (fields_of children.now) version nodes.old.items nodes.new.items buffers.old.items buffers.new.items variadic.old.items variadic.new.items result }
+{
+    skip_parts(nodes, buffers, own)?;
+    for child in children {
+        skip(nodes, &child.dtype, buffers, variadic, version)?;
+    }
+    Ok(())
 }

@@ -159,9 +159,7 @@ fn queue_of<T: Copy>(alloc: Global, items: &[T]) -> Result<VecDeque<T>, IpcError
 {
     let mut queue = VecDeque::new(alloc);
     for item in items {
-        if queue.push_back(*item).is_err() {
-            return Err(IpcError::Memory);
-        }
+        queue.push_back(*item)?;
     }
     Ok(queue)
 }

@@ -6,7 +6,7 @@ ghost use Rattle.arrow_types.specs.Numbers.{offsets_by};
 ghost use Rattle.arrow_types.specs.Physical.{physical_of};
 ghost use Rattle.ipc_read.specs.Queues.{Left, short_of, Shortened};
 ghost use Rattle.ipc_read.specs.Sources.{Answers, offsets_of_rows, values_of, faults_where, bytes_where, validity_fetched, variable_faults, variable_parts, variable_parts_read};
-ghost use Rattle.ipc_read.specs.Readers.{LeafAt, KnownTo, Readable, SourceKept, HasReadCause, LeafTaken, LeafGiven, LeafFetched, LeafShortened, CanRead, KeepsSource, KeepsQueues, FailsToRead, FailsToReadColumn, TakesBuffer, ShortensBuffers, GivesBytes, GivesNumbers, FetchesBuffer, TakesLeaf, GivesLeaf, FetchesLeaf, ShortensLeaf};
+ghost use Rattle.ipc_read.specs.Readers.{LeafAt, KnownTo, Readable, HasReadCause, LeafTaken, LeafGiven, LeafFetched, LeafShortened, CanRead, KeepsSource, KeepsQueues, FailsToRead, FailsToReadColumn, TakesBuffer, ShortensBuffers, GivesBytes, GivesNumbers, FetchesBuffer, TakesLeaf, GivesLeaf, FetchesLeaf, ShortensLeaf};
 ghost use Rattle.ipc_read_laws.specs.Faults.{stated};
 ghost use Rattle.arrow_buffers.specs.Layouts.{is_variable};
 ghost use Rattle.arrow_buffers.specs.Rows.{has_rows};
@@ -15,6 +15,7 @@ ghost use Rattle.arrow_spec.specs.Faults.{offsets_buffer_faults, range_faults};
 ghost use Rattle.arrow_spec.specs.declared.error.IpcError.TheVariants.{Memory, OutOfSpec};
 ghost use Rattle.arrow_spec.specs.declared.error.OutOfSpecKind.TheVariants.{InvalidOffsets, InvalidUtf8};
 ghost use Rattle.ipc_read_laws.specs.PartsRead.{variable_read};
+ghost use Rattle.ipc_io.specs.Outside.{SourceKept};
 
 use crate::Body;
 use crate::buffers::pass_buffer;
@@ -47,13 +48,8 @@ fn first_offset<O: Offset>(alloc: Global) -> Result<Buffer<O>, IpcError>
         unreachable!();
     };
     let mut items = Vec::new(alloc);
-    if items.push(zero).is_err() {
-        return Err(IpcError::Memory);
-    }
-    match Buffer::from_vec(items) {
-        Ok(offsets) => Ok(offsets),
-        Err(_) => Err(IpcError::Memory),
-    }
+    items.push(zero)?;
+    Ok(Buffer::from_vec(items)?)
 }
 
 /// The array of these parts.
@@ -69,9 +65,7 @@ fn make_variable<O: Offset, V: ViewType>(
     ensures texts { IfOk result (λ _. (V.IS_TEXT && has_bad_text (map O.number parts.offsets) parts.values parts.validity) ≡ false) }
     ensures err { IfErr result (λ e. (e ≡ Memory) ⊎ (((e ≡ OutOfSpec InvalidOffsets) × (are_offsets (map O.number parts.offsets) (length parts.values) ≡ false)) ⊎ ((e ≡ OutOfSpec InvalidUtf8) × ((are_offsets (map O.number parts.offsets) (length parts.values) ≡ true) × ((V.IS_TEXT && has_bad_text (map O.number parts.offsets) parts.values parts.validity) ≡ true))))) }
 {
-    let Ok(dtype) = dtype.try_clone(alloc) else {
-        return Err(IpcError::Memory);
-    };
+    let dtype = dtype.try_clone(alloc)?;
     match VariableArray::try_new(dtype, parts.offsets, parts.values, parts.validity) {
         Ok(array) => Ok(array),
         Err(ArrayError::Offsets) => Err(IpcError::OutOfSpec(OutOfSpecKind::InvalidOffsets)),
@@ -116,10 +110,7 @@ impl<'a, S: Source> BufferReader<'a, S> {
             return self.read_bytes();
         }
         pass_buffer(self.queue)?;
-        match Buffer::from_vec(Vec::new(self.alloc)) {
-            Ok(values) => Ok(values),
-            Err(_) => Err(IpcError::Memory),
-        }
+        Ok(Buffer::from_vec(Vec::new(self.alloc))?)
     }
 }
 
@@ -206,7 +197,6 @@ pub fn read_binary<O: Offset, S: Source>(
             source,
             body,
             is_little_endian,
-            scratch,
         },
         version: MetadataVersion::V5,
     };
@@ -249,7 +239,6 @@ pub fn read_utf8<O: Offset, S: Source>(
             source,
             body,
             is_little_endian,
-            scratch,
         },
         version: MetadataVersion::V5,
     };

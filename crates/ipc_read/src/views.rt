@@ -10,7 +10,7 @@ ghost use Rattle.arrow_types.specs.KindOf.{kind_of};
 ghost use Rattle.arrow_types.specs.Physical.{physical_of};
 ghost use Rattle.ipc_read.specs.Queues.{Left};
 ghost use Rattle.ipc_read.specs.Sources.{Answers, Told, bytes_where};
-ghost use Rattle.ipc_read.specs.Readers.{Readable, SourceKept, HasReadCause, BuffersTaken, FetchesBuffer, GivesBytes, ColumnTaken, ColumnGiven, ColumnFetched, ColumnShortened, CanRead, KeepsSource, KeepsQueues, FailsToRead, FailsToReadColumn, ShortensBuffers, TakesColumn, GivesColumn, FetchesColumn, ShortensColumn};
+ghost use Rattle.ipc_read.specs.Readers.{Readable, HasReadCause, BuffersTaken, FetchesBuffer, GivesBytes, ColumnTaken, ColumnGiven, ColumnFetched, ColumnShortened, CanRead, KeepsSource, KeepsQueues, FailsToRead, FailsToReadColumn, ShortensBuffers, TakesColumn, GivesColumn, FetchesColumn, ShortensColumn};
 ghost use Rattle.ipc_read.specs.DataBuffers.{data_causes, data_of};
 ghost use Rattle.ipc_read_laws.specs.Faults.{stated_of};
 ghost use Rattle.arrow_buffers.specs.declared.error.ArrayError.TheVariants.{Utf8, View};
@@ -18,6 +18,7 @@ ghost use Rattle.arrow_buffers.specs.Layouts.{is_view};
 ghost use Rattle.arrow_buffers.specs.Rows.{has_rows};
 ghost use Rattle.arrow_buffers.specs.Views.{view_rows, view_fault};
 ghost use Rattle.ipc_read_laws.specs.PartsRead.{views_read};
+ghost use Rattle.ipc_io.specs.Outside.{SourceKept};
 
 use crate::Body;
 use crate::counts::take_count;
@@ -47,9 +48,7 @@ fn make_view<V: ViewType>(
     ensures err { IfErr result (λ e. (e ≡ Memory) ⊎ (((e ≡ OutOfSpec InvalidUtf8) × (view_fault V.IS_TEXT true (record { kind = kind_of dtype.now; views = views; buffers = buffers.items; validity = validity }) ≡ Some Utf8)) ⊎ ((e ≡ OutOfSpec InvalidView) × (view_fault V.IS_TEXT true (record { kind = kind_of dtype.now; views = views; buffers = buffers.items; validity = validity }) ≡ Some View)))) }
 {
     let _ = rows;
-    let Ok(dtype) = dtype.try_clone(alloc) else {
-        return Err(IpcError::Memory);
-    };
+    let dtype = dtype.try_clone(alloc)?;
     match BinaryViewArrayGeneric::try_new(dtype, views, buffers, validity) {
         Ok(array) => Ok(array),
         Err(ArrayError::Utf8) => Err(IpcError::OutOfSpec(OutOfSpecKind::InvalidUtf8)),
@@ -79,9 +78,7 @@ impl<'a, S: Source> BufferReader<'a, S> {
         let mut data = Vec::new(self.alloc);
         for _number in 0..count {
             let bytes = self.read_bytes()?;
-            if data.push(bytes).is_err() {
-                return Err(IpcError::Memory);
-            }
+            data.push(bytes)?;
         }
         Ok(data)
     }
@@ -172,7 +169,6 @@ pub fn read_binview<V: ViewType, S: Source>(
             source,
             body,
             is_little_endian,
-            scratch,
         },
         version: MetadataVersion::V5,
     };

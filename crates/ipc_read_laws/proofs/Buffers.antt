@@ -9,6 +9,7 @@ use Rattle.arrow_spec.specs.Arrays.{buf, range_of, range_or_none, from_on}
 use Rattle.arrow_spec.specs.Faults.{range_causes, range_faults, numbers_faults, some_row}
 use Rattle.arrow_spec.specs.Laws.{AreBytes}
 use Rattle.arrow_spec.proofs.Fewer.{cause-none, none_second, sound_first, sound_second}
+use Rattle.arrow_types.specs.BytesBack.{take_bytes, drop_bytes}
 
 range_inside : (x : Option IpcBuffer) (body : ℕ) → range_causes x body ≡ [] → magnitude (range_or_none x).offset + magnitude (range_or_none x).length ≤ body
 range_inside None body h = cc
@@ -28,17 +29,6 @@ numbers_held m i width count h =
     let l = length-buf m i (sound_first _ _ h) in
     let k = ltb-false (magnitude (range_of m i).length) (width * count) (cause-none _ _ (sound_second (range_faults m i) _ h)) in
     omega (arith, l, k)
-
-pub take_bytes : (n : ℕ) (b : List ℕ) → AreBytes b → AreBytes (take n b)
-take_bytes zero b h j = omega arith
-take_bytes (suc n) [] h j = omega arith
-take_bytes (suc n) (x ∷ b) h zero = h 0
-take_bytes (suc n) (x ∷ b) h (suc j) = take_bytes n b (λ i. h (suc i)) j
-
-pub drop_bytes : (n : ℕ) (b : List ℕ) → AreBytes b → AreBytes (drop n b)
-drop_bytes zero b h j = h j
-drop_bytes (suc n) [] h j = omega arith
-drop_bytes (suc n) (x ∷ b) h j = drop_bytes n b (λ i. h (suc i)) j
 
 pub part_bytes : (at n : ℕ) (b : List ℕ) → AreBytes b → AreBytes (take n (drop at b))
 part_bytes at n b h = take_bytes n (drop at b) (drop_bytes at b h)

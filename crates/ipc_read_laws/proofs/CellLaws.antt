@@ -24,7 +24,8 @@ use Rattle.arrow_buffers.proofs.Parts.{shift-from_on}
 use Rattle.arrow_arrays.specs.Parts.{number_size, cells_in, number_cell, layout_cell}
 use Rattle.arrow_arrays.specs.LeafKinds.{is_leaf_kind}
 use Rattle.ipc_read_laws.specs.PartsRead.{parts_in, parts_read, numbers_bytes, bytes_of_rows, validity_read, variable_read, views_read, number_read, item_bytes}
-use Rattle.ipc_read_laws.proofs.Buffers.{buf_bytes, take_bytes, part_bytes, map-from_on, numbers_held}
+use Rattle.arrow_types.specs.BytesBack.{take_bytes}
+use Rattle.ipc_read_laws.proofs.Buffers.{buf_bytes, part_bytes, map-from_on, numbers_held}
 use Rattle.ipc_read_laws.proofs.Validities.{masked-read, valid_cells}
 use Rattle.ipc_read_laws.proofs.KindCases.{IsNumbers, by_kind, Like, like_itself, primitive_at}
 use Rattle.ipc_read_laws.proofs.NumbersBack.{number_cell-read}

@@ -1,8 +1,6 @@
 -- A number that is read and held as its bytes is the number that the record batch has.
 use Rattle.std.proofs.Common.{◌≡◌, ℕ, zero, suc, ◌+◌, ◌-◌, ◌*◌, ◌^◌, ◌<◌, ◌≤◌, List, length, take, drop, ℤ, pos, refl, sym, ap, ◌∙◌, arith}
-use Rattle.std.specs.Prelude.{slice_index}
-use Rattle.std.specs.Int.{Width, w8, w16, w32, w64, w128, byte_len, byte_worth, sum_through, cast_signed}
-use Rattle.std.proofs.Math.Nat.{pow-suc, mul-le-mul_right}
+use Rattle.std.specs.Int.{Width, w8, w16, w32, w64, w128, byte_len, cast_signed}
 use Rattle.std.proofs.lemmas.Int.{of_z-to_z}
 use Rattle.std.proofs.lemmas.List.{drop-take, drop-drop}
 use Rattle.arrow_spec.specs.Flat.{Order, little, big, num, from_bytes}
@@ -13,55 +11,15 @@ use Rattle.arrow_spec.specs.Arrays.{buf, or_0, signed_in, unsigned_in, part_of_r
 use Rattle.arrow_spec.specs.Laws.{AreBytes}
 use Rattle.arrow_types.specs.Numbers.{signed_to_bytes, signed_from_bytes, unsigned_to_bytes, unsigned_from_bytes}
 use Rattle.arrow_types.specs.NumberLaws.{unsigned_back, unsigned_agrees}
+use Rattle.arrow_types.specs.BytesBack.{number_fits, take_bytes, drop_bytes}
 use Rattle.arrow_types.specs.declared.physical.PrimitiveType.{PrimitiveType}
 use Rattle.arrow_types.specs.declared.physical.PrimitiveType.TheVariants as primitive
 use Rattle.arrow_buffers.proofs.Parts.{part-part}
 use Rattle.arrow_arrays.specs.Parts.{as_bytes, primitive_cell}
 use Rattle.arrow_types.specs.Physical.{primitive_size}
 use Rattle.ipc_read_laws.specs.PartsRead.{number_read, item_bytes, primitive_read}
-use Rattle.ipc_read_laws.proofs.Buffers.{take_bytes, drop_bytes, map-from_on}
+use Rattle.ipc_read_laws.proofs.Buffers.{map-from_on}
 use Rattle.ipc_read_laws.proofs.KindCases.{primitive_at}
-use mir.Val.{bits}
-
--- ── bytes make a number that fits ──
-
-worth_below : (i b : ℕ) → b < 256 → byte_worth (suc i) b + 256 ^ suc i ≤ 256 ^ suc (suc i)
-worth_below i b h = let k : suc b * 256 ^ suc i ≤ 256 * 256 ^ suc i = mul-le-mul_right (256 ^ suc i) h in rw (pow-suc 256 (suc i)) (omega (arith, k))
-
-sum_below : (f : ℕ → ℕ) (k : ℕ) → ((i : ℕ) → f i < 256) → sum_through (λ i. byte_worth i (f i)) k < 256 ^ suc k
-sum_below f zero h = h 0
-sum_below f (suc k) h =
-    let a = sum_below f k h in
-    let b = worth_below k (f (suc k)) (h (suc k)) in
-    omega (arith, a, b)
-
-turned_2 : (a b : ℕ) → b + a ≡ a + b
-turned_2 a b = omega arith
-
-turned_4 : (a b c d : ℕ) → d + c + b + a ≡ a + b + c + d
-turned_4 a b c d = omega arith
-
-turned_8 : (a b c d e f g h : ℕ) → h + g + f + e + d + c + b + a ≡ a + b + c + d + e + f + g + h
-turned_8 a b c d e f g h = omega arith
-
-turned_16 : (a b c d e f g h i j k l m n o p : ℕ) → p + o + n + m + l + k + j + i + h + g + f + e + d + c + b + a ≡ a + b + c + d + e + f + g + h + i + j + k + l + m + n + o + p
-turned_16 a b c d e f g h i j k l m n o p = omega arith
-
-same_below : (a b n : ℕ) → a ≡ b → b < n → a < n
-same_below a b n e h = omega (arith, e, h)
-
--- the number of bytes fits their width
-number_fits : (w : Width) (order : Order) (bytes : List ℕ) → AreBytes bytes → from_bytes order w bytes < 2 ^ bits w
-number_fits w8 little bytes h = sum_below (slice_index bytes) 0 h
-number_fits w8 big bytes h = sum_below (slice_index bytes) 0 h
-number_fits w16 little bytes h = sum_below (slice_index bytes) 1 h
-number_fits w16 big bytes h = same_below _ _ _ (turned_2 _ _) (sum_below (λ i. slice_index bytes (1 - i)) 1 (λ i. h (1 - i)))
-number_fits w32 little bytes h = sum_below (slice_index bytes) 3 h
-number_fits w32 big bytes h = same_below _ _ _ (turned_4 _ _ _ _) (sum_below (λ i. slice_index bytes (3 - i)) 3 (λ i. h (3 - i)))
-number_fits w64 little bytes h = sum_below (slice_index bytes) 7 h
-number_fits w64 big bytes h = same_below _ _ _ (turned_8 _ _ _ _ _ _ _ _) (sum_below (λ i. slice_index bytes (7 - i)) 7 (λ i. h (7 - i)))
-number_fits w128 little bytes h = sum_below (slice_index bytes) 15 h
-number_fits w128 big bytes h = same_below _ _ _ (turned_16 _ _ _ _ _ _ _ _ _ _ _ _ _ _ _ _) (sum_below (λ i. slice_index bytes (15 - i)) 15 (λ i. h (15 - i)))
 
 unsigned_again : (w : Width) (order : Order) (bytes : List ℕ) → AreBytes bytes → unsigned_from_bytes w little (unsigned_to_bytes w little (unsigned_from_bytes w order bytes)) ≡ unsigned_from_bytes w order bytes
 unsigned_again w order bytes h = unsigned_back w little (unsigned_from_bytes w order bytes) (number_fits w order bytes h)

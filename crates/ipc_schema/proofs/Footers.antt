@@ -9,7 +9,8 @@ use Rattle.arrow_spec.specs.declared.error.FlatError.{FlatError}
 use Rattle.arrow_spec.specs.declared.error.IpcError.{IpcError}
 use Rattle.arrow_spec.specs.declared.error.OutOfSpecKind.TheVariants as kinds
 use Rattle.arrow_spec.specs.declared.message.Block.{Block}
-use Rattle.arrow_spec.specs.Readings.{damaged, bind, each, Gives, Reading, Refuses, refusals, in_terms_of}
+use Rattle.arrow_spec.specs.Readings.{damaged, bind, each, Reading, refusals, in_terms_of}
+use Rattle.ipc_fields.specs.Causes.{Decodes, RefusesBytes}
 use Rattle.arrow_spec.specs.Flat.{signed_at}
 use Rattle.arrow_spec.specs.Files.{footer_of, FileBlock, block_of, block_at, meta_in}
 use Rattle.arrow_flat.specs.Read.{VectorIn, item}
@@ -17,7 +18,8 @@ use Rattle.ipc_schema.specs.Footers.{IsNatural, footer_length_in, file_block, bl
 use Rattle.ipc_schema.specs.declared.footer.BlockList.{BlockList}
 use Rattle.ipc_schema.specs.declared.footer.BlockList.TheVariants.{RecordBatches, Dictionaries}
 use Rattle.ipc_schema.specs.declared.footer.Footer.{Footer}
-use Rattle.ipc_schema.proofs.Items.{signed-item, signed-front, none_read, none_refused, with_front}
+use Rattle.ipc_schema.proofs.Items.{signed-item, signed-front, none_read, with_front}
+use Rattle.ipc_fields.proofs.Steps.{none_refused}
 
 block-item : (b : List ℕ) (p : ℕ) → block_numbers_at (take 24 (drop p b)) 0 ≡ block_numbers_at b p
 unfolding bind
@@ -43,30 +45,30 @@ block-numbers fault b p = by_numbers fault (signed_at w64 b p) (signed_at w32 b 
 pub blocks_begun : (list : BlockList) (v : VectorIn) (front : List FileBlock) → front ≡ [] → with_front front (each (block_in list v) 0 (v.vector.count - 0)) ≡ blocks_in list v
 blocks_begun list v front h = none_read (block_in list v) v.vector.count front h
 
-refuses_it : (list : BlockList) (e : FlatError) → Refuses (fault_in list e) (fault_in list e ∷ [])
+refuses_it : (list : BlockList) (e : FlatError) → RefusesBytes (fault_in list e) (fault_in list e ∷ [])
 refuses_it RecordBatches e = inl refl
 refuses_it Dictionaries e = inl refl
 
-faulted_by : (list : BlockList) (e : FlatError) (r : Result Block FlatError) (f : Block → Reading FileBlock) → r ≡ Err e → Refuses (fault_in list e) (refusals (bind (in_terms_of (λ f. fault_in list f ∷ []) r) f))
+faulted_by : (list : BlockList) (e : FlatError) (r : Result Block FlatError) (f : Block → Reading FileBlock) → r ≡ Err e → RefusesBytes (fault_in list e) (refusals (bind (in_terms_of (λ f. fault_in list f ∷ []) r) f))
 unfolding bind
 faulted_by list e r f h = rw h (refuses_it list e)
 
 -- the numbers do not lie inside
-pub block_faulted : (list : BlockList) (v : VectorIn) (i : ℕ) (bytes : List ℕ) (e : FlatError) → v.width ≡ 24 → bytes ≡ item v i → Err e ≡ block_numbers_at bytes 0 → Refuses (fault_in list e) (refusals (block_in list v i))
+pub block_faulted : (list : BlockList) (v : VectorIn) (i : ℕ) (bytes : List ℕ) (e : FlatError) → v.width ≡ 24 → bytes ≡ item v i → Err e ≡ block_numbers_at bytes 0 → RefusesBytes (fault_in list e) (refusals (block_in list v i))
 block_faulted list v i bytes e wide given h =
     let p : block_numbers_at v.bytes (v.vector.first + 24 * i) ≡ Err e = sym (numbers_in v i wide) ∙ sym (ap (λ x. block_numbers_at x 0) given) ∙ sym h in
-    subst (λ r. Refuses (fault_in list e) (refusals r)) (sym (block-numbers (fault_in list) v.bytes (v.vector.first + 24 * i))) (faulted_by list e _ block_by p)
+    subst (λ r. RefusesBytes (fault_in list e) (refusals r)) (sym (block-numbers (fault_in list) v.bytes (v.vector.first + 24 * i))) (faulted_by list e _ block_by p)
 
 given_by : (fault : FlatError → IpcError) (x : Block) (r : Result Block FlatError) (f : Block → Reading FileBlock) → r ≡ Ok x → f x ≡ bind (in_terms_of (λ f. fault f ∷ []) r) f
 unfolding bind
 given_by fault x r f h = rw h refl
 
 -- the numbers are there
-pub block_given : (list : BlockList) (v : VectorIn) (i : ℕ) (bytes : List ℕ) (x : Block) (r : Result Block IpcError) → v.width ≡ 24 → bytes ≡ item v i → Ok x ≡ block_numbers_at bytes 0 → Gives file_block r (block_by x) → Gives file_block r (block_in list v i)
+pub block_given : (list : BlockList) (v : VectorIn) (i : ℕ) (bytes : List ℕ) (x : Block) (r : Result Block IpcError) → v.width ≡ 24 → bytes ≡ item v i → Ok x ≡ block_numbers_at bytes 0 → Decodes file_block r (block_by x) → Decodes file_block r (block_in list v i)
 block_given list v i bytes x r wide given h g =
     let p : block_numbers_at v.bytes (v.vector.first + 24 * i) ≡ Ok x = sym (numbers_in v i wide) ∙ sym (ap (λ x. block_numbers_at x 0) given) ∙ sym h in
     let e : block_by x ≡ block_in list v i = given_by (fault_in list) x _ block_by p ∙ sym (block-numbers (fault_in list) v.bytes (v.vector.first + 24 * i)) in
-    subst (Gives file_block r) e g
+    subst (Decodes file_block r) e g
 
 bind_twice : {A B C E : Type 0} (r : Result A E) (f : A → Result B E) (g : B → Result C E) → bind (bind r f) g ≡ bind r (λ x. bind (f x) g)
 unfolding bind
@@ -78,8 +80,8 @@ unfolding meta_in footer_parts records_part dictionaries_part schema_in_footer
 footer_same f = simp bind_twice
 
 -- a footer is its parts
-pub footer_by_parts : (f : List ℕ) (r : Result Footer IpcError) → Gives footer_view r (footer_parts f) → Gives footer_view r (meta_in f)
-footer_by_parts f r h = subst (Gives footer_view r) (sym (footer_same f)) h
+pub footer_by_parts : (f : List ℕ) (r : Result Footer IpcError) → Decodes footer_view r (footer_parts f) → Decodes footer_view r (meta_in f)
+footer_by_parts f r h = subst (Decodes footer_view r) (sym (footer_same f)) h
 
 -- ── blocks without negative numbers ──
 
@@ -123,19 +125,19 @@ pub footer_cut : (b : List ℕ) → length b < 10 → footer_of b ≡ damaged ki
 unfolding footer_of bind
 footer_cut b short = let test : nat_le 10 (length b) ≡ false = lt-leb _ _ short in rw test refl
 
-behind : (r : Result ℕ IpcError) (x : Reading ℕ) (f : ℕ → List ℕ) → Gives (λ n. n) r x → Gives f r (bind x (λ n. Ok (f n)))
+behind : (r : Result ℕ IpcError) (x : Reading ℕ) (f : ℕ → List ℕ) → Decodes (λ n. n) r x → Decodes f r (bind x (λ n. Ok (f n)))
 unfolding bind
 behind (Ok n) x f h = rw h refl
 behind (Err e) (Ok n) f h = none_refused e [] h
 behind (Err e) (Err es) f h = h
 
 -- the length that the last ten bytes tell is that of the footer
-pub footer_told : (end b : List ℕ) (size : ℕ) (r : Result ℕ IpcError) → Gives (λ n. n) r (footer_length_in end size) → length end ≡ 10 → length b ≡ size → drop (size - 10) b ≡ end
-    → Gives (λ n. take n (drop (size - 10 - n) b)) r (footer_of b)
+pub footer_told : (end b : List ℕ) (size : ℕ) (r : Result ℕ IpcError) → Decodes (λ n. n) r (footer_length_in end size) → length end ≡ 10 → length b ≡ size → drop (size - 10) b ≡ end
+    → Decodes (λ n. take n (drop (size - 10 - n) b)) r (footer_of b)
 footer_told end b size r h ten whole is =
     let long : 10 ≤ length b = omega (arith, ap length is, length-drop (size - 10) b) in
     let same : take 10 (drop (length b - 10) b) ≡ end = end_whole b long ∙ ap (λ n. drop (n - 10) b) whole ∙ is in
     let e : footer_of b ≡ bind (footer_length_in end size) (λ n. Ok (take n (drop (size - 10 - n) b))) =
     footer_by_end b long ∙ ap (λ x. bind (footer_length_in x (length b)) (λ n. Ok (take n (drop (length b - 10 - n) b)))) same
     ∙ ap (λ s. bind (footer_length_in end s) (λ n. Ok (take n (drop (s - 10 - n) b)))) whole in
-    subst (Gives (λ n. take n (drop (size - 10 - n) b)) r) (sym e) (behind r (footer_length_in end size) (λ n. take n (drop (size - 10 - n) b)) h)
+    subst (Decodes (λ n. take n (drop (size - 10 - n) b)) r) (sym e) (behind r (footer_length_in end size) (λ n. take n (drop (size - 10 - n) b)) h)

@@ -5,16 +5,17 @@ use Rattle.std.specs.Prelude.{nat_le, ℤ}
 use Rattle.std.specs.Int.{Width, w64, byte_len}
 use Rattle.arrow_spec.specs.declared.error.FlatError.{FlatError}
 use Rattle.arrow_spec.specs.declared.error.IpcError.{IpcError}
-use Rattle.arrow_spec.specs.declared.error.IpcError.TheVariants.{OutOfSpec, Unsupported, TooDeep, TooMany, Projection, TooLarge, SchemaMismatch, DictionaryReplaced, NotRepresentable, State, ReadFault, WriteFault, Memory}
 use Rattle.arrow_spec.specs.declared.error.OutOfSpecKind.{OutOfSpecKind}
 use Rattle.arrow_spec.specs.declared.error.OutOfSpecKind.TheVariants as kinds
 use Rattle.arrow_spec.specs.declared.message.FieldNode.{FieldNode}
 use Rattle.arrow_spec.specs.declared.message.IpcBuffer.{IpcBuffer}
-use Rattle.arrow_spec.specs.Readings.{bind, each, Reading, refusals, Refuses, as_kind}
+use Rattle.arrow_spec.specs.Readings.{bind, each, Reading, refusals, as_kind}
+use Rattle.ipc_fields.specs.Causes.{RefusesBytes}
 use Rattle.arrow_spec.specs.Flat.{part, signed_at}
 use Rattle.arrow_spec.specs.Messages.{node_at, buffer_at}
 use Rattle.arrow_flat.specs.Read.{VectorIn, item}
 use Rattle.ipc_schema.specs.Views.{node_of, nodes_in, buffer_of, buffers_in, number_of, numbers_in}
+use Rattle.ipc_fields.proofs.Steps.{none_refused}
 
 -- those that were read before those that are left
 unfoldable pub with_front : {A E : Type 0} → List A → Result (List A) E → Result (List A) E
@@ -52,33 +53,17 @@ more_read f n i front all x whole less h got grown =
     let step : each f i (n - i) ≡ bind (each f (i + 1) (n - (i + 1))) (λ xs. Ok (x ∷ xs)) = rw (left, next) (each-ok f i (n - suc i) x got) in
     ap (λ xs. with_front xs (each f (i + 1) (n - (i + 1)))) grown ∙ with_front-one front x (each f (i + 1) (n - (i + 1))) ∙ ap (with_front front) (sym step) ∙ h
 
--- a refusal where nothing is refused is one of any refusals
-pub none_refused : (e : IpcError) (es : List IpcError) → Refuses e [] → Refuses e es
-none_refused Memory es h = tt
-none_refused ReadFault es h = tt
-none_refused WriteFault es h = tt
-none_refused (OutOfSpec x) es h = absurd h
-none_refused (Unsupported x) es h = absurd h
-none_refused TooDeep es h = absurd h
-none_refused (TooMany x) es h = absurd h
-none_refused (Projection x) es h = absurd h
-none_refused TooLarge es h = absurd h
-none_refused SchemaMismatch es h = absurd h
-none_refused (DictionaryReplaced x) es h = absurd h
-none_refused NotRepresentable es h = absurd h
-none_refused State es h = absurd h
-
-refused_by : {A : Type 0} (e : IpcError) (r : Reading A) (f : ℕ → Reading A) (n i : ℕ) (front : List A) (whole : Reading (List A)) → i < n → with_front front (each f i (n - i)) ≡ whole → f i ≡ r → Refuses e (refusals r) → Refuses e (refusals whole)
+refused_by : {A : Type 0} (e : IpcError) (r : Reading A) (f : ℕ → Reading A) (n i : ℕ) (front : List A) (whole : Reading (List A)) → i < n → with_front front (each f i (n - i)) ≡ whole → f i ≡ r → RefusesBytes e (refusals r) → RefusesBytes e (refusals whole)
 unfolding with_front
 refused_by e (Ok x) f n i front whole less h same r = none_refused e (refusals whole) r
 refused_by e (Err es) f n i front whole less h same told =
     let left : n - i ≡ suc (n - (i + 1)) = omega arith in
     let step : each f i (n - i) ≡ Err es = rw left (each-err f i (n - (i + 1)) es same) in
     let all : whole ≡ Err es = sym h ∙ ap (with_front front) step in
-    subst (λ r. Refuses e (refusals r)) (sym all) told
+    subst (λ r. RefusesBytes e (refusals r)) (sym all) told
 
 -- a refusal of one is a refusal of all
-pub one_refused : {A : Type 0} (f : ℕ → Reading A) (n i : ℕ) (front : List A) (whole : Reading (List A)) (e : IpcError) → i < n → with_front front (each f i (n - i)) ≡ whole → Refuses e (refusals (f i)) → Refuses e (refusals whole)
+pub one_refused : {A : Type 0} (f : ℕ → Reading A) (n i : ℕ) (front : List A) (whole : Reading (List A)) (e : IpcError) → i < n → with_front front (each f i (n - i)) ≡ whole → RefusesBytes e (refusals (f i)) → RefusesBytes e (refusals whole)
 one_refused f n i front whole e less h told = refused_by e (f i) f n i front whole less h refl told
 
 -- all were read

@@ -1,6 +1,7 @@
 -- A record batch is its parts, one after another.
 use Rattle.std.proofs.Common.{◌≡◌, ℕ, zero, suc, List, Result, Ok, Err, refl, sym, subst, ap}
-use Rattle.arrow_spec.specs.Readings.{bind, Gives}
+use Rattle.arrow_spec.specs.Readings.{bind}
+use Rattle.ipc_fields.specs.Causes.{Decodes}
 use Rattle.arrow_spec.specs.Flat.{Table}
 use Rattle.arrow_spec.specs.Messages.{batch_at, dictionary_at, record_message, version_of}
 use Rattle.ipc_schema.specs.Views.{nodes_part, buffers_part, variadic_part, batch_parts, record_parts, message_of}
@@ -23,8 +24,8 @@ record_same : (b : List ℕ) → record_message b ≡ record_parts b
 unfolding record_message record_parts version_of
 record_same b = simp batch_by_parts
 
-pub record_by_parts : (b : List ℕ) (r : Result RecordMessage IpcError) → Gives message_of r (record_parts b) → Gives message_of r (record_message b)
-record_by_parts b r h = subst (Gives message_of r) (sym (record_same b)) h
+pub record_by_parts : (b : List ℕ) (r : Result RecordMessage IpcError) → Decodes message_of r (record_parts b) → Decodes message_of r (record_message b)
+record_by_parts b r h = subst (Decodes message_of r) (sym (record_same b)) h
 
 bind_ok : {A B E : Type 0} (x : A) (f : A → Result B E) → bind {E = E} (Ok x) f ≡ f x
 unfolding bind
@@ -45,5 +46,5 @@ whole_same : (b : List ℕ) → message_header b ≡ header_parts b
 unfolding message_header header_parts version_of
 whole_same b = simp header_same
 
-pub header_by_parts : (b : List ℕ) (r : Result Message IpcError) → Gives whole_in r (header_parts b) → Gives whole_in r (message_header b)
-header_by_parts b r h = subst (Gives whole_in r) (sym (whole_same b)) h
+pub header_by_parts : (b : List ℕ) (r : Result Message IpcError) → Decodes whole_in r (header_parts b) → Decodes whole_in r (message_header b)
+header_by_parts b r h = subst (Decodes whole_in r) (sym (whole_same b)) h

@@ -6,7 +6,8 @@ use Rattle.std.proofs.lemmas.Bool.{le-leb, lt-leb}
 use Rattle.arrow_spec.specs.declared.error.IpcError.{IpcError}
 use Rattle.arrow_spec.specs.declared.error.IpcError.TheVariants.{OutOfSpec}
 use Rattle.arrow_spec.specs.declared.error.OutOfSpecKind.TheVariants as kinds
-use Rattle.arrow_spec.specs.Readings.{bind, damaged, Gives}
+use Rattle.arrow_spec.specs.Readings.{bind, damaged}
+use Rattle.ipc_fields.specs.Causes.{Decodes}
 use Rattle.arrow_spec.specs.Flat.{unsigned_at, signed_at}
 use Rattle.arrow_spec.specs.Messages.{prefix_of, is_mark}
 use Rattle.ipc_schema.specs.Prefixes.{length_in, TellsLength}
@@ -43,7 +44,7 @@ prefix-cut b short marked long =
     rw (prefix_of, first.1, marked, test) refl
 
 abbrev pub Prefixed : Result (ℕ × ℕ) IpcError → List ℕ → Type 0
-Prefixed r b = Gives (λ p. p) r (prefix_of b)
+Prefixed r b = Decodes (λ p. p) r (prefix_of b)
 
 pub prefix_short : (b : List ℕ) → length b < 4 → Prefixed (Err (OutOfSpec kinds.MessageRange)) b
 prefix_short b short = rw (prefix-short b short) (inl refl)
@@ -54,18 +55,18 @@ prefix_cut b front rest long f r short marked =
     let m : is_mark (take 4 b) ≡ true = sym (ap is_mark f) ∙ marked in
     rw (prefix-cut b less m long) (inl refl)
 
-pub prefix_plain : (b front : List ℕ) (r : Result (ℕ × ℕ) IpcError) → 4 ≤ length b → front ≡ take 4 b → is_mark front ≡ false → Gives (λ p. p) r (length_in front 4 (length b)) → Prefixed r b
+pub prefix_plain : (b front : List ℕ) (r : Result (ℕ × ℕ) IpcError) → 4 ≤ length b → front ≡ take 4 b → is_mark front ≡ false → Decodes (λ p. p) r (length_in front 4 (length b)) → Prefixed r b
 prefix_plain b front r long f plain h =
     let m : is_mark (take 4 b) ≡ false = sym (ap is_mark f) ∙ plain in
     let e : length_in front 4 (length b) ≡ prefix_of b = ap (λ x. length_in x 4 (length b)) f ∙ sym (prefix-plain b long m) in
-    subst (Gives (λ p. p) r) e h
+    subst (Decodes (λ p. p) r) e h
 
-pub prefix_marked : (b front rest four : List ℕ) (r : Result (ℕ × ℕ) IpcError) → 4 ≤ length b → front ≡ take 4 b → rest ≡ drop 4 b → four ≡ take 4 rest → is_mark front ≡ true → Gives (λ p. p) r (length_in four 8 (length b)) → Prefixed r b
+pub prefix_marked : (b front rest four : List ℕ) (r : Result (ℕ × ℕ) IpcError) → 4 ≤ length b → front ≡ take 4 b → rest ≡ drop 4 b → four ≡ take 4 rest → is_mark front ≡ true → Decodes (λ p. p) r (length_in four 8 (length b)) → Prefixed r b
 prefix_marked b front rest four r long f k g marked h =
     let m : is_mark (take 4 b) ≡ true = sym (ap is_mark f) ∙ marked in
     let s : four ≡ take 4 (drop 4 b) = g ∙ ap (take 4) k in
     let e : length_in four 8 (length b) ≡ prefix_of b = ap (λ x. length_in x 8 (length b)) s ∙ sym (prefix-marked b long m) in
-    subst (Gives (λ p. p) r) e h
+    subst (Decodes (λ p. p) r) e h
 
 told_by : (m : Bool) (four b : List ℕ) (start size : ℕ) → is_mark (take 4 b) ≡ m → length b ≡ size → TellsLength four start b → length_in four start size ≡ prefix_of b
 told_by false four b start size plain whole told =
@@ -78,5 +79,5 @@ told_by true four b start size marked whole told =
     ap (λ x. length_in x start size) f ∙ ap (λ n. length_in (take 4 (drop 4 b)) n size) s ∙ ap (length_in (take 4 (drop 4 b)) 8) (sym whole) ∙ sym (prefix-marked b told.long marked)
 
 -- the length that four bytes tell is that of the prefix
-pub prefix_told : (four b : List ℕ) (start size : ℕ) (r : Result (ℕ × ℕ) IpcError) → Gives (λ p. p) r (length_in four start size) → length b ≡ size → TellsLength four start b → Prefixed r b
-prefix_told four b start size r h whole told = subst (Gives (λ p. p) r) (told_by (is_mark (take 4 b)) four b start size refl whole told) h
+pub prefix_told : (four b : List ℕ) (start size : ℕ) (r : Result (ℕ × ℕ) IpcError) → Decodes (λ p. p) r (length_in four start size) → length b ≡ size → TellsLength four start b → Prefixed r b
+prefix_told four b start size r h whole told = subst (Decodes (λ p. p) r) (told_by (is_mark (take 4 b)) four b start size refl whole told) h

@@ -1,13 +1,12 @@
 //! The pairs that a footer or a message has itself, beside those of a schema (File.fbs, Footer; Message.fbs, Message).
 ghost use Rattle.std.specs.Prelude.{[], false, IfErr};
-ghost use Rattle.arrow_spec.specs.Readings.{Gives};
+ghost use Rattle.ipc_fields.specs.Causes.{Decodes};
 ghost use Rattle.arrow_spec.specs.Messages.{footer_pairs, message_pairs};
-ghost use Rattle.ipc_fields.specs.Causes.{IsOfBytes};
 
 use arrow_flat::Flat;
 use arrow_spec::{Feature, IpcError, OutOfSpecKind};
 
-/// Refuses any pairs of a footer, which are not carried yet.
+/// RefusesBytes any pairs of a footer, which are not carried yet.
 ///
 /// # Errors
 ///
@@ -15,8 +14,7 @@ use arrow_spec::{Feature, IpcError, OutOfSpecKind};
 /// where there is a pair, whatever is in it.
 #[tactic(auto, unfolding(arrow_spec::specs::Readings::bind, arrow_spec::specs::Messages::custom_pairs, arrow_spec::specs::Schema::pairs_from))]
 pub fn refuse_footer_pairs(footer: &[u8]) -> Result<(), IpcError>
-    ensures gives { Gives (λ u. []) result (footer_pairs false footer.now) }
-    ensures quiet { IfErr result IsOfBytes }
+    ensures gives { Decodes (λ u. []) result (footer_pairs false footer.now) }
 {
     let table = Flat::root(footer).map_err(|e| IpcError::OutOfSpec(
         OutOfSpecKind::InvalidFlatbufferFooter(e),
@@ -35,15 +33,14 @@ pub fn refuse_footer_pairs(footer: &[u8]) -> Result<(), IpcError>
     }
 }
 
-/// Refuses any pairs of a message, which are not carried yet.
+/// RefusesBytes any pairs of a message, which are not carried yet.
 ///
 /// # Errors
 ///
 /// As for [`refuse_footer_pairs`], with `InvalidFlatbufferMessage`.
 #[tactic(auto, unfolding(arrow_spec::specs::Readings::bind, arrow_spec::specs::Messages::custom_pairs, arrow_spec::specs::Schema::pairs_from))]
 pub fn refuse_message_pairs(message: &[u8]) -> Result<(), IpcError>
-    ensures gives { Gives (λ u. []) result (message_pairs false message.now) }
-    ensures quiet { IfErr result IsOfBytes }
+    ensures gives { Decodes (λ u. []) result (message_pairs false message.now) }
 {
     let table = Flat::root(message).map_err(|e| IpcError::OutOfSpec(
         OutOfSpecKind::InvalidFlatbufferMessage(e),

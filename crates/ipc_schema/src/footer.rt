@@ -1,12 +1,11 @@
 //! The footer of a file (Arrow Columnar Format, "IPC File Format", File.fbs).
 ghost use Rattle.std.specs.Prelude.{◌≡◌, true, ℕ, ◌+◌, ◌-◌, ◌<◌, ◌≤◌, List, ◌++◌, ◌∷◌, [], All, take, drop, map, length, IfOk, OnErr, Err, IfErr};
 ghost use Rattle.arrow_spec.specs.declared.error.IpcError.TheVariants.{Memory};
-ghost use Rattle.arrow_spec.specs.Readings.{Gives};
+ghost use Rattle.ipc_fields.specs.Causes.{Decodes, IsOfBytes};
 ghost use Rattle.arrow_spec.specs.Files.{footer_of, meta_in};
 ghost use Rattle.arrow_types.specs.Schemas.{fields_in};
 ghost use Rattle.ipc_fields.specs.IpcFields.{AreNamed, have_shapes, ids_of, schema_view};
 ghost use Rattle.ipc_schema.specs.Footers.{IsNatural, HasNaturalBlocks, file_block, footer_view, block_numbers_at, block_by, fault_in, block_in, blocks_in, footer_length_in, records_part, dictionaries_part, schema_in_footer, footer_parts};
-ghost use Rattle.ipc_fields.specs.Causes.{IsOfBytes};
 ghost use Rattle.schema_reader.specs.Metadata.{HasPairsIfAny};
 
 use crate::number::{i32_at, i64_at};
@@ -37,7 +36,6 @@ pub(crate) enum BlockList {
 /// A fault in a list of blocks.
 fn fault_in(list: BlockList, e: FlatError) -> IpcError
     ensures value { result ≡ fault_in list e }
-    ensures quiet { IsOfBytes result }
 {
     match list {
         BlockList::RecordBatches => IpcError::OutOfSpec(
@@ -67,9 +65,8 @@ fn block_from(item: &[u8]) -> Result<Block, FlatError>
 /// A block whose numbers are not negative.
 #[tactic(auto, unfolding(arrow_spec::specs::Readings::bind))]
 fn natural_block(block: Block) -> Result<Block, IpcError>
-    ensures gives { Gives file_block result (block_by block) }
+    ensures gives { Decodes file_block result (block_by block) }
     ensures natural { IfOk result IsNatural }
-    ensures quiet { IfErr result IsOfBytes }
 {
     if block.offset < 0 || block.meta_data_length < 0 || block.body_length < 0 {
         return Err(IpcError::OutOfSpec(OutOfSpecKind::UnexpectedNegativeInteger));
@@ -82,9 +79,8 @@ fn natural_block(block: Block) -> Result<Block, IpcError>
 fn read_block(vector: &Vector<'_>, i: usize, list: BlockList) -> Result<Block, IpcError>
     requires width { vector.now.width ≡ 24 }
     requires within { i < vector.now.vector.count }
-    ensures gives { Gives file_block result (block_in list vector.now i) }
+    ensures gives { Decodes file_block result (block_in list vector.now i) }
     ensures natural { IfOk result IsNatural }
-    ensures quiet { IfErr result IsOfBytes }
 {
     let block = match block_from(vector.get(i)) {
         Ok(block) => block,
@@ -97,21 +93,17 @@ fn push_block(blocks: &mut Vec<Block>, block: Block) -> Result<(), IpcError>
     ensures ok { IfOk result (λ _. map file_block blocks.new.items ≡ map file_block blocks.old.items ++ file_block block ∷ []) }
     ensures items { IfOk result (λ _. blocks.new.items ≡ blocks.old.items ++ block ∷ []) }
     ensures err { OnErr result (result ≡ Err Memory) }
-    ensures quiet { IfErr result IsOfBytes }
 {
-    match blocks.push(block) {
-        Ok(()) => Ok(()),
-        Err(_) => Err(IpcError::Memory),
-    }
+    blocks.push(block)?;
+    Ok(())
 }
 
 /// The blocks of a vector.
 #[tactic(auto, using(crate::proofs::Footers::blocks_begun, crate::proofs::Items::more_read, crate::proofs::Items::one_refused, crate::proofs::Items::all_read, crate::proofs::Footers::none_natural, crate::proofs::Footers::more_natural))]
 fn read_blocks(alloc: Global, vector: &Vector<'_>, list: BlockList) -> Result<Vec<Block>, IpcError>
     requires { vector.now.width ≡ 24 }
-    ensures gives { Gives (λ v. map file_block v.items) result (blocks_in list vector.now) }
+    ensures gives { Decodes (λ v. map file_block v.items) result (blocks_in list vector.now) }
     ensures natural { IfOk result (λ v. All IsNatural v.items) }
-    ensures quiet { IfErr result IsOfBytes }
 {
     let mut blocks = Vec::new(alloc);
     for i in 0..vector.len() {
@@ -124,9 +116,8 @@ fn read_blocks(alloc: Global, vector: &Vector<'_>, list: BlockList) -> Result<Ve
 /// The blocks of record batches.
 #[tactic(auto, unfolding(arrow_spec::specs::Readings::bind, crate::specs::Footers::records_part))]
 fn read_record_blocks(alloc: Global, table: &Table<'_>) -> Result<Vec<Block>, IpcError>
-    ensures gives { Gives (λ v. map file_block v.items) result (records_part table.now.bytes table.now.table) }
+    ensures gives { Decodes (λ v. map file_block v.items) result (records_part table.now.bytes table.now.table) }
     ensures natural { IfOk result (λ v. All IsNatural v.items) }
-    ensures quiet { IfErr result IsOfBytes }
 {
     let vector = table.slot_vector(3, 24).map_err(|e| IpcError::OutOfSpec(
         OutOfSpecKind::InvalidFlatbufferRecordBatches(e),
@@ -140,9 +131,8 @@ fn read_record_blocks(alloc: Global, table: &Table<'_>) -> Result<Vec<Block>, Ip
 /// The blocks of dictionaries, of which there are none where the list is absent.
 #[tactic(auto, unfolding(arrow_spec::specs::Readings::bind, crate::specs::Footers::dictionaries_part))]
 fn read_dictionary_blocks(alloc: Global, table: &Table<'_>) -> Result<Vec<Block>, IpcError>
-    ensures gives { Gives (λ v. map file_block v.items) result (dictionaries_part table.now.bytes table.now.table) }
+    ensures gives { Decodes (λ v. map file_block v.items) result (dictionaries_part table.now.bytes table.now.table) }
     ensures natural { IfOk result (λ v. All IsNatural v.items) }
-    ensures quiet { IfErr result IsOfBytes }
 {
     let vector = table.slot_vector(2, 24).map_err(|e| IpcError::OutOfSpec(
         OutOfSpecKind::InvalidFlatbufferDictionaries(e),
@@ -159,11 +149,10 @@ fn read_footer_schema(
     alloc: Global,
     table: &Table<'_>,
 ) -> Result<(ArrowSchema, IpcSchema, Option<Metadata>), IpcError>
-    ensures gives { Gives schema_view result (schema_in_footer table.now.bytes table.now.table) }
+    ensures gives { Decodes schema_view result (schema_in_footer table.now.bytes table.now.table) }
     ensures named { IfOk result (λ s. AreNamed s.0) }
     ensures shapes { IfOk result (λ s. have_shapes (fields_in s.0) (ids_of s.1.fields.items) ≡ true) }
     ensures no_empty_metadata { IfOk result (λ s. HasPairsIfAny s.2) }
-    ensures quiet { IfErr result IsOfBytes }
 {
     let schema = table.slot_table(1).map_err(|e| IpcError::OutOfSpec(
         OutOfSpecKind::InvalidFlatbufferSchema(e),
@@ -176,12 +165,11 @@ fn read_footer_schema(
 
 #[tactic(auto, unfolding(arrow_spec::specs::Readings::bind, crate::specs::Footers::footer_parts))]
 fn read_footer_parts(alloc: Global, bytes: &[u8]) -> Result<Footer, IpcError>
-    ensures gives { Gives footer_view result (footer_parts bytes.now) }
+    ensures gives { Decodes footer_view result (footer_parts bytes.now) }
     ensures named { IfOk result (λ f. AreNamed f.schema) }
     ensures shapes { IfOk result (λ f. have_shapes (fields_in f.schema) (ids_of f.ipc_schema.fields.items) ≡ true) }
     ensures no_empty_metadata { IfOk result (λ f. HasPairsIfAny f.custom_metadata) }
     ensures natural { IfOk result HasNaturalBlocks }
-    ensures quiet { IfErr result IsOfBytes }
 {
     let table = Flat::root(bytes).map_err(|e| IpcError::OutOfSpec(
         OutOfSpecKind::InvalidFlatbufferFooter(e),
@@ -205,7 +193,7 @@ fn read_footer_parts(alloc: Global, bytes: &[u8]) -> Result<Footer, IpcError>
 /// `OutOfSpec` with the kind of the part that is not as the format says, and what `read_schema` answers.
 #[tactic(auto, using(crate::proofs::Footers::footer_by_parts))]
 pub fn deserialize_footer(alloc: Global, bytes: &[u8]) -> Result<Footer, IpcError>
-    ensures gives { Gives footer_view result (meta_in bytes.now) }
+    ensures gives { Decodes footer_view result (meta_in bytes.now) }
 
     // Each field stands under its own name.
     ensures named { IfOk result (λ f. AreNamed f.schema) }
@@ -216,7 +204,6 @@ pub fn deserialize_footer(alloc: Global, bytes: &[u8]) -> Result<Footer, IpcErro
 
     // No number of a block is negative.
     ensures natural { IfOk result HasNaturalBlocks }
-    ensures quiet { IfErr result IsOfBytes }
 {
     read_footer_parts(alloc, bytes)
 }
@@ -229,12 +216,12 @@ pub fn deserialize_footer(alloc: Global, bytes: &[u8]) -> Result<Footer, IpcErro
 /// `ARROW1`, `OutOfSpec(NegativeFooterLength)`, and `OutOfSpec(Truncated)` where the footer begins before the file.
 pub fn decode_footer_len(end: &[u8], size: u64) -> Result<usize, IpcError>
     requires { length end.now ≡ 10 }
-    ensures gives { Gives (λ n. n) result (footer_length_in end.now size) }
+    ensures gives { Decodes (λ n. n) result (footer_length_in end.now size) }
 
     // A file that ends so has a footer of that length before its last ten bytes.
-    ensures footer { (b : List ℕ) → length b ≡ size → drop (size - 10) b ≡ end.now → Gives (λ n. take n (drop (size - 10 - n) b)) result (footer_of b) }
-    ensures within { IfOk result (λ n. n + 10 ≤ size) }
     ensures quiet { IfErr result IsOfBytes }
+    ensures footer { (b : List ℕ) → length b ≡ size → drop (size - 10) b ≡ end.now → Decodes (λ n. take n (drop (size - 10 - n) b)) result (footer_of b) }
+    ensures within { IfOk result (λ n. n + 10 ≤ size) }
 {
     length_by_end(end, size)
 }
@@ -242,9 +229,8 @@ pub fn decode_footer_len(end: &[u8], size: u64) -> Result<usize, IpcError>
 #[tactic(auto, unfolding(arrow_spec::specs::Readings::bind, crate::specs::Footers::footer_length_in))]
 fn length_by_end(end: &[u8], size: u64) -> Result<usize, IpcError>
     requires { length end.now ≡ 10 }
-    ensures gives { Gives (λ n. n) result (footer_length_in end.now size) }
+    ensures gives { Decodes (λ n. n) result (footer_length_in end.now size) }
     ensures within { IfOk result (λ n. n + 10 ≤ size) }
-    ensures quiet { IfErr result IsOfBytes }
 {
     let (_, magic) = end.split_at(4);
     let (_, feather) = end.split_at(6);

@@ -1,12 +1,11 @@
 //! Messages and their headers, by their metadata (Arrow Columnar Format, "Encapsulated message format", Message.fbs).
 ghost use Rattle.std.specs.Prelude.{◌≡◌, ◌≢◌, ◌<◌, ◌++◌, ◌∷◌, [], IfOk, OnErr, Err, IfErr};
 ghost use Rattle.arrow_spec.specs.declared.error.IpcError.TheVariants.{Memory, ReadFault};
-ghost use Rattle.arrow_spec.specs.Readings.{Gives};
+ghost use Rattle.ipc_fields.specs.Causes.{Decodes};
 ghost use Rattle.arrow_spec.specs.Messages.{node_at, buffer_at, record_message};
 ghost use Rattle.ipc_schema.specs.Views.{node_of, buffer_of, number_of, nodes_in, buffers_in, numbers_in, nodes_part, buffers_part, variadic_part, batch_parts, record_parts, header_of, message_of};
 ghost use Rattle.arrow_spec.specs.Headers.{message_header};
 ghost use Rattle.ipc_schema.specs.Headers.{header_in, whole_in, batch_part, dictionary_parts, header_part, header_parts};
-ghost use Rattle.ipc_fields.specs.Causes.{IsOfBytes};
 
 use crate::message::{BatchHeader, Message, MessageHeader, RecordMessage};
 use crate::number::i64_at;
@@ -14,18 +13,6 @@ use arrow_flat::{Table, Vector};
 use arrow_spec::{FieldNode, FlatError, IpcBuffer, IpcError, OutOfSpecKind};
 use schema_reader::message::{Expected, read_message, read_version};
 use std::alloc::Global;
-
-/// One more at the end.
-fn push<T: Drop>(items: &mut Vec<T>, item: T) -> Result<(), IpcError>
-    ensures ok { IfOk result (λ _. items.new.items ≡ items.old.items ++ item ∷ []) }
-    ensures err { OnErr result (result ≡ Err Memory) }
-    ensures quiet { IfErr result IsOfBytes }
-{
-    match items.push(item) {
-        Ok(()) => Ok(()),
-        Err(_) => Err(IpcError::Memory),
-    }
-}
 
 #[tactic(auto, unfolding(arrow_spec::specs::Readings::bind))]
 fn node_from(item: &[u8]) -> Result<FieldNode, FlatError>
@@ -41,8 +28,7 @@ fn node_from(item: &[u8]) -> Result<FieldNode, FlatError>
 fn read_node(vector: &Vector<'_>, i: usize) -> Result<FieldNode, IpcError>
     requires width { vector.now.width ≡ 16 }
     requires within { i < vector.now.vector.count }
-    ensures gives { Gives (λ x. x) result (node_of vector.now i) }
-    ensures quiet { IfErr result IsOfBytes }
+    ensures gives { Decodes (λ x. x) result (node_of vector.now i) }
 {
     node_from(vector.get(i)).map_err(|e| IpcError::OutOfSpec(OutOfSpecKind::InvalidFlatbufferNodes(
         e,
@@ -53,13 +39,12 @@ fn read_node(vector: &Vector<'_>, i: usize) -> Result<FieldNode, IpcError>
 #[tactic(auto, using(crate::proofs::Items::nodes_begun, crate::proofs::Items::more_read, crate::proofs::Items::one_refused, crate::proofs::Items::all_read))]
 fn read_nodes(alloc: Global, vector: &Vector<'_>) -> Result<Vec<FieldNode>, IpcError>
     requires { vector.now.width ≡ 16 }
-    ensures gives { Gives (λ v. v.items) result (nodes_in vector.now) }
-    ensures quiet { IfErr result IsOfBytes }
+    ensures gives { Decodes (λ v. v.items) result (nodes_in vector.now) }
 {
     let mut nodes = Vec::new(alloc);
     for i in 0..vector.len() {
         let node = read_node(vector, i)?;
-        push(&mut nodes, node)?;
+        nodes.push(node)?;
     }
     Ok(nodes)
 }
@@ -78,8 +63,7 @@ fn buffer_from(item: &[u8]) -> Result<IpcBuffer, FlatError>
 fn read_buffer(vector: &Vector<'_>, i: usize) -> Result<IpcBuffer, IpcError>
     requires width { vector.now.width ≡ 16 }
     requires within { i < vector.now.vector.count }
-    ensures gives { Gives (λ x. x) result (buffer_of vector.now i) }
-    ensures quiet { IfErr result IsOfBytes }
+    ensures gives { Decodes (λ x. x) result (buffer_of vector.now i) }
 {
     buffer_from(vector.get(i)).map_err(|e| IpcError::OutOfSpec(
         OutOfSpecKind::InvalidFlatbufferBuffers(e),
@@ -90,26 +74,14 @@ fn read_buffer(vector: &Vector<'_>, i: usize) -> Result<IpcBuffer, IpcError>
 #[tactic(auto, using(crate::proofs::Items::buffers_begun, crate::proofs::Items::more_read, crate::proofs::Items::one_refused, crate::proofs::Items::all_read))]
 fn read_buffers(alloc: Global, vector: &Vector<'_>) -> Result<Vec<IpcBuffer>, IpcError>
     requires { vector.now.width ≡ 16 }
-    ensures gives { Gives (λ v. v.items) result (buffers_in vector.now) }
-    ensures quiet { IfErr result IsOfBytes }
+    ensures gives { Decodes (λ v. v.items) result (buffers_in vector.now) }
 {
     let mut buffers = Vec::new(alloc);
     for i in 0..vector.len() {
         let buffer = read_buffer(vector, i)?;
-        push(&mut buffers, buffer)?;
+        buffers.push(buffer)?;
     }
     Ok(buffers)
-}
-
-fn push_number(numbers: &mut Vec<i64>, number: i64) -> Result<(), IpcError>
-    ensures ok { IfOk result (λ _. numbers.new.items ≡ numbers.old.items ++ number ∷ []) }
-    ensures err { OnErr result (result ≡ Err Memory) }
-    ensures quiet { IfErr result IsOfBytes }
-{
-    match numbers.push(number) {
-        Ok(()) => Ok(()),
-        Err(_) => Err(IpcError::Memory),
-    }
 }
 
 /// One of the numbers of a vector.
@@ -117,8 +89,7 @@ fn push_number(numbers: &mut Vec<i64>, number: i64) -> Result<(), IpcError>
 fn read_number(vector: &Vector<'_>, i: usize) -> Result<i64, IpcError>
     requires width { vector.now.width ≡ 8 }
     requires within { i < vector.now.vector.count }
-    ensures gives { Gives (λ x. x) result (number_of vector.now i) }
-    ensures quiet { IfErr result IsOfBytes }
+    ensures gives { Decodes (λ x. x) result (number_of vector.now i) }
 {
     i64_at(vector.get(i), 0).map_err(|e| IpcError::OutOfSpec(
         OutOfSpecKind::InvalidFlatbufferRecordBatches(e),
@@ -129,13 +100,12 @@ fn read_number(vector: &Vector<'_>, i: usize) -> Result<i64, IpcError>
 #[tactic(auto, using(crate::proofs::Items::numbers_begun, crate::proofs::Items::more_read, crate::proofs::Items::one_refused, crate::proofs::Items::all_read))]
 fn read_numbers(alloc: Global, vector: &Vector<'_>) -> Result<Vec<i64>, IpcError>
     requires { vector.now.width ≡ 8 }
-    ensures gives { Gives (λ v. v.items) result (numbers_in vector.now) }
-    ensures quiet { IfErr result IsOfBytes }
+    ensures gives { Decodes (λ v. v.items) result (numbers_in vector.now) }
 {
     let mut numbers = Vec::new(alloc);
     for i in 0..vector.len() {
         let number = read_number(vector, i)?;
-        push_number(&mut numbers, number)?;
+        numbers.push(number)?;
     }
     Ok(numbers)
 }
@@ -143,8 +113,7 @@ fn read_numbers(alloc: Global, vector: &Vector<'_>) -> Result<Vec<i64>, IpcError
 /// The nodes of a record batch.
 #[tactic(auto, unfolding(arrow_spec::specs::Readings::bind, crate::specs::Views::nodes_part))]
 fn read_nodes_slot(alloc: Global, table: &Table<'_>) -> Result<Vec<FieldNode>, IpcError>
-    ensures gives { Gives (λ v. v.items) result (nodes_part table.now.bytes table.now.table) }
-    ensures quiet { IfErr result IsOfBytes }
+    ensures gives { Decodes (λ v. v.items) result (nodes_part table.now.bytes table.now.table) }
 {
     let vector = table.slot_vector(1, 16).map_err(|e| IpcError::OutOfSpec(
         OutOfSpecKind::InvalidFlatbufferNodes(e),
@@ -158,8 +127,7 @@ fn read_nodes_slot(alloc: Global, table: &Table<'_>) -> Result<Vec<FieldNode>, I
 /// The buffers of a record batch.
 #[tactic(auto, unfolding(arrow_spec::specs::Readings::bind, crate::specs::Views::buffers_part))]
 fn read_buffers_slot(alloc: Global, table: &Table<'_>) -> Result<Vec<IpcBuffer>, IpcError>
-    ensures gives { Gives (λ v. v.items) result (buffers_part table.now.bytes table.now.table) }
-    ensures quiet { IfErr result IsOfBytes }
+    ensures gives { Decodes (λ v. v.items) result (buffers_part table.now.bytes table.now.table) }
 {
     let vector = table.slot_vector(2, 16).map_err(|e| IpcError::OutOfSpec(
         OutOfSpecKind::InvalidFlatbufferBuffers(e),
@@ -173,8 +141,7 @@ fn read_buffers_slot(alloc: Global, table: &Table<'_>) -> Result<Vec<IpcBuffer>,
 /// The numbers of data buffers of a record batch's view arrays.
 #[tactic(auto, unfolding(arrow_spec::specs::Readings::bind, crate::specs::Views::variadic_part))]
 fn read_variadic(alloc: Global, table: &Table<'_>) -> Result<Vec<i64>, IpcError>
-    ensures gives { Gives (λ v. v.items) result (variadic_part table.now.bytes table.now.table) }
-    ensures quiet { IfErr result IsOfBytes }
+    ensures gives { Decodes (λ v. v.items) result (variadic_part table.now.bytes table.now.table) }
 {
     let vector = table.slot_vector(4, 8).map_err(|e| IpcError::OutOfSpec(
         OutOfSpecKind::InvalidFlatbufferRecordBatches(e),
@@ -188,8 +155,7 @@ fn read_variadic(alloc: Global, table: &Table<'_>) -> Result<Vec<i64>, IpcError>
 /// The tables of a record batch.
 #[tactic(auto, unfolding(arrow_spec::specs::Readings::bind, crate::specs::Views::batch_parts))]
 fn read_batch_header(alloc: Global, table: &Table<'_>) -> Result<BatchHeader, IpcError>
-    ensures gives { Gives header_of result (batch_parts table.now.bytes table.now.table) }
-    ensures quiet { IfErr result IsOfBytes }
+    ensures gives { Decodes header_of result (batch_parts table.now.bytes table.now.table) }
 {
     let length = table.slot_i64(0, 0).map_err(|e| IpcError::OutOfSpec(
         OutOfSpecKind::InvalidFlatbufferRecordBatches(e),
@@ -212,8 +178,7 @@ fn read_batch_header(alloc: Global, table: &Table<'_>) -> Result<BatchHeader, Ip
 
 #[tactic(auto, unfolding(arrow_spec::specs::Readings::bind, crate::specs::Views::record_parts))]
 fn read_record_parts(alloc: Global, bytes: &[u8]) -> Result<RecordMessage, IpcError>
-    ensures gives { Gives message_of result (record_parts bytes.now) }
-    ensures quiet { IfErr result IsOfBytes }
+    ensures gives { Decodes message_of result (record_parts bytes.now) }
 {
     let message = read_message(bytes, Expected::Batch)?;
     let header = read_batch_header(alloc, &message.header)?;
@@ -229,8 +194,7 @@ fn read_record_parts(alloc: Global, bytes: &[u8]) -> Result<RecordMessage, IpcEr
 /// and `Memory`.
 #[tactic(auto, using(crate::proofs::Parts::record_by_parts))]
 pub fn read_record_message(alloc: Global, bytes: &[u8]) -> Result<RecordMessage, IpcError>
-    ensures gives { Gives message_of result (record_message bytes.now) }
-    ensures quiet { IfErr result IsOfBytes }
+    ensures gives { Decodes message_of result (record_message bytes.now) }
 {
     read_record_parts(alloc, bytes)
 }
@@ -238,8 +202,7 @@ pub fn read_record_message(alloc: Global, bytes: &[u8]) -> Result<RecordMessage,
 /// A dictionary batch: its id, whether it is a delta, and the tables of its values.
 #[tactic(auto, unfolding(arrow_spec::specs::Readings::bind, crate::specs::Headers::dictionary_parts))]
 fn read_dictionary(alloc: Global, table: &Table<'_>) -> Result<MessageHeader, IpcError>
-    ensures gives { Gives header_in result (dictionary_parts table.now.bytes table.now.table) }
-    ensures quiet { IfErr result IsOfBytes }
+    ensures gives { Decodes header_in result (dictionary_parts table.now.bytes table.now.table) }
 {
     let id = table.slot_i64(0, 0).map_err(|e| IpcError::OutOfSpec(
         OutOfSpecKind::InvalidFlatbufferId(e),
@@ -263,8 +226,7 @@ fn read_dictionary(alloc: Global, table: &Table<'_>) -> Result<MessageHeader, Ip
 
 #[tactic(auto, unfolding(arrow_spec::specs::Readings::bind))]
 fn read_batch(alloc: Global, table: &Table<'_>) -> Result<MessageHeader, IpcError>
-    ensures gives { Gives header_in result (batch_part table.now.bytes table.now.table) }
-    ensures quiet { IfErr result IsOfBytes }
+    ensures gives { Decodes header_in result (batch_part table.now.bytes table.now.table) }
 {
     let batch = read_batch_header(alloc, table)?;
     Ok(MessageHeader::Batch(batch))
@@ -272,8 +234,7 @@ fn read_batch(alloc: Global, table: &Table<'_>) -> Result<MessageHeader, IpcErro
 
 /// The header of a message by its tag.
 fn read_header(alloc: Global, tag: u8, table: &Table<'_>) -> Result<MessageHeader, IpcError>
-    ensures gives { Gives header_in result (header_part tag table.now.bytes table.now.table) }
-    ensures quiet { IfErr result IsOfBytes }
+    ensures gives { Decodes header_in result (header_part tag table.now.bytes table.now.table) }
 {
     match tag {
         2 => read_dictionary(alloc, table),
@@ -284,8 +245,7 @@ fn read_header(alloc: Global, tag: u8, table: &Table<'_>) -> Result<MessageHeade
 
 #[tactic(auto, unfolding(arrow_spec::specs::Readings::bind, crate::specs::Headers::header_parts))]
 fn read_header_parts(alloc: Global, bytes: &[u8]) -> Result<Message, IpcError>
-    ensures gives { Gives whole_in result (header_parts bytes.now) }
-    ensures quiet { IfErr result IsOfBytes }
+    ensures gives { Decodes whole_in result (header_parts bytes.now) }
 {
     let message = read_message(bytes, Expected::Any)?;
     let header = read_header(alloc, message.tag, &message.header)?;
@@ -306,8 +266,7 @@ fn read_header_parts(alloc: Global, bytes: &[u8]) -> Result<Message, IpcError>
 /// `Unsupported(Version)` for versions 1 to 3, and `Memory`.
 #[tactic(auto, using(crate::proofs::Parts::header_by_parts))]
 pub fn read_message_header(alloc: Global, bytes: &[u8]) -> Result<Message, IpcError>
-    ensures gives { Gives whole_in result (message_header bytes.now) }
-    ensures quiet { IfErr result IsOfBytes }
+    ensures gives { Decodes whole_in result (message_header bytes.now) }
 {
     read_header_parts(alloc, bytes)
 }

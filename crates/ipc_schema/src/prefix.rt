@@ -1,10 +1,9 @@
 //! The prefix of a message (Arrow Columnar Format, "Encapsulated message format").
 ghost use Rattle.std.specs.Prelude.{◌≡◌, ◌≢◌, ℕ, ◌+◌, ◌≤◌, List, length, IfOk, Err, IfErr};
 ghost use Rattle.arrow_spec.specs.declared.error.IpcError.TheVariants.{ReadFault};
-ghost use Rattle.arrow_spec.specs.Readings.{Gives};
+ghost use Rattle.ipc_fields.specs.Causes.{Decodes, IsOfBytes};
 ghost use Rattle.arrow_spec.specs.Messages.{prefix_of, is_mark};
 ghost use Rattle.ipc_schema.specs.Prefixes.{length_in, TellsLength};
-ghost use Rattle.ipc_fields.specs.Causes.{IsOfBytes};
 
 use crate::number::i32_at;
 use arrow_spec::{IpcError, OutOfSpecKind};
@@ -19,10 +18,9 @@ pub fn is_continuation(front: &[u8]) -> bool
 #[tactic(auto, unfolding(arrow_spec::specs::Readings::bind, crate::specs::Prefixes::length_in))]
 fn length_in(four: &[u8], start: usize, size: usize) -> Result<(usize, usize), IpcError>
     requires { start ≤ 8 }
-    ensures gives { Gives (λ p. p) result (length_in four.now start size) }
+    ensures gives { Decodes (λ p. p) result (length_in four.now start size) }
     ensures start { IfOk result (λ p. p.0 ≡ start) }
     ensures within { IfOk result (λ p. p.0 + p.1 ≤ size) }
-    ensures quiet { IfErr result IsOfBytes }
 {
     let length = i32_at(four, 0).map_err(|_| IpcError::OutOfSpec(OutOfSpecKind::MessageRange))?;
     if length < 0 {
@@ -39,13 +37,13 @@ fn length_in(four: &[u8], start: usize, size: usize) -> Result<(usize, usize), I
 /// and so many bytes are there from the prefix on.
 pub fn metadata_length(four: &[u8], start: usize, size: usize) -> Result<(usize, usize), IpcError>
     requires { start ≤ 8 }
-    ensures gives { Gives (λ p. p) result (length_in four.now start size) }
+    ensures gives { Decodes (λ p. p) result (length_in four.now start size) }
 
     // It is what the prefix of such bytes says.
-    ensures prefix { (b : List ℕ) → length b ≡ size → TellsLength four.now start b → Gives (λ p. p) result (prefix_of b) }
+    ensures quiet { IfErr result IsOfBytes }
+    ensures prefix { (b : List ℕ) → length b ≡ size → TellsLength four.now start b → Decodes (λ p. p) result (prefix_of b) }
     ensures start { IfOk result (λ p. p.0 ≡ start) }
     ensures within { IfOk result (λ p. p.0 + p.1 ≤ size) }
-    ensures quiet { IfErr result IsOfBytes }
 {
     length_in(four, start, size)
 }
@@ -57,8 +55,7 @@ pub fn metadata_length(four: &[u8], start: usize, size: usize) -> Result<(usize,
 /// `OutOfSpec(MessageRange)` where prefix or metadata pass the end of the bytes, `OutOfSpec(UnexpectedNegativeInteger)`
 /// where the length is negative.
 pub fn message_prefix(bytes: &[u8]) -> Result<(usize, usize), IpcError>
-    ensures gives { Gives (λ p. p) result (prefix_of bytes.now) }
-    ensures quiet { IfErr result IsOfBytes }
+    ensures gives { Decodes (λ p. p) result (prefix_of bytes.now) }
 {
     if bytes.len() < 4 {
         return Err(IpcError::OutOfSpec(OutOfSpecKind::MessageRange));

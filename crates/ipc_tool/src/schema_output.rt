@@ -1,6 +1,7 @@
 //! The text of a file's schema, as it is put.
 ghost use Rattle.std.specs.Prelude.{◌≡◌, ◌≤◌, OnOk, IfErr, IfSome};
 ghost use Rattle.ipc_tool.specs.SchemaPuts.{AddsText, AddsTextPart, PrintCause};
+ghost use Rattle.ipc_io.specs.Outside.{SourceKept, SinkKept};
 
 use arrow_spec::IpcError;
 use ipc_files::{metadata_of, read_file_metadata};
@@ -17,17 +18,11 @@ pub(crate) fn write_schema<S: Source, W: Sink>(
     ensures text { OnOk result (IfSome (S.content source.old) (λ b. AddsText b (W.written sink.old) (W.written sink.new))) }
     ensures cause { IfErr result (λ e. PrintCause e (S.content source.old) (S.faults source.old) (S.faults source.new) (W.faults sink.old) (W.faults sink.new)) }
     ensures part { IfErr result (λ e. AddsTextPart e (S.content source.old) (W.written sink.old) (W.written sink.new)) }
-    ensures content { S.content source.new ≡ S.content source.old }
-    ensures reads { S.faults source.old ≤ S.faults source.new }
-    ensures writes { W.faults sink.old ≤ W.faults sink.new }
-    ensures wants { W.wants sink.old ≤ W.wants sink.new }
-    ensures same_source { S.references source.new ≡ S.references source.old }
-    ensures same_sink { W.references sink.new ≡ W.references sink.old }
+    ensures kept { SourceKept S.content S.faults S.references source.old source.new }
+    ensures sink { SinkKept W.faults W.wants W.references sink.old sink.new }
 {
     let file = read_file_metadata(alloc, source)?;
-    let Ok(text) = schema_text(alloc, &file.schema, &file.ipc_schema, metadata_of(&file)) else {
-        return Err(IpcError::Memory);
-    };
+    let text = schema_text(alloc, &file.schema, &file.ipc_schema, metadata_of(&file))?;
     sink.put(&text)?;
     Ok(())
 }

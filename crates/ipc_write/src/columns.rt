@@ -34,11 +34,17 @@ fn top_array(alloc: Global, array: &Array) -> Result<Option<Array>, AllocError>
 {
     match array {
         Array::BinaryView(views) => match compact(alloc, views)? {
-            Some(compacted) => Ok(Some(Array::BinaryView(compacted))),
+            Some(compacted) => {
+                let _bytes = compacted.views().len();
+                Ok(Some(Array::BinaryView(compacted)))
+            }
             None => Ok(None),
         },
         Array::Utf8View(views) => match compact(alloc, views)? {
-            Some(compacted) => Ok(Some(Array::Utf8View(compacted))),
+            Some(compacted) => {
+                let _bytes = compacted.views().len();
+                Ok(Some(Array::Utf8View(compacted)))
+            }
             None => Ok(None),
         },
         _ => Ok(None),
@@ -75,11 +81,12 @@ fn add_column(alloc: Global, array: &Array, columns: &mut Columns) -> Result<(),
     ensures means { IfOk result (λ _. TopMeans (rows_in (parts_of array.now)) (parts_of array.now)) }
 {
     let _rows = array.len();
-    match top_array(alloc, array) {
-        Ok(Some(compacted)) => add_array(&compacted, columns),
-        Ok(None) => add_array(array, columns),
-        Err(AllocError) => Err(IpcError::Memory),
-    }
+    let Some(compacted) = top_array(alloc, array)? else {
+        return add_array(array, columns);
+    };
+    let added = add_array(&compacted, columns);
+    drop(compacted);
+    added
 }
 
 /// The top columns of a batch of so many rows.

@@ -109,7 +109,7 @@ fn make_room(alloc: Global, laying: &mut Laying, count: usize) -> Result<(), All
         return Ok(());
     }
     let ended = mem::replace(&mut laying.begun, Vec::new(alloc));
-    laying.buffers.push(Buffer::from_vec(ended)?)?;
+    laying.buffers.push(Buffer::from_bytes(ended)?)?;
     Ok(())
 }
 
@@ -174,9 +174,9 @@ fn end_laying(laying: Laying) -> Result<(Buffer<u8>, Vec<Buffer<u8>>), AllocErro
         begun,
     } = laying;
     if !begun.is_empty() {
-        buffers.push(Buffer::from_vec(begun)?)?;
+        buffers.push(Buffer::from_bytes(begun)?)?;
     }
-    Ok((Buffer::from_vec(views)?, buffers))
+    Ok((Buffer::from_bytes(views)?, buffers))
 }
 
 /// Lays all rows anew.

@@ -13,7 +13,7 @@ ghost use Rattle.ipc_write.specs.Ends.{IsPlace, end_of_array};
 
 use arrow_arrays::Array;
 use arrow_buffers::{
-    BinaryViewArrayGeneric, Bitmap, Buffer, PrimitiveArray, VariableArray, ViewType,
+    BinaryViewArrayGeneric, Bitmap, Buffer, PrimitiveArray, VariableArray, ViewType, place_of,
 };
 use arrow_types::{NativeType, Offset};
 
@@ -64,20 +64,11 @@ fn numbers_end<T: NativeType>(at: usize, array: &PrimitiveArray<T>) -> Option<us
     two_end(at, validity, values)
 }
 
-/// The place that an offset is.
-fn place_of<O: Offset>(offsets: &[O], i: usize, limit: usize) -> usize
-    requires rise { are_offsets (map O.number offsets.now) limit ≡ true }
-    requires below { i < length offsets.now }
-    ensures place { result ≡ place_at (map O.number offsets.now) i }
-{
-    offsets[i].to_usize().unwrap()
-}
-
 /// Where a validity, offsets and the bytes between them end.
 fn between_end<O: Offset>(
     at: usize,
     validity: Option<&Bitmap>,
-    offsets: &[O],
+    offsets: &Buffer<O>,
     limit: usize,
 ) -> Option<usize>
     requires at { at < 2 ^ 63 }
@@ -99,12 +90,7 @@ fn variable_end<O: Offset, V: ViewType>(at: usize, array: &VariableArray<O, V>) 
     ensures { IsPlace result (body_of at (map length (variable_pieces little array.now))) }
 {
     let _rows = array.len();
-    between_end(
-        at,
-        array.validity(),
-        array.offsets().as_slice(),
-        array.values().len(),
-    )
+    between_end(at, array.validity(), array.offsets(), array.values().len())
 }
 
 /// Where buffers end.

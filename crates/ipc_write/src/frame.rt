@@ -26,11 +26,8 @@ fn put<W: Sink>(sink: &mut W, bytes: &[u8]) -> Result<(), IpcError>
     ensures puts { PutsText (moved (W.written sink.old) (W.written sink.new) (W.faults sink.old) (W.faults sink.new) (W.wants sink.old) (W.wants sink.new)) result bytes.now }
     ensures same_references { W.references sink.new ≡ W.references sink.old }
 {
-    match sink.put(bytes) {
-        Ok(()) => Ok(()),
-        Err(PutError::Failed) => Err(IpcError::WriteFault),
-        Err(PutError::Memory) => Err(IpcError::Memory),
-    }
+    sink.put(bytes)?;
+    Ok(())
 }
 
 /// Puts bytes, and so many zeros.
@@ -149,8 +146,5 @@ pub fn message_to_bytes(alloc: Global, metadata: &[u8], body: &[u8]) -> Result<V
     if padded > MOST_METADATA {
         return Err(IpcError::TooLarge);
     }
-    match joined(alloc, metadata, padded, body) {
-        Ok(bytes) => Ok(bytes),
-        Err(AllocError) => Err(IpcError::Memory),
-    }
+    Ok(joined(alloc, metadata, padded, body)?)
 }

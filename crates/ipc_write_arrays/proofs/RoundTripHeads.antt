@@ -20,6 +20,7 @@ use Rattle.arrow_spec.proofs.PackedBits.{packed_bit, length-packed}
 use Rattle.arrow_spec.proofs.Bodies.{from_head, from_length, held_bytes, held_faults}
 use Rattle.arrow_spec.specs.Bodies.{From, BufferHeld}
 use Rattle.arrow_spec.proofs.CellLists.{from_on-same}
+use Rattle.arrow_types.specs.BytesBack.{later}
 use Rattle.arrow_buffers.specs.Rows.{has_rows, is_valid, null_rows, masked}
 use Rattle.arrow_buffers.proofs.Parts.{length-from_on}
 use Rattle.arrow_buffers.proofs.Masks.{length-masked}
@@ -100,14 +101,10 @@ cells_told m p rows v f value g h form same =
     (λ row lt e. form row ∙ if_there m p row (value row) true (valid_by m p rows v row h lt ∙ e) ∙ same row lt e)
     (λ row lt e. form row ∙ if_there m p row (value row) false (valid_by m p rows v row h lt ∙ e))
 
-from_on-later : {A : Type 0} (f g : ℕ → A) (i n : ℕ) → ((j : ℕ) → f (suc j) ≡ g j) → from_on f (suc i) n ≡ from_on g i n
-from_on-later f g i zero h = refl
-from_on-later f g i (suc n) h = ap (λ x. x ∷ from_on f (suc (suc i)) n) (h i) ∙ ap (λ r. g i ∷ r) (from_on-later f g (suc i) n h)
-
 -- what a list is told of is told of its places
 pub map_told : {A B : Type 0} (f : A → B) (xs : List A) (d : A) → from_on (λ row. f (get_or xs row d)) 0 (length xs) ≡ map f xs
 map_told f [] d = refl
-map_told f (x ∷ xs) d = ap (λ r. f x ∷ r) (from_on-later (λ row. f (get_or (x ∷ xs) row d)) (λ row. f (get_or xs row d)) 0 (length xs) (λ j. refl) ∙ map_told f xs d)
+map_told f (x ∷ xs) d = ap (λ r. f x ∷ r) (sym (later (λ row. f (get_or (x ∷ xs) row d)) 0 (length xs)) ∙ map_told f xs d)
 
 -- ── columns ──
 

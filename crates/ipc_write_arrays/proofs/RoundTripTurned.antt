@@ -8,6 +8,7 @@ use Rattle.arrow_spec.specs.Counts.{RecordBatch}
 use Rattle.arrow_spec.specs.Arrays.{buf, unsigned_in, or_0}
 use Rattle.arrow_spec.proofs.Standing.{part-stands, stands_left}
 use Rattle.arrow_spec.proofs.Found.{right_at}
+use Rattle.arrow_types.specs.NumberLaws.{turned_2, turned_4, turned_8, turned_16}
 use Rattle.arrow_types.specs.declared.physical.PrimitiveType.TheVariants as primitive
 use Rattle.arrow_arrays.specs.Parts.{unsigned_at}
 use Rattle.ipc_write_arrays.specs.Pieces.{in_order}
@@ -23,18 +24,6 @@ length-by_order big bytes = length-reverse bytes
 
 back_at : (xs : List ℕ) (n k j : ℕ) → length xs ≡ n → suc (k + j) ≡ n → get_or (reverse xs) k 0 ≡ get_or xs j 0
 back_at xs n k j e h = get_or-reverse xs k 0 (omega arith) ∙ (let same : length xs - 1 - k ≡ j = omega arith in ap (λ i. get_or xs i 0) same)
-
-turned_2 : (a b : ℕ) → b + a ≡ a + b
-turned_2 a b = omega arith
-
-turned_4 : (a b c d : ℕ) → d + c + b + a ≡ a + b + c + d
-turned_4 a b c d = omega arith
-
-turned_8 : (a b c d e f g h : ℕ) → h + g + f + e + d + c + b + a ≡ a + b + c + d + e + f + g + h
-turned_8 a b c d e f g h = omega arith
-
-turned_16 : (a b c d e f g h i j k l m n o p : ℕ) → p + o + n + m + l + k + j + i + h + g + f + e + d + c + b + a ≡ a + b + c + d + e + f + g + h + i + j + k + l + m + n + o + p
-turned_16 a b c d e f g h i j k l m n o p = omega arith
 
 -- turned bytes are the same number in the other order
 turned : (w : Width) (xs : List ℕ) → length xs ≡ byte_len w → from_be_bytes w (reverse xs) ≡ from_le_bytes w xs

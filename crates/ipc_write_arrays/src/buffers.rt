@@ -88,7 +88,7 @@ pub(crate) fn put_bytes(
 
 /// Puts numbers, each in the order that is asked for.
 pub(crate) fn put_numbers<T: NativeType>(
-    numbers: &[T],
+    numbers: &Buffer<T>,
     buffers: &mut Vec<IpcBuffer>,
     arrow_data: &mut Vec<u8>,
     is_little_endian: bool,
@@ -103,7 +103,7 @@ pub(crate) fn put_numbers<T: NativeType>(
 
 /// Puts offsets, counted from the first.
 pub(crate) fn put_offsets<O: Offset>(
-    offsets: &[O],
+    offsets: &Buffer<O>,
     limit: usize,
     buffers: &mut Vec<IpcBuffer>,
     arrow_data: &mut Vec<u8>,

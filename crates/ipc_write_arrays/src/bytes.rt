@@ -11,7 +11,7 @@ ghost use Rattle.ipc_write_arrays.specs.Pieces.{offset_bytes};
 ghost use Rattle.arrow_spec.specs.Flat.{order_by};
 ghost use Rattle.ipc_write_arrays.specs.Adding.{Appends, AllBelow, WritesNumbers};
 
-use arrow_buffers::Bitmap;
+use arrow_buffers::{Bitmap, Buffer, place_of};
 use arrow_types::{NativeType, Offset};
 use std::alloc::AllocError;
 use std::convert::AsSlice;
@@ -72,18 +72,32 @@ fn push_number<T: NativeType>(
     }
 }
 
-/// The bytes of numbers, one after another.
-pub(crate) fn push_numbers<T: NativeType>(
-    numbers: &[T],
+/// The bytes of numbers, each turned into the order that is asked for.
+fn push_turned<T: NativeType>(
+    numbers: &Buffer<T>,
     out: &mut Vec<u8>,
     is_little_endian: bool,
 ) -> Result<(), AllocError>
     ensures { Appends result out.old.items out.new.items (flat_map (T.written (order_by is_little_endian)) numbers.now) }
 {
-    for number in numbers {
-        push_number(*number, out, is_little_endian)?;
+    for i in 0..numbers.len() {
+        push_number(numbers.get(i), out, is_little_endian)?;
     }
     Ok(())
+}
+
+/// The bytes of numbers, one after another: as they are held, where that is in the order that is asked for.
+pub(crate) fn push_numbers<T: NativeType>(
+    numbers: &Buffer<T>,
+    out: &mut Vec<u8>,
+    is_little_endian: bool,
+) -> Result<(), AllocError>
+    ensures { Appends result out.old.items out.new.items (flat_map (T.written (order_by is_little_endian)) numbers.now) }
+{
+    match numbers.held_in(!is_little_endian) {
+        Some(bytes) => out.extend_from_slice(bytes),
+        None => push_turned(numbers, out, is_little_endian),
+    }
 }
 
 // An offset that is counted from a place on.
@@ -105,7 +119,7 @@ fn push_offset<O: Offset>(
 
 /// Offsets, counted from the first.
 pub(crate) fn push_offsets<O: Offset>(
-    offsets: &[O],
+    offsets: &Buffer<O>,
     limit: usize,
     out: &mut Vec<u8>,
     is_little_endian: bool,
@@ -116,21 +130,21 @@ pub(crate) fn push_offsets<O: Offset>(
     ensures below { IfOk result (λ _. AllBelow O.limit (map O.number offsets.now)) }
 {
     let (first, _) = ends_of(offsets, limit);
-    for offset in offsets {
-        push_offset(*offset, first, out, is_little_endian)?;
+    for i in 0..offsets.len() {
+        push_offset(offsets.get(i), first, out, is_little_endian)?;
     }
     Ok(())
 }
 
 /// The place of the first offset, and that of the last.
-pub(crate) fn ends_of<O: Offset>(offsets: &[O], limit: usize) -> (usize, usize)
+pub(crate) fn ends_of<O: Offset>(offsets: &Buffer<O>, limit: usize) -> (usize, usize)
     requires rise { are_offsets (map O.number offsets.now) limit ≡ true }
     ensures first { result.0 ≡ place_at (map O.number offsets.now) 0 }
     ensures last { result.1 ≡ place_at (map O.number offsets.now) (variable_rows (map O.number offsets.now)) }
     ensures ordered { result.0 ≤ result.1 }
     ensures within { result.1 ≤ limit }
 {
-    let first = offsets[0].to_usize().unwrap();
-    let last = offsets[offsets.len() - 1].to_usize().unwrap();
+    let first = place_of(offsets, 0, limit);
+    let last = place_of(offsets, offsets.len() - 1, limit);
     (first, last)
 }

@@ -13,7 +13,7 @@ ghost use Rattle.ipc_write_arrays.specs.Adding.{Adds, AllBelow, WritesNumbers};
 use crate::buffers::{put_bits, put_bytes, put_each, put_numbers, put_offsets, put_validity};
 use crate::bytes::ends_of;
 use arrow_buffers::{
-    BinaryViewArrayGeneric, Bitmap, BooleanArray, FixedSizeBinaryArray, PrimitiveArray,
+    BinaryViewArrayGeneric, Bitmap, BooleanArray, Buffer, FixedSizeBinaryArray, PrimitiveArray,
     VariableArray, ViewType,
 };
 use arrow_spec::IpcBuffer;
@@ -47,12 +47,7 @@ pub(crate) fn write_numbers<T: NativeType>(
 {
     arrow_data.reserve(array.len().saturating_mul(T::WIDTH))?;
     put_validity(array.validity(), buffers, arrow_data)?;
-    put_numbers(
-        array.values().as_slice(),
-        buffers,
-        arrow_data,
-        is_little_endian,
-    )
+    put_numbers(array.values(), buffers, arrow_data, is_little_endian)
 }
 
 /// A validity and byte strings of one size.
@@ -86,7 +81,7 @@ pub(crate) fn write_views<V: ViewType>(
 /// A validity, offsets that begin at 0, and the bytes between the first and the last.
 fn put_between<O: Offset>(
     validity: Option<&Bitmap>,
-    offsets: &[O],
+    offsets: &Buffer<O>,
     values: &[u8],
     buffers: &mut Vec<IpcBuffer>,
     arrow_data: &mut Vec<u8>,
@@ -118,7 +113,7 @@ pub(crate) fn write_variable<O: Offset, V: ViewType>(
     ensures fit { IfOk result (λ _. OffsetsFit array.now.kind array.now.offsets) }
 {
     arrow_data.reserve(array.len().saturating_mul(O::WIDTH))?;
-    let offsets = array.offsets().as_slice();
+    let offsets = array.offsets();
     let values = array.values().as_slice();
     put_between(
         array.validity(),

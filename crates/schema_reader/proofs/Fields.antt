@@ -2,7 +2,8 @@
 use Rattle.std.proofs.Common.{◌≡◌, ℕ, suc, ◌+◌, ◌-◌, ◌*◌, ◌<◌, ◌≤◌, List, [], ◌∷◌, ◌++◌, length, Bool, true, false, ◌&&◌, Result, Ok, Err, refl, sym, ◌∙◌, ap, arith, subst}
 use Rattle.arrow_spec.specs.declared.error.IpcError.{IpcError}
 use Rattle.arrow_spec.specs.declared.error.IpcError.TheVariants.{TooDeep}
-use Rattle.arrow_spec.specs.Readings.{bind, Reading, Refuses, refusals, Gives}
+use Rattle.arrow_spec.specs.Readings.{bind, Reading, refusals}
+use Rattle.ipc_fields.specs.Causes.{RefusesBytes, Decodes}
 use Rattle.arrow_spec.specs.Flat.{Vector}
 use Rattle.arrow_spec.specs.Kinds as kind
 use Rattle.arrow_spec.specs.Kinds.{Kind, Fields}
@@ -40,21 +41,21 @@ entry_deep levels b at before h = rw h refl
 
 -- ── a field by its parts ──
 
-behind_refused : {A B : Type 0} (e : IpcError) (R : Reading A) (f : A → Reading B) → Refuses e (refusals R) → Refuses e (refusals (bind R f))
+behind_refused : {A B : Type 0} (e : IpcError) (R : Reading A) (f : A → Reading B) → RefusesBytes e (refusals R) → RefusesBytes e (refusals (bind R f))
 unfolding bind
 behind_refused e (Ok x) f r = none_refused e (refusals (f x)) r
 behind_refused e (Err es) f r = r
 
-pub head_refused : (k : ℕ) (b : List ℕ) (at : ℕ) (before : Before) (e : IpcError) → Refuses e (refusals (head_from b at before)) → Refuses e (refusals (entry_from k b at before))
+pub head_refused : (k : ℕ) (b : List ℕ) (at : ℕ) (before : Before) (e : IpcError) → RefusesBytes e (refusals (head_from b at before)) → RefusesBytes e (refusals (entry_from k b at before))
 unfolding entry_from
 head_refused k b at before e h = behind_refused e (head_from b at before) (λ x. bind (entries_at k b x.children x.before) (λ below. entry_by x below)) h
 
-pub below_refused : (k : ℕ) (b : List ℕ) (at : ℕ) (before : Before) (h : Head) (e : IpcError) → head_from b at before ≡ Ok h → Refuses e (refusals (entries_at k b h.children h.before)) → Refuses e (refusals (entry_from k b at before))
+pub below_refused : (k : ℕ) (b : List ℕ) (at : ℕ) (before : Before) (h : Head) (e : IpcError) → head_from b at before ≡ Ok h → RefusesBytes e (refusals (entries_at k b h.children h.before)) → RefusesBytes e (refusals (entry_from k b at before))
 unfolding entry_from
-below_refused k b at before h e got r = subst (λ x. Refuses e (refusals (bind x (λ y. bind (entries_at k b y.children y.before) (λ below. entry_by y below))))) (sym got) (ok_next h e (behind_refused e (entries_at k b h.children h.before) (entry_by h) r))
+below_refused k b at before h e got r = subst (λ x. RefusesBytes e (refusals (bind x (λ y. bind (entries_at k b y.children y.before) (λ below. entry_by y below))))) (sym got) (ok_next h e (behind_refused e (entries_at k b h.children h.before) (entry_by h) r))
   where
-    ok_next : (x : Head) (er : IpcError) → Refuses er (refusals (bind (entries_at k b x.children x.before) (λ below. entry_by x below))) → Refuses er (refusals (bind (Ok x) (λ y. bind (entries_at k b y.children y.before) (λ below. entry_by y below))))
-    ok_next x er s = subst (λ z. Refuses er (refusals z)) (sym (ok_bind x (λ y. bind (entries_at k b y.children y.before) (λ below. entry_by y below)))) s
+    ok_next : (x : Head) (er : IpcError) → RefusesBytes er (refusals (bind (entries_at k b x.children x.before) (λ below. entry_by x below))) → RefusesBytes er (refusals (bind (Ok x) (λ y. bind (entries_at k b y.children y.before) (λ below. entry_by y below))))
+    ok_next x er s = subst (λ z. RefusesBytes er (refusals z)) (sym (ok_bind x (λ y. bind (entries_at k b y.children y.before) (λ below. entry_by y below)))) s
 
 pub entry_read : (k : ℕ) (b : List ℕ) (at : ℕ) (before : Before) (h : Head) (below : Fields × Before) → head_from b at before ≡ Ok h → entries_at k b h.children h.before ≡ Ok below → entry_from k b at before ≡ entry_by h below
 unfolding entry_from
@@ -135,27 +136,27 @@ entries_more levels b v i cs all ts trees before next c t whole less same h got 
     let s : entries_at levels b (rest_of (v.first + 4 * i) (v.count - i)) before ≡ bind (entries_at levels b (rest_of ((v.first + 4 * i) + 4) (v.count - (i + 1))) next) (field_before (child_with c t)) = ap (λ k. entries_at levels b (rest_of (v.first + 4 * i) k) before) count ∙ entries-one levels b (v.first + 4 * i) (v.count - (i + 1)) before next (child_with c t) got in
     rw (grown, taller, at) (with_front-one cs ts c t (entries_at levels b (rest_of ((v.first + 4 * i) + 4) (v.count - (i + 1))) next) same ∙ ap (with_front cs ts) (sym s) ∙ h)
 
-front_refused : (e : IpcError) (cs : List Child) (ts : List Tree) (r : Reading (Fields × Before)) → Refuses e (refusals r) → Refuses e (refusals (with_front cs ts r))
+front_refused : (e : IpcError) (cs : List Child) (ts : List Tree) (r : Reading (Fields × Before)) → RefusesBytes e (refusals r) → RefusesBytes e (refusals (with_front cs ts r))
 unfolding with_front
 front_refused e cs ts (Ok r) h = h
 front_refused e cs ts (Err es) h = h
 
-step_refused : (e : IpcError) (R : Reading (Head × Kind × Before)) (f : Head × Kind × Before → Reading (Fields × Before)) → Refuses e (refusals (bind R child_read)) → Refuses e (refusals (bind R f))
+step_refused : (e : IpcError) (R : Reading (Head × Kind × Before)) (f : Head × Kind × Before → Reading (Fields × Before)) → RefusesBytes e (refusals (bind R child_read)) → RefusesBytes e (refusals (bind R f))
 unfolding bind
 step_refused e (Ok r) f h = none_refused e (refusals (f r)) h
 step_refused e (Err es) f h = h
 
-first_refused : (levels : ℕ) (b : List ℕ) (at n : ℕ) (before : Before) (e : IpcError) → Refuses e (refusals (entry_at levels b at before)) → Refuses e (refusals (entries_at levels b (rest_of at (suc n)) before))
+first_refused : (levels : ℕ) (b : List ℕ) (at n : ℕ) (before : Before) (e : IpcError) → RefusesBytes e (refusals (entry_at levels b at before)) → RefusesBytes e (refusals (entries_at levels b (rest_of at (suc n)) before))
 unfolding entries_at entry_at fields_by
 first_refused levels b at n before e h = step_refused e (one_of levels b at before) _ h
 
 pub entries_stopped : (levels : ℕ) (b : List ℕ) (v : Vector) (i : ℕ) (cs : List Child) (ts : List Tree) (before : Before) (whole : Reading (Fields × Before)) (e : IpcError)
-    → i < v.count → entries_left levels b v i cs ts before ≡ whole → Refuses e (refusals (entry_at levels b (v.first + 4 * i) before)) → Refuses e (refusals whole)
+    → i < v.count → entries_left levels b v i cs ts before ≡ whole → RefusesBytes e (refusals (entry_at levels b (v.first + 4 * i) before)) → RefusesBytes e (refusals whole)
 unfolding entries_left
 entries_stopped levels b v i cs ts before whole e less h told =
     let count : v.count - i ≡ suc (v.count - (i + 1)) = omega arith in
-    let s : Refuses e (refusals (entries_at levels b (rest_of (v.first + 4 * i) (v.count - i)) before)) = subst (λ k. Refuses e (refusals (entries_at levels b (rest_of (v.first + 4 * i) k) before))) (sym count) (first_refused levels b (v.first + 4 * i) (v.count - (i + 1)) before e told) in
-    subst (λ r. Refuses e (refusals r)) h (front_refused e cs ts (entries_at levels b (rest_of (v.first + 4 * i) (v.count - i)) before) s)
+    let s : RefusesBytes e (refusals (entries_at levels b (rest_of (v.first + 4 * i) (v.count - i)) before)) = subst (λ k. RefusesBytes e (refusals (entries_at levels b (rest_of (v.first + 4 * i) k) before))) (sym count) (first_refused levels b (v.first + 4 * i) (v.count - (i + 1)) before e told) in
+    subst (λ r. RefusesBytes e (refusals r)) h (front_refused e cs ts (entries_at levels b (rest_of (v.first + 4 * i) (v.count - i)) before) s)
 
 front_all : (cs : List Child) (ts : List Tree) → length cs ≡ length ts → front_of cs ts kind.none ≡ fields_with (fields_from cs) (ids_from ts)
 front_all [] ts h = refl

@@ -6,7 +6,8 @@ use Rattle.std.proofs.lemmas.Slice.Eq.{bytes_eq-Decides}
 use Rattle.arrow_spec.specs.declared.error.IpcError.{IpcError}
 use Rattle.arrow_spec.specs.declared.error.IpcError.TheVariants.{Unsupported}
 use Rattle.arrow_spec.specs.declared.error.Feature.TheVariants as features
-use Rattle.arrow_spec.specs.Readings.{bind, Reading, unless, Refuses, refusals}
+use Rattle.arrow_spec.specs.Readings.{bind, Reading, unless, refusals}
+use Rattle.ipc_fields.specs.Causes.{RefusesBytes}
 use Rattle.arrow_spec.specs.Schema.{has_name, has_distinct_names}
 use Rattle.arrow_types.specs.Child.{Child, fields_from}
 use Rattle.arrow_types.specs.Schemas.{Keyed, field_under, with_field}
@@ -129,12 +130,12 @@ keyed_done s xs whole none h = sym h ∙ ap (keyed_left s) none
 pub put_there_new : (x : Child) (key : List ℕ) (c : Child) (s new : List Keyed) → key ≡ x.name → c ≡ x → is_some (field_under x.name s) ≡ false → new ≡ with_field key c s → put_keyed x s ≡ Ok new
 put_there_new x key c s new k e none put = put_new x s new none (put ∙ ap (λ k. with_field k c s) k ∙ ap (λ d. with_field x.name d s) e)
 
-refused_by : (e : IpcError) (r : Reading (List Keyed)) (x : Child) (xs : List Child) (s : List Keyed) (whole : Reading (List Keyed)) → keyed_left s (x ∷ xs) ≡ whole → put_keyed x s ≡ r → Refuses e (refusals r) → Refuses e (refusals whole)
+refused_by : (e : IpcError) (r : Reading (List Keyed)) (x : Child) (xs : List Child) (s : List Keyed) (whole : Reading (List Keyed)) → keyed_left s (x ∷ xs) ≡ whole → put_keyed x s ≡ r → RefusesBytes e (refusals r) → RefusesBytes e (refusals whole)
 unfolding keyed_left bind
 refused_by e (Ok t) x xs s whole h put told = none_refused e (refusals whole) told
 refused_by e (Err es) x xs s whole h put told =
     let all : whole ≡ Err es = sym h ∙ ap (λ r. bind r (λ t. keyed_left t xs)) put in
-    subst (λ r. Refuses e (refusals r)) (sym all) told
+    subst (λ r. RefusesBytes e (refusals r)) (sym all) told
 
-pub keyed_refused : (e : IpcError) (x : Child) (xs : List Child) (s : List Keyed) (whole : Reading (List Keyed)) → keyed_left s (x ∷ xs) ≡ whole → Refuses e (refusals (put_keyed x s)) → Refuses e (refusals whole)
+pub keyed_refused : (e : IpcError) (x : Child) (xs : List Child) (s : List Keyed) (whole : Reading (List Keyed)) → keyed_left s (x ∷ xs) ≡ whole → RefusesBytes e (refusals (put_keyed x s)) → RefusesBytes e (refusals whole)
 keyed_refused e x xs s whole h told = refused_by e (put_keyed x s) x xs s whole h refl told

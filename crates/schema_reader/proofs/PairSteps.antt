@@ -8,7 +8,8 @@ use Rattle.std.specs.BTreeMap.{insert_entry}
 use Rattle.std.specs.Option.{option_map}
 use Rattle.std.proofs.lemmas.Map.Text.{is_eq-slice_cmp}
 use Rattle.arrow_spec.specs.declared.error.IpcError.{IpcError}
-use Rattle.arrow_spec.specs.Readings.{bind, Reading, Refuses, refusals}
+use Rattle.arrow_spec.specs.Readings.{bind, Reading, refusals}
+use Rattle.ipc_fields.specs.Causes.{RefusesBytes}
 use Rattle.arrow_spec.specs.Flat.{Vector}
 use Rattle.arrow_spec.specs.Kinds.{Metadata}
 use Rattle.arrow_spec.specs.declared.error.OutOfSpecKind.TheVariants.{InvalidFlatbufferSchema}
@@ -44,16 +45,16 @@ pairs_more b first n i m next whole less h got =
     let s : pairs_from InvalidFlatbufferSchema b (first + 4 * i) (n - i) m ≡ bind (pair_put b (first + 4 * i) m) (λ x. pairs_from InvalidFlatbufferSchema b ((first + 4 * i) + 4) (n - (i + 1)) x) = ap (λ k. pairs_from InvalidFlatbufferSchema b (first + 4 * i) k m) count ∙ step-one b (first + 4 * i) (n - (i + 1)) m in
     ap (λ a. pairs_from InvalidFlatbufferSchema b a (n - (i + 1)) next) at ∙ sym (ap (λ r. bind r (λ x. pairs_from InvalidFlatbufferSchema b ((first + 4 * i) + 4) (n - (i + 1)) x)) got) ∙ sym s ∙ h
 
-stopped_by : (e : IpcError) (r : Reading Metadata) (b : List ℕ) (first n i : ℕ) (m : Metadata) (whole : Reading Metadata) → i < n → pairs_from InvalidFlatbufferSchema b (first + 4 * i) (n - i) m ≡ whole → pair_put b (first + 4 * i) m ≡ r → Refuses e (refusals r) → Refuses e (refusals whole)
+stopped_by : (e : IpcError) (r : Reading Metadata) (b : List ℕ) (first n i : ℕ) (m : Metadata) (whole : Reading Metadata) → i < n → pairs_from InvalidFlatbufferSchema b (first + 4 * i) (n - i) m ≡ whole → pair_put b (first + 4 * i) m ≡ r → RefusesBytes e (refusals r) → RefusesBytes e (refusals whole)
 unfolding bind
 stopped_by e (Ok x) b first n i m whole less h same told = none_refused e (refusals whole) told
 stopped_by e (Err es) b first n i m whole less h same told =
     let count : n - i ≡ suc (n - (i + 1)) = omega arith in
     let s : pairs_from InvalidFlatbufferSchema b (first + 4 * i) (n - i) m ≡ bind (pair_put b (first + 4 * i) m) (λ x. pairs_from InvalidFlatbufferSchema b ((first + 4 * i) + 4) (n - (i + 1)) x) = ap (λ k. pairs_from InvalidFlatbufferSchema b (first + 4 * i) k m) count ∙ step-one b (first + 4 * i) (n - (i + 1)) m in
     let all : whole ≡ Err es = sym h ∙ s ∙ ap (λ r. bind r (λ x. pairs_from InvalidFlatbufferSchema b ((first + 4 * i) + 4) (n - (i + 1)) x)) same in
-    subst (λ r. Refuses e (refusals r)) (sym all) told
+    subst (λ r. RefusesBytes e (refusals r)) (sym all) told
 
-pub pairs_stopped : (b : List ℕ) (first n i : ℕ) (m : Metadata) (whole : Reading Metadata) (e : IpcError) → i < n → pairs_from InvalidFlatbufferSchema b (first + 4 * i) (n - i) m ≡ whole → Refuses e (refusals (pair_put b (first + 4 * i) m)) → Refuses e (refusals whole)
+pub pairs_stopped : (b : List ℕ) (first n i : ℕ) (m : Metadata) (whole : Reading Metadata) (e : IpcError) → i < n → pairs_from InvalidFlatbufferSchema b (first + 4 * i) (n - i) m ≡ whole → RefusesBytes e (refusals (pair_put b (first + 4 * i) m)) → RefusesBytes e (refusals whole)
 pairs_stopped b first n i m whole e less h told = stopped_by e (pair_put b (first + 4 * i) m) b first n i m whole less h refl told
 
 pub pairs_done : (b : List ℕ) (first n i : ℕ) (m : Metadata) (whole : Reading Metadata) → n ≤ i → pairs_from InvalidFlatbufferSchema b (first + 4 * i) (n - i) m ≡ whole → whole ≡ Ok m

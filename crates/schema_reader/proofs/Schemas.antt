@@ -4,7 +4,8 @@ use Rattle.std.specs.Str.{bytes_eq}
 use Rattle.arrow_spec.specs.declared.error.IpcError.{IpcError}
 use Rattle.arrow_spec.specs.declared.error.IpcError.TheVariants.{Unsupported}
 use Rattle.arrow_spec.specs.declared.error.Feature.TheVariants as features
-use Rattle.arrow_spec.specs.Readings.{bind, Reading, unless, Gives, Refuses, refusals}
+use Rattle.arrow_spec.specs.Readings.{bind, Reading, unless, refusals}
+use Rattle.ipc_fields.specs.Causes.{Decodes, RefusesBytes}
 use Rattle.arrow_spec.specs.Flat.{Table, Order, little, big}
 use Rattle.arrow_spec.specs.Kinds as kind
 use Rattle.arrow_spec.specs.Kinds.{Fields, Use, uses_in}
@@ -27,8 +28,8 @@ schema_same : (b : List ℕ) (t : Table) → schema_of b t ≡ schema_by b t
 unfolding schema_of schema_by order_part fields_part entries_at checked
 schema_same b t = simp (bind_twice, ok_bind, order_is)
 
-pub schema_given : {X : Type 0} (view : X → Schema) (b : List ℕ) (t : Table) (r : Result X IpcError) → Gives view r (schema_by b t) → Gives view r (schema_of b t)
-schema_given view b t r h = subst (Gives view r) (sym (schema_same b t)) h
+pub schema_given : {X : Type 0} (view : X → Schema) (b : List ℕ) (t : Table) (r : Result X IpcError) → Decodes view r (schema_by b t) → Decodes view r (schema_of b t)
+schema_given view b t r h = subst (Decodes view r) (sym (schema_same b t)) h
 
 -- ── names ──
 
@@ -80,25 +81,25 @@ checked_ok cs below s us h u a =
     let f : fields_with (fields_from cs) below ≡ fields_with (fields_in s) below = ap (λ fs. fields_with fs below) (sym (put_fields_in cs s h)) in
     rw (d, g) (ap Ok f)
 
-not_put : (d : Bool) (e : IpcError) (cs : List Child) (f : Reading Fields) → Refuses e (refusals (bind (unless d (Unsupported features.DuplicateField)) (λ x. Ok (map keyed_by cs)))) → Refuses e (refusals (bind (unless d (Unsupported features.DuplicateField)) (λ x. f)))
+not_put : (d : Bool) (e : IpcError) (cs : List Child) (f : Reading Fields) → RefusesBytes e (refusals (bind (unless d (Unsupported features.DuplicateField)) (λ x. Ok (map keyed_by cs)))) → RefusesBytes e (refusals (bind (unless d (Unsupported features.DuplicateField)) (λ x. f)))
 unfolding bind
 not_put true e cs f h = none_refused e (refusals f) h
 not_put false e cs f h = h
 
-pub checked_twice : (cs : List Child) (below : Ids) (e : IpcError) → Refuses e (refusals (keyed_distinct cs)) → Refuses e (refusals (checked (fields_with (fields_from cs) below)))
+pub checked_twice : (cs : List Child) (below : Ids) (e : IpcError) → RefusesBytes e (refusals (keyed_distinct cs)) → RefusesBytes e (refusals (checked (fields_with (fields_from cs) below)))
 unfolding keyed_distinct checked
-checked_twice cs below e h = subst (λ d. Refuses e (refusals (bind (unless d (Unsupported features.DuplicateField)) (λ x. bind (uses_agree [] (uses_in (fields_with (fields_from cs) below))) (λ uses. Ok (fields_with (fields_from cs) below)))))) (sym (names_with (fields_from cs) below)) (not_put (has_distinct_names (fields_from cs)) e cs _ h)
+checked_twice cs below e h = subst (λ d. RefusesBytes e (refusals (bind (unless d (Unsupported features.DuplicateField)) (λ x. bind (uses_agree [] (uses_in (fields_with (fields_from cs) below))) (λ uses. Ok (fields_with (fields_from cs) below)))))) (sym (names_with (fields_from cs) below)) (not_put (has_distinct_names (fields_from cs)) e cs _ h)
 
-not_agreed : (r : Reading (Unit {0})) (e : IpcError) (fs : Fields) → Refuses e (refusals r) → Refuses e (refusals (bind r (λ uses. Ok fs)))
+not_agreed : (r : Reading (Unit {0})) (e : IpcError) (fs : Fields) → RefusesBytes e (refusals r) → RefusesBytes e (refusals (bind r (λ uses. Ok fs)))
 unfolding bind
 not_agreed (Ok x) e fs h = none_refused e (refusals (bind (Ok x) (λ uses. Ok fs))) h
 not_agreed (Err es) e fs h = h
 
-pub checked_apart : (cs : List Child) (below : Ids) (s : List Keyed) (us : List Use) (e : IpcError) → keyed_distinct cs ≡ Ok s → us ≡ uses_in (fields_with (fields_from cs) below) → Refuses e (refusals (uses_agree [] us)) → Refuses e (refusals (checked (fields_with (fields_from cs) below)))
+pub checked_apart : (cs : List Child) (below : Ids) (s : List Keyed) (us : List Use) (e : IpcError) → keyed_distinct cs ≡ Ok s → us ≡ uses_in (fields_with (fields_from cs) below) → RefusesBytes e (refusals (uses_agree [] us)) → RefusesBytes e (refusals (checked (fields_with (fields_from cs) below)))
 unfolding checked
 checked_apart cs below s us e h u told =
     let d : has_distinct_names (fields_with (fields_from cs) below) ≡ true = names_with (fields_from cs) below ∙ (put cs s h).distinct in
-    let g : Refuses e (refusals (uses_agree [] (uses_in (fields_with (fields_from cs) below)))) = subst (λ x. Refuses e (refusals (uses_agree [] x))) u told in
+    let g : RefusesBytes e (refusals (uses_agree [] (uses_in (fields_with (fields_from cs) below)))) = subst (λ x. RefusesBytes e (refusals (uses_agree [] x))) u told in
     rw (d, ok_bind) (not_agreed (uses_agree [] (uses_in (fields_with (fields_from cs) below))) e (fields_with (fields_from cs) below) g)
 
 -- ── shapes ──

@@ -2,11 +2,10 @@
 ghost use Rattle.std.specs.Prelude.{◌≡◌, ◌+◌, ◌*◌, ◌<◌, ◌≤◌, ◌++◌, ◌∷◌, Ok, IfOk, IfErr, OnErr, Err, true, false, drop, pos, IsTrue, string_bytes};
 ghost use Rattle.std.specs.Int.{w32};
 ghost use Rattle.arrow_spec.specs.declared.error.IpcError.TheVariants.{Memory};
-ghost use Rattle.arrow_spec.specs.Readings.{Gives};
+ghost use Rattle.ipc_fields.specs.Causes.{Decodes};
 ghost use Rattle.arrow_spec.specs.Flat.{signed_at, slot_bool};
 ghost use Rattle.arrow_spec.specs.Schema.{is_nested, choice, natural_slot, schema_part, integer_of, integer_at, unit_of, time_of, time_at, timestamp_at, decimal_of, decimal_at, positive, type_at};
 ghost use Rattle.arrow_types.specs.KindOf.{kind_of};
-ghost use Rattle.ipc_fields.specs.Causes.{IsOfBytes};
 ghost use Rattle.schema_reader.specs.Parts.{tag_part, size_at, float_at, date_at, interval_at, duration_at};
 ghost use Rattle.schema_reader.specs.ReadViews.{tag_in, shape_kind, Takes};
 ghost use Rattle.ipc_fields.specs.Leaves.{is_leaf};
@@ -65,8 +64,7 @@ pub(crate) enum Shape {
 /// The type table of a tag.
 #[tactic(auto, using(crate::proofs::Tags::tag_large, crate::proofs::Tags::tag_zero), unfolding(crate::specs::Parts::tag_part))]
 pub(crate) fn tag_of(number: u8) -> Result<TypeTag, IpcError>
-    ensures gives { Gives tag_in result (tag_part number) }
-    ensures quiet { IfErr result IsOfBytes }
+    ensures gives { Decodes tag_in result (tag_part number) }
 {
     if number == 0 {
         return Err(IpcError::OutOfSpec(OutOfSpecKind::MissingType));
@@ -127,8 +125,7 @@ pub(crate) fn read_choice(
     default: u16,
     count: u16,
 ) -> Result<u16, IpcError>
-    ensures gives { Gives (λ n. n) result (choice count default table.now.bytes table.now.table slot) }
-    ensures quiet { IfErr result IsOfBytes }
+    ensures gives { Decodes (λ n. n) result (choice count default table.now.bytes table.now.table slot) }
     ensures listed { IfOk result (λ n. n < count) }
 {
     let number = table
@@ -140,8 +137,7 @@ pub(crate) fn read_choice(
 /// A number that must not be negative.
 #[tactic(auto, unfolding(arrow_spec::specs::Readings::bind))]
 pub(crate) fn read_natural(table: &Table<'_>, slot: usize, default: u8) -> Result<usize, IpcError>
-    ensures gives { Gives (λ n. n) result (natural_slot default table.now.bytes table.now.table slot) }
-    ensures quiet { IfErr result IsOfBytes }
+    ensures gives { Decodes (λ n. n) result (natural_slot default table.now.bytes table.now.table slot) }
 {
     let number = table.slot_i32(slot, i32::from(default)).map_err(|e| IpcError::OutOfSpec(
         OutOfSpecKind::InvalidFlatbufferSchema(e),
@@ -155,8 +151,7 @@ pub(crate) fn read_natural(table: &Table<'_>, slot: usize, default: u8) -> Resul
 /// A truth value, false where it is absent.
 #[tactic(auto, using(ipc_fields::proofs::Steps::bool_slot), unfolding(arrow_spec::specs::Readings::bind))]
 pub(crate) fn read_bool(table: &Table<'_>, slot: usize) -> Result<bool, IpcError>
-    ensures gives { Gives (λ b. b) result (schema_part (slot_bool table.now.bytes table.now.table slot)) }
-    ensures quiet { IfErr result IsOfBytes }
+    ensures gives { Decodes (λ b. b) result (schema_part (slot_bool table.now.bytes table.now.table slot)) }
 {
     let flag = table.slot_bool(slot, false).map_err(|e| IpcError::OutOfSpec(
         OutOfSpecKind::InvalidFlatbufferSchema(e),
@@ -166,8 +161,7 @@ pub(crate) fn read_bool(table: &Table<'_>, slot: usize) -> Result<bool, IpcError
 
 /// An integer type by its bits and its sign.
 fn integer_of(bits: usize, is_signed: bool) -> Result<IntegerType, IpcError>
-    ensures gives { Gives (λ i. i) result (integer_of bits is_signed) }
-    ensures quiet { IfErr result IsOfBytes }
+    ensures gives { Decodes (λ i. i) result (integer_of bits is_signed) }
 {
     match (bits, is_signed) {
         (8, true) => Ok(IntegerType::Int8),
@@ -186,8 +180,7 @@ fn integer_of(bits: usize, is_signed: bool) -> Result<IntegerType, IpcError>
 /// An integer type (Schema.fbs, Int).
 #[tactic(auto, unfolding(arrow_spec::specs::Readings::bind, arrow_spec::specs::Schema::integer_at))]
 pub(crate) fn read_integer(table: &Table<'_>) -> Result<IntegerType, IpcError>
-    ensures gives { Gives (λ i. i) result (integer_at table.now.bytes table.now.table) }
-    ensures quiet { IfErr result IsOfBytes }
+    ensures gives { Decodes (λ i. i) result (integer_at table.now.bytes table.now.table) }
 {
     let bits = read_natural(table, 0, 0)?;
     let is_signed = read_bool(table, 1)?;
@@ -209,9 +202,8 @@ fn unit_of(number: u16) -> TimeUnit
 /// A float, by its precision (Schema.fbs, FloatingPoint).
 #[tactic(auto, unfolding(arrow_spec::specs::Readings::bind, crate::specs::Parts::float_at))]
 pub(crate) fn read_float(table: &Table<'_>) -> Result<ArrowDataType, IpcError>
-    ensures gives { Gives kind_of result (float_at table.now.bytes table.now.table) }
+    ensures gives { Decodes kind_of result (float_at table.now.bytes table.now.table) }
     ensures leaf { IfOk result (λ t. is_leaf (kind_of t) ≡ true) }
-    ensures quiet { IfErr result IsOfBytes }
 {
     match read_choice(table, 0, 0, 3)? {
         0 => Ok(ArrowDataType::Float16),
@@ -223,9 +215,8 @@ pub(crate) fn read_float(table: &Table<'_>) -> Result<ArrowDataType, IpcError>
 /// A decimal by its bits; those of 32 and 64 are not supported (Schema.fbs, Decimal).
 #[tactic(auto, unfolding(arrow_spec::specs::Readings::bind))]
 fn decimal_of(bits: usize, precision: usize, scale: usize) -> Result<ArrowDataType, IpcError>
-    ensures gives { Gives kind_of result (decimal_of bits precision scale) }
+    ensures gives { Decodes kind_of result (decimal_of bits precision scale) }
     ensures leaf { IfOk result (λ t. is_leaf (kind_of t) ≡ true) }
-    ensures quiet { IfErr result IsOfBytes }
 {
     match bits {
         128 => Ok(ArrowDataType::Decimal(precision, scale)),
@@ -238,9 +229,8 @@ fn decimal_of(bits: usize, precision: usize, scale: usize) -> Result<ArrowDataTy
 /// A decimal (Schema.fbs, Decimal).
 #[tactic(auto, unfolding(arrow_spec::specs::Readings::bind, arrow_spec::specs::Schema::decimal_at))]
 pub(crate) fn read_decimal(table: &Table<'_>) -> Result<ArrowDataType, IpcError>
-    ensures gives { Gives kind_of result (decimal_at table.now.bytes table.now.table) }
+    ensures gives { Decodes kind_of result (decimal_at table.now.bytes table.now.table) }
     ensures leaf { IfOk result (λ t. is_leaf (kind_of t) ≡ true) }
-    ensures quiet { IfErr result IsOfBytes }
 {
     let precision = read_natural(table, 0, 0)?;
     let scale = table.slot_i32(1, 0).map_err(|e| IpcError::OutOfSpec(
@@ -256,9 +246,8 @@ pub(crate) fn read_decimal(table: &Table<'_>) -> Result<ArrowDataType, IpcError>
 /// A date (Schema.fbs, Date).
 #[tactic(auto, unfolding(arrow_spec::specs::Readings::bind, crate::specs::Parts::date_at))]
 pub(crate) fn read_date(table: &Table<'_>) -> Result<ArrowDataType, IpcError>
-    ensures gives { Gives kind_of result (date_at table.now.bytes table.now.table) }
+    ensures gives { Decodes kind_of result (date_at table.now.bytes table.now.table) }
     ensures leaf { IfOk result (λ t. is_leaf (kind_of t) ≡ true) }
-    ensures quiet { IfErr result IsOfBytes }
 {
     match read_choice(table, 0, 1, 2)? {
         0 => Ok(ArrowDataType::Date32),
@@ -268,9 +257,8 @@ pub(crate) fn read_date(table: &Table<'_>) -> Result<ArrowDataType, IpcError>
 
 /// Seconds and milliseconds take 32 bits, the finer units 64 (Schema.fbs, Time).
 fn time_of(bits: usize, unit: u16) -> Result<ArrowDataType, IpcError>
-    ensures gives { Gives kind_of result (time_of bits unit) }
+    ensures gives { Decodes kind_of result (time_of bits unit) }
     ensures leaf { IfOk result (λ t. is_leaf (kind_of t) ≡ true) }
-    ensures quiet { IfErr result IsOfBytes }
 {
     if bits == 32 && unit < 2 {
         return Ok(ArrowDataType::Time32(unit_of(unit)));
@@ -284,9 +272,8 @@ fn time_of(bits: usize, unit: u16) -> Result<ArrowDataType, IpcError>
 /// A time of day (Schema.fbs, Time).
 #[tactic(auto, unfolding(arrow_spec::specs::Readings::bind, arrow_spec::specs::Schema::time_at))]
 pub(crate) fn read_time(table: &Table<'_>) -> Result<ArrowDataType, IpcError>
-    ensures gives { Gives kind_of result (time_at table.now.bytes table.now.table) }
+    ensures gives { Decodes kind_of result (time_at table.now.bytes table.now.table) }
     ensures leaf { IfOk result (λ t. is_leaf (kind_of t) ≡ true) }
-    ensures quiet { IfErr result IsOfBytes }
 {
     let unit = read_choice(table, 0, 1, 4)?;
     let bits = read_natural(table, 1, 32)?;
@@ -296,9 +283,8 @@ pub(crate) fn read_time(table: &Table<'_>) -> Result<ArrowDataType, IpcError>
 /// A timestamp (Schema.fbs, Timestamp).
 #[tactic(auto, unfolding(arrow_spec::specs::Readings::bind, arrow_spec::specs::Schema::timestamp_at))]
 pub(crate) fn read_timestamp(alloc: Global, table: &Table<'_>) -> Result<ArrowDataType, IpcError>
-    ensures gives { Gives kind_of result (timestamp_at table.now.bytes table.now.table) }
+    ensures gives { Decodes kind_of result (timestamp_at table.now.bytes table.now.table) }
     ensures leaf { IfOk result (λ t. is_leaf (kind_of t) ≡ true) }
-    ensures quiet { IfErr result IsOfBytes }
 {
     let unit = read_choice(table, 0, 0, 4)?;
     let zone = read_text(alloc, table, 1)?;
@@ -308,9 +294,8 @@ pub(crate) fn read_timestamp(alloc: Global, table: &Table<'_>) -> Result<ArrowDa
 /// An interval (Schema.fbs, Interval).
 #[tactic(auto, unfolding(arrow_spec::specs::Readings::bind, crate::specs::Parts::interval_at))]
 pub(crate) fn read_interval(table: &Table<'_>) -> Result<ArrowDataType, IpcError>
-    ensures gives { Gives kind_of result (interval_at table.now.bytes table.now.table) }
+    ensures gives { Decodes kind_of result (interval_at table.now.bytes table.now.table) }
     ensures leaf { IfOk result (λ t. is_leaf (kind_of t) ≡ true) }
-    ensures quiet { IfErr result IsOfBytes }
 {
     match read_choice(table, 0, 0, 3)? {
         0 => Ok(ArrowDataType::Interval(IntervalUnit::YearMonth)),
@@ -322,9 +307,8 @@ pub(crate) fn read_interval(table: &Table<'_>) -> Result<ArrowDataType, IpcError
 /// A duration (Schema.fbs, Duration).
 #[tactic(auto, unfolding(arrow_spec::specs::Readings::bind, crate::specs::Parts::duration_at))]
 pub(crate) fn read_duration(table: &Table<'_>) -> Result<ArrowDataType, IpcError>
-    ensures gives { Gives kind_of result (duration_at table.now.bytes table.now.table) }
+    ensures gives { Decodes kind_of result (duration_at table.now.bytes table.now.table) }
     ensures leaf { IfOk result (λ t. is_leaf (kind_of t) ≡ true) }
-    ensures quiet { IfErr result IsOfBytes }
 {
     let unit = read_choice(table, 0, 1, 4)?;
     Ok(ArrowDataType::Duration(unit_of(unit)))
@@ -333,8 +317,7 @@ pub(crate) fn read_duration(table: &Table<'_>) -> Result<ArrowDataType, IpcError
 /// A size above 0.
 #[tactic(auto, unfolding(arrow_spec::specs::Readings::bind))]
 pub(crate) fn read_size(table: &Table<'_>) -> Result<usize, IpcError>
-    ensures gives { Gives (λ n. n) result (size_at table.now.bytes table.now.table) }
-    ensures quiet { IfErr result IsOfBytes }
+    ensures gives { Decodes (λ n. n) result (size_at table.now.bytes table.now.table) }
 {
     let size = read_natural(table, 0, 0)?;
     if size == 0 {

@@ -2,12 +2,11 @@
 ghost use Rattle.std.specs.Prelude.{◌≡◌, ◌+◌, ◌-◌, ◌*◌, ◌<◌, ◌≤◌, ◌++◌, ◌∷◌, [], ℕ, List, map, Ok, IfOk, IfErr, OnErr, Err, IfSome, true, false, length, string_bytes};
 ghost use Rattle.std.specs.Option.{option_map};
 ghost use Rattle.arrow_spec.specs.declared.error.IpcError.TheVariants.{Memory};
-ghost use Rattle.arrow_spec.specs.Readings.{Gives};
+ghost use Rattle.ipc_fields.specs.Causes.{Decodes};
 ghost use Rattle.arrow_spec.specs.Schema.{empty_vector, is_struct_of_two, first_is_struct_of_two};
 ghost use Rattle.arrow_flat.specs.Read.{vector_of};
 ghost use Rattle.arrow_types.specs.Child.{fields_from};
 ghost use Rattle.arrow_types.specs.KindOf.{kind_of, child_of, fields_of, texts_of};
-ghost use Rattle.ipc_fields.specs.Causes.{IsOfBytes};
 ghost use Rattle.ipc_fields.specs.IpcFields.{tree_of, ids_of, has_shape, have_shapes};
 ghost use Rattle.schema_reader.specs.Parts.{entry_at, entries_at, entry_by};
 ghost use Rattle.schema_reader.specs.ReadViews.{shape_kind, Takes, extended, extension_of, encoded, is_whole_shape, kind_by, head_in, before_in, entry_in, children_in};
@@ -69,10 +68,7 @@ fn only_child(alloc: Global, mut children: Vec<Field>) -> Result<Box<Field>, Ipc
     let Some(child) = children.pop() else {
         return Err(IpcError::Memory);
     };
-    match Box::new(alloc, child) {
-        Ok(child) => Ok(child),
-        Err(_) => Err(IpcError::Memory),
-    }
+    Ok(Box::new(alloc, child)?)
 }
 
 /// A union of these children.
@@ -85,10 +81,8 @@ fn make_union(
     ensures gives { IfOk result (λ t. kind_of t ≡ shape_kind (length fields.items) (Shape.Union mode ids) (fields_of fields.items)) }
     ensures memory { OnErr result (result ≡ Err Memory) }
 {
-    match Box::new(alloc, UnionType { fields, ids, mode }) {
-        Ok(union) => Ok(ArrowDataType::Union(union)),
-        Err(_) => Err(IpcError::Memory),
-    }
+    let union = Box::new(alloc, UnionType { fields, ids, mode })?;
+    Ok(ArrowDataType::Union(union))
 }
 
 /// The type that a shape makes of the children.
@@ -127,10 +121,7 @@ fn extend(
         inner,
         metadata: extension.metadata,
     };
-    match Box::new(alloc, whole) {
-        Ok(whole) => Ok(ArrowDataType::Extension(whole)),
-        Err(_) => Err(IpcError::Memory),
-    }
+    Ok(ArrowDataType::Extension(Box::new(alloc, whole)?))
 }
 
 /// The type of keys into a dictionary of these values.
@@ -145,10 +136,8 @@ fn encode(
     let Some(encoding) = encoding else {
         return Ok(values);
     };
-    match Box::new(alloc, values) {
-        Ok(values) => Ok(ArrowDataType::Dictionary(encoding.index, values, encoding.is_ordered)),
-        Err(_) => Err(IpcError::Memory),
-    }
+    let values = Box::new(alloc, values)?;
+    Ok(ArrowDataType::Dictionary(encoding.index, values, encoding.is_ordered))
 }
 
 fn id_of(encoding: Option<Encoding>) -> Option<i64>
@@ -202,10 +191,9 @@ fn make_entry(alloc: Global, head: Head<'_>, children: Children) -> Result<Entry
     requires count { length children.fields.items ≡ (empty_vector (vector_of head.form.children)).count }
     requires takes { Takes (length children.fields.items) head.form.shape }
     requires shapes { have_shapes (fields_of children.fields.items) (ids_of children.ipc_fields.items) ≡ true }
-    ensures gives { Gives entry_in result (entry_by (head_in head.entry) (children_in children)) }
+    ensures gives { Decodes entry_in result (entry_by (head_in head.entry) (children_in children)) }
     ensures shape { IfOk result (λ e. has_shape (child_of e.field).kind (tree_of e.ipc_field).id (tree_of e.ipc_field).children ≡ true) }
     ensures before { IfOk result (λ e. e.before ≡ children.before) }
-    ensures quiet { IfErr result IsOfBytes }
 {
     let form = head.form;
     if !is_whole(&form.shape, &children.fields) {
@@ -234,12 +222,8 @@ fn push_entry(children: &mut Children, entry: Entry) -> Result<(), IpcError>
     ensures before { IfOk result (λ _. children.new.before ≡ entry.before) }
     ensures memory { OnErr result (result ≡ Err Memory) }
 {
-    if children.fields.push(entry.field).is_err() {
-        return Err(IpcError::Memory);
-    }
-    if children.ipc_fields.push(entry.ipc_field).is_err() {
-        return Err(IpcError::Memory);
-    }
+    children.fields.push(entry.field)?;
+    children.ipc_fields.push(entry.ipc_field)?;
     children.before = entry.before;
     Ok(())
 }
@@ -256,10 +240,9 @@ fn read_field(
     requires width { fields.now.width ≡ 4 }
     requires within { i < fields.now.vector.count }
     requires pairs { before.pairs ≤ 1048576 }
-    ensures gives { Gives entry_in result (entry_at levels fields.now.bytes (fields.now.vector.first + 4 * i) (before_in before)) }
+    ensures gives { Decodes entry_in result (entry_at levels fields.now.bytes (fields.now.vector.first + 4 * i) (before_in before)) }
     ensures shape { IfOk result (λ e. has_shape (child_of e.field).kind (tree_of e.ipc_field).id (tree_of e.ipc_field).children ≡ true) }
     ensures few { IfOk result (λ e. e.before.pairs ≤ 1048576) }
-    ensures quiet { IfErr result IsOfBytes }
 {
     if levels == 0 {
         return Err(IpcError::TooDeep);
@@ -279,11 +262,10 @@ fn read_below(
 ) -> Result<Children, IpcError>
     requires width { IfSome children.now (λ v. v.width ≡ 4) }
     requires pairs { before.pairs ≤ 1048576 }
-    ensures gives { (b : List ℕ) → IfSome children.now (λ v. v.bytes ≡ b) → Gives children_in result (entries_at levels b (empty_vector (vector_of children.now)) (before_in before)) }
+    ensures gives { (b : List ℕ) → IfSome children.now (λ v. v.bytes ≡ b) → Decodes children_in result (entries_at levels b (empty_vector (vector_of children.now)) (before_in before)) }
     ensures count { IfOk result (λ c. length c.fields.items ≡ (empty_vector (vector_of children.now)).count) }
     ensures shapes { IfOk result (λ c. have_shapes (fields_of c.fields.items) (ids_of c.ipc_fields.items) ≡ true) }
     ensures few { IfOk result (λ c. c.before.pairs ≤ 1048576) }
-    ensures quiet { IfErr result IsOfBytes }
 {
     match children {
         None => Ok(Children {
@@ -305,11 +287,10 @@ pub(crate) fn read_fields(
 ) -> Result<Children, IpcError>
     requires width { fields.now.width ≡ 4 }
     requires pairs { before.pairs ≤ 1048576 }
-    ensures gives { Gives children_in result (entries_at levels fields.now.bytes fields.now.vector (before_in before)) }
+    ensures gives { Decodes children_in result (entries_at levels fields.now.bytes fields.now.vector (before_in before)) }
     ensures count { IfOk result (λ c. length c.fields.items ≡ fields.now.vector.count) }
     ensures shapes { IfOk result (λ c. have_shapes (fields_of c.fields.items) (ids_of c.ipc_fields.items) ≡ true) }
     ensures few { IfOk result (λ c. c.before.pairs ≤ 1048576) }
-    ensures quiet { IfErr result IsOfBytes }
 {
     let mut read = Children {
         fields: Vec::new(alloc),

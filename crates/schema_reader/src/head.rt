@@ -1,12 +1,11 @@
 //! Fields before their children (Schema.fbs, Field and DictionaryEncoding).
 ghost use Rattle.std.specs.Prelude.{◌≡◌, ◌+◌, ◌*◌, ◌<◌, ◌≤◌, Ok, IfOk, IfErr, OnErr, Err, IfSome, false, length, string_bytes};
 ghost use Rattle.std.specs.Option.{option_map};
-ghost use Rattle.arrow_spec.specs.Readings.{Gives};
+ghost use Rattle.ipc_fields.specs.Causes.{Decodes};
 ghost use Rattle.arrow_spec.specs.Schema.{is_nested, encoding_at, children_at, empty_vector, without_key, extension_name, extension_metadata};
 ghost use Rattle.arrow_flat.specs.Read.{vector_of, TableIn};
 ghost use Rattle.arrow_types.specs.KindOf.{texts_of};
 ghost use Rattle.arrow_types.specs.Extensions.{extension_in};
-ghost use Rattle.ipc_fields.specs.Causes.{IsOfBytes};
 ghost use Rattle.schema_reader.specs.Parts.{name_at, index_at, tagged_at, form_at, head_by, head_from};
 ghost use Rattle.schema_reader.specs.ReadViews.{tag_in, tagged_in, Takes, encoding_in, extension_of, before_in, form_in, head_in};
 
@@ -71,8 +70,7 @@ pub(crate) struct Tagged<'a> {
 /// The name of a field, empty where it is absent.
 #[tactic(auto, unfolding(arrow_spec::specs::Readings::bind, crate::specs::Parts::name_at))]
 fn read_name(alloc: Global, table: &Table<'_>) -> Result<String, IpcError>
-    ensures gives { Gives string_bytes result (name_at table.now.bytes table.now.table) }
-    ensures quiet { IfErr result IsOfBytes }
+    ensures gives { Decodes string_bytes result (name_at table.now.bytes table.now.table) }
 {
     match read_text(alloc, table, 0)? {
         None => Ok(String::new(alloc)),
@@ -83,9 +81,8 @@ fn read_name(alloc: Global, table: &Table<'_>) -> Result<String, IpcError>
 /// The type table of a field.
 #[tactic(auto, unfolding(arrow_spec::specs::Readings::bind, crate::specs::Parts::tagged_at))]
 fn read_tagged<'a>(table: &Table<'a>) -> Result<Tagged<'a>, IpcError>
-    ensures gives { Gives tagged_in result (tagged_at table.now.bytes table.now.table) }
+    ensures gives { Decodes tagged_in result (tagged_at table.now.bytes table.now.table) }
     ensures bytes { IfOk result (λ t. t.table.bytes ≡ table.now.bytes) }
-    ensures quiet { IfErr result IsOfBytes }
 {
     let number = table.slot_u8(2, 0).map_err(|e| IpcError::OutOfSpec(
         OutOfSpecKind::InvalidFlatbufferSchema(e),
@@ -103,8 +100,7 @@ fn read_tagged<'a>(table: &Table<'a>) -> Result<Tagged<'a>, IpcError>
 /// The index type of a dictionary, Int32 where it is absent.
 #[tactic(auto, unfolding(arrow_spec::specs::Readings::bind))]
 fn read_index(table: &Table<'_>) -> Result<IntegerType, IpcError>
-    ensures gives { Gives (λ i. i) result (index_at table.now.bytes table.now.table) }
-    ensures quiet { IfErr result IsOfBytes }
+    ensures gives { Decodes (λ i. i) result (index_at table.now.bytes table.now.table) }
 {
     let index = table.slot_table(1).map_err(|e| IpcError::OutOfSpec(
         OutOfSpecKind::InvalidFlatbufferSchema(e),
@@ -118,8 +114,7 @@ fn read_index(table: &Table<'_>) -> Result<IntegerType, IpcError>
 /// A field's dictionary.
 #[tactic(auto, unfolding(arrow_spec::specs::Readings::bind, arrow_spec::specs::Schema::encoding_at))]
 fn read_encoding(table: &Table<'_>) -> Result<Option<Encoding>, IpcError>
-    ensures gives { Gives (option_map encoding_in) result (encoding_at table.now.bytes table.now.table) }
-    ensures quiet { IfErr result IsOfBytes }
+    ensures gives { Decodes (option_map encoding_in) result (encoding_at table.now.bytes table.now.table) }
 {
     let encoding = table.slot_table(4).map_err(|e| IpcError::OutOfSpec(
         OutOfSpecKind::InvalidFlatbufferSchema(e),
@@ -142,10 +137,9 @@ fn read_encoding(table: &Table<'_>) -> Result<Option<Encoding>, IpcError>
 /// The vector of a field's children, which is looked at where the type has children.
 #[tactic(auto, unfolding(arrow_spec::specs::Readings::bind))]
 fn read_children<'a>(table: &Table<'a>, tag: TypeTag) -> Result<Option<Vector<'a>>, IpcError>
-    ensures gives { Gives (λ v. empty_vector (vector_of v)) result (children_at table.now.bytes table.now.table (tag_in tag)) }
+    ensures gives { Decodes (λ v. empty_vector (vector_of v)) result (children_at table.now.bytes table.now.table (tag_in tag)) }
     ensures bytes { IfOk result (λ o. IfSome o (λ v. (v.bytes ≡ table.now.bytes) × (v.width ≡ 4))) }
     ensures none { IfOk result (λ o. is_nested (tag_in tag) ≡ false → (empty_vector (vector_of o)).count ≡ 0) }
-    ensures quiet { IfErr result IsOfBytes }
 {
     if !tag.is_nested() {
         return Ok(None);
@@ -191,11 +185,10 @@ fn read_form<'a>(
 ) -> Result<Form<'a>, IpcError>
     requires few { pairs ≤ 1048576 }
     requires bytes { tagged.now.table.bytes ≡ table.now.bytes }
-    ensures gives { Gives form_in result (form_at table.now.bytes table.now.table (tag_in tagged.now.tag) tagged.now.table.table pairs) }
+    ensures gives { Decodes form_in result (form_at table.now.bytes table.now.table (tag_in tagged.now.tag) tagged.now.table.table pairs) }
     ensures takes { IfOk result (λ f. Takes (empty_vector (vector_of f.children)).count f.shape) }
     ensures bytes { IfOk result (λ f. IfSome f.children (λ v. (v.bytes ≡ table.now.bytes) × (v.width ≡ 4))) }
     ensures few { IfOk result (λ f. f.pairs ≤ 1048576) }
-    ensures quiet { IfErr result IsOfBytes }
 {
     let encoding = read_encoding(table)?;
     let children = read_children(table, tagged.tag)?;
@@ -219,11 +212,10 @@ fn read_form<'a>(
 fn read_table<'a>(alloc: Global, table: &Table<'a>, before: Counted) -> Result<Head<'a>, IpcError>
     requires fields { before.fields < 65536 }
     requires pairs { before.pairs ≤ 1048576 }
-    ensures gives { Gives head_in result (head_by table.now.bytes table.now.table (before_in before)) }
+    ensures gives { Decodes head_in result (head_by table.now.bytes table.now.table (before_in before)) }
     ensures takes { IfOk result (λ h. Takes (empty_vector (vector_of h.form.children)).count h.form.shape) }
     ensures bytes { IfOk result (λ h. IfSome h.form.children (λ v. (v.bytes ≡ table.now.bytes) × (v.width ≡ 4))) }
     ensures few { IfOk result (λ h. h.before.pairs ≤ 1048576) }
-    ensures quiet { IfErr result IsOfBytes }
 {
     let name = read_name(alloc, table)?;
     let is_nullable = read_bool(table, 1)?;
@@ -252,11 +244,10 @@ pub(crate) fn read_head<'a>(
     requires width { fields.now.width ≡ 4 }
     requires within { i < fields.now.vector.count }
     requires pairs { before.pairs ≤ 1048576 }
-    ensures gives { Gives head_in result (head_from fields.now.bytes (fields.now.vector.first + 4 * i) (before_in before)) }
+    ensures gives { Decodes head_in result (head_from fields.now.bytes (fields.now.vector.first + 4 * i) (before_in before)) }
     ensures takes { IfOk result (λ h. Takes (empty_vector (vector_of h.form.children)).count h.form.shape) }
     ensures bytes { IfOk result (λ h. IfSome h.form.children (λ v. (v.bytes ≡ fields.now.bytes) × (v.width ≡ 4))) }
     ensures few { IfOk result (λ h. h.before.pairs ≤ 1048576) }
-    ensures quiet { IfErr result IsOfBytes }
 {
     if before.fields >= 65_536 {
         return Err(IpcError::TooMany(Limit::Fields));

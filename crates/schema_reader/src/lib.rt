@@ -3,7 +3,6 @@
 
 mod data_type;
 mod field;
-mod grow;
 mod head;
 pub mod message;
 mod pairs;

@@ -1,8 +1,7 @@
 //! The tables of messages, by their metadata (Arrow Columnar Format, "Encapsulated message format", Message.fbs).
 ghost use Rattle.std.specs.Prelude.{◌≡◌, IfOk, IfErr};
 ghost use Rattle.arrow_spec.specs.Messages.{message_of};
-ghost use Rattle.arrow_spec.specs.Readings.{Gives};
-ghost use Rattle.ipc_fields.specs.Causes.{IsOfBytes};
+ghost use Rattle.ipc_fields.specs.Causes.{Decodes};
 ghost use Rattle.schema_reader.specs.Messages.{taken_by, message_in, version_at};
 
 use arrow_flat::{ChoiceWidth, Flat, Table};
@@ -41,10 +40,9 @@ fn is_expected(expected: Expected, tag: u8) -> bool
 /// The message of a root table, with a header that is expected.
 #[tactic(auto, unfolding(arrow_spec::specs::Readings::bind, arrow_spec::specs::Messages::message_of))]
 pub fn read_message(bytes: &[u8], expected: Expected) -> Result<Message<'_>, IpcError>
-    ensures message { Gives message_in result (message_of bytes.now (taken_by expected)) }
+    ensures message { Decodes message_in result (message_of bytes.now (taken_by expected)) }
     ensures table { IfOk result (λ m. m.table.bytes ≡ bytes.now) }
     ensures header { IfOk result (λ m. m.header.bytes ≡ bytes.now) }
-    ensures quiet { IfErr result IsOfBytes }
 {
     let table = Flat::root(bytes).map_err(|e| IpcError::OutOfSpec(
         OutOfSpecKind::InvalidFlatbufferMessage(e),
@@ -87,8 +85,7 @@ pub fn read_message(bytes: &[u8], expected: Expected) -> Result<Message<'_>, Ipc
 /// The version of a message, which has to be V4 or V5.
 #[tactic(auto, unfolding(arrow_spec::specs::Readings::bind))]
 pub fn read_version(table: &Table<'_>) -> Result<MetadataVersion, IpcError>
-    ensures gives { Gives (λ v. v) result (version_at table.now.bytes table.now.table) }
-    ensures quiet { IfErr result IsOfBytes }
+    ensures gives { Decodes (λ v. v) result (version_at table.now.bytes table.now.table) }
 {
     let number = table.slot_choice(0, ChoiceWidth::Two, 0, 5).map_err(|e| IpcError::OutOfSpec(
         OutOfSpecKind::InvalidFlatbufferVersion(e),

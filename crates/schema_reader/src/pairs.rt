@@ -3,10 +3,9 @@ ghost use Rattle.std.specs.Prelude.{◌≡◌, ◌+◌, ◌*◌, ◌<◌, ◌≤
 ghost use Rattle.std.specs.Option.{option_map};
 ghost use Rattle.arrow_spec.specs.declared.error.IpcError.TheVariants.{Memory};
 ghost use Rattle.arrow_spec.specs.declared.error.OutOfSpecKind.TheVariants.{InvalidFlatbufferSchema};
-ghost use Rattle.arrow_spec.specs.Readings.{Gives};
+ghost use Rattle.ipc_fields.specs.Causes.{Decodes};
 ghost use Rattle.arrow_spec.specs.Schema.{pairs_from, pairs_of, with_read_pair};
 ghost use Rattle.arrow_types.specs.KindOf.{texts_of};
-ghost use Rattle.ipc_fields.specs.Causes.{IsOfBytes};
 ghost use Rattle.schema_reader.specs.Parts.{text_at, pair_put};
 ghost use Rattle.schema_reader.specs.ReadViews.{pairs_in};
 
@@ -28,16 +27,12 @@ pub(crate) fn read_text(
     table: &Table<'_>,
     slot: usize,
 ) -> Result<Option<String>, IpcError>
-    ensures gives { Gives (option_map string_bytes) result (text_at table.now.bytes table.now.table slot) }
-    ensures quiet { IfErr result IsOfBytes }
+    ensures gives { Decodes (option_map string_bytes) result (text_at table.now.bytes table.now.table slot) }
 {
     match table.slot_text(slot) {
         Err(e) => Err(IpcError::OutOfSpec(OutOfSpecKind::InvalidFlatbufferSchema(e))),
         Ok(None) => Ok(None),
-        Ok(Some(text)) => match text.to_string(alloc) {
-            Ok(text) => Ok(Some(text)),
-            Err(_) => Err(IpcError::Memory),
-        },
+        Ok(Some(text)) => Ok(Some(text.to_string(alloc)?)),
     }
 }
 
@@ -49,7 +44,6 @@ fn put_pair(
 ) -> Result<(), IpcError>
     ensures ok { IfOk result (λ _. texts_of metadata.new.entries ≡ with_read_pair (option_map string_bytes key) (option_map string_bytes value) (texts_of metadata.old.entries)) }
     ensures err { OnErr result (result ≡ Err Memory) }
-    ensures quiet { IfErr result IsOfBytes }
 {
     let Some(key) = key else {
         return Ok(());
@@ -57,13 +51,8 @@ fn put_pair(
     let Some(value) = value else {
         return Ok(());
     };
-    match metadata.insert(key, value) {
-        Ok(old) => {
-            drop(old);
-            Ok(())
-        }
-        Err(_) => Err(IpcError::Memory),
-    }
+    drop(metadata.insert(key, value)?);
+    Ok(())
 }
 
 /// Reads one of the pairs of a vector and puts it to those before it.
@@ -76,8 +65,7 @@ fn read_pair(
 ) -> Result<(), IpcError>
     requires width { pairs.now.width ≡ 4 }
     requires within { i < pairs.now.vector.count }
-    ensures gives { Gives (λ u. texts_of metadata.new.entries) result (pair_put pairs.now.bytes (pairs.now.vector.first + 4 * i) (texts_of metadata.old.entries)) }
-    ensures quiet { IfErr result IsOfBytes }
+    ensures gives { Decodes (λ u. texts_of metadata.new.entries) result (pair_put pairs.now.bytes (pairs.now.vector.first + 4 * i) (texts_of metadata.old.entries)) }
 {
     let pair = pairs.get_table(i).map_err(|e| IpcError::OutOfSpec(
         OutOfSpecKind::InvalidFlatbufferSchema(e),
@@ -91,8 +79,7 @@ fn read_pair(
 #[tactic(auto, using(crate::proofs::PairSteps::pairs_begun, crate::proofs::PairSteps::pairs_more, crate::proofs::PairSteps::pairs_stopped))]
 fn read_pairs(alloc: Global, pairs: &Vector<'_>) -> Result<Metadata, IpcError>
     requires { pairs.now.width ≡ 4 }
-    ensures gives { Gives (λ m. texts_of m.entries) result (pairs_from InvalidFlatbufferSchema pairs.now.bytes pairs.now.vector.first pairs.now.vector.count []) }
-    ensures quiet { IfErr result IsOfBytes }
+    ensures gives { Decodes (λ m. texts_of m.entries) result (pairs_from InvalidFlatbufferSchema pairs.now.bytes pairs.now.vector.first pairs.now.vector.count []) }
 {
     let mut metadata = Metadata::new(alloc);
     for i in 0..pairs.len() {
@@ -110,9 +97,8 @@ pub(crate) fn read_metadata(
     before: usize,
 ) -> Result<Pairs, IpcError>
     requires { before ≤ 1048576 }
-    ensures gives { Gives pairs_in result (pairs_of table.now.bytes table.now.table slot before) }
+    ensures gives { Decodes pairs_in result (pairs_of table.now.bytes table.now.table slot before) }
     ensures within { IfOk result (λ p. p.counted ≤ 1048576) }
-    ensures quiet { IfErr result IsOfBytes }
 {
     let pairs = table.slot_vector(slot, 4).map_err(|e| IpcError::OutOfSpec(
         OutOfSpecKind::InvalidFlatbufferSchema(e),

@@ -1,11 +1,10 @@
 //! The schemas of messages and footers (Schema.fbs, Schema).
 ghost use Rattle.std.specs.Prelude.{◌≡◌, ◌≤◌, ◌∷◌, [], map, is_some, IfOk, IfErr, OnErr, Err, true, length, string_bytes};
 ghost use Rattle.arrow_spec.specs.declared.error.IpcError.TheVariants.{Memory};
-ghost use Rattle.arrow_spec.specs.Readings.{Gives};
+ghost use Rattle.ipc_fields.specs.Causes.{Decodes};
 ghost use Rattle.arrow_spec.specs.Schema.{schema_of};
 ghost use Rattle.arrow_types.specs.KindOf.{child_of, fields_of, texts_of};
 ghost use Rattle.arrow_types.specs.Schemas.{with_field, field_under, fields_in};
-ghost use Rattle.ipc_fields.specs.Causes.{IsOfBytes};
 ghost use Rattle.ipc_fields.specs.IpcFields.{ids_of, fields_with, have_shapes, metadata_of, schema_view, AreNamed};
 ghost use Rattle.schema_reader.specs.Keyed.{put_keyed, keyed_distinct, checked, schema_by, keyed_in};
 ghost use Rattle.schema_reader.specs.Parts.{order_part, fields_part};
@@ -35,8 +34,7 @@ pub(crate) struct KeyedFields {
 /// Whether the schema is little-endian.
 #[tactic(auto, unfolding(arrow_spec::specs::Readings::bind, crate::specs::Parts::order_part))]
 fn read_order(table: &Table<'_>) -> Result<bool, IpcError>
-    ensures gives { Gives (λ x. x) result (order_part table.now.bytes table.now.table) }
-    ensures quiet { IfErr result IsOfBytes }
+    ensures gives { Decodes (λ x. x) result (order_part table.now.bytes table.now.table) }
 {
     let order = table.slot_choice(0, ChoiceWidth::Two, 0, 2).map_err(|e| IpcError::OutOfSpec(
         OutOfSpecKind::InvalidFlatbufferSchema(e),
@@ -48,9 +46,8 @@ fn read_order(table: &Table<'_>) -> Result<bool, IpcError>
 #[tactic(auto, unfolding(arrow_spec::specs::Readings::bind, crate::specs::Parts::fields_part))]
 fn read_all(alloc: Global, table: &Table<'_>, pairs: usize) -> Result<Children, IpcError>
     requires { pairs ≤ 1048576 }
-    ensures gives { Gives children_in result (fields_part table.now.bytes table.now.table pairs) }
+    ensures gives { Decodes children_in result (fields_part table.now.bytes table.now.table pairs) }
     ensures shapes { IfOk result (λ c. have_shapes (fields_of c.fields.items) (ids_of c.ipc_fields.items) ≡ true) }
-    ensures quiet { IfErr result IsOfBytes }
 {
     let fields = table.slot_vector(1, 4).map_err(|e| IpcError::OutOfSpec(
         OutOfSpecKind::InvalidFlatbufferSchema(e),
@@ -64,15 +61,9 @@ fn read_all(alloc: Global, table: &Table<'_>, pairs: usize) -> Result<Children, 
 fn insert(schema: &mut ArrowSchema, key: String, field: Field) -> Result<(), IpcError>
     ensures put { IfOk result (λ _. schema.new ≡ with_field (string_bytes key) (child_of field) schema.old) }
     ensures err { OnErr result (result ≡ Err Memory) }
-    ensures quiet { IfErr result IsOfBytes }
 {
-    match schema.insert(key, field) {
-        Ok(old) => {
-            drop(old);
-            Ok(())
-        }
-        Err(_) => Err(IpcError::Memory),
-    }
+    drop(schema.insert(key, field)?);
+    Ok(())
 }
 
 /// Whether a field has the name of this one.
@@ -86,19 +77,14 @@ fn has_name(schema: &ArrowSchema, field: &Field) -> bool
 fn name_of(field: &Field) -> Result<String, IpcError>
     ensures ok { IfOk result (λ n. string_bytes n ≡ (child_of field.now).name) }
     ensures err { OnErr result (result ≡ Err Memory) }
-    ensures quiet { IfErr result IsOfBytes }
 {
-    match field.name.clone() {
-        Ok(name) => Ok(name),
-        Err(_) => Err(IpcError::Memory),
-    }
+    Ok(field.name.clone()?)
 }
 
 /// Puts a field at the end, where no field has its name.
 #[tactic(auto, using(crate::proofs::Keys::put_there, crate::proofs::Keys::put_there_new))]
 fn put_field(schema: &mut ArrowSchema, field: Field) -> Result<(), IpcError>
-    ensures gives { Gives (λ u. schema.new) result (put_keyed (child_of field) schema.old) }
-    ensures quiet { IfErr result IsOfBytes }
+    ensures gives { Decodes (λ u. schema.new) result (put_keyed (child_of field) schema.old) }
 {
     if has_name(schema, &field) {
         return Err(IpcError::Unsupported(Feature::DuplicateField));
@@ -110,8 +96,7 @@ fn put_field(schema: &mut ArrowSchema, field: Field) -> Result<(), IpcError>
 /// The fields under their names.
 #[tactic(auto, using(crate::proofs::Keys::keyed_begun, crate::proofs::Keys::keyed_more, crate::proofs::Keys::keyed_refused))]
 fn put_fields(alloc: Global, fields: Vec<Field>) -> Result<ArrowSchema, IpcError>
-    ensures gives { Gives (λ s. s) result (keyed_distinct (map child_of fields.items)) }
-    ensures quiet { IfErr result IsOfBytes }
+    ensures gives { Decodes (λ s. s) result (keyed_distinct (map child_of fields.items)) }
 {
     let mut schema = ArrowSchema::new(alloc);
     for field in fields {
@@ -123,10 +108,9 @@ fn put_fields(alloc: Global, fields: Vec<Field>) -> Result<ArrowSchema, IpcError
 /// The fields under their names, which have to differ, with one kind of values for each dictionary.
 fn check_fields(alloc: Global, children: Children) -> Result<KeyedFields, IpcError>
     requires { have_shapes (fields_of children.fields.items) (ids_of children.ipc_fields.items) ≡ true }
-    ensures gives { Gives keyed_in result (checked (fields_with (fields_of children.fields.items) (ids_of children.ipc_fields.items))) }
+    ensures gives { Decodes keyed_in result (checked (fields_with (fields_of children.fields.items) (ids_of children.ipc_fields.items))) }
     ensures named { IfOk result (λ k. AreNamed k.schema) }
     ensures shapes { IfOk result (λ k. have_shapes (fields_in k.schema) (ids_of k.ipc_fields.items) ≡ true) }
-    ensures quiet { IfErr result IsOfBytes }
 {
     let mut uses = Vec::new(alloc);
     push_children(alloc, &mut uses, &children.fields, &children.ipc_fields)?;
@@ -155,11 +139,10 @@ fn read_by_parts(
     alloc: Global,
     table: &Table<'_>,
 ) -> Result<(ArrowSchema, IpcSchema, Option<Metadata>), IpcError>
-    ensures gives { Gives schema_view result (schema_by table.now.bytes table.now.table) }
+    ensures gives { Decodes schema_view result (schema_by table.now.bytes table.now.table) }
     ensures named { IfOk result (λ s. AreNamed s.0) }
     ensures no_empty_metadata { IfOk result (λ s. HasPairsIfAny s.2) }
     ensures shapes { IfOk result (λ s. have_shapes (fields_in s.0) (ids_of s.1.fields.items) ≡ true) }
-    ensures quiet { IfErr result IsOfBytes }
 {
     let is_little_endian = read_order(table)?;
     let pairs = read_metadata(alloc, table, 2, 0)?;
@@ -184,7 +167,7 @@ pub fn read_schema(
     alloc: Global,
     table: &Table<'_>,
 ) -> Result<(ArrowSchema, IpcSchema, Option<Metadata>), IpcError>
-    ensures gives { Gives schema_view result (schema_of table.now.bytes table.now.table) }
+    ensures gives { Decodes schema_view result (schema_of table.now.bytes table.now.table) }
 
     // Each field stands under its own name.
     ensures named { IfOk result (λ s. AreNamed s.0) }
@@ -194,7 +177,6 @@ pub fn read_schema(
 
     // No metadata is none, never an empty map.
     ensures no_empty_metadata { IfOk result (λ s. HasPairsIfAny s.2) }
-    ensures quiet { IfErr result IsOfBytes }
 {
     read_by_parts(alloc, table)
 }
@@ -209,11 +191,10 @@ pub fn deserialize_schema(
     alloc: Global,
     message: &[u8],
 ) -> Result<(ArrowSchema, IpcSchema, Option<Metadata>), IpcError>
-    ensures gives { Gives schema_view result (schema_in message.now) }
+    ensures gives { Decodes schema_view result (schema_in message.now) }
     ensures named { IfOk result (λ s. AreNamed s.0) }
     ensures shapes { IfOk result (λ s. have_shapes (fields_in s.0) (ids_of s.1.fields.items) ≡ true) }
     ensures no_empty_metadata { IfOk result (λ s. HasPairsIfAny s.2) }
-    ensures quiet { IfErr result IsOfBytes }
 {
     let found = read_message(message, Expected::Schema)?;
     read_version(&found.table)?;

@@ -1,9 +1,8 @@
 //! Types before their children (Schema.fbs, Type).
 ghost use Rattle.std.specs.Prelude.{◌≡◌, Ok, IfOk, IfErr, false};
-ghost use Rattle.arrow_spec.specs.Readings.{Gives};
+ghost use Rattle.ipc_fields.specs.Causes.{Decodes};
 ghost use Rattle.arrow_spec.specs.Kinds.{Fields};
 ghost use Rattle.arrow_spec.specs.Schema.{is_nested, type_at};
-ghost use Rattle.ipc_fields.specs.Causes.{IsOfBytes};
 ghost use Rattle.schema_reader.specs.Parts.{one_child, union_applied, applied_at};
 ghost use Rattle.schema_reader.specs.ReadViews.{tag_in, shape_kind, Takes};
 
@@ -20,8 +19,7 @@ use std::alloc::Global;
 /// A type with exactly one child.
 #[tactic(auto, unfolding(arrow_spec::specs::Readings::bind))]
 fn of_one_child(shape: Shape, children: usize) -> Result<Shape, IpcError>
-    ensures gives { Gives (λ s. s) result (one_child children shape) }
-    ensures quiet { IfErr result IsOfBytes }
+    ensures gives { Decodes (λ s. s) result (one_child children shape) }
 {
     if children != 1 {
         return Err(IpcError::OutOfSpec(OutOfSpecKind::InvalidDataType));
@@ -32,9 +30,8 @@ fn of_one_child(shape: Shape, children: usize) -> Result<Shape, IpcError>
 /// A union (Schema.fbs, Union).
 #[tactic(auto, unfolding(arrow_spec::specs::Readings::bind, arrow_spec::specs::Schema::union_at))]
 fn read_union(alloc: Global, table: &Table<'_>, children: usize) -> Result<Shape, IpcError>
-    ensures gives { (fs : Fields) → Gives (λ s. shape_kind children s fs) result (union_applied table.now.bytes table.now.table children fs) }
+    ensures gives { (fs : Fields) → Decodes (λ s. shape_kind children s fs) result (union_applied table.now.bytes table.now.table children fs) }
     ensures takes { IfOk result (Takes children) }
-    ensures quiet { IfErr result IsOfBytes }
 {
     let mode = read_choice(table, 0, 0, 2)?;
     let ids = read_ids(alloc, table, children)?;
@@ -50,9 +47,8 @@ fn read_applied(
     children: usize,
 ) -> Result<Shape, IpcError>
     requires { is_nested (tag_in tag) ≡ false → children ≡ 0 }
-    ensures gives { (fs : Fields) → Gives (λ s. shape_kind children s fs) result (applied_at table.now.bytes table.now.table children (tag_in tag) fs) }
+    ensures gives { (fs : Fields) → Decodes (λ s. shape_kind children s fs) result (applied_at table.now.bytes table.now.table children (tag_in tag) fs) }
     ensures takes { IfOk result (Takes children) }
-    ensures quiet { IfErr result IsOfBytes }
 {
     match tag {
         TypeTag::Null => Ok(Shape::Flat(ArrowDataType::Null)),
@@ -96,9 +92,8 @@ pub(crate) fn read_shape(
     children: usize,
 ) -> Result<Shape, IpcError>
     requires { is_nested (tag_in tag) ≡ false → children ≡ 0 }
-    ensures gives { Gives (shape_kind children) result (type_at table.now.bytes table.now.table children (tag_in tag)) }
+    ensures gives { Decodes (shape_kind children) result (type_at table.now.bytes table.now.table children (tag_in tag)) }
     ensures takes { IfOk result (Takes children) }
-    ensures quiet { IfErr result IsOfBytes }
 {
     read_applied(alloc, tag, table, children)
 }

@@ -19,9 +19,9 @@ use Rattle.ipc_fields.specs.IpcFields.{Ids, no_fields, ids, ids_of, kind_with, f
 use Rattle.ipc_fields.specs.declared.ipc_field.IpcField.{IpcField}
 use Rattle.schema_writer.specs.Tables.{kind_fits, fits_below, all_fit, sizes_fit, sized_below, all_sized}
 use Rattle.ipc_fields.specs.Uses.{other_ids, first_ids, first_id}
-use Rattle.ipc_fields.specs.UnionIds.{are_right}
-use Rattle.ipc_fields.proofs.UnionSteps.{same_when, counted_wrong}
-use Rattle.ipc_fields.proofs.UnionSteps as union
+use Rattle.arrow_types.specs.UnionIds.{are_right}
+use Rattle.arrow_types.proofs.Children.{width_from}
+use Rattle.arrow_types.proofs.UnionIds.{same_when, counted_few}
 use Rattle.schema_writer.proofs.Building.{rest_at, others_at, none_behind}
 
 and_true : (b : Bool) → (b && true) ≡ b
@@ -41,19 +41,8 @@ same_all : (xs : List ℤ) → are_same_ids xs xs ≡ true
 same_all [] = refl
 same_all (x ∷ xs) = rw (same_when x x refl, same_all xs) refl
 
-some_lt : (n : ℕ) → nat_lt 0 (suc n) ≡ true
-some_lt n = grind arith
-
-many : (n : ℕ) → false ≡ nat_le n 128 → 128 < n
-many n h = grind (arith, h)
-
-counted_cases : (n : ℕ) (b : Bool) → b ≡ nat_le n 128 → (nat_lt 0 n && b) ≡ are_right (counted_ids 0 n) n
-counted_cases zero b h = refl
-counted_cases (suc n) true h = ap (λ x. x && true) (some_lt n) ∙ sym (union.counted_right (suc n) (omega arith) (leb-true _ _ (sym h)))
-counted_cases (suc n) false h = ap (λ x. x && false) (some_lt n) ∙ sym (counted_wrong (suc n) (many (suc n) h))
-
 pub counted_right : (n : ℕ) (r : Bool) → r ≡ (nat_lt 0 n && nat_le n 128) → r ≡ has_right_ids false (counted_ids 0 n) n
-counted_right n r h = h ∙ counted_cases n (nat_le n 128) refl ∙ sym (ap (λ b. are_right (counted_ids 0 n) n && b) (same_all (counted_ids 0 n)) ∙ and_true _)
+counted_right n r h = counted_few n r h ∙ sym (ap (λ b. are_right (counted_ids 0 n) n && b) (same_all (counted_ids 0 n)) ∙ and_true _)
 
 -- ── fields ──
 
@@ -61,10 +50,6 @@ pub width_with : (fs : Fields) (own : Ids) → width (fields_with fs own) ≡ wi
 width_with kind.none own = refl
 width_with (kind.field name nullable metadata k fs) no_fields = ap suc (width_with fs no_fields)
 width_with (kind.field name nullable metadata k fs) (ids id below others) = ap suc (width_with fs others)
-
-pub width_of : (fs : List Field) → width (fields_of fs) ≡ length fs
-width_of [] = refl
-width_of (f ∷ fs) = ap suc (width_of fs)
 
 abbrev pub here_fits : Field → Ids → Bool
 here_fits c own = kind_fits (kind_with (child_of c).kind (first_id own) (first_ids own))
@@ -175,7 +160,7 @@ pub union_said : (m : UnionMode) (types : Option (Vec ℤ Global)) (fs : List Fi
     → kind_fits (kind_with (union_of m types (map child_of fs)) id own) ≡ (h && all_fit (fields_with (fields_of fs) own))
 union_said m types fs n own id h e g =
     let count : length (map child_of fs) ≡ n = length-map fs child_of ∙ sym e in
-    let wide : width (fields_with (fields_of fs) own) ≡ n = width_with (fields_of fs) own ∙ width_of fs ∙ sym e in
+    let wide : width (fields_with (fields_of fs) own) ≡ n = width_with (fields_of fs) own ∙ width_from child_of fs ∙ sym e in
     ap (λ a. has_right_ids (are_stated types) (union_ids types a) (width (fields_with (fields_of fs) own)) && all_fit (fields_with (fields_of fs) own)) count
     ∙ ap (λ b. has_right_ids (are_stated types) (union_ids types n) b && all_fit (fields_with (fields_of fs) own)) wide
     ∙ ap (λ b. b && all_fit (fields_with (fields_of fs) own)) (sym g)

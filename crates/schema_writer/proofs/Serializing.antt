@@ -127,3 +127,7 @@ handed e (Ok x) f h = absurd h
 
 pub refused_first : (order : Order) (fs : Fields) (own : Ids) (pairs : Metadata) (e : IpcError) → Refuses e (refusals (serialized order fs own pairs)) → Refuses e (refusals (written order fs own pairs))
 refused_first order fs own pairs e h = subst (λ r. Refuses e (refusals r)) (sym (is_written order fs own pairs)) (handed e (serialized order fs own pairs) _ h)
+
+-- a refusal that is handed on
+pub handed_on : {A B : Type 0} (view : A → B) (r : Result A IpcError) (R : Reading B) (e : IpcError) → r ≡ Err e → Refuses e (refusals R) → Gives view r R
+handed_on view r R e h told = rw h told

@@ -15,7 +15,7 @@ use Rattle.arrow_spec.proofs.ExtensionPairs.{pairs_written}
 use Rattle.arrow_spec.specs.Schema.{extension_name, extension_metadata, own_pairs, is_reserved}
 use Rattle.arrow_types.specs.KindOf.{texts_of}
 use Rattle.ipc_fields.proofs.TextOrder.{sorted_texts}
-use Rattle.ipc_fields.proofs.UnionSteps.{same_test}
+use Rattle.arrow_types.proofs.UnionIds.{same_test}
 use Rattle.arrow_flat.specs.Nodes.{SlotValue, leads_to, nodes_of, nodes_from}
 use Rattle.arrow_flat.specs.declared.node.Node.{Node as Built}
 use Rattle.arrow_spec.proofs.OwnPairs.{own_filtered}

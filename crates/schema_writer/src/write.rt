@@ -54,10 +54,7 @@ fn own_table(
     if !is_sayable(schema, ipc_fields) {
         return Err(IpcError::NotRepresentable);
     }
-    match schema_node(alloc, schema, ipc_fields, is_little_endian, metadata) {
-        Ok(node) => Ok(node),
-        Err(_) => Err(IpcError::Memory),
-    }
+    Ok(schema_node(alloc, schema, ipc_fields, is_little_endian, metadata)?)
 }
 
 fn table(
@@ -74,11 +71,11 @@ fn table(
     if !schema::have_shapes(schema, ipc_fields) {
         return Err(IpcError::SchemaMismatch);
     }
-    match uses::agree(alloc, schema, ipc_fields) {
-        Ok(true) => own_table(alloc, schema, ipc_fields, is_little_endian, metadata),
-        Ok(false) => Err(IpcError::SchemaMismatch),
-        Err(_) => Err(IpcError::Memory),
+    let agree = uses::agree(alloc, schema, ipc_fields)?;
+    if !agree {
+        return Err(IpcError::SchemaMismatch);
     }
+    own_table(alloc, schema, ipc_fields, is_little_endian, metadata)
 }
 
 // The table of a message of version V5 around a schema, without a body (Message.fbs, Message).
@@ -110,10 +107,7 @@ fn bytes(
     ensures refusals { IfErr result IsOfMessage }
     ensures texts { IfOk result (λ _. SchemaSaysTexts (fields_in schema.now) (metadata_in metadata.entry)) }
 {
-    let header = match table(alloc, schema, ipc_fields, is_little_endian, metadata) {
-        Ok(header) => header,
-        Err(e) => return Err(e),
-    };
+    let header = table(alloc, schema, ipc_fields, is_little_endian, metadata)?;
     match message(alloc, header) {
         Ok(bytes) => Ok(bytes),
         Err(BuildError::TooLarge) => Err(IpcError::TooLarge),

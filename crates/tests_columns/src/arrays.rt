@@ -21,7 +21,7 @@ fn validity(alloc: Global) -> Result<Option<Bitmap>, AllocError> {
 }
 
 fn bytes(alloc: Global, bytes: &[u8]) -> Result<Buffer<u8>, AllocError> {
-    Buffer::from_vec(bytes.to_vec(alloc)?)
+    Buffer::from_bytes(bytes.to_vec(alloc)?)
 }
 
 fn items<T: NativeType>(alloc: Global, values: &[T]) -> Result<Buffer<T>, AllocError> {

@@ -8,7 +8,7 @@ use arrow_buffers::PrimitiveArray;
 use arrow_spec::{FieldNode, IpcBuffer, IpcError, MetadataVersion, OutOfSpecKind};
 use arrow_types::{ArrowDataType, Field};
 use ipc_fields::IpcField;
-use ipc_read::{Body, read, read_null, read_primitive, skip_binview};
+use ipc_read::{Body, read, read_null, read_primitive, skip, skip_binview};
 use ipc_schema::{MemorySource, Source};
 use std::alloc::{AllocError, Global};
 use std::collections::{BTreeMap, VecDeque};
@@ -125,12 +125,19 @@ fn numbers_have_their_values_and_their_nulls(rt: HostRuntime) -> Result<(), Fail
 }
 
 /// Whether texts have these offsets into these bytes, and one null.
-fn holds_texts(texts: &Array, offsets: &[i32], values: &[u8]) -> bool {
+fn holds_texts(
+    alloc: Global,
+    texts: &Array,
+    offsets: &[i32],
+    values: &[u8],
+) -> Result<bool, AllocError> {
     match texts {
-        Array::Utf8(texts) => texts.offsets().as_slice() == offsets
-            && texts.values().as_slice() == values
-            && texts.null_count() == 1,
-        _ => false,
+        Array::Utf8(texts) => {
+            let held = texts.offsets().to_vec(alloc)?;
+            let parts = held.as_slice() == offsets && texts.values().as_slice() == values;
+            Ok(parts && texts.null_count() == 1)
+        }
+        _ => Ok(false),
     }
 }
 
@@ -138,7 +145,7 @@ fn holds_texts(texts: &Array, offsets: &[i32], values: &[u8]) -> bool {
 fn texts_have_their_values_and_their_nulls(rt: HostRuntime) -> Result<(), Fail> {
     let places = [(16, 1), (24, 16), (40, 3)];
     let texts = first(rt.alloc(), &places, ArrowDataType::Utf8)?;
-    assert!(rt; holds_texts(&texts, &[0, 1, 3, 3], b"xyz"));
+    assert!(rt; holds_texts(rt.alloc(), &texts, &[0, 1, 3, 3], b"xyz")?);
     drop(texts);
     Ok(())
 }
@@ -222,6 +229,46 @@ fn body_of_views(alloc: Global) -> Result<Vec<u8>, AllocError> {
 fn all_buffers_of_views_are_passed_over(rt: HostRuntime) -> Result<(), Fail> {
     let mut source = source(rt.alloc(), &body_of_views(rt.alloc())?)?;
     let numbers = behind_views(rt.alloc(), &mut source)?;
-    assert!(rt; numbers.values().as_slice() == [7, 8].as_slice());
+    assert!(rt; numbers.values().to_vec(rt.alloc())?.as_slice() == [7, 8].as_slice());
+    Ok(())
+}
+
+/// A struct of lists of Int8 and of view texts.
+fn lists_and_views(alloc: Global) -> Result<ArrowDataType, AllocError> {
+    let item = Field::new(alloc, String::new(alloc), ArrowDataType::Int8, true);
+    let lists = ArrowDataType::List(Box::new(alloc, item)?);
+    let first = Field::new(alloc, String::new(alloc), lists, true);
+    let second = Field::new(alloc, String::new(alloc), ArrowDataType::Utf8View, true);
+    Ok(ArrowDataType::Struct(vec![in alloc; first, second]?))
+}
+
+/// The tables of such a struct, whose views have two buffers, before a node and a buffer more.
+fn struct_and_more(alloc: Global) -> Result<Queues, AllocError> {
+    let mut variadic = VecDeque::new(alloc);
+    variadic.push_back(2)?;
+    Ok(Queues {
+        nodes: nodes(alloc, &[(2, 0), (2, 0), (3, 0), (2, 0), (7, 0)])?,
+        buffers: buffers(alloc, &[(0, 0); 10])?,
+        variadic,
+    })
+}
+
+/// Whether one node and one buffer are left behind the struct.
+fn leaves_one_of_each(alloc: Global) -> Result<bool, Fail> {
+    let dtype = lists_and_views(alloc)?;
+    let mut queues = struct_and_more(alloc)?;
+    skip(
+        &mut queues.nodes,
+        &dtype,
+        &mut queues.buffers,
+        &mut queues.variadic,
+        MetadataVersion::V5,
+    )?;
+    Ok(queues.nodes.len() == 1 && queues.buffers.len() == 1 && queues.variadic.is_empty())
+}
+
+#[test]
+fn a_struct_is_passed_over_with_its_children(rt: HostRuntime) -> Result<(), Fail> {
+    assert!(rt; leaves_one_of_each(rt.alloc())?);
     Ok(())
 }

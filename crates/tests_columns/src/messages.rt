@@ -48,12 +48,12 @@ const VIEW: [u8; 16] = [13, 0, 0, 0, b'a', b'a', b'a', b'a', 0, 0, 0, 0, 0, 0, 0
 fn one_buffer(alloc: Global, held: usize) -> Result<Vec<Buffer<u8>>, AllocError> {
     let mut bytes = Vec::new(alloc);
     bytes.resize(held, b'a')?;
-    Ok(vec![in alloc; Buffer::from_vec(bytes)?]?)
+    Ok(vec![in alloc; Buffer::from_bytes(bytes)?]?)
 }
 
 /// One text of 13 bytes, over a buffer of so many.
 fn one_text(alloc: Global, held: usize) -> Result<Array, ArrayError> {
-    let views = Buffer::from_vec(VIEW.to_vec(alloc)?)?;
+    let views = Buffer::from_bytes(VIEW.to_vec(alloc)?)?;
     let buffers = one_buffer(alloc, held)?;
     let array = Utf8ViewArray::try_new(ArrowDataType::Utf8View, views, buffers, None)?;
     Ok(Array::Utf8View(array))

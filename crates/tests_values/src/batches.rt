@@ -127,7 +127,7 @@ fn has_row(array: &Array, row: usize, bytes: &[u8]) -> bool {
 
 #[test]
 fn pieces_in_and_beside_their_views(rt: HostRuntime) -> Result<(), Fail> {
-    let bytes = Buffer::from_vec(b"twelve bytesand thirteen.".to_vec(rt.alloc())?)?;
+    let bytes = Buffer::from_bytes(b"twelve bytesand thirteen.".to_vec(rt.alloc())?)?;
     assert!(rt; bytes.len() == 25);
     prove!(bytes.len() >= 25);
     let array = extend_from_lengths(rt.alloc(), bytes, &[12, 13, 0])?;
@@ -139,7 +139,7 @@ fn pieces_in_and_beside_their_views(rt: HostRuntime) -> Result<(), Fail> {
 
 #[test]
 fn no_pieces_are_no_rows(rt: HostRuntime) -> Result<(), Fail> {
-    let bytes = Buffer::from_vec(Vec::new(rt.alloc()))?;
+    let bytes = Buffer::from_bytes(Vec::new(rt.alloc()))?;
     let array = extend_from_lengths(rt.alloc(), bytes, &[])?;
     assert!(rt; array.len() == 0);
     drop(array);

@@ -7,6 +7,7 @@ use arrow_buffers::{
 };
 use arrow_types::{ArrowDataType, ExtensionType};
 use std::alloc::{AllocError, Global};
+use std::rc::RcSlice;
 use std::test::Fail;
 
 /// The first bits of a byte, as the validity of so many rows.
@@ -18,7 +19,7 @@ fn valid(alloc: Global, byte: u8, rows: usize) -> Result<Option<Bitmap>, AllocEr
 }
 
 fn bytes(alloc: Global, bytes: &[u8]) -> Result<Buffer<u8>, AllocError> {
-    Buffer::from_vec(bytes.to_vec(alloc)?)
+    Buffer::from_bytes(bytes.to_vec(alloc)?)
 }
 
 fn offsets(alloc: Global, offsets: &[i32]) -> Result<Buffer<i32>, AllocError> {
@@ -29,8 +30,22 @@ fn offsets(alloc: Global, offsets: &[i32]) -> Result<Buffer<i32>, AllocError> {
 fn a_buffer_shares_its_part(rt: HostRuntime) -> Result<(), Fail> {
     let numbers = Buffer::from_vec([10, 20, 30, 40].to_vec(rt.alloc())?)?;
     let part = numbers.try_clone()?.sliced(1, 2);
-    assert!(rt; part.as_slice() == [20, 30].as_slice());
+    assert!(rt; part.to_vec(rt.alloc())?.as_slice() == [20, 30].as_slice());
     assert!(rt; numbers.len() == 4);
+    Ok(())
+}
+
+#[test]
+fn numbers_stand_in_shared_bytes(rt: HostRuntime) -> Result<(), Fail> {
+    let alloc = rt.alloc();
+    let bytes = RcSlice::from_slice(alloc, &[9, 1, 2, 3, 4, 5, 6])?;
+    assert!(rt; bytes.len() == 7);
+    let big = Buffer::<u16>::shared(bytes.clone()?, 1, 3, true);
+    let little = Buffer::<u16>::shared(bytes, 3, 2, false);
+    assert!(rt; big.to_vec(alloc)?.as_slice() == [0x0102, 0x0304, 0x0506].as_slice());
+    assert!(rt; little.to_vec(alloc)?.as_slice() == [0x0403, 0x0605].as_slice());
+    assert!(rt; big.held_in(true) == Some([1, 2, 3, 4, 5, 6].as_slice()));
+    assert!(rt; big.held_in(false).is_none());
     Ok(())
 }
 
@@ -41,6 +56,15 @@ fn a_bitmap_begins_with_the_lowest_bit(rt: HostRuntime) -> Result<(), Fail> {
     assert!(rt; flags.unset_bits() == 7);
     let part = flags.sliced(7, 2);
     assert!(rt; !part.get(0) && part.get(1));
+    Ok(())
+}
+
+#[test]
+fn unset_bits_are_counted_before_in_and_behind_whole_bytes(rt: HostRuntime) -> Result<(), Fail> {
+    let bytes = [0b0001_1111, 0b1010_0000, 0b1111_1110, 0b0000_0011].to_vec(rt.alloc())?;
+    let flags = Bitmap::from_vec(bytes, 30)?;
+    assert!(rt; flags.unset_bits() == 14);
+    assert!(rt; flags.sliced(4, 23).unset_bits() == 11);
     Ok(())
 }
 
@@ -62,7 +86,7 @@ fn numbers_make_an_array(rt: HostRuntime) -> Result<(), Fail> {
     assert!(rt; rows.len() == 3);
     assert!(rt; rows.null_count() == 1);
     let part = rows.sliced(1, 2);
-    assert!(rt; part.values().as_slice() == [-2, 3].as_slice());
+    assert!(rt; part.values().to_vec(alloc)?.as_slice() == [-2, 3].as_slice());
     Ok(())
 }
 
@@ -170,7 +194,7 @@ fn byte_strings_make_an_array(rt: HostRuntime) -> Result<(), Fail> {
     assert!(rt; rows.null_count() == 1);
     assert!(rt; rows.value(0) == b"bc".as_slice());
     let part = rows.sliced(2, 1);
-    assert!(rt; part.offsets().as_slice() == [3, 6].as_slice());
+    assert!(rt; part.offsets().to_vec(rt.alloc())?.as_slice() == [3, 6].as_slice());
     Ok(())
 }
 

@@ -97,7 +97,7 @@ fn three_texts(alloc: Global) -> Result<Array, Fail>
     ensures { IfOk result (λ a. parts_of a ≡ text (record { kind = utf8 small; offsets = pos 0 ∷ pos 2 ∷ pos 2 ∷ pos 3 ∷ []; values = 97 ∷ 98 ∷ 99 ∷ []; validity = Some (true ∷ false ∷ true ∷ []) })) }
 {
     let offsets = Buffer::from_vec([0, 2, 2, 3].to_vec(alloc)?)?;
-    let values = Buffer::from_vec(b"abc".to_vec(alloc)?)?;
+    let values = Buffer::from_bytes(b"abc".to_vec(alloc)?)?;
     let validity = Bitmap::from_vec([0b101].to_vec(alloc)?, 3)?;
     match Utf8Array::<i32>::try_new(ArrowDataType::Utf8, offsets, values, Some(validity)) {
         Ok(array) => Ok(Array::Utf8(array)),
@@ -121,8 +121,8 @@ const VIEW: [u8; 16] = [13, 0, 0, 0, 97, 110, 100, 32, 0, 0, 0, 0, 0, 0, 0, 0];
 fn long_text(alloc: Global) -> Result<Array, Fail>
     ensures { IfOk result (λ a. parts_of a ≡ text_views (record { kind = utf8_view; views = 13 ∷ 0 ∷ 0 ∷ 0 ∷ 97 ∷ 110 ∷ 100 ∷ 32 ∷ 0 ∷ 0 ∷ 0 ∷ 0 ∷ 0 ∷ 0 ∷ 0 ∷ 0 ∷ []; buffers = (97 ∷ 110 ∷ 100 ∷ 32 ∷ 116 ∷ 104 ∷ 105 ∷ 114 ∷ 116 ∷ 101 ∷ 101 ∷ 110 ∷ 46 ∷ []) ∷ []; validity = None })) }
 {
-    let views = Buffer::from_vec(VIEW.to_vec(alloc)?)?;
-    let held = Buffer::from_vec(b"and thirteen.".to_vec(alloc)?)?;
+    let views = Buffer::from_bytes(VIEW.to_vec(alloc)?)?;
+    let held = Buffer::from_bytes(b"and thirteen.".to_vec(alloc)?)?;
     let held = vec![in alloc; held]?;
     match Utf8ViewArray::try_new(ArrowDataType::Utf8View, views, held, None) {
         Ok(array) => Ok(Array::Utf8View(array)),

@@ -18,7 +18,7 @@ use Rattle.arrow_spec.proofs.FeatureFaults.{features-carried, features-floats, f
 use Rattle.arrow_spec.proofs.Projection.{on, ok-place, place-ok}
 use Rattle.arrow_spec.proofs.ReadPairs.{same_read, through}
 use Rattle.arrow_spec.proofs.ReadPairs.{custom_may as pairs_may}
-use Rattle.transcode_laws.specs.Files.{IsSendable, IsTableOf, table_of}
+use Rattle.transcode_laws.specs.Files.{IsSendable, table_of}
 
 -- a place that refuses nothing
 pub fine : (x : Bool) (e : IpcError) → unless (x || true) e ≡ Ok tt

@@ -50,7 +50,8 @@ ReadBatchIsSent = (fs : Fields) (most : ℕ) (v : MetadataVersion) (tables : Bat
 
 -- Where its columns mean their cells as they are written, it may be written where its message may be sent.
 abbrev pub ReadBatchIsSendable : Type 0
-ReadBatchIsSendable = (fs : Fields) (most : ℕ) (v : MetadataVersion) (tables : BatchHeader) (body : List ℕ) (b : Batch) → HeaderFits tables → are_leaves fs ≡ true
+ReadBatchIsSendable = (fs : Fields) (most : ℕ) (v : MetadataVersion) (tables : BatchHeader) (body : List ℕ) (b : Batch) → HeaderFits tables
+    → are_leaves fs ≡ true
     → batch_of_tables to_read (all_asked little fs most) v [] tables body None ≡ Ok (record { rows = b.height; columns = map cells_in b.arrays; custom = [] })
     → b.arrays ≡ columns_read (record_batch_of little v tables body) fs first_place b.height
     → AllByRecursion (λ c. Means little [] b.height c) (written_batch_of b).columns → map (λ c. c.cells) (written_batch_of b).columns ≡ map cells_in b.arrays

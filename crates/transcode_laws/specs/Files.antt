@@ -47,16 +47,6 @@ pub record IsSentFile (built : Built) (b : List ℕ) (meta : Meta) (custom : Met
   pub small : may_be_sent (stream_schema meta.schema.fields meta.schema.metadata custom) ≡ true
   pub no_dictionaries : has_any (dictionaries_read meta.blocks meta.dictionaries) ≡ false
 
--- a table that was read of a file: the file's schema is of built kinds that can be read, and the table has its fields, without dictionary ids, and its and the footer's pairs
-pub record IsTableOf (built : Built) (b : List ℕ) (t : ArrowTable) : Type 0 where
-  pub meta : Meta
-  pub read : meta_of b ≡ Ok meta
-  pub pairs : custom_of built.custom b ≡ Ok t.custom
-  pub chosen : built.chosen meta.schema.order meta.schema.fields ≡ true
-  pub readable : chosen_floats None meta.schema.fields 0 ≡ []
-  pub fields : t.fields ≡ bare meta.schema.fields
-  pub metadata : t.metadata ≡ meta.schema.metadata
-
 -- ── batches ──
 
 -- the numbers of a batch's tables are signed and have 64 bits (Message.fbs, RecordBatch)

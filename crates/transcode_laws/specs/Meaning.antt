@@ -5,10 +5,6 @@ use Rattle.arrow_spec.specs.Readings.{IsAmong, meaning, refusals}
 use Rattle.arrow_spec.specs.Files.{ArrowTable, Request, file_reading, to_read, to_send}
 use Rattle.transcode_laws.specs.Built.{so_far}
 
--- what the first j blocks of a file mean
-unfoldable pub file_part : List ℕ → Request → ℕ → Option ArrowTable
-file_part b r j = meaning (file_reading so_far to_read b r (Some j))
-
 -- what a file means
 unfoldable pub file_table : List ℕ → Request → Option ArrowTable
 file_table b r = meaning (file_reading so_far to_read b r None)

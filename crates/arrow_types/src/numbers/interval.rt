@@ -43,6 +43,7 @@ impl NativeType for days_ms {
     ghost use Rattle.arrow_types.specs.declared.physical.PrimitiveType.TheVariants.{DaysMs};
     ghost use Rattle.arrow_types.specs.Numbers.{days_ms_to_bytes, days_ms_from_bytes, days_ms_num};
     ghost use Rattle.arrow_types.specs.NumberLaws.{above};
+    ghost use Rattle.arrow_types.specs.BytesBack.{days_ms_same};
     ghost use Rattle.arrow_types.specs.IntervalLaws.{days_ms_back, days_ms_width, days_ms_agrees};
 
     ghost WIDTH = { 8 };
@@ -72,6 +73,8 @@ impl NativeType for days_ms {
     ghost reads_back = { days_ms_back };
 
     ghost writes_width = { days_ms_width };
+
+    ghost writes_back = { days_ms_same };
 
     ghost agrees = { days_ms_agrees };
 
@@ -106,6 +109,7 @@ impl NativeType for months_days_ns {
     ghost use Rattle.arrow_types.specs.declared.physical.PrimitiveType.TheVariants.{MonthDayNano};
     ghost use Rattle.arrow_types.specs.Numbers.{months_days_ns_to_bytes, months_days_ns_from_bytes, months_days_ns_num};
     ghost use Rattle.arrow_types.specs.NumberLaws.{above};
+    ghost use Rattle.arrow_types.specs.BytesBack.{months_days_ns_same};
     ghost use Rattle.arrow_types.specs.IntervalLaws.{months_days_ns_back, months_days_ns_width, months_days_ns_agrees};
 
     ghost WIDTH = { 16 };
@@ -135,6 +139,8 @@ impl NativeType for months_days_ns {
     ghost reads_back = { months_days_ns_back };
 
     ghost writes_width = { months_days_ns_width };
+
+    ghost writes_back = { months_days_ns_same };
 
     ghost agrees = { months_days_ns_agrees };
 

@@ -8,7 +8,7 @@ use std::convert::AsSlice;
 
 /// A number of fixed width, which is stored as its bytes in either order.
 pub trait NativeType: Copy {
-    ghost use Rattle.std.specs.Prelude.{◌≡◌, ◌+◌, ◌≤◌, ◌<◌, ℕ, List, Option, Some, length, take, drop};
+    ghost use Rattle.std.specs.Prelude.{◌≡◌, ◌+◌, ◌^◌, ◌≤◌, ◌<◌, ℕ, List, Option, Some, length, take, drop, get_or};
     ghost use Rattle.arrow_spec.specs.Flat.{Order, little, big};
     ghost use Rattle.arrow_spec.specs.Cells.{Cell};
     ghost use Rattle.arrow_types.specs.declared.physical.PrimitiveType.{PrimitiveType};
@@ -68,6 +68,9 @@ pub trait NativeType: Copy {
     /// Each order writes `WIDTH` bytes.
     ghost writes_width: { (order : Order) (x : Self) → length (written order x) ≡ WIDTH };
 
+    /// Each order writes the bytes again that it read.
+    ghost writes_back: { (order : Order) (bytes : List ℕ) → length bytes ≡ WIDTH → ((i : ℕ) → get_or bytes i 0 < 2 ^ 8) → written order (read order bytes) ≡ bytes };
+
     /// The number at a place is the one that is read from the bytes there.
     ghost agrees: { (bytes : List ℕ) (at : ℕ) (order : Order) → at + WIDTH ≤ length bytes → at_place bytes at order ≡ Some (read order (take WIDTH (drop at bytes))) };
 }
@@ -77,6 +80,7 @@ impl NativeType for i8 {
     ghost use Rattle.arrow_spec.specs.Cells.{number};
     ghost use Rattle.arrow_types.specs.Numbers.{signed_to_bytes, signed_from_bytes, signed_num};
     ghost use Rattle.arrow_types.specs.NumberLaws.{above, signed_back, signed_width, signed_agrees};
+    ghost use Rattle.arrow_types.specs.BytesBack.{signed_same};
     ghost use Rattle.std.proofs.Common.{refl};
     ghost use Rattle.arrow_types.specs.declared.physical.PrimitiveType.TheVariants.{Int8};
     ghost use Rattle.std.specs.Int.RustNames.{FitsSigned};
@@ -109,6 +113,8 @@ impl NativeType for i8 {
 
     ghost writes_width = { signed_width w8 };
 
+    ghost writes_back = { signed_same w8 };
+
     ghost agrees = { signed_agrees w8 };
 
     fn to_le_bytes(self) -> [u8; 1] {
@@ -133,6 +139,7 @@ impl NativeType for i16 {
     ghost use Rattle.arrow_spec.specs.Cells.{number};
     ghost use Rattle.arrow_types.specs.Numbers.{signed_to_bytes, signed_from_bytes, signed_num};
     ghost use Rattle.arrow_types.specs.NumberLaws.{above, signed_back, signed_width, signed_agrees};
+    ghost use Rattle.arrow_types.specs.BytesBack.{signed_same};
     ghost use Rattle.std.proofs.Common.{refl};
     ghost use Rattle.arrow_types.specs.declared.physical.PrimitiveType.TheVariants.{Int16};
     ghost use Rattle.std.specs.Int.RustNames.{FitsSigned};
@@ -165,6 +172,8 @@ impl NativeType for i16 {
 
     ghost writes_width = { signed_width w16 };
 
+    ghost writes_back = { signed_same w16 };
+
     ghost agrees = { signed_agrees w16 };
 
     fn to_le_bytes(self) -> [u8; 2] {
@@ -189,6 +198,7 @@ impl NativeType for i32 {
     ghost use Rattle.arrow_spec.specs.Cells.{number};
     ghost use Rattle.arrow_types.specs.Numbers.{signed_to_bytes, signed_from_bytes, signed_num};
     ghost use Rattle.arrow_types.specs.NumberLaws.{above, signed_back, signed_width, signed_agrees};
+    ghost use Rattle.arrow_types.specs.BytesBack.{signed_same};
     ghost use Rattle.std.proofs.Common.{refl};
     ghost use Rattle.arrow_types.specs.declared.physical.PrimitiveType.TheVariants.{Int32};
     ghost use Rattle.std.specs.Int.RustNames.{FitsSigned};
@@ -221,6 +231,8 @@ impl NativeType for i32 {
 
     ghost writes_width = { signed_width w32 };
 
+    ghost writes_back = { signed_same w32 };
+
     ghost agrees = { signed_agrees w32 };
 
     fn to_le_bytes(self) -> [u8; 4] {
@@ -245,6 +257,7 @@ impl NativeType for i64 {
     ghost use Rattle.arrow_spec.specs.Cells.{number};
     ghost use Rattle.arrow_types.specs.Numbers.{signed_to_bytes, signed_from_bytes, signed_num};
     ghost use Rattle.arrow_types.specs.NumberLaws.{above, signed_back, signed_width, signed_agrees};
+    ghost use Rattle.arrow_types.specs.BytesBack.{signed_same};
     ghost use Rattle.std.proofs.Common.{refl};
     ghost use Rattle.arrow_types.specs.declared.physical.PrimitiveType.TheVariants.{Int64};
     ghost use Rattle.std.specs.Int.RustNames.{FitsSigned};
@@ -277,6 +290,8 @@ impl NativeType for i64 {
 
     ghost writes_width = { signed_width w64 };
 
+    ghost writes_back = { signed_same w64 };
+
     ghost agrees = { signed_agrees w64 };
 
     fn to_le_bytes(self) -> [u8; 8] {
@@ -301,6 +316,7 @@ impl NativeType for i128 {
     ghost use Rattle.arrow_spec.specs.Cells.{number};
     ghost use Rattle.arrow_types.specs.Numbers.{signed_to_bytes, signed_from_bytes, signed_num};
     ghost use Rattle.arrow_types.specs.NumberLaws.{above, signed_back, signed_width, signed_agrees};
+    ghost use Rattle.arrow_types.specs.BytesBack.{signed_same};
     ghost use Rattle.std.proofs.Common.{refl};
     ghost use Rattle.arrow_types.specs.declared.physical.PrimitiveType.TheVariants.{Int128};
     ghost use Rattle.std.specs.Int.RustNames.{FitsSigned};
@@ -333,6 +349,8 @@ impl NativeType for i128 {
 
     ghost writes_width = { signed_width w128 };
 
+    ghost writes_back = { signed_same w128 };
+
     ghost agrees = { signed_agrees w128 };
 
     fn to_le_bytes(self) -> [u8; 16] {
@@ -357,6 +375,7 @@ impl NativeType for u8 {
     ghost use Rattle.arrow_spec.specs.Cells.{number};
     ghost use Rattle.arrow_types.specs.Numbers.{unsigned_to_bytes, unsigned_from_bytes, unsigned_num};
     ghost use Rattle.arrow_types.specs.NumberLaws.{above, unsigned_back, unsigned_width, unsigned_agrees};
+    ghost use Rattle.arrow_types.specs.BytesBack.{unsigned_same};
     ghost use Rattle.std.proofs.Common.{refl};
     ghost use Rattle.arrow_types.specs.declared.physical.PrimitiveType.TheVariants.{UInt8};
     ghost use Rattle.std.specs.Prelude.{◌<◌, ◌^◌, pos};
@@ -389,6 +408,8 @@ impl NativeType for u8 {
 
     ghost writes_width = { unsigned_width w8 };
 
+    ghost writes_back = { unsigned_same w8 };
+
     ghost agrees = { unsigned_agrees w8 };
 
     fn to_le_bytes(self) -> [u8; 1] {
@@ -413,6 +434,7 @@ impl NativeType for u16 {
     ghost use Rattle.arrow_spec.specs.Cells.{number};
     ghost use Rattle.arrow_types.specs.Numbers.{unsigned_to_bytes, unsigned_from_bytes, unsigned_num};
     ghost use Rattle.arrow_types.specs.NumberLaws.{above, unsigned_back, unsigned_width, unsigned_agrees};
+    ghost use Rattle.arrow_types.specs.BytesBack.{unsigned_same};
     ghost use Rattle.std.proofs.Common.{refl};
     ghost use Rattle.arrow_types.specs.declared.physical.PrimitiveType.TheVariants.{UInt16};
     ghost use Rattle.std.specs.Prelude.{◌<◌, ◌^◌, pos};
@@ -445,6 +467,8 @@ impl NativeType for u16 {
 
     ghost writes_width = { unsigned_width w16 };
 
+    ghost writes_back = { unsigned_same w16 };
+
     ghost agrees = { unsigned_agrees w16 };
 
     fn to_le_bytes(self) -> [u8; 2] {
@@ -469,6 +493,7 @@ impl NativeType for u32 {
     ghost use Rattle.arrow_spec.specs.Cells.{number};
     ghost use Rattle.arrow_types.specs.Numbers.{unsigned_to_bytes, unsigned_from_bytes, unsigned_num};
     ghost use Rattle.arrow_types.specs.NumberLaws.{above, unsigned_back, unsigned_width, unsigned_agrees};
+    ghost use Rattle.arrow_types.specs.BytesBack.{unsigned_same};
     ghost use Rattle.std.proofs.Common.{refl};
     ghost use Rattle.arrow_types.specs.declared.physical.PrimitiveType.TheVariants.{UInt32};
     ghost use Rattle.std.specs.Prelude.{◌<◌, ◌^◌, pos};
@@ -501,6 +526,8 @@ impl NativeType for u32 {
 
     ghost writes_width = { unsigned_width w32 };
 
+    ghost writes_back = { unsigned_same w32 };
+
     ghost agrees = { unsigned_agrees w32 };
 
     fn to_le_bytes(self) -> [u8; 4] {
@@ -525,6 +552,7 @@ impl NativeType for u64 {
     ghost use Rattle.arrow_spec.specs.Cells.{number};
     ghost use Rattle.arrow_types.specs.Numbers.{unsigned_to_bytes, unsigned_from_bytes, unsigned_num};
     ghost use Rattle.arrow_types.specs.NumberLaws.{above, unsigned_back, unsigned_width, unsigned_agrees};
+    ghost use Rattle.arrow_types.specs.BytesBack.{unsigned_same};
     ghost use Rattle.std.proofs.Common.{refl};
     ghost use Rattle.arrow_types.specs.declared.physical.PrimitiveType.TheVariants.{UInt64};
     ghost use Rattle.std.specs.Prelude.{◌<◌, ◌^◌, pos};
@@ -556,6 +584,8 @@ impl NativeType for u64 {
     ghost reads_back = { unsigned_back w64 };
 
     ghost writes_width = { unsigned_width w64 };
+
+    ghost writes_back = { unsigned_same w64 };
 
     ghost agrees = { unsigned_agrees w64 };
 

@@ -7,9 +7,9 @@ ghost use Rattle.arrow_types.specs.KindOf.{kind_of, union_kind_of, child_of, fie
 ghost use Rattle.ipc_fields.specs.IpcFields.{ids_of, kind_with, fields_with};
 ghost use Rattle.schema_writer.specs.Tables as specs;
 
+use arrow_types::union_ids::are_right;
 use arrow_types::{ArrowDataType, Field, UnionType};
 use ipc_fields::IpcField;
-use ipc_fields::union_ids::are_right;
 use ipc_fields::uses::{fields_at, id_at};
 
 // A size, a precision or a scale is a signed number of 32 bits.

@@ -19,15 +19,15 @@ loop-found-preserved c =
       agree_more (use_in c.in-Some.found) (map use_in (into_iter_items c.next.new.self)) v.0 _ _ (sym (ap (λ us. uses_agree v.0 (map use_in us)) next) ∙ v.2) (c.in_ok-take_use.ensures.gives v.0 v.1),
     )
 
-pub returns-clause-gives : goal.returns-clause-gives
-returns-clause-gives c =
+pub returns : goal.returns
+returns c =
     let v = c.loop-found.invariant in
     let none : into_iter_items c.loop-found.found-iterator ≡ [] = grind (arith, common_steps) in
-    agree_done (map use_in (into_iter_items c.loop-found.found-iterator)) v.0 _ (ap (map use_in) none) v.2
+    record { gives = agree_done (map use_in (into_iter_items c.loop-found.found-iterator)) v.0 _ (ap (map use_in) none) v.2 }
 
-pub returns-in_err-take_use-clause-gives : goal.returns-in_err-take_use-clause-gives
-returns-in_err-take_use-clause-gives c =
+pub returns-in_err-take_use : goal.returns-in_err-take_use
+returns-in_err-take_use c =
     let v = c.loop-found.invariant in
     let next : into_iter_items c.loop-found.found-iterator ≡ c.in-Some.found ∷ into_iter_items c.next.new.self = grind (arith, common_steps) in
     let e : c.from_residual.result ≡ Err c.in_err-take_use.field-0.0 = is_err _ _ _ c.from_residual.ensures.0 c.from_residual.ensures.1 (λ f h. h) in
-    refused_with (λ u. tt) c.from_residual.result _ c.in_err-take_use.field-0.0 e (agree_stopped (use_in c.in-Some.found) (map use_in (into_iter_items c.next.new.self)) v.0 _ c.in_err-take_use.field-0.0 (sym (ap (λ us. uses_agree v.0 (map use_in us)) next) ∙ v.2) (c.in_err-take_use.ensures.gives v.0 v.1))
+    record { gives = refused_with (λ u. tt) c.from_residual.result _ c.in_err-take_use.field-0.0 e (agree_stopped (use_in c.in-Some.found) (map use_in (into_iter_items c.next.new.self)) v.0 _ c.in_err-take_use.field-0.0 (sym (ap (λ us. uses_agree v.0 (map use_in us)) next) ∙ v.2) (c.in_err-take_use.ensures.gives v.0 v.1)) }

@@ -20,7 +20,7 @@ pub returns-clause-gives : goal.returns-clause-gives
 returns-clause-gives g c =
     let file = c.args.file.now in
     block_answer (g.S.Source.content c.args.source.now) _ file.ipc_schema.is_little_endian (meta_view file).schema.fields _ file.size (file_block c.args.block.now) (message_of c.in_ok-message.message) c.place_of_body.result c.read_record_batch.result
-    (let_in file c.requires.built).leaf (little_file file c.requires.built) (sym (same_fields file c.requires.built)) c.in_ok-message.ensures.content c.place_of_body.ensures c.requires.whole (given_in _ _ _ c.in_ok-message.ensures.message) c.in_ok-message.ensures.fits c.read_record_batch.ensures.gives c.read_record_batch.ensures.parts
+    (let_in file c.requires.built).leaf (little_file file c.requires.built) (sym (same_fields file c.requires.built)) c.in_ok-message.ensures.kept.content c.place_of_body.ensures c.requires.whole (given_in _ _ _ c.in_ok-message.ensures.message) c.in_ok-message.ensures.fits c.read_record_batch.ensures.gives c.read_record_batch.ensures.parts
 
 pub read_record_batch-requires-clause-columns : goal.read_record_batch-requires-clause-columns
 read_record_batch-requires-clause-columns g c = columns_readable c.args.file.now c.requires.built c.requires.read

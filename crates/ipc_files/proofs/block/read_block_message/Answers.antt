@@ -11,7 +11,7 @@ returns-clause-message g c =
     let body : c.magnitude-body.result ≡ (file_block c.args.block.now).body = search rules in
     let inside : c.magnitude-offset.result + c.magnitude-metadata.result + c.magnitude-body.result ≤ c.args.size = omega arith in
     message_from _ _ c.args.size (file_block c.args.block.now) c.magnitude-offset.result c.magnitude-metadata.result c.magnitude-body.result (c.in_ok-start.start, c.in_ok-start.length) c.in_ok-bytes.bytes.items c.deref.result.now c.message_in.result
-    c.requires place meta body inside c.in_ok-start.ensures.content c.in_ok-start.ensures.prefix c.in_ok-bytes.ensures.bytes c.deref.ensures.value c.message_in.ensures.gives
+    c.requires place meta body inside c.in_ok-start.ensures.kept.content c.in_ok-start.ensures.prefix c.in_ok-bytes.ensures.bytes c.deref.ensures.value c.message_in.ensures.gives
 
 pub returns-in_err-start-clause-fetched : goal.returns-in_err-start-clause-fetched
 returns-in_err-start-clause-fetched g c =

@@ -16,7 +16,7 @@ returns-in_err-length-clause-footer g c =
 pub returns-clause-footer : goal.returns-clause-footer
 returns-clause-footer g c =
     footer_fetched (g.S.Source.content c.args.source.now) _ c.args.size c.in_ok-end.end.items c.deref.result.now view c.in_ok-length.length c.in_ok-bytes.bytes
-    c.requires c.if-size-lt10.false c.in_ok-end.ensures.bytes c.deref.ensures.value c.in_ok-length.ensures.footer c.in_ok-end.ensures.content c.in_ok-bytes.ensures.bytes
+    c.requires c.if-size-lt10.false c.in_ok-end.ensures.bytes c.deref.ensures.value c.in_ok-length.ensures.footer c.in_ok-end.ensures.kept.content c.in_ok-bytes.ensures.bytes
 
 pub returns-in_err-bytes-clause-fetched : goal.returns-in_err-bytes-clause-fetched
 returns-in_err-bytes-clause-fetched g c =

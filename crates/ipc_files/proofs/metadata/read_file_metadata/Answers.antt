@@ -1,8 +1,8 @@
 use Rattle.std.proofs.Common.{◌≡◌, List, ℕ, Err}
 use Rattle.ipc_files.specs.declared.metadata.FooterBytes.{FooterBytes}
 use Rattle.ipc_files.specs.FileViews.{meta_view}
-use Rattle.ipc_files.proofs.Errors.{is_err}
-use Rattle.ipc_files.proofs.FileFooters.{footer_refused, meta_said, quiet_cause}
+use Rattle.ipc_files.proofs.Errors.{is_err, bytes_cause}
+use Rattle.ipc_files.proofs.FileFooters.{footer_refused, meta_said}
 use Rattle.ipc_files.proofs.metadata.read_file_metadata.Goals as goal
 
 abbrev view : FooterBytes → List ℕ
@@ -17,4 +17,4 @@ pub returns-clause-gives : goal.returns-clause-gives
 returns-clause-gives g c = meta_said (g.S.Source.content c.args.source.now) view c.in_ok-footer.footer meta_view c.metadata_in.result c.in_ok-footer.ensures.footer c.metadata_in.ensures.gives
 
 pub returns-clause-cause : goal.returns-clause-cause
-returns-clause-cause g c = quiet_cause c.metadata_in.result _ _ c.metadata_in.ensures.quiet
+returns-clause-cause g c = bytes_cause meta_view c.metadata_in.result _ _ _ c.metadata_in.ensures.gives

@@ -2,6 +2,7 @@ use Rattle.std.proofs.Common.{◌≡◌, Err, ◌∙◌, ◌+◌, ap, arith, len
 use Rattle.std.proofs.lemmas.List.{length-map}
 use Rattle.ipc_files.specs.FileBlocks.{file_block}
 use Rattle.ipc_files.specs.FileViews.{meta_view}
+use Rattle.ipc_io.proofs.Kept.{source_kept_on, sink_kept_on}
 use Rattle.ipc_files.proofs.Errors.{is_err}
 use Rattle.ipc_files.proofs.BlockSteps.{all_so_far, at_index, begun_so_far, more_so_far, refused_so_far}
 use Rattle.ipc_files.proofs.SentFiles.{of_err}
@@ -14,13 +15,9 @@ loop-block-init g c = record {
   batches = search rules;
   few = search rules;
   small = omega (arith, c.ranges.schema_length.fits);
-  content = search rules;
-  reads = search rules;
-  writes = search rules;
-  wants = search rules;
+  kept = search rules;
+  sink = search rules;
   fetched = none_yet (g.S.Source.content c.args.source.now) (meta_view c.args.file.now) _ _ (omega arith);
-  same_source = search rules;
-  same_sink = search rules;
 }
 
 pub returns-in_err-sent-clause-refused : goal.returns-in_err-sent-clause-refused
@@ -28,7 +25,7 @@ returns-in_err-sent-clause-refused g c =
     let e : c.from_residual.result ≡ Err c.in_err-sent.field-0.0 = is_err _ _ _ c.from_residual.ensures.0 c.from_residual.ensures.1 (λ f h. h) in
     of_err c.from_residual.result c.in_err-sent.field-0.0 _ e
     (refused_so_far c.in_err-sent.field-0.0 (g.S.Source.content c.args.source.now) _ (meta_view c.args.file.now) c.loop-block.block-index _ c.args.encoding (g.W.Sink.written c.args.sink.now) _ _ c.args.schema_length c.loop-block.summary _ _
-    (at_index c.args.file.now.blocks.items c.deref-block-items.result.now c.loop-block.block-index _ c.deref-block-items.ensures.value (omega (arith, c.loop-block-test.true, c.loop-block.auto.block-index-end))) c.loop-block.invariant.content c.loop-block.invariant.sent c.in_err-sent.ensures.refused)
+    (at_index c.args.file.now.blocks.items c.deref-block-items.result.now c.loop-block.block-index _ c.deref-block-items.ensures.value (omega (arith, c.loop-block-test.true, c.loop-block.auto.block-index-end))) c.loop-block.invariant.kept.content c.loop-block.invariant.sent c.in_err-sent.ensures.refused)
 
 pub returns-clause-sent : goal.returns-clause-sent
 returns-clause-sent g c =
@@ -38,25 +35,21 @@ returns-clause-sent g c =
 pub loop-block-preserved : goal.loop-block-preserved
 loop-block-preserved g c = record {
   sent = more_so_far (g.S.Source.content c.args.source.now) _ (meta_view c.args.file.now) c.loop-block.block-index _ c.args.encoding (g.W.Sink.written c.args.sink.now) _ _ c.args.schema_length c.loop-block.summary c.in_ok-sent.sent.rows c.in_ok-sent.sent.bytes
-      (at_index c.args.file.now.blocks.items c.deref-block-items.result.now c.loop-block.block-index _ c.deref-block-items.ensures.value (omega (arith, c.loop-block-test.true, c.loop-block.auto.block-index-end))) c.loop-block.invariant.content c.loop-block.invariant.sent c.in_ok-sent.ensures.sent;
+      (at_index c.args.file.now.blocks.items c.deref-block-items.result.now c.loop-block.block-index _ c.deref-block-items.ensures.value (omega (arith, c.loop-block-test.true, c.loop-block.auto.block-index-end))) c.loop-block.invariant.kept.content c.loop-block.invariant.sent c.in_ok-sent.ensures.sent;
   batches = omega (arith, c.loop-block.invariant.batches);
   few = omega (arith, c.loop-block.invariant.few, c.in_ok-sent.ensures.few);
   small = omega (arith, c.loop-block.invariant.small, c.in_ok-sent.ensures.small);
-  content = c.send_block.ensures.content ∙ c.loop-block.invariant.content;
-  reads = omega (arith, c.loop-block.invariant.reads, c.send_block.ensures.reads);
-  writes = omega (arith, c.loop-block.invariant.writes, c.send_block.ensures.writes);
-  wants = omega (arith, c.loop-block.invariant.wants, c.send_block.ensures.wants);
+  kept = source_kept_on c.loop-block.invariant.kept c.send_block.ensures.kept;
+  sink = sink_kept_on c.loop-block.invariant.sink c.send_block.ensures.sink;
   fetched = one_more (g.S.Source.content c.args.source.now) _ (meta_view c.args.file.now) c.loop-block.block-index _ _ _ _
-      (at_index c.args.file.now.blocks.items c.deref-block-items.result.now c.loop-block.block-index _ c.deref-block-items.ensures.value (omega (arith, c.loop-block-test.true, c.loop-block.auto.block-index-end))) c.loop-block.invariant.content c.loop-block.invariant.fetched c.send_block.ensures.fetched;
-  same_source = c.send_block.ensures.same_source ∙ c.loop-block.invariant.same_source;
-  same_sink = c.send_block.ensures.same_sink ∙ c.loop-block.invariant.same_sink;
+      (at_index c.args.file.now.blocks.items c.deref-block-items.result.now c.loop-block.block-index _ c.deref-block-items.ensures.value (omega (arith, c.loop-block-test.true, c.loop-block.auto.block-index-end))) c.loop-block.invariant.kept.content c.loop-block.invariant.fetched c.send_block.ensures.fetched;
 }
 
 pub returns-in_err-sent-clause-fetched : goal.returns-in_err-sent-clause-fetched
 returns-in_err-sent-clause-fetched g c =
     among_all (g.S.Source.content c.args.source.now) (meta_view c.args.file.now) (c.loop-block.block-index + 1) _ _
     (one_more (g.S.Source.content c.args.source.now) _ (meta_view c.args.file.now) c.loop-block.block-index _ _ _ _
-    (at_index c.args.file.now.blocks.items c.deref-block-items.result.now c.loop-block.block-index _ c.deref-block-items.ensures.value (omega (arith, c.loop-block-test.true, c.loop-block.auto.block-index-end))) c.loop-block.invariant.content c.loop-block.invariant.fetched c.in_err-sent.ensures.fetched)
+    (at_index c.args.file.now.blocks.items c.deref-block-items.result.now c.loop-block.block-index _ c.deref-block-items.ensures.value (omega (arith, c.loop-block-test.true, c.loop-block.auto.block-index-end))) c.loop-block.invariant.kept.content c.loop-block.invariant.fetched c.in_err-sent.ensures.fetched)
 
 pub returns-clause-fetched : goal.returns-clause-fetched
 returns-clause-fetched g c = among_all (g.S.Source.content c.args.source.now) (meta_view c.args.file.now) c.loop-block.block-index _ _ c.loop-block.invariant.fetched

@@ -1,4 +1,5 @@
 use Rattle.std.proofs.Common.{◌≡◌, ◌+◌, ◌*◌, ◌^◌, ◌≤◌, ℕ, List, Option, take, IfSome}
+use Rattle.ipc_io.specs.Outside.{SourceKept, SinkKept}
 use Rattle.ipc_files.specs.FileViews.{meta_view}
 use Rattle.ipc_files.specs.Fetching.{BlocksFetched}
 use Rattle.ipc_files.specs.Sends.{Begun, SentBlocks}
@@ -10,11 +11,7 @@ invariant-loop-block g l = record {
   batches : l.summary.batches ≡ l.block-index;
   few : l.summary.rows ≤ l.block-index * 2 ^ 63;
   small : l.summary.bytes ≤ (l.block-index + 1) * 2 ^ 64;
-  content : g.S.Source.content l.source ≡ g.S.Source.content l.fn.source;
-  reads : g.S.Source.faults l.fn.source ≤ g.S.Source.faults l.source;
-  writes : g.W.Sink.faults l.fn.sink ≤ g.W.Sink.faults l.sink;
-  wants : g.W.Sink.wants l.fn.sink ≤ g.W.Sink.wants l.sink;
+  kept : SourceKept g.S.Source.content g.S.Source.faults g.S.Source.references l.fn.source l.source;
+  sink : SinkKept g.W.Sink.faults g.W.Sink.wants g.W.Sink.references l.fn.sink l.sink;
   fetched : BlocksFetched (g.S.Source.content l.fn.source) (meta_view l.file) (take l.block-index (meta_view l.file).blocks) (g.S.Source.fetched l.fn.source) (g.S.Source.fetched l.source);
-  same_source : g.S.Source.references l.source ≡ g.S.Source.references l.fn.source;
-  same_sink : g.W.Sink.references l.sink ≡ g.W.Sink.references l.fn.sink;
 }

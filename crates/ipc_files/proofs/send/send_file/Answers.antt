@@ -27,4 +27,4 @@ returns-then-not-is_built-clause-fetched g c = file_by_footer (g.S.Source.conten
 
 pub returns-clause-fetched : goal.returns-clause-fetched
 returns-clause-fetched g c =
-    file_by_blocks (g.S.Source.content c.args.source.now) _ (meta_view c.in_ok-file.file) _ _ _ c.in_ok-file.ensures.fetched c.in_ok-file.ensures.says c.in_ok-file.ensures.content c.send_table.ensures.fetched
+    file_by_blocks (g.S.Source.content c.args.source.now) _ (meta_view c.in_ok-file.file) _ _ _ c.in_ok-file.ensures.fetched c.in_ok-file.ensures.says c.in_ok-file.ensures.kept.content c.send_table.ensures.fetched

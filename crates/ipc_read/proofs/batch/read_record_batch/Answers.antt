@@ -30,7 +30,7 @@ returns-in_err-columns-clause-fetched g c = λ bytes.
 pub new-requires : goal.new-requires
 new-requires g c =
     let n = c.in_ok-columns.ensures.count ∙ ap length c.deref.ensures in
-    batch_fine c.in_ok-columns.columns.0 _ (all_parts_of c.in_ok-columns.columns.1.items) (ap length c.in-Ok.ensures.cases ∙ sym n ∙ sym (length-map c.in_ok-columns.columns.1.items parts_of)) c.in_ok-columns.ensures.shape
+    batch_fine c.in_ok-columns.columns.0 _ (all_parts_of c.in_ok-columns.columns.1.items) (ap length c.in_ok-clone.ensures.cases ∙ sym n ∙ sym (length-map c.in_ok-columns.columns.1.items parts_of)) c.in_ok-columns.ensures.shape
 
 pub returns-clause-gives : goal.returns-clause-gives
 returns-clause-gives g c = some_given _ (λ s b. batch_reading c.args.ipc_schema.now.is_little_endian (fields_in s) c.args.size c.args.version (header_of c.args.header.now) (bytes_in c.args.body b)) c.deref.result.now (rc_value c.args.schema.now) _ _ c.deref.ensures (sym (ap table_of c.new.ensures)) c.in_ok-columns.ensures.gives

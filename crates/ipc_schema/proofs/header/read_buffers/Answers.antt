@@ -2,5 +2,5 @@ use Rattle.std.proofs.Common.{arith}
 use Rattle.ipc_schema.proofs.Items.{all_read}
 use Rattle.ipc_schema.proofs.header.read_buffers.Goals as goal
 
-pub returns-clause-gives : goal.returns-clause-gives
-returns-clause-gives c = all_read _ _ _ _ _ (omega arith) c.loop-i.invariant
+pub returns : goal.returns
+returns c = record { gives = all_read _ _ _ _ _ (omega arith) c.loop-i.invariant }

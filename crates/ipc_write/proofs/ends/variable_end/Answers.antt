@@ -11,7 +11,7 @@ between_end-requires-clause-rise g c =
     let p = c.args.array.now in
     let t = g.V.ViewType.IS_TEXT in
     let s = is_variable t g.O.Offset.IS_LARGE (physical_of p.kind) in
-    offsets_same (map g.O.Offset.number c.as_slice.result.now) p c.len.result (ap (map g.O.Offset.number) c.as_slice.ensures ∙ c.offsets.ensures) (c.len.ensures ∙ ap length c.values.ensures) (variable_sound t s p c.len-rows.ensures.sound).spanned.rise
+    offsets_same (map g.O.Offset.number c.offsets.result.now) p c.len.result c.offsets.ensures (c.len.ensures ∙ ap length c.values.ensures) (variable_sound t s p c.len-rows.ensures.sound).spanned.rise
 
 pub returns : goal.returns
 returns g c =
@@ -19,6 +19,6 @@ returns g c =
     let wide = g.O.Offset.IS_LARGE in
     let t = g.V.ViewType.IS_TEXT in
     let sound = variable_sound t (is_variable t wide (physical_of p.kind)) p c.len-rows.ensures.sound in
-    let same : map g.O.Offset.number c.as_slice.result.now ≡ p.offsets = ap (map g.O.Offset.number) c.as_slice.ensures ∙ c.offsets.ensures in
-    variable_same c.between_end.result c.args.at g.O.NativeType.WIDTH _ _ (map g.O.Offset.number c.as_slice.result.now) (length c.as_slice.result.now) p c.validity.ensures.bits same (length-map c.as_slice.result.now g.O.Offset.number) c.requires.width
+    let same : map g.O.Offset.number c.offsets.result.now ≡ p.offsets = c.offsets.ensures in
+    variable_same c.between_end.result c.args.at g.O.NativeType.WIDTH _ _ (map g.O.Offset.number c.offsets.result.now) (length c.offsets.result.now) p c.validity.ensures.bits same (length-map c.offsets.result.now g.O.Offset.number) c.requires.width
     (variable_width t wide p.kind sound.suits) sound.spanned.rise c.between_end.ensures

@@ -15,8 +15,8 @@ put_numbers-requires g c =
     let write = g.T.NativeType.written in
     let p = g.T.NativeType.PRIMITIVE in
     let turned = numbers_turned write p order a.kind a.values c.requires.turned (leaf_suits (is_primitive p (physical_of a.kind)) (length a.values) a.validity c.len.ensures.sound) in
-    let values = ap (flat_map (write order)) (c.as_slice.ensures ∙ c.values.ensures) ∙ sym turned in
-    short_next (2 ^ 63) (length (flat_map (write order) c.as_slice.result.now) ∷ []) c.in_ok-put_validity.ensures
+    let values = ap (flat_map (write order)) c.values.ensures ∙ sym turned in
+    short_next (2 ^ 63) (length (flat_map (write order) c.values.result.now) ∷ []) c.in_ok-put_validity.ensures
     (short_as (2 ^ 63) c.args.arrow_data.now.items c.reserve.new.self.items _ _ c.in_ok-reserve.ensures.items (leaf_same _ _ _ _ c.validity.ensures.bits values) c.requires.short)
 
 pub returns : goal.returns
@@ -26,6 +26,6 @@ returns g c =
     let write = g.T.NativeType.written in
     let p = g.T.NativeType.PRIMITIVE in
     let turned = numbers_turned write p order a.kind a.values c.requires.turned (leaf_suits (is_primitive p (physical_of a.kind)) (length a.values) a.validity c.len.ensures.sound) in
-    let values = ap (flat_map (write order)) (c.as_slice.ensures ∙ c.values.ensures) ∙ sym turned in
+    let values = ap (flat_map (write order)) c.values.ensures ∙ sym turned in
     adds_as c.put_numbers.result _ _ c.args.arrow_data.now.items c.reserve.new.self.items _ _ _ c.in_ok-reserve.ensures.items (leaf_same _ _ _ _ c.validity.ensures.bits values)
     (adds_then c.put_numbers.result _ _ _ _ _ _ _ _ c.in_ok-put_validity.ensures c.put_numbers.ensures)

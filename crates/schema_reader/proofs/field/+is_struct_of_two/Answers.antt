@@ -3,7 +3,7 @@ use Rattle.std.specs.Prelude.{nat_eq}
 use Rattle.arrow_spec.specs.Schema.{is_struct_of_two}
 use Rattle.arrow_types.specs.KindOf.{kind_of, child_of}
 use Rattle.arrow_types.proofs.Sameness.{kind_of_Struct}
-use Rattle.ipc_fields.proofs.Widths.{width_from}
+use Rattle.arrow_types.proofs.Children.{width_from}
 use Rattle.schema_reader.proofs.field.+is_struct_of_two.Goals as goal
 
 pub returns-in-Struct : goal.returns-in-Struct

@@ -1,5 +1,5 @@
 use Rattle.std.proofs.Common.{◌≡◌, ◌+◌, ◌-◌, ◌*◌, suc, ap, sym, ◌∙◌, map, length, inl, refl, subst, Ok, Err, arith, ◌∷◌, ◌++◌, [], ◌≤◌}
-use Rattle.arrow_spec.specs.Readings.{Gives}
+use Rattle.ipc_fields.specs.Causes.{Decodes}
 use Rattle.arrow_types.specs.KindOf.{child_of}
 use Rattle.ipc_fields.specs.IpcFields.{tree_of}
 use Rattle.schema_reader.specs.ReadViews.{head_in, children_in, before_in, entry_in, child_with}
@@ -43,7 +43,7 @@ read_field-returns-clause-gives t c =
     let below = children_in c.in_ok-children.children in
     let read : entries_at k b h.children h.before ≡ Ok below = c.in_ok-children.ensures.gives b (first_part b c.in_ok-head.head.form.children c.in_ok-head.ensures.bytes) in
     let whole : entry_at c.args.levels b at (before_in c.args.before) ≡ entry_by h below = entry_level c.args.levels k b at (before_in c.args.before) level ∙ entry_read k b at (before_in c.args.before) h below c.in_ok-head.ensures.gives read in
-    subst (Gives entry_in c.make_entry.result) (sym whole) c.make_entry.ensures.gives
+    subst (Decodes entry_in c.make_entry.result) (sym whole) c.make_entry.ensures.gives
 
 pub read_fields-loop-i-init : goal.read_fields-loop-i-init
 read_fields-loop-i-init t c = record {

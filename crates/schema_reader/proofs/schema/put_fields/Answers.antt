@@ -5,7 +5,7 @@ use Rattle.arrow_types.specs.KindOf.{child_of}
 use Rattle.schema_reader.proofs.Keys.{keyed_done}
 use Rattle.schema_reader.proofs.schema.put_fields.Goals as goal
 
-pub returns-clause-gives : goal.returns-clause-gives
-returns-clause-gives c =
+pub returns : goal.returns
+returns c =
     let none : into_iter_items c.loop-field.field-iterator ≡ [] = grind (arith, common_steps) in
-    keyed_done c.loop-field.schema (map child_of (into_iter_items c.loop-field.field-iterator)) _ (ap (map child_of) none) c.loop-field.invariant
+    record { gives = keyed_done c.loop-field.schema (map child_of (into_iter_items c.loop-field.field-iterator)) _ (ap (map child_of) none) c.loop-field.invariant }

@@ -8,7 +8,7 @@ pub loop-i-preserved : goal.loop-i-preserved
 loop-i-preserved c =
     let x = c.number_at-number.result in
     let fits : SFits w32 x = search rules in
-    numbers_more c.args.numbers.now c.loop-i.i c.loop-i.read.items c.push.new.items.items x _ (omega arith) c.loop-i.invariant c.number_at-number.ensures (c.in_ok-push.ensures.ok ∙ ap (λ y. c.loop-i.read.items ++ y ∷ []) (to_z-of_z w32 x fits))
+    numbers_more c.args.numbers.now c.loop-i.i c.loop-i.read.items c.push.new.self.items x _ (omega arith) c.loop-i.invariant c.number_at-number.ensures (c.in_ok-push.ensures.items ∙ ap (λ y. c.loop-i.read.items ++ y ∷ []) (to_z-of_z w32 x fits))
 
-pub returns-clause-gives : goal.returns-clause-gives
-returns-clause-gives c = numbers_done c.args.numbers.now c.loop-i.i c.loop-i.read.items _ (omega arith) c.loop-i.invariant
+pub returns : goal.returns
+returns c = record { gives = numbers_done c.args.numbers.now c.loop-i.i c.loop-i.read.items _ (omega arith) c.loop-i.invariant }

@@ -22,8 +22,8 @@ returns-in_err-bytes-clause-fetched g c = λ m i l.
     let rest = stated_more m i c.loop-number._number c.args.count (omega arith) in
     omega (arith, before, here, rest)
 
-pub returns-then-is_err-clause-fetched : goal.returns-then-is_err-clause-fetched
-returns-then-is_err-clause-fetched g c = λ m i l.
+pub returns-in_err-push-clause-fetched : goal.returns-in_err-push-clause-fetched
+returns-in_err-push-clause-fetched g c = λ m i l.
     let v = c.loop-number.invariant in
     let before = v.fetched m i l in
     let here = c.in_ok-bytes.ensures.fetched m (i + c.loop-number._number) (v.takes m i l) in
@@ -57,8 +57,8 @@ returns-clause-gives g c = λ m i l t.
 pub returns-in_err-bytes-clause-shortened : goal.returns-in_err-bytes-clause-shortened
 returns-in_err-bytes-clause-shortened g c = taken_then (read_so_far c.loop-number._number c.loop-number.invariant.takes) c.in_err-bytes.ensures.shortened (omega arith)
 
-pub returns-then-is_err-clause-shortened : goal.returns-then-is_err-clause-shortened
-returns-then-is_err-clause-shortened g c = taken_then (read_so_far c.loop-number._number c.loop-number.invariant.takes) c.in_ok-bytes.ensures.shortened (omega arith)
+pub returns-in_err-push-clause-shortened : goal.returns-in_err-push-clause-shortened
+returns-in_err-push-clause-shortened g c = taken_then (read_so_far c.loop-number._number c.loop-number.invariant.takes) c.in_ok-bytes.ensures.shortened (omega arith)
 
 pub returns-clause-shortened : goal.returns-clause-shortened
 returns-clause-shortened g c = taken_more (read_so_far c.loop-number._number c.loop-number.invariant.takes) (omega arith)

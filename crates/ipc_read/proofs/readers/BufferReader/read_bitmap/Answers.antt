@@ -18,8 +18,8 @@ returns-then-part-rows-clause-gives g c = λ m i l t.
     let n : c.in_ok-part.part.length ≡ magnitude (range_of m i).length = ap (λ (x : Body). x.length) k.1 in
     record { ok = tt; err = bitmap_short m i c.args.rows (c.in_ok-part.part.length * 8) k.0 (omega (arith, n)) (omega arith) }
 
-pub returns-in-Ok-clause-gives : goal.returns-in-Ok-clause-gives
-returns-in-Ok-clause-gives g c = λ m i l t.
+pub returns-clause-gives : goal.returns-clause-gives
+returns-clause-gives g c = λ m i l t.
     let size = told_length _ c.args.self.now.body m.body c.requires.readable.inside t in
     let k = (c.in_ok-part.ensures.gives m i l size).ok in
     let n : c.in_ok-part.part.length ≡ magnitude (range_of m i).length = ap (λ (x : Body). x.length) k.1 in
@@ -27,7 +27,7 @@ returns-in-Ok-clause-gives g c = λ m i l t.
     let few : c.bytes_for.result ≤ c.in_ok-part.part.length = omega (arith, c.bytes_for.ensures) in
     let within : c.in_ok-part.part.offset + c.bytes_for.result ≤ c.args.self.now.body.offset + c.args.self.now.body.length = omega (arith, few, c.in_ok-part.ensures.within) in
     let same = bytes_are _ c.args.self.now.body m i c.bytes_for.result c.in_ok-part.part.offset c.in_ok-bytes.bytes.items t (ap (λ (x : Body). x.offset) k.1) (omega (arith, few, n)) within c.in_ok-bytes.ensures.bytes c.in_ok-bytes.ensures.count in
-    record { ok = (bitmap_enough m i c.args.rows k.0 enough, c.in-Ok.ensures ∙ bits_same c.bytes_for.result c.args.rows (buf m i) c.in_ok-bytes.bytes.items c.bytes_for.ensures same); err = tt }
+    record { ok = (bitmap_enough m i c.args.rows k.0 enough, c.in_ok-from_vec.ensures ∙ bits_same c.bytes_for.result c.args.rows (buf m i) c.in_ok-bytes.bytes.items c.bytes_for.ensures same); err = tt }
 
-pub returns-in-Ok-clause-rows : goal.returns-in-Ok-clause-rows
-returns-in-Ok-clause-rows g c = length-told (bit c.in_ok-bytes.bytes.items) 0 c.args.rows c.in-Ok.bits c.in-Ok.ensures
+pub returns-clause-rows : goal.returns-clause-rows
+returns-clause-rows g c = length-told (bit c.in_ok-bytes.bytes.items) 0 c.args.rows _ c.in_ok-from_vec.ensures

@@ -8,5 +8,5 @@ returns-then-rows-gt0-clause-gives g c = λ m i l t.
     let q = at_batch c.read_numbers.result _ _ m i c.read_numbers.ensures.takes l in
     passed _ c.read_numbers.result c.args.rows m.buffers i _ _ _ (omega arith) refl (within_next c.read_numbers.result m.buffers i _ q) (c.read_numbers.ensures.gives m i l t)
 
-pub returns-in-Ok-clause-bytes : goal.returns-in-Ok-clause-bytes
-returns-in-Ok-clause-bytes g c = λ m i l t. no_bytes m i g.T.NativeType.WIDTH c.args.rows (omega arith)
+pub returns-clause-bytes : goal.returns-clause-bytes
+returns-clause-bytes g c = λ m i l t. no_bytes m i g.T.NativeType.WIDTH c.args.rows (omega arith)

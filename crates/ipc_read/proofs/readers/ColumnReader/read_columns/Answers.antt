@@ -30,8 +30,8 @@ returns-in_err-array-clause-fetched g c = λ m a.
     let before = c.loop-i.invariant.fetched m a in
     omega (arith, here, rest, before)
 
-pub returns-then-is_err-clause-fetched : goal.returns-then-is_err-clause-fetched
-returns-then-is_err-clause-fetched g c = λ m a.
+pub returns-in_err-push-clause-fetched : goal.returns-in_err-push-clause-fetched
+returns-in_err-push-clause-fetched g c = λ m a.
     let here = c.read_column.ensures.fetched m (place_in m (fields_in c.args.schema.now) c.loop-i.i first_place) (c.loop-i.invariant.queues m a) in
     let rest = field_fetched m c.args.schema.now c.loop-i.i c.args.rows c.field_at-field.result.now c.field_at-field.ensures in
     let before = c.loop-i.invariant.fetched m a in

@@ -1,7 +1,0 @@
-use Rattle.std.proofs.Common.{◌≡◌, ◌++◌, take}
-use Rattle.std.specs.List.{flat_map}
-use Rattle.arrow_spec.specs.Flat.{order_by}
-use Rattle.ipc_write_arrays.proofs.bytes.push_numbers.Given as goal
-
-abbrev pub invariant-loop-number : goal.invariant-loop-number
-invariant-loop-number g l = l.out.items ≡ l.initial.out.items ++ flat_map (g.T.NativeType.written (order_by l.is_little_endian)) (take l.number-index l.numbers)
