@@ -5,6 +5,7 @@ from pathlib import Path
 
 import arrow
 from arrow import Column
+from nested import Array
 from layout import Structs, Table, Tables, Value, lay, number
 
 TEXT = (Path(__file__).parents[2] / "crates/tests_files/src/files.rt").read_text()
@@ -57,4 +58,18 @@ held = arrow.batch(0, [Column(0, 0, [b"", b"", b""])])
 assert b"".join(arrow.file_parts(T, [held])) == known("Magic", "TextSchema", "NoTexts", "EndMark", "BlockOfNoTexts")
 sent = [arrow.batch(0, [arrow.variable("<i", [])])]
 assert b"".join(arrow.stream_parts(T, sent)) == known("TextSchema", "NoTextsSent", "EndMark")
+
+# ── lists of 1, 2; none; null; 3, and those behind the first ──
+
+items = Array(("int8",), 3, None, data=bytes([1, 2, 3]), width=1)
+lists = Array(("list", ("int8",)), 4, [True, True, False, True], offsets=[0, 2, 2, 2, 3], children=[items])
+
+
+def written(begin, count):
+    columns = lists.sent(4, begin, count)
+    return [(c.rows, c.nulls) for c in columns], [p.hex() for c in columns for p in c.pieces], len(arrow.batch(count, columns)[1])
+
+
+assert written(0, 4) == ([(4, 1), (3, 0)], ["0b", "0000000002000000020000000200000003000000", "", "010203"], 192)
+assert written(1, 3) == ([(3, 1), (1, 0)], ["05", "00000000000000000000000001000000", "", "03"], 192)
 print("the worked files and streams are the model's")

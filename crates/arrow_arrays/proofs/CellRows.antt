@@ -11,7 +11,7 @@ use Rattle.arrow_buffers.specs.Views.{Views, view_rows, view_at, view_bytes, vie
 use Rattle.arrow_buffers.proofs.Counts.{get_there}
 use Rattle.arrow_buffers.proofs.ViewParts.{Seen}
 use Rattle.arrow_buffers.proofs.Parts.{get-from_on, length-from_on}
-use Rattle.arrow_arrays.specs.Parts.{number_cell, as_bytes}
+use Rattle.arrow_arrays.specs.LeafParts.{number_cell, as_bytes}
 
 null_by : (bits : List Bool) (cells : List Cell) (row : ℕ) → length bits ≡ length cells → row < length cells → get_or bits row true ≡ false → slice_get (masked_by bits cells) row ≡ Some null
 null_by bits [] row e h v = absurd (omega arith)

@@ -2,6 +2,11 @@ pub mod NumberParts
 pub mod Heights
 pub mod NoRows
 pub mod PieceLaws
+pub mod LeafSliced
+pub mod HeadSliced
 pub mod Sliced
+pub mod Forests
+pub mod SameRows
 pub mod CellRows
 pub mod SameBatches
+pub mod UnionPlaces

@@ -14,7 +14,7 @@ use Rattle.arrow_buffers.specs.Leaf.{Leaf, leaf_cells, leaf_part, leaf_fault}
 use Rattle.arrow_buffers.proofs.Sound.{leaf_sound}
 use Rattle.arrow_buffers.proofs.Masks.{length-leaf, leaf_cells-part}
 use Rattle.arrow_buffers.proofs.Parts.{map-part}
-use Rattle.arrow_arrays.specs.Parts.{numbers, as_bytes, number_cell, number_size, fault_in}
+use Rattle.arrow_arrays.specs.LeafParts.{numbers, as_bytes, number_cell, number_size, leaf_fault_in}
 
 -- the size of a primitive type by its number
 abbrev size_by : ℕ → ℕ
@@ -66,7 +66,7 @@ all_wide : {A : Type 0} (write : A → List ℕ) (size : ℕ) → ((x : A) → l
 all_wide write size wide [] = refl
 all_wide write size wide (x ∷ xs) = rw (eq-eqb (length (write x)) size (wide x), all_wide write size wide xs) refl
 
-pub numbers_sound : {A : Type 0} (write : A → List ℕ) (p : PrimitiveType) (size : ℕ) (f : Leaf A) → primitive_size p ≡ size → 0 < size → ((x : A) → length (write x) ≡ size) → leaf_fault (is_primitive p (physical_of f.kind)) (length f.values) f.validity ≡ None → fault_in (numbers (as_bytes write f)) ≡ None
+pub numbers_sound : {A : Type 0} (write : A → List ℕ) (p : PrimitiveType) (size : ℕ) (f : Leaf A) → primitive_size p ≡ size → 0 < size → ((x : A) → length (write x) ≡ size) → leaf_fault (is_primitive p (physical_of f.kind)) (length f.values) f.validity ≡ None → leaf_fault_in (numbers (as_bytes write f)) ≡ None
 numbers_sound write p size f e above wide fine =
     let s : number_size (physical_of f.kind) ≡ size = layout_size p (physical_of f.kind) (leaf_suits (is_primitive p (physical_of f.kind)) (length f.values) f.validity fine) ∙ e in
     let rows : has_rows f.validity (length f.values) ≡ true = leaf_sound (is_primitive p (physical_of f.kind)) (length f.values) f.validity fine in

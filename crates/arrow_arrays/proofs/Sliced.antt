@@ -1,87 +1,82 @@
 -- A part of the rows of any array: its kind, how many rows it has, its cells, and that arrays have such parts.
-use Rattle.std.proofs.Common.{◌≡◌, ℕ, ◌+◌, ◌≤◌, ◌∙◌, ap, sym, List, Bool, Option, length, drop, nat_eq, nat_lt, true, false, None, refl, arith}
-use Rattle.std.specs.List.{list_all}
-use Rattle.std.specs.Option.{option_map}
-use Rattle.std.proofs.lemmas.Bool.{and_parts}
-use Rattle.std.proofs.lemmas.List.{length-replicate}
-use Rattle.std.proofs.lemmas.List.Elements.{All-take, All-drop}
-use Rattle.std.proofs.lemmas.List.Sums.{AllPass-from_list_all, list_all-from_AllPass}
-use Rattle.arrow_spec.specs.Cells as cells
-use Rattle.arrow_types.specs.Physical.{physical_of}
-use Rattle.arrow_buffers.specs.Rows.{part, has_rows}
-use Rattle.arrow_buffers.specs.Layouts.{is_boolean, is_variable_any, is_view}
-use Rattle.arrow_buffers.specs.Leaf.{leaf_fault}
-use Rattle.arrow_buffers.proofs.Sound.{leaf_sound}
-use Rattle.arrow_buffers.proofs.Parts.{length-part, part-replicate}
-use Rattle.arrow_buffers.proofs.Masks.{length-leaf, leaf_cells-part, has_rows-part}
-use Rattle.arrow_buffers.proofs.Fixed.{length-fixed_cells, fixed_cells-part, fixed_fault-part}
-use Rattle.arrow_buffers.proofs.VariableParts.{variable_sound, length-variable_cells, variable_cells-part, variable_fault-part}
-use Rattle.arrow_buffers.proofs.ViewParts.{view_sound, length-view_cells, view_cells-part, view_fault-part}
-use Rattle.arrow_arrays.proofs.NumberParts.{leaf_suits}
-use Rattle.arrow_arrays.specs.Parts.{Parts, nulls, bits, numbers, fixed, binary, text, binary_views, text_views, number_cell, number_size, are_numbers, kind_in, rows_in, cells_in, part_of, fault_in}
+use Rattle.std.proofs.Common.{◌≡◌, ℕ, ◌+◌, ◌≤◌, ◌∷◌, Option, Some, None, length, refl, ap, ◌∙◌}
+use Rattle.arrow_buffers.specs.declared.error.ArrayError.{ArrayError}
+use Rattle.arrow_buffers.specs.Rows.{part}
+use Rattle.arrow_arrays.specs.Heads.{Head, Cut, whole, run, head_cells, head_part, head_fault, cut_of, cut_cells, Reaches}
+use Rattle.arrow_arrays.specs.Parts.{Parts, Forest, leaf, nested, none, also, kind_in, rows_in, kinds_each, rows_each, cells_in, cells_each, part_of, cut, either, fault_in, fault_each}
+use Rattle.arrow_arrays.proofs.LeafSliced as leaves
+use Rattle.arrow_arrays.proofs.HeadSliced as heads
+use Rattle.arrow_arrays.proofs.HeadSliced.{Sound, cut_counts}
+
+-- neither of two is given
+pub neither : (d e : Option ArrayError) → either d e ≡ None → (d ≡ None) × (e ≡ None)
+neither None e h = (refl, h)
+neither (Some d) e h = cc
+
+pub both : (d e : Option ArrayError) → d ≡ None → e ≡ None → either d e ≡ None
+both d e p q = rw (p, q) refl
+
+-- what a tree that is not refused says of its top, and of its children
+pub top_sound : (h : Head) (cs : Forest) → fault_in (nested h cs) ≡ None → Sound h (kinds_each cs) (rows_each cs) × (fault_each cs ≡ None)
+top_sound h cs e =
+    let p = neither (head_fault h (kinds_each cs) (rows_each cs)) (fault_each cs) e in
+    (heads.head_sound h (kinds_each cs) (rows_each cs) p.0, p.1)
 
 pub kind-part : (o n : ℕ) (p : Parts) → kind_in (part_of o n p) ≡ kind_in p
-kind-part o n (nulls x) = refl
-kind-part o n (bits f) = refl
-kind-part o n (numbers f) = refl
-kind-part o n (fixed f) = refl
-kind-part o n (binary p) = refl
-kind-part o n (text p) = refl
-kind-part o n (binary_views p) = refl
-kind-part o n (text_views p) = refl
+kind-part o n (leaf l) = leaves.kind-part o n l
+kind-part o n (nested h cs) = heads.kind-part o n h
 
--- there are as many cells as rows
+pub rows-part : (o n : ℕ) (p : Parts) → fault_in p ≡ None → o + n ≤ rows_in p → rows_in (part_of o n p) ≡ n
+rows-part o n (leaf l) e le = leaves.rows-part o n l e le
+rows-part o n (nested h cs) e le = heads.rows-part o n h (rows_each cs) (top_sound h cs e).0.offsets le
+
 pub length-cells : (p : Parts) → fault_in p ≡ None → length (cells_in p) ≡ rows_in p
-length-cells (nulls x) e = length-replicate x.rows cells.null
-length-cells (bits f) e = length-leaf cells.bool f.values f.validity (leaf_sound (is_boolean (physical_of f.kind)) (length f.values) f.validity e)
-length-cells (numbers f) e = length-leaf (number_cell f.kind) f.values f.validity (leaf_sound (are_numbers (number_size (physical_of f.kind)) f.values) (length f.values) f.validity e)
-length-cells (fixed f) e = length-fixed_cells f e
-length-cells (binary p) e = length-variable_cells false p (variable_sound false (is_variable_any false (physical_of p.kind)) p e).spanned
-length-cells (text p) e = length-variable_cells true p (variable_sound true (is_variable_any true (physical_of p.kind)) p e).spanned
-length-cells (binary_views p) e = length-view_cells false p (view_sound false (is_view false (physical_of p.kind)) p e).seen
-length-cells (text_views p) e = length-view_cells true p (view_sound true (is_view true (physical_of p.kind)) p e).seen
+length-cells (leaf l) e = leaves.length-cells l e
+length-cells (nested h cs) e = heads.length-head h (cells_each cs) (top_sound h cs e).0.valid
+
+pub each-kinds : (c : Cut) (cs : Forest) → kinds_each (cut c cs) ≡ kinds_each cs
+each-kinds whole cs = refl
+each-kinds (run o n) none = refl
+each-kinds (run o n) (also p cs) = ap (λ k. k ∷ kinds_each (cut (run o n) cs)) (kind-part o n p) ∙ ap (λ ks. kind_in p ∷ ks) (each-kinds (run o n) cs)
+
+pub each-counts : (c : Cut) (cs : Forest) → fault_each cs ≡ None → Reaches c (rows_each cs) → rows_each (cut c cs) ≡ cut_counts c (rows_each cs)
+each-counts whole cs e r = refl
+each-counts (run o n) none e r = refl
+each-counts (run o n) (also p cs) e r =
+    let f = neither (fault_in p) (fault_each cs) e in
+    ap (λ m. m ∷ rows_each (cut (run o n) cs)) (rows-part o n p f.0 r.0) ∙ ap (λ ms. n ∷ ms) (each-counts (run o n) cs f.1 r.1)
 
 -- the cells of a part are a part of the cells
-pub cells-part : (o n : ℕ) (p : Parts) → fault_in p ≡ None → o + n ≤ rows_in p → cells_in (part_of o n p) ≡ part o n (cells_in p)
-cells-part o n (nulls x) e h = part-replicate o n x.rows cells.null h
-cells-part o n (bits f) e h = leaf_cells-part cells.bool o n f.values f.validity
-cells-part o n (numbers f) e h = leaf_cells-part (number_cell f.kind) o n f.values f.validity
-cells-part o n (fixed f) e h = fixed_cells-part f o n e h
-cells-part o n (binary p) e h = variable_cells-part false o n p (variable_sound false (is_variable_any false (physical_of p.kind)) p e).spanned h
-cells-part o n (text p) e h = variable_cells-part true o n p (variable_sound true (is_variable_any true (physical_of p.kind)) p e).spanned h
-cells-part o n (binary_views p) e h = view_cells-part false o n p (view_sound false (is_view false (physical_of p.kind)) p e).seen h
-cells-part o n (text_views p) e h = view_cells-part true o n p (view_sound true (is_view true (physical_of p.kind)) p e).seen h
+mutual
+  pub cells-part : (o n : ℕ) (p : Parts) → fault_in p ≡ None → o + n ≤ rows_in p → cells_in (part_of o n p) ≡ part o n (cells_in p)
+  cells-part o n (leaf l) e le = leaves.cells-part o n l e le
+  cells-part o n (nested h cs) e le =
+      let t = top_sound h cs e in
+      ap (head_cells (head_part o n h)) (each-cells (cut_of o n h) cs t.1 (heads.head_reaches o n h (rows_each cs) t.0.rows le))
+      ∙ heads.cells-part o n h (cells_each cs) (heads.rows-part o n h (rows_each cs) t.0.offsets le) le
 
-leaf_fault-part : {A : Type 0} (s t : Bool) (o n : ℕ) (xs : List A) (v : Option (List Bool)) → leaf_fault s (length xs) v ≡ None → t ≡ true → o + n ≤ length xs → leaf_fault t (length (part o n xs)) (option_map (part o n) v) ≡ None
-leaf_fault-part s t o n xs v e suits h =
-    let rows : has_rows (option_map (part o n) v) n ≡ true = has_rows-part o n (length xs) v (leaf_sound s (length xs) v e) h in
-    rw (suits, length-part xs o n h, rows) refl
-
-are_numbers-part : (o n size : ℕ) (values : List (List ℕ)) → are_numbers size values ≡ true → are_numbers size (part o n values) ≡ true
-are_numbers-part o n size values e =
-    let wide : List ℕ → Bool = λ bytes. nat_eq (length bytes) size in
-    let p = and_parts (nat_lt 0 size) (list_all wide values) e in
-    let every = AllPass-from_list_all wide values p.1 in
-    rw (p.0, list_all-from_AllPass wide (part o n values) (All-take (λ x. wide x ≡ true) n (drop o values) (All-drop (λ x. wide x ≡ true) o values every))) refl
+  pub each-cells : (c : Cut) (cs : Forest) → fault_each cs ≡ None → Reaches c (rows_each cs) → cells_each (cut c cs) ≡ cut_cells c (cells_each cs)
+  each-cells whole cs e r = refl
+  each-cells (run o n) none e r = refl
+  each-cells (run o n) (also p cs) e r =
+      let f = neither (fault_in p) (fault_each cs) e in
+      ap (λ xs. xs ∷ cells_each (cut (run o n) cs)) (cells-part o n p f.0 r.0) ∙ ap (λ css. part o n (cells_in p) ∷ css) (each-cells (run o n) cs f.1 r.1)
 
 -- arrays have the parts of what arrays have
-pub fault-part : (o n : ℕ) (p : Parts) → fault_in p ≡ None → o + n ≤ rows_in p → fault_in (part_of o n p) ≡ None
-fault-part o n (nulls x) e h = e
-fault-part o n (bits f) e h =
-    let s = is_boolean (physical_of f.kind) in
-    leaf_fault-part s s o n f.values f.validity e (leaf_suits s (length f.values) f.validity e) h
-fault-part o n (numbers f) e h =
-    let size = number_size (physical_of f.kind) in
-    let s = are_numbers size f.values in
-    leaf_fault-part s (are_numbers size (part o n f.values)) o n f.values f.validity e (are_numbers-part o n size f.values (leaf_suits s (length f.values) f.validity e)) h
-fault-part o n (fixed f) e h = fixed_fault-part f o n e h
-fault-part o n (binary p) e h = variable_fault-part false (is_variable_any false (physical_of p.kind)) o n p e h
-fault-part o n (text p) e h = variable_fault-part true (is_variable_any true (physical_of p.kind)) o n p e h
-fault-part o n (binary_views p) e h = view_fault-part false (is_view false (physical_of p.kind)) o n p e h
-fault-part o n (text_views p) e h = view_fault-part true (is_view true (physical_of p.kind)) o n p e h
+mutual
+  pub fault-part : (o n : ℕ) (p : Parts) → fault_in p ≡ None → o + n ≤ rows_in p → fault_in (part_of o n p) ≡ None
+  fault-part o n (leaf l) e le = leaves.fault-part o n l e le
+  fault-part o n (nested h cs) e le =
+      let t = top_sound h cs e in
+      let c = cut_of o n h in
+      let r = heads.head_reaches o n h (rows_each cs) t.0.rows le in
+      let top : head_fault (head_part o n h) (kinds_each (cut c cs)) (rows_each (cut c cs)) ≡ None =
+      ap (λ ks. head_fault (head_part o n h) ks (rows_each (cut c cs))) (each-kinds c cs) ∙ ap (head_fault (head_part o n h) (kinds_each cs)) (each-counts c cs t.1 r) ∙ heads.fault-part o n h (kinds_each cs) (rows_each cs) t.0 le in
+      both (head_fault (head_part o n h) (kinds_each (cut c cs)) (rows_each (cut c cs))) (fault_each (cut c cs)) top (each-fault c cs t.1 r)
 
--- and as many rows as were asked for
-pub rows-part : (o n : ℕ) (p : Parts) → fault_in p ≡ None → o + n ≤ rows_in p → rows_in (part_of o n p) ≡ n
-rows-part o n p e h =
-    let l : length (cells_in p) ≡ rows_in p = length-cells p e in
-    sym (length-cells (part_of o n p) (fault-part o n p e h)) ∙ ap length (cells-part o n p e h) ∙ length-part (cells_in p) o n (omega arith)
+  pub each-fault : (c : Cut) (cs : Forest) → fault_each cs ≡ None → Reaches c (rows_each cs) → fault_each (cut c cs) ≡ None
+  each-fault whole cs e r = e
+  each-fault (run o n) none e r = refl
+  each-fault (run o n) (also p cs) e r =
+      let f = neither (fault_in p) (fault_each cs) e in
+      both (fault_in (part_of o n p)) (fault_each (cut (run o n) cs)) (fault-part o n p f.0 r.0) (each-fault (run o n) cs f.1 r.1)

@@ -1,7 +1,12 @@
+pub mod LeafParts
+pub mod LeafCode
+pub mod Heads
 pub mod Parts
-pub mod Nodes
 pub mod PartsCode
+pub mod Nodes
+pub mod OffsetsOf
 pub mod PartsOf
+pub mod Falls
 pub mod Batches
 pub mod LeafKinds
 pub mod PieceViews

@@ -1,167 +1,98 @@
 -- What an array is seen as: the tree of its parts, how many rows it has and what stands in them. (Arrow Columnar Format, "Physical Memory Layout".)
-use Rattle.std.specs.Prelude.{ℕ, List, Bool, true, false, ◌&&◌, Option, None, ℤ, pos, map, length, nat_eq, nat_lt}
-use Rattle.std.specs.List.{list_all}
-use Rattle.std.specs.Int.{Width, w8, w16, w32, w64, w128, cast_signed}
-use Rattle.arrow_spec.specs.Flat.{little, num}
+use Rattle.std.specs.Prelude.{ℕ, suc, ◌+◌, List, [], ◌∷◌, Bool, Option, Some, None}
 use Rattle.arrow_spec.specs.Kinds.{Kind}
-use Rattle.arrow_spec.specs.Cells as cells
 use Rattle.arrow_spec.specs.Cells.{Cell}
-use Rattle.arrow_spec.specs.Arrays.{or_0}
-use Rattle.arrow_types.specs.Physical.{physical_of, primitive_size}
-use Rattle.arrow_types.specs.declared.physical.PhysicalType.{PhysicalType}
-use Rattle.arrow_types.specs.declared.physical.PhysicalType.TheVariants as physical
-use Rattle.arrow_types.specs.declared.physical.PrimitiveType.{PrimitiveType}
-use Rattle.arrow_types.specs.declared.physical.PrimitiveType.TheVariants as primitive
 use Rattle.arrow_buffers.specs.declared.error.ArrayError.{ArrayError}
 use Rattle.arrow_buffers.specs.Rows.{null_rows}
-use Rattle.arrow_buffers.specs.Layouts.{is_null, is_boolean, is_variable_any, is_view}
-use Rattle.arrow_buffers.specs.Leaf.{Leaf, leaf_cells, leaf_part, leaf_fault, fixed_rows, fixed_cells, fixed_part, fixed_fault, Nulls, null_cells, nulls_fault}
-use Rattle.arrow_buffers.specs.Variable.{Variable, variable_rows, variable_part, variable_cells, variable_fault}
-use Rattle.arrow_buffers.specs.Views.{Views, view_rows, view_part, view_cells, view_fault}
+use Rattle.arrow_arrays.specs.LeafParts.{LeafParts, leaf_kind_in, leaf_rows_in, leaf_validity_in, leaf_null_rows_in, leaf_cells_in, leaf_part_of, leaf_fault_in}
+use Rattle.arrow_arrays.specs.Heads.{Head, Cut, whole, run, head_kind, head_rows, head_validity, head_cells, head_part, head_fault, cut_of}
 
--- The parts of an array, by its layout.
-pub data Parts : Type 0 where
-  -- nulls alone
-  nulls : Nulls → Parts
-  -- truth values
-  bits : Leaf Bool → Parts
-  -- numbers of one width, each as its bytes, the lowest first
-  numbers : Leaf (List ℕ) → Parts
-  -- byte strings of one size, one after another
-  fixed : Leaf ℕ → Parts
-  -- byte strings and texts between offsets
-  binary : Variable → Parts
-  text : Variable → Parts
-  -- views of byte strings and of texts
-  binary_views : Views → Parts
-  text_views : Views → Parts
+mutual
+  pub data Parts : Type 0 where
+    -- an array without children
+    leaf : LeafParts → Parts
+    -- a top, and its children
+    nested : Head → Forest → Parts
 
--- numbers in place of which their bytes stand
-abbrev pub as_bytes : {A : Type 0} → (A → List ℕ) → Leaf A → Leaf (List ℕ)
-as_bytes write f = record { kind = f.kind; values = map write f.values; validity = f.validity }
+  pub data Forest : Type 0 where
+    none : Forest
+    also : Parts → Forest → Forest
+
+abbrev pub forest : List Parts → Forest
+forest [] = none
+forest (p ∷ ps) = also p (forest ps)
 
 -- the kind of its rows
 abbrev pub kind_in : Parts → Kind
-kind_in (nulls n) = n.kind
-kind_in (bits f) = f.kind
-kind_in (numbers f) = f.kind
-kind_in (fixed f) = f.kind
-kind_in (binary p) = p.kind
-kind_in (text p) = p.kind
-kind_in (binary_views p) = p.kind
-kind_in (text_views p) = p.kind
+kind_in (leaf l) = leaf_kind_in l
+kind_in (nested h cs) = head_kind h
 
 -- how many rows it has
 abbrev pub rows_in : Parts → ℕ
-rows_in (nulls n) = n.rows
-rows_in (bits f) = length f.values
-rows_in (numbers f) = length f.values
-rows_in (fixed f) = fixed_rows f
-rows_in (binary p) = variable_rows p.offsets
-rows_in (text p) = variable_rows p.offsets
-rows_in (binary_views p) = view_rows p.views
-rows_in (text_views p) = view_rows p.views
+rows_in (leaf l) = leaf_rows_in l
+rows_in (nested h cs) = head_rows h
 
 -- which rows are valid, where that is given
 abbrev pub validity_in : Parts → Option (List Bool)
-validity_in (nulls n) = None
-validity_in (bits f) = f.validity
-validity_in (numbers f) = f.validity
-validity_in (fixed f) = f.validity
-validity_in (binary p) = p.validity
-validity_in (text p) = p.validity
-validity_in (binary_views p) = p.validity
-validity_in (text_views p) = p.validity
+validity_in (leaf l) = leaf_validity_in l
+validity_in (nested h cs) = head_validity h
 
 -- how many rows are null
 abbrev pub null_rows_in : Parts → ℕ
-null_rows_in (nulls n) = n.rows
-null_rows_in (bits f) = null_rows f.validity
-null_rows_in (numbers f) = null_rows f.validity
-null_rows_in (fixed f) = null_rows f.validity
-null_rows_in (binary p) = null_rows p.validity
-null_rows_in (text p) = null_rows p.validity
-null_rows_in (binary_views p) = null_rows p.validity
-null_rows_in (text_views p) = null_rows p.validity
+null_rows_in (leaf l) = leaf_null_rows_in l
+null_rows_in (nested h cs) = null_rows (head_validity h)
 
--- ── the cells of numbers ──
+-- the kinds of several arrays, and how many rows each has
+abbrev pub kinds_each : Forest → List Kind
+kinds_each none = []
+kinds_each (also p cs) = kind_in p ∷ kinds_each cs
 
--- the number of a width at a place of some bytes, without a sign and with one
-abbrev pub unsigned_at : Width → ℕ → List ℕ → ℕ
-unsigned_at w at bytes = or_0 (num bytes at w little)
-
-abbrev pub signed_at : Width → ℕ → List ℕ → ℤ
-signed_at w at bytes = cast_signed w (unsigned_at w at bytes)
-
--- the cell that a number's bytes are, by its primitive type; null for those whose numbers no array holds, floats and integers of 256 bits
-abbrev pub primitive_cell : PrimitiveType → List ℕ → Cell
-primitive_cell primitive.Int8 bytes = cells.number (signed_at w8 0 bytes)
-primitive_cell primitive.Int16 bytes = cells.number (signed_at w16 0 bytes)
-primitive_cell primitive.Int32 bytes = cells.number (signed_at w32 0 bytes)
-primitive_cell primitive.Int64 bytes = cells.number (signed_at w64 0 bytes)
-primitive_cell primitive.Int128 bytes = cells.number (signed_at w128 0 bytes)
-primitive_cell primitive.Int256 bytes = cells.null
-primitive_cell primitive.UInt8 bytes = cells.number (pos (unsigned_at w8 0 bytes))
-primitive_cell primitive.UInt16 bytes = cells.number (pos (unsigned_at w16 0 bytes))
-primitive_cell primitive.UInt32 bytes = cells.number (pos (unsigned_at w32 0 bytes))
-primitive_cell primitive.UInt64 bytes = cells.number (pos (unsigned_at w64 0 bytes))
-primitive_cell primitive.Float16 bytes = cells.null
-primitive_cell primitive.Float32 bytes = cells.null
-primitive_cell primitive.Float64 bytes = cells.null
-primitive_cell primitive.DaysMs bytes = cells.interval (signed_at w32 0 bytes) (signed_at w32 4 bytes) (pos 0)
-primitive_cell primitive.MonthDayNano bytes = cells.interval (signed_at w32 0 bytes) (signed_at w32 4 bytes) (signed_at w64 8 bytes)
-
--- the same in a layout; null where it is not of numbers
-abbrev pub layout_cell : PhysicalType → List ℕ → Cell
-layout_cell (physical.Primitive p) bytes = primitive_cell p bytes
-layout_cell layout bytes = cells.null
-
--- the cell that a number's bytes are under a kind, extensions looked through
-abbrev pub number_cell : Kind → List ℕ → Cell
-number_cell k bytes = layout_cell (physical_of k) bytes
-
--- ── rows ──
+abbrev pub rows_each : Forest → List ℕ
+rows_each none = []
+rows_each (also p cs) = rows_in p ∷ rows_each cs
 
 -- the cells of its rows
-abbrev pub cells_in : Parts → List Cell
-cells_in (nulls n) = null_cells n
-cells_in (bits f) = leaf_cells cells.bool f
-cells_in (numbers f) = leaf_cells (number_cell f.kind) f
-cells_in (fixed f) = fixed_cells f
-cells_in (binary p) = variable_cells false p
-cells_in (text p) = variable_cells true p
-cells_in (binary_views p) = view_cells false p
-cells_in (text_views p) = view_cells true p
+abbrev mutual
+  pub cells_in : Parts → List Cell
+  cells_in (leaf l) = leaf_cells_in l
+  cells_in (nested h cs) = head_cells h (cells_each cs)
+
+  pub cells_each : Forest → List (List Cell)
+  cells_each none = []
+  cells_each (also p cs) = cells_in p ∷ cells_each cs
 
 -- the rows from a place on, so many of them
-abbrev pub part_of : ℕ → ℕ → Parts → Parts
-part_of offset rows (nulls n) = nulls (record { kind = n.kind; rows = rows })
-part_of offset rows (bits f) = bits (leaf_part offset rows f)
-part_of offset rows (numbers f) = numbers (leaf_part offset rows f)
-part_of offset rows (fixed f) = fixed (fixed_part offset rows f)
-part_of offset rows (binary p) = binary (variable_part offset rows p)
-part_of offset rows (text p) = text (variable_part offset rows p)
-part_of offset rows (binary_views p) = binary_views (view_part offset rows p)
-part_of offset rows (text_views p) = text_views (view_part offset rows p)
+abbrev mutual
+  pub part_of : ℕ → ℕ → Parts → Parts
+  part_of offset rows (leaf l) = leaf (leaf_part_of offset rows l)
+  part_of offset rows (nested h cs) = nested (head_part offset rows h) (cut (cut_of offset rows h) cs)
 
--- ── which trees arrays have ──
+  pub cut : Cut → Forest → Forest
+  cut whole cs = cs
+  cut (run offset rows) none = none
+  cut (run offset rows) (also p cs) = also (part_of offset rows p) (cut (run offset rows) cs)
 
--- the bytes of a number in a layout; 0 where no array holds numbers
-abbrev pub number_size : PhysicalType → ℕ
-number_size (physical.Primitive p) = primitive_size p
-number_size layout = 0
-
--- the layout is that of numbers, and each is of the layout's size
-abbrev pub are_numbers : ℕ → List (List ℕ) → Bool
-are_numbers size values = nat_lt 0 size && list_all (λ bytes. nat_eq (length bytes) size) values
+-- the first of two that is given
+abbrev pub either : Option ArrayError → Option ArrayError → Option ArrayError
+either None e = e
+either (Some d) e = Some d
 
 -- why no array has such parts; none for the parts that arrays have
-abbrev pub fault_in : Parts → Option ArrayError
-fault_in (nulls n) = nulls_fault (is_null (physical_of n.kind))
-fault_in (bits f) = leaf_fault (is_boolean (physical_of f.kind)) (length f.values) f.validity
-fault_in (numbers f) = leaf_fault (are_numbers (number_size (physical_of f.kind)) f.values) (length f.values) f.validity
-fault_in (fixed f) = fixed_fault f
-fault_in (binary p) = variable_fault false (is_variable_any false (physical_of p.kind)) p
-fault_in (text p) = variable_fault true (is_variable_any true (physical_of p.kind)) p
-fault_in (binary_views p) = view_fault false (is_view false (physical_of p.kind)) p
-fault_in (text_views p) = view_fault true (is_view true (physical_of p.kind)) p
+abbrev mutual
+  pub fault_in : Parts → Option ArrayError
+  fault_in (leaf l) = leaf_fault_in l
+  fault_in (nested h cs) = either (head_fault h (kinds_each cs) (rows_each cs)) (fault_each cs)
+
+  pub fault_each : Forest → Option ArrayError
+  fault_each none = None
+  fault_each (also p cs) = either (fault_in p) (fault_each cs)
+
+-- how many arrays with children there are in it
+abbrev mutual
+  pub tree_size : Parts → ℕ
+  tree_size (leaf l) = 0
+  tree_size (nested h cs) = suc (trees_size cs)
+
+  pub trees_size : Forest → ℕ
+  trees_size none = 0
+  trees_size (also p cs) = tree_size p + trees_size cs

@@ -16,7 +16,7 @@ use Rattle.arrow_types.specs.declared.physical.PhysicalType.{PhysicalType}
 use Rattle.arrow_types.specs.declared.physical.PhysicalType.TheVariants as physical
 use Rattle.arrow_types.specs.declared.physical.PrimitiveType.{PrimitiveType}
 use Rattle.arrow_buffers.specs.Layouts.{is_primitive, primitive_number}
-use Rattle.arrow_arrays.specs.Parts.{number_cell, layout_cell, signed_at}
+use Rattle.arrow_arrays.specs.LeafParts.{number_cell, layout_cell, signed_at}
 use Rattle.arrow_types.specs.declared.physical.PrimitiveType.TheVariants.{Int8, Int16, Int32, Int64, Int128, Int256, UInt8, UInt16, UInt32, UInt64, Float16, Float32, Float64, DaysMs, MonthDayNano}
 
 -- a primitive type is told by its number

@@ -7,14 +7,17 @@ ghost use Rattle.arrow_arrays.specs.Parts.{kind_in, rows_in, validity_in, null_r
 ghost use Rattle.arrow_arrays.specs.PartsOf.{parts_of};
 
 use crate::numbers::{narrow_numbers, number_rows};
+use crate::offsets::ListOffsets;
 use arrow_buffers::{
-    BinaryArray, BinaryViewArray, Bitmap, BooleanArray, FixedSizeBinaryArray, NullArray,
+    BinaryArray, BinaryViewArray, Bitmap, BooleanArray, Buffer, FixedSizeBinaryArray, NullArray,
     PrimitiveArray, Utf8Array, Utf8ViewArray,
 };
 use arrow_types::{ArrowDataType, days_ms, months_days_ns};
 use std::alloc::{AllocError, Global};
+use std::marker::Model;
 
 /// An array of any kind.
+#[cycle(array)]
 #[derive(Drop)]
 pub enum Array {
     Null(NullArray),
@@ -37,6 +40,188 @@ pub enum Array {
     BinaryView(BinaryViewArray),
     Utf8View(Utf8ViewArray),
     FixedSizeBinary(FixedSizeBinaryArray),
+    List(ListArray),
+    FixedSizeList(FixedSizeListArray),
+    Map(MapArray),
+    Struct(StructArray),
+    Union(UnionArray),
+}
+
+/// Lists between offsets, seen as their top and the one child that the offsets lie in.
+#[cycle(array)]
+#[derive(Drop)]
+pub struct ListArray {
+    pub(crate) dtype: ArrowDataType,
+    pub(crate) offsets: ListOffsets,
+    pub(crate) values: Box<Array>,
+    pub(crate) validity: Option<Bitmap>,
+}
+
+/// Lists of one size, seen as their top and the one child that has their items.
+#[cycle(array)]
+#[derive(Drop)]
+pub struct FixedSizeListArray {
+    pub(crate) dtype: ArrowDataType,
+    pub(crate) rows: usize,
+    pub(crate) values: Box<Array>,
+    pub(crate) validity: Option<Bitmap>,
+}
+
+/// Maps between offsets, seen as their top and the one child that has their entries.
+#[cycle(array)]
+#[derive(Drop)]
+pub struct MapArray {
+    pub(crate) dtype: ArrowDataType,
+    pub(crate) offsets: Buffer<i32>,
+    pub(crate) field: Box<Array>,
+    pub(crate) validity: Option<Bitmap>,
+}
+
+/// Rows across several columns, seen as their top and the columns.
+#[cycle(array)]
+#[derive(Drop)]
+pub struct StructArray {
+    pub(crate) dtype: ArrowDataType,
+    pub(crate) rows: usize,
+    pub(crate) values: Vec<Array>,
+    pub(crate) validity: Option<Bitmap>,
+}
+
+/// Rows of one of several columns each, seen as their top and the columns.
+#[cycle(array)]
+#[derive(Drop)]
+pub struct UnionArray {
+    pub(crate) dtype: ArrowDataType,
+    pub(crate) types: Buffer<i8>,
+    pub(crate) fields: Vec<Array>,
+    pub(crate) offsets: Option<Buffer<i32>>,
+}
+
+impl Model for ListArray {
+    ghost use Rattle.arrow_arrays.specs.Heads.{Listed};
+    ghost use Rattle.arrow_arrays.specs.PartsCode.{Nested, nested_code, listed_code};
+
+    ghost Value = { Nested Listed };
+
+    ghost coded = { nested_code listed_code };
+
+    ghost use Rattle.std.specs.Prelude.{◌≡◌, None};
+    ghost use Rattle.arrow_types.specs.KindOf.{kind_of};
+    ghost use Rattle.arrow_arrays.specs.Heads.{listed};
+    ghost use Rattle.arrow_arrays.specs.Parts.{nested, fault_in, tree_size};
+    ghost use Rattle.arrow_arrays.specs.OffsetsOf.{offsets_in, width_in};
+    ghost use Rattle.arrow_arrays.specs.PartsOf.{only};
+
+    ghost view = { λ a. record { head = record { kind = kind_of a.dtype; width = width_in a.offsets; offsets = offsets_in a.offsets; validity = a.validity }; children = only a.values.value } };
+
+    ghost invariant = { λ a. fault_in (nested (listed (record { kind = kind_of a.dtype; width = width_in a.offsets; offsets = offsets_in a.offsets; validity = a.validity })) (only a.values.value)) ≡ None };
+
+    ghost size = { λ v. tree_size (nested (listed v.head) v.children) };
+
+    ghost use Rattle.arrow_arrays.specs.Falls.{only_falls};
+
+    ghost size_decreases = { λ a h. only_falls a.values.value };
+}
+
+impl Model for FixedSizeListArray {
+    ghost use Rattle.arrow_arrays.specs.Heads.{Counted};
+    ghost use Rattle.arrow_arrays.specs.PartsCode.{Nested, nested_code, counted_code};
+
+    ghost Value = { Nested Counted };
+
+    ghost coded = { nested_code counted_code };
+
+    ghost use Rattle.std.specs.Prelude.{◌≡◌, None};
+    ghost use Rattle.arrow_types.specs.KindOf.{kind_of};
+    ghost use Rattle.arrow_arrays.specs.Heads.{sized};
+    ghost use Rattle.arrow_arrays.specs.Parts.{nested, fault_in, tree_size};
+    ghost use Rattle.arrow_arrays.specs.PartsOf.{only};
+
+    ghost view = { λ a. record { head = record { kind = kind_of a.dtype; rows = a.rows; validity = a.validity }; children = only a.values.value } };
+
+    ghost invariant = { λ a. fault_in (nested (sized (record { kind = kind_of a.dtype; rows = a.rows; validity = a.validity })) (only a.values.value)) ≡ None };
+
+    ghost size = { λ v. tree_size (nested (sized v.head) v.children) };
+
+    ghost use Rattle.arrow_arrays.specs.Falls.{only_falls};
+
+    ghost size_decreases = { λ a h. only_falls a.values.value };
+}
+
+impl Model for MapArray {
+    ghost use Rattle.arrow_arrays.specs.Heads.{Listed};
+    ghost use Rattle.arrow_arrays.specs.PartsCode.{Nested, nested_code, listed_code};
+
+    ghost Value = { Nested Listed };
+
+    ghost coded = { nested_code listed_code };
+
+    ghost use Rattle.std.specs.Prelude.{◌≡◌, None};
+    ghost use Rattle.arrow_spec.specs.Kinds.{small};
+    ghost use Rattle.arrow_types.specs.KindOf.{kind_of};
+    ghost use Rattle.arrow_arrays.specs.Heads.{mapped};
+    ghost use Rattle.arrow_arrays.specs.Parts.{nested, fault_in, tree_size};
+    ghost use Rattle.arrow_arrays.specs.PartsOf.{only};
+
+    ghost view = { λ a. record { head = record { kind = kind_of a.dtype; width = small; offsets = a.offsets; validity = a.validity }; children = only a.field.value } };
+
+    ghost invariant = { λ a. fault_in (nested (mapped (record { kind = kind_of a.dtype; width = small; offsets = a.offsets; validity = a.validity })) (only a.field.value)) ≡ None };
+
+    ghost size = { λ v. tree_size (nested (mapped v.head) v.children) };
+
+    ghost use Rattle.arrow_arrays.specs.Falls.{only_falls};
+
+    ghost size_decreases = { λ a h. only_falls a.field.value };
+}
+
+impl Model for StructArray {
+    ghost use Rattle.arrow_arrays.specs.Heads.{Counted};
+    ghost use Rattle.arrow_arrays.specs.PartsCode.{Nested, nested_code, counted_code};
+
+    ghost Value = { Nested Counted };
+
+    ghost coded = { nested_code counted_code };
+
+    ghost use Rattle.std.specs.Prelude.{◌≡◌, None};
+    ghost use Rattle.arrow_types.specs.KindOf.{kind_of};
+    ghost use Rattle.arrow_arrays.specs.Heads.{structured};
+    ghost use Rattle.arrow_arrays.specs.Parts.{nested, fault_in, tree_size};
+    ghost use Rattle.arrow_arrays.specs.PartsOf.{forest_of};
+
+    ghost view = { λ a. record { head = record { kind = kind_of a.dtype; rows = a.rows; validity = a.validity }; children = forest_of a.values.items } };
+
+    ghost invariant = { λ a. fault_in (nested (structured (record { kind = kind_of a.dtype; rows = a.rows; validity = a.validity })) (forest_of a.values.items)) ≡ None };
+
+    ghost size = { λ v. tree_size (nested (structured v.head) v.children) };
+
+    ghost use Rattle.arrow_arrays.specs.Falls.{several_fall};
+
+    ghost size_decreases = { λ a h. several_fall a.values.items };
+}
+
+impl Model for UnionArray {
+    ghost use Rattle.arrow_arrays.specs.Heads.{Tagged};
+    ghost use Rattle.arrow_arrays.specs.PartsCode.{Nested, nested_code, tagged_code};
+
+    ghost Value = { Nested Tagged };
+
+    ghost coded = { nested_code tagged_code };
+
+    ghost use Rattle.std.specs.Prelude.{◌≡◌, None};
+    ghost use Rattle.arrow_types.specs.KindOf.{kind_of};
+    ghost use Rattle.arrow_arrays.specs.Heads.{tagged};
+    ghost use Rattle.arrow_arrays.specs.Parts.{nested, fault_in, tree_size};
+    ghost use Rattle.arrow_arrays.specs.PartsOf.{forest_of};
+
+    ghost view = { λ a. record { head = record { kind = kind_of a.dtype; types = a.types; offsets = a.offsets }; children = forest_of a.fields.items } };
+
+    ghost invariant = { λ a. fault_in (nested (tagged (record { kind = kind_of a.dtype; types = a.types; offsets = a.offsets })) (forest_of a.fields.items)) ≡ None };
+
+    ghost size = { λ v. tree_size (nested (tagged v.head) v.children) };
+
+    ghost use Rattle.arrow_arrays.specs.Falls.{several_fall};
+
+    ghost size_decreases = { λ a h. several_fall a.fields.items };
 }
 
 /// An array, which shares its memory with those that were cloned from it.
@@ -70,6 +255,11 @@ impl Array {
             Array::BinaryView(array) => array.len(),
             Array::Utf8View(array) => array.len(),
             Array::FixedSizeBinary(array) => array.len(),
+            Array::List(array) => array.len(),
+            Array::FixedSizeList(array) => array.len(),
+            Array::Map(array) => array.len(),
+            Array::Struct(array) => array.len(),
+            Array::Union(array) => array.len(),
         }
     }
 
@@ -98,6 +288,11 @@ impl Array {
             Array::BinaryView(array) => array.dtype(),
             Array::Utf8View(array) => array.dtype(),
             Array::FixedSizeBinary(array) => array.dtype(),
+            Array::List(array) => array.dtype(),
+            Array::FixedSizeList(array) => array.dtype(),
+            Array::Map(array) => array.dtype(),
+            Array::Struct(array) => array.dtype(),
+            Array::Union(array) => array.dtype(),
         }
     }
 
@@ -126,6 +321,11 @@ impl Array {
             Array::BinaryView(array) => array.validity(),
             Array::Utf8View(array) => array.validity(),
             Array::FixedSizeBinary(array) => array.validity(),
+            Array::List(array) => array.validity(),
+            Array::FixedSizeList(array) => array.validity(),
+            Array::Map(array) => array.validity(),
+            Array::Struct(array) => array.validity(),
+            Array::Union(array) => array.validity(),
         }
     }
 
@@ -154,10 +354,16 @@ impl Array {
             Array::BinaryView(array) => array.null_count(),
             Array::Utf8View(array) => array.null_count(),
             Array::FixedSizeBinary(array) => array.null_count(),
+            Array::List(array) => array.null_count(),
+            Array::FixedSizeList(array) => array.null_count(),
+            Array::Map(array) => array.null_count(),
+            Array::Struct(array) => array.null_count(),
+            Array::Union(array) => array.null_count(),
         }
     }
 
     /// Leaves only the part, and copies nothing.
+    #[cycle(narrow)]
     pub fn narrow(&mut self, offset: usize, rows: usize)
         requires { offset + rows ≤ rows_in (parts_of self.old) }
         ensures parts { parts_of self.new ≡ part_of offset rows (parts_of self.old) }
@@ -184,6 +390,11 @@ impl Array {
             Array::BinaryView(array) => array.narrow(offset, rows),
             Array::Utf8View(array) => array.narrow(offset, rows),
             Array::FixedSizeBinary(array) => array.narrow(offset, rows),
+            Array::List(array) => array.narrow(offset, rows),
+            Array::FixedSizeList(array) => array.narrow(offset, rows),
+            Array::Map(array) => array.narrow(offset, rows),
+            Array::Struct(array) => array.narrow(offset, rows),
+            Array::Union(array) => array.narrow(offset, rows),
         }
     }
 
@@ -199,6 +410,7 @@ impl Array {
     }
 
     /// A second owner of the same parts.
+    #[cycle(copy)]
     pub fn try_clone(&self, alloc: Global) -> Result<Array, AllocError>
         ensures { IfOk result (λ a. parts_of a ≡ parts_of self.now) }
     {
@@ -223,6 +435,11 @@ impl Array {
             Array::BinaryView(array) => Ok(Array::BinaryView(array.try_clone(alloc)?)),
             Array::Utf8View(array) => Ok(Array::Utf8View(array.try_clone(alloc)?)),
             Array::FixedSizeBinary(array) => Ok(Array::FixedSizeBinary(array.try_clone(alloc)?)),
+            Array::List(array) => Ok(Array::List(array.try_clone(alloc)?)),
+            Array::FixedSizeList(array) => Ok(Array::FixedSizeList(array.try_clone(alloc)?)),
+            Array::Map(array) => Ok(Array::Map(array.try_clone(alloc)?)),
+            Array::Struct(array) => Ok(Array::Struct(array.try_clone(alloc)?)),
+            Array::Union(array) => Ok(Array::Union(array.try_clone(alloc)?)),
         }
     }
 }

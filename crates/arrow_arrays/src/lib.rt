@@ -3,14 +3,24 @@
 
 mod array;
 mod empty;
+mod fixed_size_list;
+mod list;
+mod map;
 mod numbers;
+mod offsets;
 mod pieces;
 mod record_batch;
 mod row_value;
 mod rows;
 mod same;
+mod structs;
+mod union;
+mod union_types;
 
-pub use array::{Array, ArrayRef};
+pub use array::{
+    Array, ArrayRef, FixedSizeListArray, ListArray, MapArray, StructArray, UnionArray,
+};
 pub use empty::new_empty_array;
+pub use offsets::ListOffsets;
 pub use pieces::extend_from_lengths;
 pub use record_batch::{BatchError, RecordBatch, RecordBatchT};

@@ -2,7 +2,7 @@
 ghost use Rattle.std.specs.Prelude.{◌≡◌, ◌+◌, ◌≤◌, ◌<◌, length, None};
 ghost use Rattle.arrow_spec.specs.Flat.{little};
 ghost use Rattle.arrow_buffers.specs.Rows.{part};
-ghost use Rattle.arrow_arrays.specs.Parts.{numbers, as_bytes, rows_in, cells_in, part_of, fault_in};
+ghost use Rattle.arrow_arrays.specs.LeafParts.{numbers, as_bytes, leaf_rows_in, leaf_cells_in, leaf_part_of, leaf_fault_in};
 ghost use Rattle.arrow_types.specs.Physical.{primitive_size};
 
 use arrow_buffers::PrimitiveArray;
@@ -12,9 +12,9 @@ use arrow_types::NativeType;
 pub(crate) fn number_rows<T: NativeType>(array: &PrimitiveArray<T>) -> usize
     requires size { primitive_size T.PRIMITIVE ≡ T.WIDTH }
     requires above { 0 < T.WIDTH }
-    ensures rows { result ≡ rows_in (numbers (as_bytes (T.written little) array.now)) }
-    ensures cells { result ≡ length (cells_in (numbers (as_bytes (T.written little) array.now))) }
-    ensures sound { fault_in (numbers (as_bytes (T.written little) array.now)) ≡ None }
+    ensures rows { result ≡ leaf_rows_in (numbers (as_bytes (T.written little) array.now)) }
+    ensures cells { result ≡ length (leaf_cells_in (numbers (as_bytes (T.written little) array.now))) }
+    ensures sound { leaf_fault_in (numbers (as_bytes (T.written little) array.now)) ≡ None }
 {
     array.len()
 }
@@ -25,9 +25,9 @@ pub(crate) fn narrow_numbers<T: NativeType>(
     offset: usize,
     rows: usize,
 )
-    requires { offset + rows ≤ rows_in (numbers (as_bytes (T.written little) array.old)) }
-    ensures parts { numbers (as_bytes (T.written little) array.new) ≡ part_of offset rows (numbers (as_bytes (T.written little) array.old)) }
-    ensures cells { cells_in (numbers (as_bytes (T.written little) array.new)) ≡ part offset rows (cells_in (numbers (as_bytes (T.written little) array.old))) }
+    requires { offset + rows ≤ leaf_rows_in (numbers (as_bytes (T.written little) array.old)) }
+    ensures parts { numbers (as_bytes (T.written little) array.new) ≡ leaf_part_of offset rows (numbers (as_bytes (T.written little) array.old)) }
+    ensures cells { leaf_cells_in (numbers (as_bytes (T.written little) array.new)) ≡ part offset rows (leaf_cells_in (numbers (as_bytes (T.written little) array.old))) }
 {
     array.narrow(offset, rows)
 }

@@ -1,10 +1,8 @@
-//! What stands in a row of an array without children.
-ghost use Rattle.std.specs.Prelude.{◌≡◌, ◌↔◌, IsTrue};
-ghost use Rattle.arrow_arrays.specs.RowCells.{cell_of};
-
+//! What stands in a row of an array.
+use crate::array::Array;
 use arrow_types::{NativeType, days_ms, months_days_ns};
 
-/// What stands in a row of an array without children.
+/// What stands in a row of an array. What stands in a row of its children is not copied.
 #[derive(Clone, Copy)]
 pub(crate) enum RowValue<'a> {
     Null,
@@ -13,41 +11,12 @@ pub(crate) enum RowValue<'a> {
     Interval(i32, i32, i64),
     Text(&'a [u8]),
     Bytes(&'a [u8]),
-}
-
-fn are_same_bytes(a: &[u8], b: &[u8]) -> bool
-    ensures { IsTrue result ↔ (a.now ≡ b.now) }
-{
-    a == b
-}
-
-/// Whether two rows hold the same.
-pub(crate) fn is_same_value(a: RowValue, b: RowValue) -> bool
-    ensures { IsTrue result ↔ (cell_of a.entry ≡ cell_of b.entry) }
-{
-    match a {
-        RowValue::Null => matches!(b, RowValue::Null),
-        RowValue::Bit(x) => match b {
-            RowValue::Bit(y) => x == y,
-            _ => false,
-        },
-        RowValue::Number(x) => match b {
-            RowValue::Number(y) => x == y,
-            _ => false,
-        },
-        RowValue::Interval(x, y, z) => match b {
-            RowValue::Interval(u, v, w) => x == u && y == v && z == w,
-            _ => false,
-        },
-        RowValue::Text(x) => match b {
-            RowValue::Text(y) => are_same_bytes(x, y),
-            _ => false,
-        },
-        RowValue::Bytes(x) => match b {
-            RowValue::Bytes(y) => are_same_bytes(x, y),
-            _ => false,
-        },
-    }
+    /// So many rows of an array from a row on.
+    List(&'a Array, usize, usize),
+    /// A row across several columns.
+    Struct(&'a [Array], usize),
+    /// A row of an array under a type of a union.
+    Tagged(i8, &'a Array, usize),
 }
 
 /// A number that stands in a row.
@@ -57,13 +26,15 @@ pub(crate) trait RowNumber: NativeType {
     ghost use Rattle.arrow_spec.specs.Kinds.{Kind};
     ghost use Rattle.arrow_types.specs.Physical.{physical_of};
     ghost use Rattle.arrow_buffers.specs.Layouts.{is_primitive};
-    ghost use Rattle.arrow_arrays.specs.Parts.{number_cell};
-    ghost use Rattle.arrow_arrays.specs.RowCells.{cell_of};
+    ghost use Rattle.arrow_arrays.specs.LeafParts.{number_cell};
+    ghost use Rattle.arrow_arrays.specs.RowCells.{cell_of, Inside, value_size};
 
     /// What a row that holds the number holds.
     fn row_value<'a>(self) -> RowValue<'a>
         ensures cell { cell_of result ≡ Self.cell self }
-        ensures fits { Self.fits self };
+        ensures fits { Self.fits self }
+        ensures inside { Inside result }
+        ensures plain { value_size result ≡ 0 };
 
     /// The cell that the number's bytes are under a kind of its layout.
     ghost cell_under: { (k : Kind) (x : Self) → Self.fits x → is_primitive Self.PRIMITIVE (physical_of k) ≡ true → number_cell k (Self.written little x) ≡ Self.cell x };

@@ -1,27 +1,118 @@
 //! Equality: of arrays exactly where their kinds and their cells are equal, of batches where their rows, schemas and arrays are.
-ghost use Rattle.std.specs.Prelude.{◌≡◌, ◌↔◌, map, IsTrue};
+ghost use Rattle.std.specs.Prelude.{◌≡◌, ◌↔◌, ◌+◌, ◌≤◌, map, IsTrue};
 ghost use Rattle.arrow_arrays.specs.Contents.{content_of};
-ghost use Rattle.arrow_arrays.specs.Parts.{kind_in, cells_in};
-ghost use Rattle.arrow_arrays.specs.PartsOf.{parts_of};
+ghost use Rattle.arrow_buffers.specs.Rows.{part};
+ghost use Rattle.arrow_arrays.specs.Heads.{run, across, Reaches};
+ghost use Rattle.arrow_arrays.specs.Parts.{kind_in, rows_in, cells_in, rows_each, cells_each};
+ghost use Rattle.arrow_arrays.specs.PartsOf.{parts_of, forest_of};
+ghost use Rattle.arrow_arrays.specs.RowCells.{cell_of, Inside};
 ghost use Rattle.arrow_arrays.specs.SameBatches.{SameBatch};
 
 use crate::array::Array;
 use crate::record_batch::{RecordBatch, RecordBatchT};
-use crate::row_value::is_same_value;
+use crate::row_value::RowValue;
 
-/// Whether the rows of two arrays hold the same.
-fn have_same_rows(a: &Array, b: &Array) -> bool
-    ensures { IsTrue result ↔ (cells_in (parts_of a.now) ≡ cells_in (parts_of b.now)) }
+fn are_same_bytes(a: &[u8], b: &[u8]) -> bool
+    ensures { IsTrue result ↔ (a.now ≡ b.now) }
 {
-    if a.len() != b.len() {
+    a == b
+}
+
+/// Whether two rows hold the same.
+#[cycle(same)]
+fn is_same_value(a: RowValue, b: RowValue) -> bool
+    requires a { Inside a }
+    requires b { Inside b }
+    ensures { IsTrue result ↔ (cell_of a.entry ≡ cell_of b.entry) }
+{
+    match a {
+        RowValue::Null => matches!(b, RowValue::Null),
+        RowValue::Bit(x) => match b {
+            RowValue::Bit(y) => x == y,
+            _ => false,
+        },
+        RowValue::Number(x) => match b {
+            RowValue::Number(y) => x == y,
+            _ => false,
+        },
+        RowValue::Interval(x, y, z) => match b {
+            RowValue::Interval(u, v, w) => x == u && y == v && z == w,
+            _ => false,
+        },
+        RowValue::Text(x) => match b {
+            RowValue::Text(y) => are_same_bytes(x, y),
+            _ => false,
+        },
+        RowValue::Bytes(x) => match b {
+            RowValue::Bytes(y) => are_same_bytes(x, y),
+            _ => false,
+        },
+        RowValue::List(x, from, count) => match b {
+            RowValue::List(y, start, length) => have_same_rows(x, from, count, y, start, length),
+            _ => false,
+        },
+        RowValue::Struct(xs, row) => match b {
+            RowValue::Struct(ys, place) => have_same_row(xs, row, ys, place),
+            _ => false,
+        },
+        RowValue::Tagged(t, x, row) => match b {
+            RowValue::Tagged(u, y, place) => t == u && is_same_value(x.row(row), y.row(place)),
+            _ => false,
+        },
+    }
+}
+
+/// Whether some rows of two arrays hold the same.
+#[cycle(same)]
+fn have_same_rows(
+    a: &Array,
+    from: usize,
+    count: usize,
+    b: &Array,
+    start: usize,
+    length: usize,
+) -> bool
+    requires a { from + count ≤ rows_in (parts_of a.now) }
+    requires b { start + length ≤ rows_in (parts_of b.now) }
+    ensures { IsTrue result ↔ (part from count (cells_in (parts_of a.now)) ≡ part start length (cells_in (parts_of b.now))) }
+{
+    let held = a.len();
+    let others = b.len();
+    prove!(count <= held && length <= others);
+    if count != length {
         return false;
     }
-    for row in 0..a.len() {
-        if !is_same_value(a.row(row), b.row(row)) {
+    for row in 0..count {
+        if !is_same_value(a.row(from + row), b.row(start + row)) {
             return false;
         }
     }
     true
+}
+
+/// Whether a row across some columns holds the same as one across others.
+#[cycle(same)]
+fn have_same_row(a: &[Array], row: usize, b: &[Array], place: usize) -> bool
+    requires a { Reaches (run row 1) (rows_each (forest_of a.now)) }
+    requires b { Reaches (run place 1) (rows_each (forest_of b.now)) }
+    ensures { IsTrue result ↔ (across (cells_each (forest_of a.now)) row ≡ across (cells_each (forest_of b.now)) place) }
+{
+    if a.len() != b.len() {
+        return false;
+    }
+    for i in 0..a.len() {
+        if !is_same_value(a[i].row(row), b[i].row(place)) {
+            return false;
+        }
+    }
+    true
+}
+
+/// Whether the rows of two arrays hold the same.
+fn have_same_cells(a: &Array, b: &Array) -> bool
+    ensures { IsTrue result ↔ (cells_in (parts_of a.now) ≡ cells_in (parts_of b.now)) }
+{
+    have_same_rows(a, 0, a.len(), b, 0, b.len())
 }
 
 impl PartialEq for Array {
@@ -41,7 +132,7 @@ impl PartialEq for Array {
         ensures eq { result ≡ content_eq (content_of self.now) (content_of other.now) }
         ensures same { IsTrue result ↔ ((kind_in (parts_of self.now) ≡ kind_in (parts_of other.now)) × (cells_in (parts_of self.now) ≡ cells_in (parts_of other.now))) }
     {
-        *self.dtype() == *other.dtype() && have_same_rows(self, other)
+        *self.dtype() == *other.dtype() && have_same_cells(self, other)
     }
 }
 

@@ -1,6 +1,9 @@
-//! Arrays of all kinds without children (Arrow Columnar Format, "Physical Memory Layout").
+//! Arrays of all kinds but dictionaries (Arrow Columnar Format, "Physical Memory Layout").
 
-pub use arrow_arrays::{Array, ArrayRef, extend_from_lengths, new_empty_array};
+pub use arrow_arrays::{
+    Array, ArrayRef, FixedSizeListArray, ListArray, ListOffsets, MapArray, StructArray, UnionArray,
+    extend_from_lengths, new_empty_array,
+};
 pub use arrow_buffers::{
     ArrayError, BinaryArray, BinaryViewArray, BinaryViewArrayGeneric, BooleanArray, ByteRows,
     FixedSizeBinaryArray, NullArray, PrimitiveArray, TextRows, Utf8Array, Utf8ViewArray,

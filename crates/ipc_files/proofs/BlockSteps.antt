@@ -1,5 +1,5 @@
 -- The blocks of a file, sent one after another.
-use Rattle.std.proofs.Common.{◌≡◌, inr, ℕ, zero, suc, ◌+◌, ◌<◌, ◌≤◌, List, [], ◌∷◌, ◌++◌, length, take, drop, get_or, Option, Some, None, IfSome, refl, sym, ap, ◌∙◌, subst, Bool, arith, map, option_map, add-one, slice_get, sum_by}
+use Rattle.std.proofs.Common.{◌≡◌, inr, ℕ, zero, suc, ◌+◌, ◌<◌, ◌≤◌, List, [], ◌∷◌, ◌++◌, length, take, drop, get_or, Option, Some, None, IfSome, refl, sym, ap, ◌∙◌, subst, arith, map, option_map, add-one, slice_get, sum_by}
 use Rattle.std.proofs.Math.Seq.{take-suc}
 use Rattle.std.proofs.lemmas.List.{length-append, length-map, length-take-le, take_all}
 use Rattle.std.proofs.lemmas.List.Sums.{sum_by-append, sum_by-cons}
@@ -36,7 +36,7 @@ split_at (y ∷ ys) zero x h = ap (λ z. z ∷ ys) cc
 split_at (y ∷ ys) (suc i) x h = let e : suc i + 1 ≡ suc (i + 1) = omega arith in rw e (ap (λ l. y ∷ l) (split_at ys i x h))
 
 blocks_begun : (b : List ℕ) (meta : Meta) (encoding : Encoding) (start old : Option (List ℕ)) (n : ℕ) → Begun b meta encoding start old n → SentBlocks b meta [] encoding start old (record { batches = 0; rows = 0; bytes = n })
-blocks_begun b meta encoding start old n begun = record { batches = []; sent = none_sent so_far b meta.schema.fields; same = refl; added = begun.added; batches_are = refl; rows_are = refl; bytes_are = begun.bytes_are }
+blocks_begun b meta encoding start old n begun = record { batches = []; sent = none_sent so_far b meta.schema.order meta.schema.fields; same = refl; added = begun.added; batches_are = refl; rows_are = refl; bytes_are = begun.bytes_are }
 
 sums : (a b x y whole : ℕ) → a ≡ x → b ≡ y → whole ≡ x + (y + 0) → a + b ≡ whole
 sums a b x y whole p q h = omega (arith, p, q, h)
@@ -44,7 +44,7 @@ sums a b x y whole p q h = omega (arith, p, q, h)
 lengths : (a b : ℕ) (xs ys whole : List ℕ) → whole ≡ xs ++ ys → a ≡ length xs → b ≡ length ys → a + b ≡ length whole
 lengths a b xs ys whole h p q = rw (p, q) (sym (ap length h ∙ length-append xs ys))
 
-one_more_block : (b : List ℕ) (meta : Meta) (block : FileBlock) (i : ℕ) (encoding : Encoding) (start mid new : Option (List ℕ)) (s : Summary) (rows bytes : ℕ) → slice_get meta.blocks i ≡ Some block → HaveNoDictionaries meta.schema.fields → SentBlocks b meta (take i meta.blocks) encoding start mid s → BlockSent b meta.schema.fields block encoding mid new rows bytes
+one_more_block : (b : List ℕ) (meta : Meta) (block : FileBlock) (i : ℕ) (encoding : Encoding) (start mid new : Option (List ℕ)) (s : Summary) (rows bytes : ℕ) → slice_get meta.blocks i ≡ Some block → HaveNoDictionaries meta.schema.fields → SentBlocks b meta (take i meta.blocks) encoding start mid s → BlockSent b meta.schema.order meta.schema.fields block encoding mid new rows bytes
     → SentBlocks b meta (take (i + 1) meta.blocks) encoding start new (record { batches = s.batches + 1; rows = s.rows + rows; bytes = s.bytes + bytes })
 one_more_block b meta block i encoding start mid new s rows bytes h none behind one =
     let fs = meta.schema.fields in
@@ -53,7 +53,7 @@ one_more_block b meta block i encoding start mid new s rows bytes h none behind 
     let t : take (i + 1) meta.blocks ≡ take i meta.blocks ++ block ∷ [] = take_next meta.blocks i block h in
     record {
       batches = behind.batches ++ one.batch ∷ [];
-      sent = subst (λ l. SentSoFar so_far b fs l (behind.batches ++ one.batch ∷ [])) (sym t) (one_more_sent so_far b fs (take i meta.blocks) block behind.batches one.batch none behind.sent one.is_sent);
+      sent = subst (λ l. SentSoFar so_far b meta.schema.order fs l (behind.batches ++ one.batch ∷ [])) (sym t) (one_more_sent so_far b meta.schema.order fs (take i meta.blocks) block behind.batches one.batch none behind.sent one.is_sent);
       same = length-append behind.batches (one.batch ∷ []) ∙ ap (λ n. n + 1) behind.same ∙ sym (ap length t ∙ length-append (take i meta.blocks) (block ∷ []));
       added = subst (λ l. Appends start new (text_of encoding l)) (sym grown) (Appends-text encoding start mid new (written_so_far fs pairs [] behind.batches) (batch_bytes one.batch) behind.added one.added);
       batches_are = ap (λ n. n + 1) behind.batches_are ∙ sym (length-append behind.batches (one.batch ∷ []));
@@ -104,7 +104,7 @@ front_so_far b meta i encoding start old mid n s within begun sent = record {
   added = sent.added;
 }
 
-blocks_refused : (e : IpcError) (b : List ℕ) (meta : Meta) (i : ℕ) (block : FileBlock) (encoding : Encoding) (start old mid new : Option (List ℕ)) (n : ℕ) (s : Summary) (faults faults' : ℕ) → slice_get meta.blocks i ≡ Some block → Begun b meta encoding start old n → SentBlocks b meta (take i meta.blocks) encoding start mid s → BlockRefused b meta.schema.fields block encoding mid new e faults faults' → Refused e b encoding start new
+blocks_refused : (e : IpcError) (b : List ℕ) (meta : Meta) (i : ℕ) (block : FileBlock) (encoding : Encoding) (start old mid new : Option (List ℕ)) (n : ℕ) (s : Summary) (faults faults' : ℕ) → slice_get meta.blocks i ≡ Some block → Begun b meta encoding start old n → SentBlocks b meta (take i meta.blocks) encoding start mid s → BlockRefused b meta.schema.order meta.schema.fields block encoding mid new e faults faults' → Refused e b encoding start new
 unfolding front_so_far
 blocks_refused e b meta i block encoding start old mid new n s faults faults' h begun sent (BlockRefused.refused kept refuses) =
     let within : i < length meta.blocks = slice_get_within meta.blocks i block h in
@@ -122,7 +122,7 @@ blocks_refused e b meta i block encoding start old mid new n s faults faults' h 
     let within : i < length meta.blocks = slice_get_within meta.blocks i block h in
     let front = front_so_far b meta i encoding start old mid n s (omega (arith, within)) begun sent in
     let t : take (i + 1) meta.blocks ≡ take i meta.blocks ++ block ∷ [] = take_next meta.blocks i block h in
-    let sent_more = subst (λ l. SentSoFar so_far b fs l (sent.batches ++ x ∷ [])) (sym t) (one_more_sent so_far b fs (take i meta.blocks) block sent.batches x begun.file.schema.no_dictionaries sent.sent is_sent) in
+    let sent_more = subst (λ l. SentSoFar so_far b meta.schema.order fs l (sent.batches ++ x ∷ [])) (sym t) (one_more_sent so_far b meta.schema.order fs (take i meta.blocks) block sent.batches x begun.file.schema.no_dictionaries sent.sent is_sent) in
     let count : length (sent.batches ++ x ∷ []) ≡ i + 1 = length-append sent.batches (x ∷ []) ∙ ap (λ k. k + 1) (sent.same ∙ length-take-le i meta.blocks (omega (arith, within))) in
     let table = bare_table fs pairs [] (sent.batches ++ x ∷ []) in
     let next : IsNext b «all» (written_so_far fs pairs [] sent.batches ++ batch_bytes x) = record { table = table; stream = inr (subst (λ y. IsFrontOf so_far b «all» y table) (one_more_batch fs pairs [] sent.batches x) (front_of b meta (i + 1) (sent.batches ++ x ∷ []) begun.file sent_more count)) } in
@@ -145,16 +145,16 @@ begun_so_far None meta encoding old n = tt
 begun_so_far (Some b) meta encoding old n = λ start begun. blocks_begun b meta encoding start old n begun
 
 pub more_so_far : (content content' : Option (List ℕ)) (meta : Meta) (i : ℕ) (block : FileBlock) (encoding : Encoding) (old mid new : Option (List ℕ)) (n : ℕ) (s : Summary) (rows bytes : ℕ) → slice_get meta.blocks i ≡ Some block → content' ≡ content → IfSome content (λ b. SentUpTo b meta i encoding old mid n s)
-    → IfSome content' (λ b. BlockSent b meta.schema.fields block encoding mid new rows bytes) → IfSome content (λ b. SentUpTo b meta (i + 1) encoding old new n (record { batches = s.batches + 1; rows = s.rows + rows; bytes = s.bytes + bytes }))
+    → IfSome content' (λ b. BlockSent b meta.schema.order meta.schema.fields block encoding mid new rows bytes) → IfSome content (λ b. SentUpTo b meta (i + 1) encoding old new n (record { batches = s.batches + 1; rows = s.rows + rows; bytes = s.bytes + bytes }))
 more_so_far None content' meta i block encoding old mid new n s rows bytes h kept sent one = tt
 more_so_far (Some b) content' meta i block encoding old mid new n s rows bytes h kept sent one = λ start begun.
-    one_more_block b meta block i encoding start mid new s rows bytes h begun.file.schema.no_dictionaries (sent start begun) (subst (λ o. IfSome o (λ c. BlockSent c meta.schema.fields block encoding mid new rows bytes)) kept one)
+    one_more_block b meta block i encoding start mid new s rows bytes h begun.file.schema.no_dictionaries (sent start begun) (subst (λ o. IfSome o (λ c. BlockSent c meta.schema.order meta.schema.fields block encoding mid new rows bytes)) kept one)
 
 pub refused_so_far : (e : IpcError) (content content' : Option (List ℕ)) (meta : Meta) (i : ℕ) (block : FileBlock) (encoding : Encoding) (old mid new : Option (List ℕ)) (n : ℕ) (s : Summary) (faults faults' : ℕ) → slice_get meta.blocks i ≡ Some block → content' ≡ content → IfSome content (λ b. SentUpTo b meta i encoding old mid n s)
-    → IfSome content' (λ b. BlockRefused b meta.schema.fields block encoding mid new e faults faults') → IfSome content (λ b. (start : Option (List ℕ)) → Begun b meta encoding start old n → Refused e b encoding start new)
+    → IfSome content' (λ b. BlockRefused b meta.schema.order meta.schema.fields block encoding mid new e faults faults') → IfSome content (λ b. (start : Option (List ℕ)) → Begun b meta encoding start old n → Refused e b encoding start new)
 refused_so_far e None content' meta i block encoding old mid new n s faults faults' h kept sent one = tt
 refused_so_far e (Some b) content' meta i block encoding old mid new n s faults faults' h kept sent one = λ start begun.
-    blocks_refused e b meta i block encoding start old mid new n s faults faults' h begun (sent start begun) (subst (λ o. IfSome o (λ c. BlockRefused c meta.schema.fields block encoding mid new e faults faults')) kept one)
+    blocks_refused e b meta i block encoding start old mid new n s faults faults' h begun (sent start begun) (subst (λ o. IfSome o (λ c. BlockRefused c meta.schema.order meta.schema.fields block encoding mid new e faults faults')) kept one)
 
 pub all_so_far : (content : Option (List ℕ)) (meta : Meta) (i : ℕ) (encoding : Encoding) (old new : Option (List ℕ)) (n : ℕ) (s : Summary) → length meta.blocks ≤ i → IfSome content (λ b. SentUpTo b meta i encoding old new n s)
     → IfSome content (λ b. (start : Option (List ℕ)) → Begun b meta encoding start old n → SentBlocks b meta meta.blocks encoding start new s)

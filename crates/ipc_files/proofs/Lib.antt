@@ -1,6 +1,6 @@
 pub mod Errors
 pub mod Sending
-pub mod LeafFields
+pub mod SentFields
 pub mod ReadFits
 pub mod WrittenMessages
 pub mod WrittenBatches

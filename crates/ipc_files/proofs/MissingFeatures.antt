@@ -30,24 +30,7 @@ mutual
   kind_floats (kind.union mode stated types fs) id below = fields_floats fs below
   kind_floats (kind.dictionary index ordered old k) id below = kind_floats k None below
   kind_floats (kind.extension name metadata k) id below = kind_floats k id below
-  kind_floats kind.null id below = refl
-  kind_floats kind.boolean id below = refl
-  kind_floats (kind.integer t) id below = refl
-  kind_floats (kind.float t) id below = refl
-  kind_floats kind.date32 id below = refl
-  kind_floats kind.date64 id below = refl
-  kind_floats (kind.time32 u) id below = refl
-  kind_floats (kind.time64 u) id below = refl
-  kind_floats (kind.timestamp u tz) id below = refl
-  kind_floats (kind.duration u) id below = refl
-  kind_floats (kind.interval u) id below = refl
-  kind_floats (kind.decimal p s) id below = refl
-  kind_floats (kind.decimal256 p s) id below = refl
-  kind_floats (kind.binary o) id below = refl
-  kind_floats (kind.utf8 o) id below = refl
-  kind_floats kind.binary_view id below = refl
-  kind_floats kind.utf8_view id below = refl
-  kind_floats (kind.fixed_size_binary n) id below = refl
+  kind_floats k id below = refl
 
   fields_floats : (fs : Fields) (below : Ids) → floats_in (fields_with fs below) ≡ floats_in fs
   fields_floats kind.none below = refl
@@ -81,28 +64,12 @@ named_in (Some f) = Unsupported f ∷ []
 
 top_named : (k : Kind) → top_float k ≡ named_in (unread_feature (physical_of k))
 top_named (kind.float half) = refl
-top_named (kind.float single) = refl
-top_named (kind.float double) = refl
-top_named (kind.decimal256 p s) = refl
 top_named (kind.extension name metadata k) = top_named k
 top_named (kind.integer integers.Int8) = refl
-top_named (kind.integer integers.Int16) = refl
-top_named (kind.integer integers.Int32) = refl
-top_named (kind.integer integers.Int64) = refl
-top_named (kind.integer integers.Int128) = refl
-top_named (kind.integer integers.UInt8) = refl
-top_named (kind.integer integers.UInt16) = refl
-top_named (kind.integer integers.UInt32) = refl
-top_named (kind.integer integers.UInt64) = refl
 top_named (kind.interval YearMonth) = refl
-top_named (kind.interval DayTime) = refl
-top_named (kind.interval MonthDayNano) = refl
 top_named (kind.binary small) = refl
-top_named (kind.binary large) = refl
 top_named (kind.utf8 small) = refl
-top_named (kind.utf8 large) = refl
 top_named (kind.«list» small fs) = refl
-top_named (kind.«list» large fs) = refl
 top_named k = refl
 
 front : (xs ys : List IpcError) (e : IpcError) → IsAmong xs e → IsAmong (xs ++ ys) e

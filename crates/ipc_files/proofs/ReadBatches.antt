@@ -1,6 +1,6 @@
 -- A record batch of a file that is read by its number.
-use Rattle.std.proofs.Common.{◌≡◌, inl, ℕ, ◌<◌, List, [], ◌∷◌, map, length, Option, Some, None, Result, Ok, Err, IfSome, refl, sym, ◌∙◌, ap, subst, true, false, Bool, ◌&&◌}
-use Rattle.std.specs.Prelude.{slice_get, get_or, is_none, is_some, option_map}
+use Rattle.std.proofs.Common.{◌≡◌, inl, ℕ, ◌<◌, List, [], map, length, Option, Some, None, Result, Ok, Err, IfSome, refl, sym, ◌∙◌, ap, subst, true, false, Bool, ◌&&◌}
+use Rattle.std.specs.Prelude.{slice_get, get_or, is_none, is_some}
 use Rattle.std.proofs.lemmas.Option.{slice_get-get_or, slice_get-map}
 use Rattle.arrow_spec.specs.declared.error.Feature.{Feature}
 use Rattle.arrow_spec.specs.declared.error.Feature.TheVariants as features
@@ -8,8 +8,7 @@ use Rattle.arrow_spec.specs.declared.error.IpcError.{IpcError}
 use Rattle.arrow_spec.specs.declared.error.IpcError.TheVariants.{Unsupported}
 use Rattle.arrow_spec.specs.declared.message.Block.{Block}
 use Rattle.arrow_spec.specs.Features.{chosen_floats, feature_faults}
-use Rattle.arrow_spec.specs.Flat.{little}
-use Rattle.arrow_spec.specs.Readings.{Gives, IsAmong, Reading, Refuses, bind, free_of, refusals}
+use Rattle.arrow_spec.specs.Readings.{Gives, IsAmong, Refuses, bind, free_of, refusals}
 use Rattle.arrow_spec.specs.Files.{FileBlock, Meta, all_asked, batch_of, to_read}
 use Rattle.arrow_spec.proofs.FeatureFaults.{features-none, features-refused}
 use Rattle.arrow_spec.proofs.Projection.{ok-place, on}
@@ -59,24 +58,24 @@ batch_not_built (Some b) whole meta keyed below f block w beyond is named =
     let place : free_of (feature_faults None fs (so_far.chosen meta.schema.order fs)) ≡ Err (feature_faults None fs false) = rw (not_true _ beyond) (features-refused None fs) in
     rw (w, place) here
 
-batch_in_block : (b : List ℕ) (meta : Meta) (block : FileBlock) → IsBuilt meta → meta.schema.order ≡ little → chosen_floats None meta.schema.fields 0 ≡ [] → batch_in true b meta block ≡ batch_of so_far.custom to_read b (all_asked little meta.schema.fields (length b)) block None
+batch_in_block : (b : List ℕ) (meta : Meta) (block : FileBlock) → IsBuilt meta → chosen_floats None meta.schema.fields 0 ≡ [] → batch_in true b meta block ≡ batch_of so_far.custom to_read b (all_asked meta.schema.order meta.schema.fields (length b)) block None
 unfolding batch_in bind
-batch_in_block b meta block built order readable =
+batch_in_block b meta block built readable =
     let kinds : free_of (feature_faults None meta.schema.fields (so_far.chosen meta.schema.order meta.schema.fields)) ≡ Ok tt = rw built (ok-place _ (features-none None meta.schema.fields readable)) in
-    rw kinds (ap (λ o. batch_of so_far.custom to_read b (all_asked o meta.schema.fields (length b)) block None) order)
+    rw kinds refl
 
-gives_block : (b : List ℕ) (meta : Meta) (block : FileBlock) (result : Result Batch IpcError) → batch_in true b meta block ≡ batch_of so_far.custom to_read b (all_asked little meta.schema.fields (length b)) block None → ReadsBlock b meta.schema.fields block result → Gives table_of result (batch_in true b meta block)
+gives_block : (b : List ℕ) (meta : Meta) (block : FileBlock) (result : Result Batch IpcError) → batch_in true b meta block ≡ batch_of so_far.custom to_read b (all_asked meta.schema.order meta.schema.fields (length b)) block None → ReadsBlock b meta.schema.order meta.schema.fields block result → Gives table_of result (batch_in true b meta block)
 gives_block b meta block (Ok x) same r =
-    let read : BlockRead b meta.schema.fields block x = r.read in
-    same ∙ batch_by_record to_read b (all_asked little meta.schema.fields (length b)) block None ∙ on (block_record b block) _ read.message read.is ∙ read.read
+    let read : BlockRead b meta.schema.order meta.schema.fields block x = r.read in
+    same ∙ batch_by_record to_read b (all_asked meta.schema.order meta.schema.fields (length b)) block None ∙ on (block_record b block) _ read.message read.is ∙ read.read
 gives_block b meta block (Err e) same r = subst (λ w. Refuses e (refusals w)) (sym same) r.refused
 
-pub batch_given : (content : Option (List ℕ)) (whole : Bool) (meta : Meta) (block found : FileBlock) (result : Result Batch IpcError) → whole ≡ true → IsBuilt meta → meta.schema.order ≡ little → chosen_floats None meta.schema.fields 0 ≡ [] → found ≡ block
-    → IfSome content (λ b. ReadsBlock b meta.schema.fields found result) → IfSome content (λ b. Gives table_of result (batch_in whole b meta block))
-batch_given None whole meta block found result w built order readable same h = tt
-batch_given (Some b) whole meta block found result w built order readable same h =
-    let here : ReadsBlock b meta.schema.fields block result = subst (λ x. ReadsBlock b meta.schema.fields x result) same h in
-    subst (λ (x : Bool). Gives table_of result (batch_in x b meta block)) (sym w) (gives_block b meta block result (batch_in_block b meta block built order readable) here)
+pub batch_given : (content : Option (List ℕ)) (whole : Bool) (meta : Meta) (block found : FileBlock) (result : Result Batch IpcError) → whole ≡ true → IsBuilt meta → chosen_floats None meta.schema.fields 0 ≡ [] → found ≡ block
+    → IfSome content (λ b. ReadsBlock b meta.schema.order meta.schema.fields found result) → IfSome content (λ b. Gives table_of result (batch_in whole b meta block))
+batch_given None whole meta block found result w built readable same h = tt
+batch_given (Some b) whole meta block found result w built readable same h =
+    let here : ReadsBlock b meta.schema.order meta.schema.fields block result = subst (λ x. ReadsBlock b meta.schema.order meta.schema.fields x result) same h in
+    subst (λ (x : Bool). Gives table_of result (batch_in x b meta block)) (sym w) (gives_block b meta block result (batch_in_block b meta block built readable) here)
 
 -- the block of a number
 pub indexed : (blocks : List Block) (i : ℕ) (d : Block) (block : FileBlock) → i < length blocks → d ≡ get_or blocks i d → slice_get (map file_block blocks) i ≡ Some block → file_block d ≡ block

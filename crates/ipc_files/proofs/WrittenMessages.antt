@@ -1,5 +1,5 @@
 -- Messages in their frames, and the message of a schema as it is written: whether it may be sent, and its bytes.
-use Rattle.std.proofs.Common.{Bool, ◌≡◌, inl, inr, IfOk, IfErr, OnOk, ◌⊎◌, ℕ, ◌^◌, ◌-◌, ◌<◌, ◌≤◌, List, [], ◌++◌, length, Result, Ok, Err, true, false, refl, sym, ap, subst, ◌∙◌, arith, append-nil}
+use Rattle.std.proofs.Common.{Bool, ◌≡◌, inl, inr, IfOk, IfErr, OnOk, ◌⊎◌, ℕ, ◌^◌, ◌-◌, ◌<◌, ◌≤◌, List, [], length, Result, Ok, Err, true, false, refl, sym, ap, subst, ◌∙◌, arith}
 use Rattle.std.specs.Prelude.{nat_le}
 use Rattle.std.specs.Rc.{rc_value}
 use Rattle.std.specs.declared.alloc.Global.{Global}
@@ -8,9 +8,9 @@ use Rattle.std.proofs.lemmas.Bool.{le-leb, lt-leb}
 use Rattle.arrow_spec.specs.declared.error.IpcError.{IpcError}
 use Rattle.arrow_spec.specs.declared.error.IpcError.TheVariants as errors
 use Rattle.arrow_spec.specs.Flat.{little}
-use Rattle.arrow_spec.specs.Framing.{message_bytes, padded_size, prefixed}
+use Rattle.arrow_spec.specs.Framing.{message_bytes, padded_size}
 use Rattle.arrow_spec.specs.Kinds.{Fields, Metadata, numbered, uses_in}
-use Rattle.arrow_spec.specs.Layout.{Node, layout, size, up_to, zeros}
+use Rattle.arrow_spec.specs.Layout.{layout, size, up_to}
 use Rattle.arrow_spec.specs.Readings.{Gives, Reading, bind, unless}
 use Rattle.arrow_spec.specs.Regular.{representable}
 use Rattle.arrow_spec.specs.Sent.{SentMessage, may_be_sent, schema_message, stream_schema}
@@ -19,12 +19,12 @@ use Rattle.arrow_spec.proofs.NextMessages.{length-layout}
 use Rattle.arrow_types.specs.Schemas.{Keyed, fields_in}
 use Rattle.ipc_fields.specs.IpcFields.{Ids, fields_with, have_shapes}
 use Rattle.schema_writer.specs.Serialized.{IsOfMessage, serialized, written}
-use Rattle.transcode_laws.specs.Built.{are_leaf_fields}
+use Rattle.transcode_laws.specs.Built.{are_sent_fields}
 use Rattle.ipc_write.specs.Outcomes.{message_frame}
 use Rattle.ipc_files.specs.FileViews.{meta_view, IsBuilt, WasRead}
 use Rattle.ipc_files.specs.Written.{Writes, WritesSchema}
 use Rattle.ipc_files.specs.declared.metadata.FileMetadata.{FileMetadata}
-use Rattle.ipc_files.proofs.LeafFields.{can_be_said, fields_stay, fit, leaf_schema, no_uses, numbers_aside, same_fields}
+use Rattle.ipc_files.proofs.SentFields.{can_be_said, fields_stay, fit, sent_schema, no_uses, numbers_aside, same_fields}
 use Rattle.ipc_write.proofs.Written.{framed_whole}
 
 -- ── what may be sent ──
@@ -70,12 +70,12 @@ written_is : (fs : Fields) (own : Ids) (pairs : Metadata) → fields_with fs own
 unfolding written serialized bind
 written_is fs own pairs same shape uses said = rw (same, shape, uses, said) refl
 
--- so leaf fields are, whose numbering changes nothing
-leaf_written : (fs : Fields) (own : Ids) (pairs : Metadata) → are_leaf_fields fs ≡ true → FieldsFit 64 fs → have_shapes fs own ≡ true
+-- so fields that are sent are, whose numbering changes nothing
+sent_written : (fs : Fields) (own : Ids) (pairs : Metadata) → are_sent_fields fs ≡ true → FieldsFit 64 fs → have_shapes fs own ≡ true
     → written little fs own pairs ≡ bind (unless (nat_le (size (stream_schema fs pairs []).node) 2147483647) errors.TooLarge) (λ small. Ok (layout (stream_schema fs pairs []).node))
-leaf_written fs own pairs leaf fit shape =
+sent_written fs own pairs sent fit shape =
     let by : SentMessage → Reading (List ℕ) = λ m. bind (unless (nat_le (size m.node) 2147483647) errors.TooLarge) (λ small. Ok (layout m.node)) in
-    written_is fs own pairs (fields_stay fs own leaf) shape (no_uses fs leaf) (can_be_said 64 fs leaf fit) ∙ ap by (ap (λ gs. schema_message little gs pairs []) (sym (numbers_aside fs leaf)))
+    written_is fs own pairs (fields_stay fs own sent) shape (no_uses fs sent) (can_be_said 64 fs sent fit) ∙ ap by (ap (λ gs. schema_message little gs pairs []) (sym (numbers_aside fs sent)))
 
 tested : (m : SentMessage) (test : Bool) (x : List ℕ) → bind (unless test errors.TooLarge) (λ small. Ok (layout m.node)) ≡ Ok x → x ≡ layout m.node
 unfolding bind
@@ -83,8 +83,8 @@ tested m true x h = cc
 tested m false x h = cc
 
 -- the bytes that were written of a schema
-pub schema_written : (fs : Fields) (own : Ids) (pairs : Metadata) (v : Vec ℕ Global) → are_leaf_fields fs ≡ true → FieldsFit 64 fs → have_shapes fs own ≡ true → Gives (λ (w : Vec ℕ Global). w.items) (Ok v) (written little fs own pairs) → v.items ≡ layout (stream_schema fs pairs []).node
-schema_written fs own pairs v leaf fit shape h = tested (stream_schema fs pairs []) (nat_le (size (stream_schema fs pairs []).node) 2147483647) v.items (sym (leaf_written fs own pairs leaf fit shape) ∙ h)
+pub schema_written : (fs : Fields) (own : Ids) (pairs : Metadata) (v : Vec ℕ Global) → are_sent_fields fs ≡ true → FieldsFit 64 fs → have_shapes fs own ≡ true → Gives (λ (w : Vec ℕ Global). w.items) (Ok v) (written little fs own pairs) → v.items ≡ layout (stream_schema fs pairs []).node
+schema_written fs own pairs v sent fit shape h = tested (stream_schema fs pairs []) (nat_le (size (stream_schema fs pairs []).node) 2147483647) v.items (sym (sent_written fs own pairs sent fit shape) ∙ h)
 
 -- why it is refused: the message is too large, or there is no memory
 test_refused : (m : SentMessage) (e : IpcError) (test : Bool) (expected : List ℕ) → nat_le (size m.node) 2147483647 ≡ test → Gives (λ (w : Vec ℕ Global). w.items) (Err e) (bind (unless test errors.TooLarge) (λ small. Ok (layout m.node))) → IsOfMessage e → Writes (Err e) m expected
@@ -112,11 +112,11 @@ test_refused m (errors.Projection index) test expected is g k = absurd k
 test_refused m (errors.DictionaryReplaced id) test expected is g k = absurd k
 test_refused m errors.State test expected is g k = absurd k
 
-pub schema_refused : (r : Result (Vec ℕ Global) IpcError) (fs : Fields) (own : Ids) (pairs : Metadata) (e : IpcError) (expected : List ℕ) → are_leaf_fields fs ≡ true → FieldsFit 64 fs → have_shapes fs own ≡ true → r ≡ Err e → Gives (λ (w : Vec ℕ Global). w.items) (Err e) (written little fs own pairs) → IsOfMessage e
+pub schema_refused : (r : Result (Vec ℕ Global) IpcError) (fs : Fields) (own : Ids) (pairs : Metadata) (e : IpcError) (expected : List ℕ) → are_sent_fields fs ≡ true → FieldsFit 64 fs → have_shapes fs own ≡ true → r ≡ Err e → Gives (λ (w : Vec ℕ Global). w.items) (Err e) (written little fs own pairs) → IsOfMessage e
     → Writes r (stream_schema fs pairs []) expected
-schema_refused r fs own pairs e expected leaf fit shape is g k =
+schema_refused r fs own pairs e expected sent fit shape is g k =
     let m = stream_schema fs pairs [] in
-    let h = subst (Gives (λ (w : Vec ℕ Global). w.items) (Err e)) (leaf_written fs own pairs leaf fit shape) g in
+    let h = subst (Gives (λ (w : Vec ℕ Global). w.items) (Err e)) (sent_written fs own pairs sent fit shape) g in
     subst (λ q. Writes q m expected) (sym is) (test_refused m e (nat_le (size m.node) 2147483647) expected refl h k)
 
 -- ── the message of a file's schema ──
@@ -125,14 +125,14 @@ schema_refused r fs own pairs e expected leaf fit shape is g k =
 record IsOfFile (file : FileMetadata) (s : List Keyed) (pairs : Metadata) : Type 0 where
   fields : fields_in s ≡ (meta_view file).schema.fields
   pairs_are : pairs ≡ (meta_view file).schema.metadata
-  leaf : are_leaf_fields (fields_in s) ≡ true
+  sent : are_sent_fields (fields_in s) ≡ true
   fit : FieldsFit 64 (fields_in s)
 
 of_file : (file : FileMetadata) (s : List Keyed) (pairs : Metadata) → IsBuilt (meta_view file) → WasRead file → s ≡ rc_value file.schema → pairs ≡ (meta_view file).schema.metadata → IsOfFile file s pairs
 of_file file s pairs built read is same = record {
   fields = ap fields_in is ∙ sym (same_fields file built);
   pairs_are = same;
-  leaf = ap (λ x. are_leaf_fields (fields_in x)) is ∙ leaf_schema file built;
+  sent = ap (λ x. are_sent_fields (fields_in x)) is ∙ sent_schema file built;
   fit = subst (λ x. FieldsFit 64 (fields_in x)) (sym is) (fit file built read);
 }
 
@@ -144,7 +144,7 @@ pub file_schema_refused : (file : FileMetadata) (r : Result (Vec ℕ Global) Ipc
     → r ≡ Err e → Gives (λ (v : Vec ℕ Global). v.items) (Err e) (written little (fields_in s) own pairs) → IsOfMessage e → WritesSchema r (meta_view file).schema.fields (meta_view file).schema.metadata
 file_schema_refused file r s own pairs e built read is same shape err g k =
     let of = of_file file s pairs built read is same in
-    as_of_file file s pairs r of (schema_refused r (fields_in s) own pairs e _ of.leaf of.fit shape err g k)
+    as_of_file file s pairs r of (schema_refused r (fields_in s) own pairs e _ of.sent of.fit shape err g k)
 
 no_body : (fs : Fields) (pairs : Metadata) → (schema_message little fs pairs []).body ≡ 0
 unfolding schema_message
@@ -156,4 +156,4 @@ pub file_schema_framed : (file : FileMetadata) (r : Result (Vec ℕ Global) IpcE
 file_schema_framed file r s own pairs v metadata body built read is same shape g items none f =
     let of = of_file file s pairs built read is same in
     let m = stream_schema (fields_in s) pairs [] in
-    as_of_file file s pairs r of (alone_written r m metadata (no_body (numbered (fields_in s) 0) pairs) (items ∙ schema_written (fields_in s) own pairs v of.leaf of.fit shape g) (subst (λ x. Framed r metadata x) none f))
+    as_of_file file s pairs r of (alone_written r m metadata (no_body (numbered (fields_in s) 0) pairs) (items ∙ schema_written (fields_in s) own pairs v of.sent of.fit shape g) (subst (λ x. Framed r metadata x) none f))

@@ -1,6 +1,6 @@
 -- What is read of a file's blocks.
 use Rattle.std.specs.Prelude.{◌≡◌, ℕ, ◌+◌, Bool, List, [], length, Result, Ok, IfOk, IfErr, None}
-use Rattle.arrow_spec.specs.Flat.{little}
+use Rattle.arrow_spec.specs.Flat.{Order}
 use Rattle.arrow_spec.specs.declared.error.IpcError.{IpcError}
 use Rattle.arrow_spec.specs.declared.error.IpcError.TheVariants.{Unsupported}
 use Rattle.arrow_spec.specs.declared.error.Feature.TheVariants as features
@@ -22,18 +22,18 @@ use Rattle.ipc_files.specs.FileBlocks.{block_record}
 abbrev pub body_place : FileBlock → Body
 body_place block = record { offset = block.offset + block.metadata; length = block.body }
 
--- a block that was read: its message, whose numbers have 64 bits, and the batch and the columns that its tables and its body mean
-pub record BlockRead (b : List ℕ) (fs : Fields) (block : FileBlock) (x : Batch) : Type 0 where
+-- a block that was read in a byte order: its message, whose numbers have 64 bits, and the batch and the columns that its tables and its body mean
+pub record BlockRead (b : List ℕ) (o : Order) (fs : Fields) (block : FileBlock) (x : Batch) : Type 0 where
   pub message : RecordMessage
   pub is : block_record b block ≡ Ok message
   pub fits : HeaderFits message.tables
-  pub read : batch_of_tables to_read (all_asked little fs (length b)) message.version [] message.tables (block_body b block) None ≡ Ok (table_of x)
-  pub columns : x.arrays ≡ columns_read (record_batch_of little message.version message.tables (block_body b block)) fs first_place x.height
+  pub read : batch_of_tables to_read (all_asked o fs (length b)) message.version [] message.tables (block_body b block) None ≡ Ok (table_of x)
+  pub columns : x.arrays ≡ columns_read (record_batch_of o message.version message.tables (block_body b block)) fs first_place x.height
 
 -- a block that was read, or a refusal of the block
-pub record ReadsBlock (b : List ℕ) (fs : Fields) (block : FileBlock) (result : Result Batch IpcError) : Type 0 where
-  pub read : IfOk result (λ x. BlockRead b fs block x)
-  pub refused : IfErr result (λ e. Refuses e (refusals (batch_of so_far.custom to_read b (all_asked little fs (length b)) block None)))
+pub record ReadsBlock (b : List ℕ) (o : Order) (fs : Fields) (block : FileBlock) (result : Result Batch IpcError) : Type 0 where
+  pub read : IfOk result (λ x. BlockRead b o fs block x)
+  pub refused : IfErr result (λ e. Refuses e (refusals (batch_of so_far.custom to_read b (all_asked o fs (length b)) block None)))
 
 -- the record batch of a block, as far as that is built: of all columns and rows, by the features of its columns' kinds and then by its block
 unfoldable pub batch_in : Bool → List ℕ → Meta → FileBlock → Reading TableBatch

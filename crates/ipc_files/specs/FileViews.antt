@@ -8,7 +8,7 @@ use Rattle.arrow_spec.specs.WrittenSchemas.{SchemaMayBeWritten}
 use Rattle.arrow_types.specs.Schemas.{fields_in}
 use Rattle.ipc_fields.specs.IpcFields.{have_shapes, ids_of, schema_view}
 use Rattle.ipc_io.specs.Outside.{Rose}
-use Rattle.transcode_laws.specs.Built.{are_leaf_fields, so_far}
+use Rattle.transcode_laws.specs.Built.{are_sent_fields, so_far}
 use Rattle.ipc_read.specs.Batches.{are_column_kinds}
 use Rattle.ipc_files.specs.FileBlocks.{file_block}
 use Rattle.ipc_files.specs.declared.metadata.FileMetadata.{FileMetadata}
@@ -25,14 +25,15 @@ pub record FileSays (b : List ℕ) (meta : Meta) : Type 0 where
   pub read : meta_of b ≡ Ok meta
   pub no_pairs : custom_of so_far.custom b ≡ Ok []
 
--- the columns of a file are built, and its byte order is
+-- the columns of a file are built
 abbrev pub IsBuilt : Meta → Type 0
 IsBuilt meta = so_far.chosen meta.schema.order meta.schema.fields ≡ true
 
--- metadata by which batches are read: the IPC fields are those of its schema, no byte string has the size 0, and the file's size is below 2^63
+-- metadata by which batches are read: the IPC fields are those of its schema, its columns may be read where they are built (no size is 0, lists and maps
+-- have one child, and a map's is a struct of two fields), and the file's size is below 2^63
 pub record IsReadable (m : FileMetadata) : Type 0 where
   pub shapes : have_shapes (fields_in (rc_value m.schema)) (ids_of m.ipc_schema.fields.items) ≡ true
-  pub sizes : are_leaf_fields (fields_in (rc_value m.schema)) ≡ true → are_column_kinds (rc_value m.schema) ≡ true
+  pub columns : are_sent_fields (fields_in (rc_value m.schema)) ≡ true → are_column_kinds (rc_value m.schema) ≡ true
   pub most : m.size < 2 ^ 63
 
 -- metadata that was read of bytes: its schema may be written too

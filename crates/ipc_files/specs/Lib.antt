@@ -1,4 +1,3 @@
-pub mod Built
 pub mod FileViews
 pub mod FileBlocks
 pub mod Transcode

@@ -41,7 +41,7 @@ pub(crate) fn read_block<S: Source>(
     requires built { IsBuilt (meta_view file.now) }
     requires read { IsReadable file.now }
     requires whole { IsSize (S.content source.old) file.now.size }
-    ensures gives { IfSome (S.content source.old) (λ b. ReadsBlock b (meta_view file.now).schema.fields (file_block block.now) result) }
+    ensures gives { IfSome (S.content source.old) (λ b. ReadsBlock b (meta_view file.now).schema.order (meta_view file.now).schema.fields (file_block block.now) result) }
     ensures few { IfOk result (λ x. x.height < 2 ^ 63) }
     ensures schema { IfOk result (λ x. x.schema ≡ rc_value file.now.schema) }
     ensures cause { IfErr result (λ e. FileCause e (S.faults source.old) (S.faults source.new)) }
@@ -67,11 +67,11 @@ pub(crate) fn read_block<S: Source>(
 }
 
 /// Reads the record batch of the block `index`. Of the block, its prefix, its metadata and the buffers that are needed
-/// are read; one batch is in memory. Columns without children are read, all of them and all their rows.
+/// are read; one batch is in memory. All columns are read, and all their rows, in either byte order.
 ///
 /// # Errors
 ///
-/// `Unsupported(NotYet)` for chosen columns, a limit, dictionaries, columns with children and big-endian values;
+/// `Unsupported(NotYet)` for chosen columns, a limit, and dictionaries, unions, floats and decimals of 256 bits below other columns;
 /// `Unsupported(Float)` and `Unsupported(Decimal256)` by the columns' kinds; `OutOfSpec` with the kind of the part of
 /// the block that is not as the format says; `Unsupported(Version)`, `Unsupported(Compression)`,
 /// `Unsupported(ViewBigEndian)`; `ReadFault`, `Memory`.

@@ -1,53 +1,59 @@
-//! What of a file is built so far: little-endian files whose columns all have arrays without children.
+//! What of a file is built so far: files whose columns have no dictionaries, no unions, no floats and no decimals of 256 bits at any depth.
 ghost use Rattle.std.specs.Prelude.{◌≡◌, ◌↔◌, ◌<◌, false, IsTrue, None, Some, length, map, slice_get};
 ghost use Rattle.arrow_spec.specs.Features.{feature_faults};
 ghost use Rattle.arrow_spec.specs.Readings.{IsAmong};
 ghost use Rattle.arrow_spec.specs.declared.error.IpcError.TheVariants.{Unsupported};
-ghost use Rattle.arrow_types.specs.KindOf.{child_of, kind_of};
+ghost use Rattle.arrow_types.specs.Child.{one_field};
+ghost use Rattle.arrow_types.specs.KindOf.{child_of, fields_of, kind_of};
 ghost use Rattle.arrow_types.specs.Schemas.{fields_in};
-ghost use Rattle.transcode_laws.specs.Built.{are_leaf_fields, is_leaf_kind};
-ghost use Rattle.ipc_files.specs.Built.{are_built_numbers, is_built_layout};
+ghost use Rattle.transcode_laws.specs.Built.{are_sent_fields, is_sent_kind};
 ghost use Rattle.ipc_files.specs.FileViews.{meta_view, IsBuilt};
 
 use crate::metadata::FileMetadata;
 use arrow_spec::Feature;
-use arrow_types::{ArrowDataType, ArrowSchema, Field, PhysicalType, PrimitiveType};
+use arrow_types::{ArrowDataType, ArrowSchema, Field};
 use ipc_read::unread_feature;
 
-/// Whether an array of such numbers is built: floats and decimals of 256 bits are not.
-fn are_built(numbers: PrimitiveType) -> bool
-    ensures { result ≡ are_built_numbers numbers }
+/// Whether columns of a type are sent. The recursion is as deep as the type: a schema that was read has 64 levels of fields at most.
+#[cycle(sent)]
+fn is_sent(dtype: &ArrowDataType) -> bool
+    ensures { result ≡ is_sent_kind (kind_of dtype.now) }
 {
-    !matches!(
-        numbers,
-        PrimitiveType::Float16
-            | PrimitiveType::Float32
-            | PrimitiveType::Float64
-            | PrimitiveType::Int256
-    )
-}
-
-/// Whether an array of a layout is built.
-fn is_built_layout(layout: PhysicalType) -> bool
-    ensures { result ≡ is_built_layout layout }
-{
-    match layout {
-        PhysicalType::Primitive(numbers) => are_built(numbers),
-        PhysicalType::List
-        | PhysicalType::LargeList
-        | PhysicalType::FixedSizeList
-        | PhysicalType::Struct
-        | PhysicalType::Union
-        | PhysicalType::Map
-        | PhysicalType::Dictionary(_) => false,
+    match dtype {
+        ArrowDataType::Float16
+        | ArrowDataType::Float32
+        | ArrowDataType::Float64
+        | ArrowDataType::Decimal256(_, _)
+        | ArrowDataType::Union(_)
+        | ArrowDataType::Dictionary(_, _, _) => false,
+        ArrowDataType::List(field) => is_field_sent(field),
+        ArrowDataType::LargeList(field) => is_field_sent(field),
+        ArrowDataType::FixedSizeList(field, _) => is_field_sent(field),
+        ArrowDataType::Map(field, _) => is_field_sent(field),
+        ArrowDataType::Struct(fields) => are_sent(fields.as_slice()),
+        ArrowDataType::Extension(extension) => is_sent(&extension.inner),
         _ => true,
     }
 }
 
-fn is_leaf(dtype: &ArrowDataType) -> bool
-    ensures { result ≡ is_leaf_kind (kind_of dtype.now) }
+/// The same of a field alone.
+#[cycle(sent)]
+fn is_field_sent(field: &Field) -> bool
+    ensures { result ≡ are_sent_fields (one_field (child_of field.now)) }
 {
-    is_built_layout(dtype.to_physical_type())
+    is_sent(&field.dtype)
+}
+
+#[cycle(sent)]
+fn are_sent(fields: &[Field]) -> bool
+    ensures { result ≡ are_sent_fields (fields_of fields.now) }
+{
+    for field in fields {
+        if !is_field_sent(field) {
+            return false;
+        }
+    }
+    true
 }
 
 fn field_at(schema: &ArrowSchema, index: usize) -> &Field
@@ -60,23 +66,23 @@ fn field_at(schema: &ArrowSchema, index: usize) -> &Field
     }
 }
 
-fn are_leaves(schema: &ArrowSchema) -> bool
-    ensures { result ≡ are_leaf_fields (fields_in schema.now) }
+fn are_columns_sent(schema: &ArrowSchema) -> bool
+    ensures { result ≡ are_sent_fields (fields_in schema.now) }
 {
     for i in 0..schema.len() {
         let field = field_at(schema, i);
-        if !is_leaf(&field.dtype) {
+        if !is_sent(&field.dtype) {
             return false;
         }
     }
     true
 }
 
-/// Whether the byte order and the columns of a file are built.
+/// Whether the columns of a file are built.
 pub fn is_built(file: &FileMetadata) -> bool
     ensures { IsTrue result ↔ IsBuilt (meta_view file.now) }
 {
-    file.ipc_schema.is_little_endian && are_leaves(&file.schema)
+    are_columns_sent(&file.schema)
 }
 
 /// What is not built of a schema's columns: a column of floats or decimals of 256 bits by its name, else what is to come.

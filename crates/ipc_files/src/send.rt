@@ -38,8 +38,8 @@ fn send_block<S: Source, W: Sink>(
     requires built { IsBuilt (meta_view file.now) }
     requires read { WasRead file.now }
     requires whole { IsSize (S.content source.old) file.now.size }
-    ensures sent { IfOk result (λ s. IfSome (S.content source.old) (λ b. BlockSent b (meta_view file.now).schema.fields (file_block block.now) encoding (W.written sink.old) (W.written sink.new) s.rows s.bytes)) }
-    ensures refused { IfErr result (λ e. IfSome (S.content source.old) (λ b. BlockRefused b (meta_view file.now).schema.fields (file_block block.now) encoding (W.written sink.old) (W.written sink.new) e (W.faults sink.old) (W.faults sink.new))) }
+    ensures sent { IfOk result (λ s. IfSome (S.content source.old) (λ b. BlockSent b (meta_view file.now).schema.order (meta_view file.now).schema.fields (file_block block.now) encoding (W.written sink.old) (W.written sink.new) s.rows s.bytes)) }
+    ensures refused { IfErr result (λ e. IfSome (S.content source.old) (λ b. BlockRefused b (meta_view file.now).schema.order (meta_view file.now).schema.fields (file_block block.now) encoding (W.written sink.old) (W.written sink.new) e (W.faults sink.old) (W.faults sink.new))) }
     ensures small { IfOk result (λ s. s.bytes < 2 ^ 63) }
     ensures few { IfOk result (λ s. s.rows < 2 ^ 63) }
     ensures cause { IfErr result (λ e. SendCause e (S.faults source.old) (S.faults source.new) (W.faults sink.old) (W.faults sink.new)) }

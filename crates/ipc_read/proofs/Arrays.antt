@@ -18,10 +18,11 @@ use Rattle.arrow_types.specs.declared.physical.PhysicalType.TheVariants.{FixedSi
 use Rattle.arrow_types.specs.declared.physical.PrimitiveType.{PrimitiveType}
 use Rattle.arrow_buffers.specs.Layouts.{binary_size}
 use Rattle.arrow_arrays.specs.LeafKinds.{is_leaf_kind, is_leaf_layout}
-use Rattle.arrow_arrays.specs.Parts.{numbers, as_bytes, number_size, cells_in}
+use Rattle.arrow_arrays.specs.LeafParts.{numbers, as_bytes, number_size}
+use Rattle.arrow_arrays.specs.Parts.{leaf, cells_in}
 use Rattle.arrow_arrays.specs.PartsOf.{parts_of}
 use Rattle.arrow_arrays.specs.declared.array.Array.{Array}
-use Rattle.ipc_read_laws.specs.PartsRead.{number_read, primitive_read, parts_in, parts_read, numbers_bytes}
+use Rattle.ipc_read_laws.specs.PartsRead.{number_read, primitive_read, parts_in, plain_read, numbers_bytes}
 use Rattle.std.specs.Prelude.{IfOk, ℤ}
 use Rattle.std.proofs.Common.{add-zero}
 use Rattle.std.proofs.Math.Nat.{zero-mul}
@@ -45,10 +46,10 @@ answers_as f x v es w Z view z a e h = record { ok = (a.ok.0, e ∙ ap f a.ok.1 
 
 -- numbers that are read are the numbers of their layout
 pub number_parts : {T : Type 0} → (write : T → List ℕ) (read : Order → List ℕ → T) (t : PrimitiveType) (m : RecordBatch) (k : Kind) (p : Place) (rows : ℕ) → physical_of k ≡ Primitive t → ((o : Order) (bytes : List ℕ) → write (read o bytes) ≡ number_read t o bytes)
-    → numbers (as_bytes write (primitive_read read (primitive_size t) m k p rows)) ≡ parts_read m k p rows
+    → leaf (numbers (as_bytes write (primitive_read read (primitive_size t) m k p rows))) ≡ plain_read m k p rows
 number_parts write read t m k p rows e law =
     let same = map_from_on write _ (λ j. number_read t m.order (Rattle.ipc_read_laws.specs.PartsRead.item_bytes m (p.buffer + 1) (primitive_size t) j)) 0 rows (λ j. law m.order _) in
-    ap (λ vs. numbers (record { kind = k; values = vs; validity = Rattle.ipc_read_laws.specs.PartsRead.validity_read m p rows })) same ∙ ap (λ layout. parts_in layout m k p rows) (sym e)
+    ap (λ vs. leaf (numbers (record { kind = k; values = vs; validity = Rattle.ipc_read_laws.specs.PartsRead.validity_read m p rows }))) same ∙ ap (λ layout. leaf (parts_in layout m k p rows)) (sym e)
 
 pub size_known : (k : Kind) → is_leaf_kind k ≡ true → physical_of k ≡ FixedSizeBinary → 0 < binary_size k
 size_known k h e =
@@ -128,7 +129,7 @@ unfolding read_faults
 none_of_array m k p rows h = none_right (count_faults m k p) _ h
 
 -- the cells of an array that is read
-pub cells_of : (r : Result Array IpcError) (m : RecordBatch) (k : Kind) (p : Place) (rows : ℕ) → is_leaf_kind k ≡ true → IfOk r (λ _. AreBytes (numbers_bytes m k p rows)) → Answers (λ a. parts_of a) r (read_faults m k p rows) (parts_read m k p rows) → Answers (λ a. cells_in (parts_of a)) r (read_faults m k p rows) (from_on (cell m [] k p) 0 rows)
+pub cells_of : (r : Result Array IpcError) (m : RecordBatch) (k : Kind) (p : Place) (rows : ℕ) → is_leaf_kind k ≡ true → IfOk r (λ _. AreBytes (numbers_bytes m k p rows)) → Answers (λ a. parts_of a) r (read_faults m k p rows) (plain_read m k p rows) → Answers (λ a. cells_in (parts_of a)) r (read_faults m k p rows) (from_on (cell m [] k p) 0 rows)
 cells_of (Err e) m k p rows f b a = record { ok = tt; err = a.err }
 cells_of (Ok x) m k p rows f b a = record { ok = (a.ok.0, ap cells_in a.ok.1 ∙ cells_read_of m [] k p rows f b (none_of_array m k p rows a.ok.0)); err = tt }
 

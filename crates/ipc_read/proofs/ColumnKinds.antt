@@ -1,15 +1,22 @@
 -- The kinds of columns: what of them is not read, and that the others are those of arrays.
-use Rattle.std.proofs.Common.{◌≡◌, ℕ, suc, ◌+◌, ◌≤◌, List, [], ◌∷◌, ◌++◌, length, drop, Option, Some, None, Bool, true, false, refl, sym, ap, ◌∙◌, arith, subst, zero, inl}
-use Rattle.std.specs.Prelude.{slice_get, ◌&&◌}
+use Rattle.std.proofs.Common.{◌≡◌, ℕ, suc, ◌+◌, ◌≤◌, List, [], ◌∷◌, ◌++◌, ◌<◌, length, drop, get_or, Option, Some, None, Bool, true, false, refl, sym, ap, ◌∙◌, arith, subst, zero, inl}
+use Rattle.std.specs.Prelude.{slice_get, nat_eq, nat_lt, ◌&&◌}
+use Rattle.std.proofs.Common.{append-nil}
+use Rattle.arrow_types.specs.Child.{one_field}
+use Rattle.ipc_read.specs.Lists.{is_any_list, as_lists}
+use Rattle.std.proofs.lemmas.Bool.{and_parts, and_from}
 use Rattle.arrow_spec.specs.declared.error.IpcError.{IpcError}
 use Rattle.arrow_spec.specs.declared.error.IpcError.TheVariants.{Unsupported}
 use Rattle.arrow_spec.specs.declared.error.Feature.{Feature}
 use Rattle.arrow_spec.specs.declared.types.IntegerType.TheVariants as integers
 use Rattle.arrow_spec.specs.declared.types.IntervalUnit.TheVariants.{YearMonth, DayTime, MonthDayNano}
 use Rattle.arrow_spec.specs.Readings.{Refuses}
-use Rattle.arrow_spec.specs.Kinds.{Kind, null, boolean, integer, float, date32, date64, time32, time64, timestamp, duration, interval, decimal, decimal256, binary, utf8, binary_view, utf8_view, fixed_size_binary, «list», fixed_size_list, struct, map, union, dictionary, extension, small, large, half, single, double}
-use Rattle.arrow_spec.specs.Features.{float_faults, chosen_floats}
-use Rattle.arrow_types.specs.Physical.{physical_of}
+use Rattle.arrow_spec.specs.Kinds.{Kind, Fields, Offsets, none, field, width, null, boolean, integer, float, date32, date64, time32, time64, timestamp, duration, interval, decimal, decimal256, binary, utf8, binary_view, utf8_view, fixed_size_binary, «list», fixed_size_list, struct, map, union, dictionary, extension, small, large, half, single, double}
+use Rattle.arrow_spec.specs.Schema.{first_is_struct_of_two}
+use Rattle.arrow_spec.specs.Features.{float_faults, floats_in, chosen_floats}
+use Rattle.arrow_types.specs.KindOf.{kind_of, child_of, fields_of}
+use Rattle.arrow_types.specs.Physical.{physical_of, under_extensions}
+use Rattle.arrow_types.specs.declared.data_type.Field.{Field}
 use Rattle.arrow_types.specs.Schemas.{Keyed, fields_in}
 use Rattle.arrow_types.specs.declared.physical.PhysicalType.{PhysicalType}
 use Rattle.arrow_types.specs.declared.physical.PhysicalType.TheVariants as physical
@@ -17,8 +24,12 @@ use Rattle.arrow_types.specs.declared.physical.PrimitiveType.TheVariants as prim
 use Rattle.arrow_buffers.specs.Layouts.{binary_size}
 use Rattle.arrow_arrays.specs.LeafKinds.{is_leaf_kind, is_leaf_layout}
 use Rattle.ipc_read.specs.Skips.{is_plain_kind, is_plain_layout}
-use Rattle.ipc_read.specs.Batches.{unread_feature, is_column_kind, is_column_layout, are_column_kinds, are_leaf_kinds}
-use Rattle.ipc_read.proofs.Refusals.{refuses_left}
+use Rattle.ipc_read.specs.Batches.{unread_feature, is_column_kind, is_column_layout, are_column_fields, are_column_kinds, are_carried_kinds}
+use Rattle.ipc_read_laws.specs.Carried.{is_carried, are_carried}
+use Rattle.ipc_read.specs.CountedArrays.{is_any_counted, counted_kind}
+use Rattle.ipc_read.proofs.Refusals.{refuses_left, none_of_both}
+use Rattle.ipc_read.proofs.Places.{kind_of_child}
+use Rattle.ipc_read.proofs.Nested.{wrapped, of_lists, left_child, drop_all}
 
 -- a refusal for a feature
 abbrev pub feature_faults : Option Feature → List IpcError
@@ -99,7 +110,7 @@ none_unread None h = refl
 none_unread (Some f) h = cc
 
 -- a column's kind of which all is read is that of an array
-pub column_is_leaf : (k : Kind) → is_column_kind k ≡ true → float_faults k ≡ [] → is_leaf_kind k ≡ true
+pub column_is_leaf : (k : Kind) → is_column_layout (physical_of k) (binary_size k) ≡ true → float_faults k ≡ [] → is_leaf_kind k ≡ true
 column_is_leaf k h f = by_layout (physical_of k) (binary_size k) h (none_unread _ (sym (plain_floats k (column_is_plain (physical_of k) (binary_size k) h)) ∙ f))
   where
     by_layout : (layout : PhysicalType) (size : ℕ) → is_column_layout layout size ≡ true → unread_feature layout ≡ None → is_leaf_layout layout size ≡ true
@@ -135,6 +146,83 @@ column_is_leaf k h f = by_layout (physical_of k) (binary_size k) h (none_unread 
     by_layout physical.Map size h u = cc
     by_layout (physical.Dictionary i) size h u = cc
 
+-- ── kinds with children ──
+
+mutual
+  pub column_carried : (k : Kind) → is_column_kind k ≡ true → float_faults k ≡ [] → is_carried k ≡ true
+  column_carried (struct fs) h f = columns_carried fs h f
+  column_carried (extension name metadata k) h f = column_carried k h f
+  column_carried («list» o fs) h f = let a = and_parts (nat_eq (width fs) 1) (are_column_fields fs) h in and_from (nat_eq (width fs) 1) (are_carried fs) a.0 (columns_carried fs a.1 f)
+  column_carried (map sorted fs) h f =
+      let a = and_parts (nat_eq (width fs) 1 && first_is_struct_of_two fs) (are_column_fields fs) h in and_from (nat_eq (width fs) 1 && first_is_struct_of_two fs) (are_carried fs) a.0 (columns_carried fs a.1 f)
+  column_carried (fixed_size_list size fs) h f =
+      let a = and_parts (nat_eq (width fs) 1 && nat_lt 0 size) (are_column_fields fs) h in and_from (nat_eq (width fs) 1 && nat_lt 0 size) (are_carried fs) a.0 (columns_carried fs a.1 f)
+  column_carried k h f = column_is_leaf k h f
+
+  columns_carried : (fs : Fields) → are_column_fields fs ≡ true → floats_in fs ≡ [] → are_carried fs ≡ true
+  columns_carried none h f = refl
+  columns_carried (field name nullable metadata k others) h f =
+      let a = and_parts (is_column_kind k) (are_column_fields others) h in
+      let b = none_of_both (float_faults k) (floats_in others) f in
+      and_from (is_carried k) (are_carried others) (column_carried k a.0 b.0) (columns_carried others a.1 b.1)
+
+pub column_plain : (k : Kind) → is_column_kind k ≡ true → is_any_counted k ≡ false → is_any_list k ≡ false → is_plain_kind k ≡ true
+column_plain (struct fs) h s l = cc
+column_plain (fixed_size_list size fs) h s l = cc
+column_plain («list» o fs) h s l = cc
+column_plain (map sorted fs) h s l = cc
+column_plain (extension name metadata k) h s l = column_plain k h s l
+column_plain k h s l = column_is_plain (physical_of k) (binary_size k) h
+
+pub list_floats : (k : Kind) (o : Offsets) (x : Field) → as_lists k ≡ «list» o (one_field (child_of x)) → float_faults k ≡ float_faults (kind_of x.dtype)
+list_floats k o x e =
+    let fs = one_field (child_of x) in
+    of_lists (λ k. float_faults k ≡ floats_in fs) (λ name metadata k h. h) (λ sorted gs h. h) k («list» o fs) e refl ∙ append-nil (float_faults (child_of x).kind) ∙ ap float_faults (kind_of_child x)
+
+lists_column : (k : Kind) → is_column_kind k ≡ true → is_column_kind (as_lists k) ≡ true
+lists_column (map sorted fs) h =
+    let a = and_parts (nat_eq (width fs) 1 && first_is_struct_of_two fs) (are_column_fields fs) h in
+    and_from (nat_eq (width fs) 1) (are_column_fields fs) (and_parts (nat_eq (width fs) 1) (first_is_struct_of_two fs) a.0).0 a.1
+lists_column (extension name metadata k) h = lists_column k h
+lists_column k h = h
+
+pub column_list : (k : Kind) (o : Offsets) (x : Field) → as_lists k ≡ «list» o (one_field (child_of x)) → is_column_kind k ≡ true → is_column_kind (kind_of x.dtype) ≡ true
+column_list k o x e h =
+    let fs = one_field (child_of x) in
+    let f : are_column_fields fs ≡ true = (and_parts (nat_eq (width fs) 1) (are_column_fields fs) (sym (ap is_column_kind e) ∙ lists_column k h)).1 in
+    ap is_column_kind (sym (kind_of_child x)) ∙ (and_parts (is_column_kind (child_of x).kind) true f).0
+
+column_under : (k : Kind) → is_column_kind k ≡ is_column_kind (under_extensions k)
+column_under (extension name metadata k) = column_under k
+column_under k = refl
+
+pub column_counted : (k : Kind) (s : Option ℕ) (fs : Fields) → under_extensions k ≡ counted_kind s fs → is_column_kind k ≡ true → are_column_fields fs ≡ true
+column_counted k None fs e h = sym (column_under k ∙ ap is_column_kind e) ∙ h
+column_counted k (Some size) fs e h = (and_parts (nat_eq (width fs) 1 && nat_lt 0 size) (are_column_fields fs) (sym (column_under k ∙ ap is_column_kind e) ∙ h)).1
+
+pub counted_floats : (k : Kind) (s : Option ℕ) (fs : Fields) → under_extensions k ≡ counted_kind s fs → float_faults k ≡ floats_in fs
+counted_floats k None fs e = wrapped (λ k. float_faults k ≡ floats_in fs) (λ name metadata k e. e) k (struct fs) e refl
+counted_floats k (Some size) fs e = wrapped (λ k. float_faults k ≡ floats_in fs) (λ name metadata k e. e) k (fixed_size_list size fs) e refl
+
+pub child_column : (cs : List Field) (i : ℕ) (x : Field) → i < length cs → x ≡ get_or cs i x → are_column_fields (fields_of cs) ≡ true → is_column_kind (kind_of x.dtype) ≡ true
+child_column [] i x h e f = absurd (omega (arith, h))
+child_column (c ∷ cs) zero x h e f =
+    let k : (child_of c).kind ≡ kind_of x.dtype = ap (λ y. (child_of y).kind) (sym e) ∙ kind_of_child x in
+    ap is_column_kind (sym k) ∙ (and_parts (is_column_kind (child_of c).kind) (are_column_fields (fields_of cs)) f).0
+child_column (c ∷ cs) (suc i) x h e f = child_column cs i x (omega (arith, h)) e (and_parts (is_column_kind (child_of c).kind) (are_column_fields (fields_of cs)) f).1
+
+left_floats : (cs : List Field) (i : ℕ) (x : Field) → i < length cs → x ≡ get_or cs i x → floats_in (fields_of (drop i cs)) ≡ float_faults (kind_of x.dtype) ++ floats_in (fields_of (drop (i + 1) cs))
+left_floats cs i x h e = ap (λ ys. floats_in (fields_of ys)) (left_child cs i x h e) ∙ ap (λ k. float_faults k ++ floats_in (fields_of (drop (i + 1) cs))) (kind_of_child x)
+
+pub next_floats : (cs : List Field) (i : ℕ) (x : Field) → i < length cs → x ≡ get_or cs i x → float_faults (kind_of x.dtype) ≡ [] → floats_in (fields_of (drop i cs)) ≡ floats_in (fields_of (drop (i + 1) cs))
+next_floats cs i x h e f = left_floats cs i x h e ∙ ap (λ es. es ++ floats_in (fields_of (drop (i + 1) cs))) f
+
+pub child_floats : (cs : List Field) (i : ℕ) (x : Field) (e : IpcError) → i < length cs → x ≡ get_or cs i x → Refuses e (float_faults (kind_of x.dtype)) → Refuses e (floats_in (fields_of (drop i cs)))
+child_floats cs i x e h g r = subst (λ es. Refuses e es) (sym (left_floats cs i x h g)) (refuses_left (float_faults (kind_of x.dtype)) _ e r)
+
+pub no_floats : (cs : List Field) (i : ℕ) → length cs ≤ i → floats_in (fields_of (drop i cs)) ≡ []
+no_floats cs i h = ap (λ ys. floats_in (fields_of ys)) (drop_all cs i h)
+
 -- ── the fields that are left ──
 
 pub drop_at : {A : Type 0} → (s : List A) (i : ℕ) (x : A) → slice_get s i ≡ Some x → drop i s ≡ x ∷ drop (i + 1) s
@@ -159,8 +247,8 @@ both_second false b h = cc
 pub columns_next : (s : List Keyed) (i : ℕ) (x : Keyed) → slice_get s i ≡ Some x → are_column_kinds (drop i s) ≡ true → (is_column_kind x.1.kind ≡ true) × (are_column_kinds (drop (i + 1) s) ≡ true)
 columns_next s i x h c = let e = sym (ap are_column_kinds (drop_at s i x h)) ∙ c in (both_first _ _ e, both_second (is_column_kind x.1.kind) _ e)
 
-pub leaf_next : (s : List Keyed) (i : ℕ) (x : Keyed) → slice_get s i ≡ Some x → is_leaf_kind x.1.kind ≡ true → are_leaf_kinds (drop i s) ≡ are_leaf_kinds (drop (i + 1) s)
-leaf_next s i x h f = ap are_leaf_kinds (drop_at s i x h) ∙ ap (λ b. b && are_leaf_kinds (drop (i + 1) s)) f
+pub held_next : (s : List Keyed) (i : ℕ) (x : Keyed) → slice_get s i ≡ Some x → is_carried x.1.kind ≡ true → are_carried_kinds (drop i s) ≡ are_carried_kinds (drop (i + 1) s)
+held_next s i x h f = ap are_carried_kinds (drop_at s i x h) ∙ ap (λ b. b && are_carried_kinds (drop (i + 1) s)) f
 
 pub floats_next : (s : List Keyed) (i : ℕ) (x : Keyed) → slice_get s i ≡ Some x → float_faults x.1.kind ≡ [] → chosen_floats None (fields_in (drop i s)) i ≡ chosen_floats None (fields_in (drop (i + 1) s)) (i + 1)
 floats_next s i x h f = let n : suc i ≡ i + 1 = omega arith in ap (λ t. chosen_floats None (fields_in t) i) (drop_at s i x h) ∙ ap (λ es. es ++ chosen_floats None (fields_in (drop (i + 1) s)) (suc i)) f ∙ ap (λ j. chosen_floats None (fields_in (drop (i + 1) s)) j) n
@@ -168,14 +256,8 @@ floats_next s i x h f = let n : suc i ≡ i + 1 = omega arith in ap (λ t. chose
 pub floats_refused : (s : List Keyed) (i : ℕ) (x : Keyed) (e : IpcError) → slice_get s i ≡ Some x → Refuses e (float_faults x.1.kind) → Refuses e (chosen_floats None (fields_in (drop i s)) i)
 floats_refused s i x e h r = subst (λ t. Refuses e (chosen_floats None (fields_in t) i)) (sym (drop_at s i x h)) (refuses_left (float_faults x.1.kind) _ e r)
 
-pub drop_all : {A : Type 0} → (xs : List A) (i : ℕ) → length xs ≤ i → drop i xs ≡ []
-drop_all [] zero h = refl
-drop_all [] (suc i) h = refl
-drop_all (x ∷ xs) zero h = absurd (omega (arith, h))
-drop_all (x ∷ xs) (suc i) h = drop_all xs i (omega (arith, h))
-
 pub floats_end : (s : List Keyed) (i : ℕ) → length s ≤ i → chosen_floats None (fields_in (drop i s)) i ≡ []
 floats_end s i h = ap (λ t. chosen_floats None (fields_in t) i) (drop_all s i h)
 
-pub leaf_end : (s : List Keyed) (i : ℕ) → length s ≤ i → are_leaf_kinds (drop i s) ≡ true
-leaf_end s i h = ap are_leaf_kinds (drop_all s i h)
+pub held_end : (s : List Keyed) (i : ℕ) → length s ≤ i → are_carried_kinds (drop i s) ≡ true
+held_end s i h = ap are_carried_kinds (drop_all s i h)

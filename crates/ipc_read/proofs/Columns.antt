@@ -17,13 +17,14 @@ use Rattle.arrow_types.specs.declared.data_type.Field.{Field}
 use Rattle.arrow_types.specs.Schemas.{Keyed, fields_in}
 use Rattle.arrow_arrays.specs.Parts.{Parts, cells_in, rows_in}
 use Rattle.arrow_arrays.specs.Batches.{have_rows}
-use Rattle.arrow_arrays.specs.LeafKinds.{is_leaf_kind}
+use Rattle.ipc_read_laws.specs.Carried.{is_carried}
 use Rattle.ipc_read_laws.specs.Batches.{columns_read}
 use Rattle.ipc_read_laws.specs.Faults.{read_faults, stated_of, fetched_at_most}
 use Rattle.ipc_read_laws.specs.PartsRead.{parts_read}
-use Rattle.ipc_read.specs.Batches.{IsFieldAt, are_leaf_kinds, batch_fetched, columns_fetched}
+use Rattle.ipc_read.specs.Batches.{IsFieldAt, are_carried_kinds, batch_fetched, columns_fetched}
 use Rattle.ipc_read.proofs.Refusals.{refuses_left, refuses_right}
-use Rattle.ipc_read.proofs.ColumnKinds.{drop_at, drop_all, both_first, both_second}
+use Rattle.ipc_read.proofs.ColumnKinds.{drop_at, both_first, both_second}
+use Rattle.ipc_read.proofs.Nested.{drop_all, stated_append, columns_none}
 use Rattle.ipc_read.proofs.BatchTables.{refused_first, refused_place, place_none}
 
 -- ── one column ──
@@ -44,11 +45,11 @@ node_refused m k p rows e h = refuses_left (count_faults m k p ++ top_node_fault
 pub rest_at : (s : List Keyed) (i : ℕ) (x : Keyed) → slice_get s i ≡ Some x → fields_in (drop i s) ≡ field x.1.name x.1.nullable x.1.metadata x.1.kind (fields_in (drop (i + 1) s))
 rest_at s i x h = ap fields_in (drop_at s i x h)
 
-pub leaf_at : (s : List Keyed) (i : ℕ) (x : Keyed) → slice_get s i ≡ Some x → are_leaf_kinds s ≡ true → is_leaf_kind x.1.kind ≡ true
-leaf_at [] zero x h f = cc
-leaf_at [] (suc i) x h f = cc
-leaf_at (y ∷ ys) zero x h f = let e : y ≡ x = cc in subst (λ (z : Keyed). is_leaf_kind z.1.kind ≡ true) e (both_first (is_leaf_kind y.1.kind) (are_leaf_kinds ys) f)
-leaf_at (y ∷ ys) (suc i) x h f = leaf_at ys i x h (both_second (is_leaf_kind y.1.kind) (are_leaf_kinds ys) f)
+pub held_at : (s : List Keyed) (i : ℕ) (x : Keyed) → slice_get s i ≡ Some x → are_carried_kinds s ≡ true → is_carried x.1.kind ≡ true
+held_at [] zero x h f = cc
+held_at [] (suc i) x h f = cc
+held_at (y ∷ ys) zero x h f = let e : y ≡ x = cc in subst (λ (z : Keyed). is_carried z.1.kind ≡ true) e (both_first (is_carried y.1.kind) (are_carried_kinds ys) f)
+held_at (y ∷ ys) (suc i) x h f = held_at ys i x h (both_second (is_carried y.1.kind) (are_carried_kinds ys) f)
 
 -- the place of the next field
 pub next_place : (m : RecordBatch) (s : List Keyed) (i : ℕ) (x : Keyed) (p : Place) → slice_get s i ≡ Some x → place_in m (fields_in s) (i + 1) p ≡ after m x.1.kind (place_in m (fields_in s) i p)
@@ -138,27 +139,19 @@ fetched_next m s i rows x h =
     let q = place_in m (fields_in s) i first_place in
     ap (λ fs. columns_fetched m fs q rows) (rest_at s i x h) ∙ ap (λ z. fetched_at_most m x.1.kind q rows + columns_fetched m (fields_in (drop (i + 1) s)) z rows) (sym (next_place m s i x first_place h))
 
-stated_append : (m : RecordBatch) (is js : List ℕ) → stated_of m (is ++ js) ≡ stated_of m is + stated_of m js
-stated_append m [] js = omega arith
-stated_append m (i ∷ is) js = omega (arith, stated_append m is js)
-
 some_fetched : (m : RecordBatch) (n : ℕ) (fs : Fields) (c : ℕ) (p : Place) → columns_fetched m fs p (suc n) ≡ stated_of m (columns_looked_at m None fs c p)
 some_fetched m n none c p = refl
 some_fetched m n (field name nullable metadata k others) c p = ap (λ x. stated_of m (looked_at m k p) + x) (some_fetched m n others (suc c) (after m k p)) ∙ sym (stated_append m (looked_at m k p) (columns_looked_at m None others (suc c) (after m k p)))
 
-none_fetched : (m : RecordBatch) (fs : Fields) (p : Place) → columns_fetched m fs p 0 ≡ 0
-none_fetched m none p = refl
-none_fetched m (field name nullable metadata k others) p = omega (arith, none_fetched m others (after m k p))
-
 -- the buffers that are fetched are those that are looked at
 pub fetched_is : (m : RecordBatch) (fs : Fields) (rows : ℕ) → columns_fetched m fs first_place rows ≡ batch_fetched m fs rows
-fetched_is m fs zero = none_fetched m fs first_place
+fetched_is m fs zero = columns_none m fs first_place
 fetched_is m fs (suc n) = some_fetched m n fs 0 first_place
 
 -- ── the same of a field at a place of a schema ──
 
-pub field_leaf : (s : List Keyed) (i : ℕ) (f : Field) → IsFieldAt s i f → are_leaf_kinds s ≡ true → is_leaf_kind (kind_of f.dtype) ≡ true
-field_leaf s i f h k = ap is_leaf_kind (sym h.kind) ∙ leaf_at s i (h.key, child_of f) h.at k
+pub field_held : (s : List Keyed) (i : ℕ) (f : Field) → IsFieldAt s i f → are_carried_kinds s ≡ true → is_carried (kind_of f.dtype) ≡ true
+field_held s i f h k = ap is_carried (sym h.kind) ∙ held_at s i (h.key, child_of f) h.at k
 
 pub field_place : (m : RecordBatch) (s : List Keyed) (i : ℕ) (f : Field) → IsFieldAt s i f → place_in m (fields_in s) (i + 1) first_place ≡ after m (kind_of f.dtype) (place_in m (fields_in s) i first_place)
 field_place m s i f h = next_place m s i (h.key, child_of f) first_place h.at ∙ ap (λ k. after m k (place_in m (fields_in s) i first_place)) h.kind

@@ -1,5 +1,5 @@
 -- The kinds of types with children.
-use Rattle.std.proofs.Common.{◌≡◌, ℕ, List, map, length, Bool, Option, Box, Vec, Global, string_bytes, rules}
+use Rattle.std.proofs.Common.{◌≡◌, ℕ, map, length, Bool, Box, Vec, Global, string_bytes, rules}
 use Rattle.std.specs.Option.{option_map}
 use Rattle.arrow_spec.specs.Kinds as kind
 use Rattle.arrow_types.specs.Child.{one_field}

@@ -18,7 +18,7 @@ use Rattle.arrow_types.specs.declared.physical.PhysicalType.{PhysicalType}
 use Rattle.arrow_types.specs.declared.physical.PhysicalType.TheVariants as physical
 use Rattle.arrow_types.specs.declared.physical.PrimitiveType.{PrimitiveType}
 use Rattle.arrow_buffers.specs.Layouts.{is_null, is_boolean, is_primitive, binary_size}
-use Rattle.arrow_arrays.specs.Parts.{number_size}
+use Rattle.arrow_arrays.specs.LeafParts.{number_size}
 use Rattle.arrow_arrays.specs.LeafKinds.{is_leaf_layout}
 use Rattle.arrow_arrays.proofs.NumberParts.{layout_size}
 use Rattle.ipc_read_laws.specs.Faults.{read_faults, fetched_at_most, stated}

@@ -16,3 +16,8 @@ pub mod Columns
 pub mod Shortened
 pub mod Passed
 pub mod ReaderSteps
+pub mod Nested
+pub mod CountedRows
+pub mod CarriedTypes
+pub mod ListParts
+pub mod ListReads

@@ -1,5 +1,5 @@
 -- Arrays of any kind that are passed over, with their children one after another.
-use Rattle.std.proofs.Common.{◌≡◌, ℕ, zero, suc, ◌+◌, ◌≤◌, ◌<◌, List, [], ◌∷◌, ◌++◌, length, drop, get_or, Result, Ok, Err, IfOk, IfErr, Option, refl, sym, ap, ◌∙◌, arith, subst, ℤ, append-nil}
+use Rattle.std.proofs.Common.{◌≡◌, ℕ, zero, suc, ◌+◌, ◌≤◌, ◌<◌, List, [], ◌∷◌, length, drop, get_or, Result, Ok, Err, IfOk, Option, refl, sym, ap, ◌∙◌, arith, subst, ℤ}
 use Rattle.std.specs.Result.{IsErr, IsErrAnd}
 use Rattle.arrow_spec.specs.declared.error.IpcError.{IpcError}
 use Rattle.arrow_spec.specs.declared.message.FieldNode.{FieldNode}
@@ -14,10 +14,10 @@ use Rattle.arrow_types.specs.KindOf.{kind_of, fields_of}
 use Rattle.arrow_types.specs.declared.data_type.Field.{Field}
 use Rattle.ipc_read.specs.Queues.{At, AllAt, Shortened, ShortenedBy}
 use Rattle.ipc_read.specs.Places.{behind, IsBehind, place_faults}
-use Rattle.ipc_read.specs.Skips.{moved, IsDamage, PassesParts, PassesChildless, PassesColumn, PassesTop}
+use Rattle.ipc_read.specs.Skips.{moved, IsDamage, PassesChildless, PassesColumn, PassesTop}
 use Rattle.ipc_read.specs.Sources.{Answers}
-use Rattle.ipc_read.proofs.Refusals.{refuses_left, refuses_right, refuses_more, among_left}
-use Rattle.ipc_read.proofs.Passing.{at_all, left_same}
+use Rattle.ipc_read.proofs.Refusals.{refuses_left}
+use Rattle.ipc_read.proofs.Passing.{at_all}
 use Rattle.ipc_read.proofs.Places.{behind_itself, behind_then, after_is_behind, fields_behind, same_place, wider_refuses, AreNatural, are_natural, none_missing, natural_then, natural_itself, counts_between, first_place_in, next_place_in, last_place_in, within_fields, field_behind}
 use Rattle.ipc_read.proofs.Shortened.{none_taken, all_taken, taken_more, taken_then, from_first}
 

@@ -1,17 +1,17 @@
 -- Places behind one another, and what is missing between them.
-use Rattle.std.proofs.Common.{◌≡◌, ℕ, zero, suc, ◌+◌, ◌-◌, ◌≤◌, ◌<◌, List, [], ◌∷◌, ◌++◌, length, take, drop, get_or, map, Bool, true, false, ◌||◌, refl, sym, ap, ◌∙◌, arith, subst, rules, inl, inr, drop-drop, drop-cons, append-nil, ℤ}
+use Rattle.std.proofs.Common.{◌≡◌, ℕ, zero, suc, ◌+◌, ◌-◌, ◌≤◌, ◌<◌, List, [], ◌∷◌, ◌++◌, length, take, drop, get_or, Bool, true, false, ◌||◌, refl, sym, ap, ◌∙◌, arith, subst, rules, drop-drop, ℤ}
 use Rattle.std.specs.Prelude.{nat_lt}
 use Rattle.std.proofs.lemmas.Bool.{lt-ltb, le-ltb}
 use Rattle.arrow_spec.specs.declared.error.IpcError.{IpcError}
 use Rattle.arrow_spec.specs.declared.error.IpcError.TheVariants.{OutOfSpec}
-use Rattle.arrow_spec.specs.declared.error.OutOfSpecKind.TheVariants.{ExpectedBuffer, MissingVariadicCount, UnexpectedNegativeInteger}
+use Rattle.arrow_spec.specs.declared.error.OutOfSpecKind.TheVariants.{MissingVariadicCount, UnexpectedNegativeInteger}
 use Rattle.arrow_spec.specs.declared.message.FieldNode.{FieldNode}
 use Rattle.arrow_spec.specs.declared.message.IpcBuffer.{IpcBuffer}
 use Rattle.arrow_spec.specs.Readings.{IsAmong, Refuses}
 use Rattle.arrow_spec.specs.Kinds.{Kind, Fields, none, field}
-use Rattle.arrow_spec.specs.Counts.{RecordBatch, Place, is_negative, after, nodes, buffers, views, nodes_of, buffers_of, views_of}
-use Rattle.arrow_spec.specs.Faults.{cause, some_negative, counts_faults, view_count_faults, count_faults, place_in}
-use Rattle.arrow_types.specs.Child.{Child, fields_from}
+use Rattle.arrow_spec.specs.Counts.{RecordBatch, Place, is_negative, after, views}
+use Rattle.arrow_spec.specs.Faults.{cause, some_negative, counts_faults, count_faults, place_in}
+use Rattle.arrow_types.specs.Child.{Child}
 use Rattle.arrow_types.specs.KindOf.{kind_of, child_of, fields_of}
 use Rattle.arrow_types.specs.declared.data_type.ArrowDataType.{the_lemmas}
 use Rattle.arrow_types.specs.declared.data_type.Field.{Field}

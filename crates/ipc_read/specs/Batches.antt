@@ -1,8 +1,10 @@
 -- Record batches that are read from a source: what they mean, and how many bytes are fetched for them.
-use Rattle.std.specs.Prelude.{◌≡◌, ℕ, zero, suc, ◌+◌, ◌≤◌, List, [], ◌∷◌, map, Bool, true, false, Option, Some, None, nat_lt, ◌&&◌, ℤ, pos, slice_get}
+use Rattle.std.specs.Prelude.{◌≡◌, ℕ, zero, suc, ◌+◌, ◌≤◌, List, [], ◌∷◌, map, Bool, true, false, Option, Some, None, nat_eq, nat_lt, ◌&&◌, ℤ, pos, slice_get}
 use Rattle.arrow_spec.specs.Readings.{Reading, free_of, ◌>>=◌}
 use Rattle.arrow_spec.specs.Flat.{order_by}
-use Rattle.arrow_spec.specs.Kinds.{Kind, Fields, none, field}
+use Rattle.arrow_spec.specs.Kinds.{Kind, Fields, none, field, width, «list», struct, fixed_size_list, extension}
+use Rattle.arrow_spec.specs.Kinds as kind
+use Rattle.arrow_spec.specs.Schema.{first_is_struct_of_two}
 use Rattle.arrow_spec.specs.Messages.{BatchHeader}
 use Rattle.arrow_spec.specs.declared.message.MetadataVersion.{MetadataVersion}
 use Rattle.arrow_spec.specs.Counts.{RecordBatch, Place, first_place, after}
@@ -24,29 +26,40 @@ use Rattle.arrow_spec.specs.declared.error.Feature.TheVariants as features
 use Rattle.arrow_buffers.specs.Layouts.{binary_size}
 use Rattle.arrow_arrays.specs.Parts.{Parts, cells_in}
 use Rattle.arrow_arrays.specs.Batches.{Batch}
-use Rattle.arrow_arrays.specs.LeafKinds.{is_leaf_kind}
 use Rattle.ipc_read_laws.specs.Faults.{stated_of, fetched_at_most}
+use Rattle.ipc_read_laws.specs.Carried.{is_carried}
 use Rattle.ipc_read.specs.Skips.{is_plain_layout}
 
 -- ── the columns ──
 
--- columns of the kind may be read or refused: it has no children, is no dictionary, and is not of byte strings of size 0
+-- columns of a layout without children may be read or refused: no keys of a dictionary, and no byte strings of size 0
 abbrev pub is_column_layout : PhysicalType → ℕ → Bool
 is_column_layout FixedSizeBinary size = nat_lt 0 size
 is_column_layout layout size = is_plain_layout layout
 
-abbrev pub is_column_kind : Kind → Bool
-is_column_kind k = is_column_layout (physical_of k) (binary_size k)
+-- columns of the kind may be read or refused: the same of each kind in it; lists and maps have one child, maps a struct of two, and sizes are above 0
+abbrev mutual
+  pub is_column_kind : Kind → Bool
+  is_column_kind («list» o fs) = nat_eq (width fs) 1 && are_column_fields fs
+  is_column_kind (kind.map sorted fs) = (nat_eq (width fs) 1 && first_is_struct_of_two fs) && are_column_fields fs
+  is_column_kind (fixed_size_list size fs) = (nat_eq (width fs) 1 && nat_lt 0 size) && are_column_fields fs
+  is_column_kind (struct fs) = are_column_fields fs
+  is_column_kind (extension name metadata k) = is_column_kind k
+  is_column_kind k = is_column_layout (physical_of k) (binary_size k)
+
+  pub are_column_fields : Fields → Bool
+  are_column_fields none = true
+  are_column_fields (field name nullable metadata k others) = is_column_kind k && are_column_fields others
 
 -- the same of each field
 abbrev pub are_column_kinds : List Keyed → Bool
 are_column_kinds [] = true
 are_column_kinds (p ∷ ps) = is_column_kind p.1.kind && are_column_kinds ps
 
--- each field's kind is one that arrays have
-abbrev pub are_leaf_kinds : List Keyed → Bool
-are_leaf_kinds [] = true
-are_leaf_kinds (p ∷ ps) = is_leaf_kind p.1.kind && are_leaf_kinds ps
+-- each field's kind is one that is read
+abbrev pub are_carried_kinds : List Keyed → Bool
+are_carried_kinds [] = true
+are_carried_kinds (p ∷ ps) = is_carried p.1.kind && are_carried_kinds ps
 
 -- what of numbers, and of a layout, is not read
 abbrev pub unread_number : PrimitiveType → Option Feature

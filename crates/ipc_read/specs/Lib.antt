@@ -2,6 +2,8 @@ pub mod DataBuffers
 pub mod Queues
 pub mod Places
 pub mod Sources
+pub mod Lists
+pub mod CountedArrays
 pub mod Readers
 pub mod Skips
 pub mod Readings

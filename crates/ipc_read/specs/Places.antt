@@ -1,5 +1,5 @@
 -- Places behind one another in a record batch's tables, and what is missing between them. (Message.fbs, RecordBatch.)
-use Rattle.std.specs.Prelude.{ℕ, ◌+◌, ◌-◌, ◌≤◌, List, ◌++◌, length, take, drop, nat_lt}
+use Rattle.std.specs.Prelude.{◌+◌, ◌-◌, ◌≤◌, List, ◌++◌, length, take, drop, nat_lt}
 use Rattle.arrow_spec.specs.declared.error.IpcError.{IpcError}
 use Rattle.arrow_spec.specs.declared.error.IpcError.TheVariants.{OutOfSpec}
 use Rattle.arrow_spec.specs.declared.error.OutOfSpecKind.TheVariants.{MissingVariadicCount, UnexpectedNegativeInteger}

@@ -4,8 +4,8 @@ use Rattle.arrow_spec.specs.declared.error.IpcError.{IpcError}
 use Rattle.arrow_spec.specs.declared.message.FieldNode.{FieldNode}
 use Rattle.arrow_spec.specs.declared.message.IpcBuffer.{IpcBuffer}
 use Rattle.arrow_spec.specs.declared.message.MetadataVersion.{MetadataVersion}
-use Rattle.arrow_spec.specs.Kinds.{Kind}
-use Rattle.arrow_spec.specs.Counts.{RecordBatch, Place, after}
+use Rattle.arrow_spec.specs.Kinds.{Kind, Fields}
+use Rattle.arrow_spec.specs.Counts.{RecordBatch, Place, nodes_of, buffers_of, views_of, after}
 use Rattle.ipc_io.specs.Outside.{SourceKept}
 use Rattle.ipc_read_laws.specs.Faults.{read_faults, fetched_at_most}
 use Rattle.ipc_read.specs.declared.body.Body.{Body}
@@ -87,6 +87,12 @@ LeafShortened k ns ns' bs bs' = (version : MetadataVersion) (vs : List ℤ) → 
 
 abbrev pub ColumnShortened : Kind → List FieldNode → List FieldNode → List IpcBuffer → List IpcBuffer → List ℤ → List ℤ → Type 0
 ColumnShortened k ns ns' bs bs' vs vs' = (version : MetadataVersion) → ShortenedBy k version ns ns' bs bs' vs vs'
+
+-- and refused columns of some fields, one after another
+pub record ShortenedByAll (fs : Fields) (version : MetadataVersion) (ns ns' : List FieldNode) (bs bs' : List IpcBuffer) (vs vs' : List ℤ) : Type 0 where
+  pub nodes : Shortened ns (nodes_of fs) ns'
+  pub buffers : Shortened bs (buffers_of version vs fs 0) bs'
+  pub views : Shortened vs (views_of fs) vs'
 
 -- the node and the validity of the next array were taken
 abbrev pub HeadTaken : {X : Type 0} → List FieldNode → List FieldNode → List IpcBuffer → List IpcBuffer → Result X IpcError → Type 0
@@ -185,3 +191,7 @@ ShortensLeaf k r r' = LeafShortened k r.nodes.now.items r'.nodes.now.items r.buf
 abbrev pub ShortensColumn : {S : Type 0} → Kind → ColumnReader S → ColumnReader S → Type 0
 ShortensColumn k r r' =
     ColumnShortened k r.nodes.now.items r'.nodes.now.items r.buffers.queue.now.items r'.buffers.queue.now.items r.variadic.now.items r'.variadic.now.items
+
+abbrev pub ShortensColumns : {S : Type 0} → Fields → ColumnReader S → ColumnReader S → Type 0
+ShortensColumns fs r r' = (version : MetadataVersion) → ShortenedByAll fs version r.nodes.now.items r'.nodes.now.items
+    r.buffers.queue.now.items r'.buffers.queue.now.items r.variadic.now.items r'.variadic.now.items

@@ -11,14 +11,14 @@ ghost use Rattle.arrow_types.specs.KindOf.{kind_of};
 ghost use Rattle.arrow_types.specs.Schemas.{fields_in};
 ghost use Rattle.arrow_arrays.specs.Batches.{have_rows};
 ghost use Rattle.arrow_spec.specs.Flat.{order_by};
-ghost use Rattle.arrow_arrays.specs.LeafKinds.{is_leaf_kind};
+ghost use Rattle.ipc_read_laws.specs.Carried.{is_carried};
 ghost use Rattle.arrow_arrays.specs.Parts.{kind_in, rows_in, cells_in};
 ghost use Rattle.arrow_arrays.specs.PartsOf.{parts_of, all_parts_of};
 ghost use Rattle.ipc_read_laws.specs.Batches.{columns_read};
 ghost use Rattle.ipc_read_laws.specs.Faults.{fetched_at_most};
 ghost use Rattle.ipc_read_laws.specs.PartsRead.{parts_read};
 ghost use Rattle.ipc_schema.specs.Views.{header_of};
-ghost use Rattle.ipc_read.specs.Batches.{AreQueuesOf, table_in, are_column_kinds, are_leaf_kinds, batch_reading, table_of, batch_fetched, columns_fetched};
+ghost use Rattle.ipc_read.specs.Batches.{AreQueuesOf, table_in, are_column_kinds, are_carried_kinds, batch_reading, table_of, batch_fetched, columns_fetched};
 ghost use Rattle.arrow_spec.specs.Files.{record_batch_of};
 ghost use Rattle.ipc_read.specs.Readers.{QueuesAt, KnownTo, Readable, CanRead, KeepsQueues, FailsToReadColumn, HasReadCause, TakesColumn, FetchesColumn};
 ghost use Rattle.ipc_read.specs.Sources.{Answers, Inside, BodyReadCause, bytes_in};
@@ -38,7 +38,7 @@ use std::alloc::Global;
 impl<'n, 'a, S: Source> ColumnReader<'n, 'a, S> {
     /// A column: its node has exactly the batch's rows.
     fn read_column(&mut self, dtype: &ArrowDataType, rows: usize) -> Result<Array, IpcError>
-        requires leaf { is_leaf_kind (kind_of dtype.now) ≡ true }
+        requires held { is_carried (kind_of dtype.now) ≡ true }
         requires readable { CanRead S.content self.old.buffers }
         ensures takes { TakesColumn (kind_of dtype.now) self.old self.new result }
         ensures parts { (m : Batch) (p : Place) → QueuesAt m p self.old → KnownTo S.content self.old.buffers m → Answers (λ a. parts_of a) result (column_faults m [] (kind_of dtype.now) p rows rows) (parts_read m (kind_of dtype.now) p rows) }
@@ -54,7 +54,7 @@ impl<'n, 'a, S: Source> ColumnReader<'n, 'a, S> {
 
     /// All columns, one after another.
     fn read_columns(&mut self, schema: &ArrowSchema, rows: usize) -> Result<Vec<Array>, IpcError>
-        requires leaf { are_leaf_kinds schema.now ≡ true }
+        requires held { are_carried_kinds schema.now ≡ true }
         requires readable { CanRead S.content self.old.buffers }
         ensures gives { (m : Batch) → QueuesAt m first_place self.old → KnownTo S.content self.old.buffers m → Gives (λ v. map cells_in (all_parts_of v.items)) result (columns_at m [] None (fields_in schema.now) 0 first_place rows rows) }
         ensures parts { IfOk result (λ v. (m : Batch) → QueuesAt m first_place self.old → KnownTo S.content self.old.buffers m → all_parts_of v.items ≡ columns_read m (fields_in schema.now) first_place rows) }
@@ -100,7 +100,8 @@ impl<'n, 'a, S: Source> ColumnReader<'n, 'a, S> {
 }
 
 /// Reads a record batch whose body stands in a place of the source. The lengths of all buffers together are at most
-/// `size`. The columns' kinds have no children and are no dictionaries; the IPC schema has a field for each field.
+/// `size`. In the columns' kinds stand no lists of one size, no maps, no unions and no dictionaries; the IPC schema has a field for
+/// each field. The call goes as deep as the types' trees.
 ///
 /// # Errors
 ///

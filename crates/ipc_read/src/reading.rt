@@ -7,12 +7,13 @@ ghost use Rattle.arrow_types.specs.declared.physical.PhysicalType.TheVariants.{N
 ghost use Rattle.arrow_arrays.specs.LeafKinds.{is_leaf_kind};
 ghost use Rattle.arrow_arrays.specs.Parts.{kind_in, rows_in, cells_in};
 ghost use Rattle.arrow_arrays.specs.PartsOf.{parts_of};
-ghost use Rattle.ipc_read_laws.specs.PartsRead.{parts_read, numbers_bytes};
+ghost use Rattle.ipc_read_laws.specs.PartsRead.{plain_read, parts_read, numbers_bytes};
 ghost use Rattle.arrow_spec.specs.Laws.{AreBytes};
 ghost use Rattle.arrow_spec.specs.Arrays.{from_on};
 ghost use Rattle.arrow_spec.specs.ArrayCells.{cell};
+ghost use Rattle.ipc_read_laws.specs.Carried.{is_carried};
 ghost use Rattle.ipc_read.specs.Readings.{is_of_values, is_of_views};
-ghost use Rattle.ipc_read.specs.Readers.{LeafAt, KnownTo, Readable, HasReadCause, ColumnTaken, ColumnGiven, ColumnFetched, ColumnShortened, CanRead, KeepsQueues, FailsToReadColumn, TakesLeaf, GivesLeaf, FetchesLeaf, ShortensLeaf, TakesColumn, GivesColumn, FetchesColumn, ShortensColumn};
+ghost use Rattle.ipc_read.specs.Readers.{LeafAt, QueuesAt, KnownTo, Readable, HasReadCause, ColumnTaken, ColumnGiven, ColumnFetched, ColumnShortened, CanRead, KeepsQueues, FailsToReadColumn, TakesLeaf, GivesLeaf, FetchesLeaf, ShortensLeaf, TakesColumn, GivesColumn, FetchesColumn, ShortensColumn};
 ghost use Rattle.ipc_io.specs.Outside.{SourceKept};
 
 use crate::Body;
@@ -36,7 +37,7 @@ impl<'n, 'a, S: Source> ColumnReader<'n, 'a, S> {
         requires kind { physical_of (kind_of dtype.now) ≡ Null }
         requires readable { CanRead S.content self.old.buffers }
         ensures takes { TakesLeaf (kind_of dtype.now) self.old self.new result }
-        ensures parts { GivesLeaf S.content self.old (λ a. parts_of a) result (kind_of dtype.now) rows (λ m p. parts_read m (kind_of dtype.now) p rows) }
+        ensures parts { GivesLeaf S.content self.old (λ a. parts_of a) result (kind_of dtype.now) rows (λ m p. plain_read m (kind_of dtype.now) p rows) }
         ensures shortened { ShortensLeaf (kind_of dtype.now) self.old self.new }
         ensures counts { self.new.variadic.now.items ≡ self.old.variadic.now.items }
         ensures shape { IfOk result (λ a. (kind_in (parts_of a) ≡ (kind_of dtype.now)) × (rows_in (parts_of a) ≡ rows)) }
@@ -59,7 +60,7 @@ impl<'n, 'a, S: Source> ColumnReader<'n, 'a, S> {
         requires kind { physical_of (kind_of dtype.now) ≡ Primitive primitive }
         requires readable { CanRead S.content self.old.buffers }
         ensures takes { TakesLeaf (kind_of dtype.now) self.old self.new result }
-        ensures parts { GivesLeaf S.content self.old (λ a. parts_of a) result (kind_of dtype.now) rows (λ m p. parts_read m (kind_of dtype.now) p rows) }
+        ensures parts { GivesLeaf S.content self.old (λ a. parts_of a) result (kind_of dtype.now) rows (λ m p. plain_read m (kind_of dtype.now) p rows) }
         ensures shortened { ShortensLeaf (kind_of dtype.now) self.old self.new }
         ensures counts { self.new.variadic.now.items ≡ self.old.variadic.now.items }
         ensures shape { IfOk result (λ a. (kind_in (parts_of a) ≡ (kind_of dtype.now)) × (rows_in (parts_of a) ≡ rows)) }
@@ -102,7 +103,7 @@ impl<'n, 'a, S: Source> ColumnReader<'n, 'a, S> {
         requires kind { physical_of (kind_of dtype.now) ≡ layout }
         requires readable { CanRead S.content self.old.buffers }
         ensures takes { TakesLeaf (kind_of dtype.now) self.old self.new result }
-        ensures parts { GivesLeaf S.content self.old (λ a. parts_of a) result (kind_of dtype.now) rows (λ m p. parts_read m (kind_of dtype.now) p rows) }
+        ensures parts { GivesLeaf S.content self.old (λ a. parts_of a) result (kind_of dtype.now) rows (λ m p. plain_read m (kind_of dtype.now) p rows) }
         ensures shortened { ShortensLeaf (kind_of dtype.now) self.old self.new }
         ensures counts { self.new.variadic.now.items ≡ self.old.variadic.now.items }
         ensures shape { IfOk result (λ a. (kind_in (parts_of a) ≡ (kind_of dtype.now)) × (rows_in (parts_of a) ≡ rows)) }
@@ -151,7 +152,7 @@ impl<'n, 'a, S: Source> ColumnReader<'n, 'a, S> {
         requires kind { physical_of (kind_of dtype.now) ≡ layout }
         requires readable { CanRead S.content self.old.buffers }
         ensures takes { TakesColumn (kind_of dtype.now) self.old self.new result }
-        ensures parts { GivesColumn S.content self.old (λ a. parts_of a) result (kind_of dtype.now) rows (λ m p. parts_read m (kind_of dtype.now) p rows) }
+        ensures parts { GivesColumn S.content self.old (λ a. parts_of a) result (kind_of dtype.now) rows (λ m p. plain_read m (kind_of dtype.now) p rows) }
         ensures shortened { ShortensColumn (kind_of dtype.now) self.old self.new }
         ensures shape { IfOk result (λ a. (kind_in (parts_of a) ≡ (kind_of dtype.now)) × (rows_in (parts_of a) ≡ rows)) }
         ensures cause { FailsToReadColumn S.faults self.old self.new result }
@@ -171,8 +172,8 @@ impl<'n, 'a, S: Source> ColumnReader<'n, 'a, S> {
         }
     }
 
-    /// The next array, as far as its first rows go.
-    pub(crate) fn read_array(
+    /// An array of a kind without children.
+    pub(crate) fn read_plain(
         &mut self,
         dtype: &ArrowDataType,
         rows: usize,
@@ -180,13 +181,13 @@ impl<'n, 'a, S: Source> ColumnReader<'n, 'a, S> {
         requires leaf { is_leaf_kind (kind_of dtype.now) ≡ true }
         requires readable { CanRead S.content self.old.buffers }
         ensures takes { TakesColumn (kind_of dtype.now) self.old self.new result }
-        ensures parts { GivesColumn S.content self.old (λ a. parts_of a) result (kind_of dtype.now) rows (λ m p. parts_read m (kind_of dtype.now) p rows) }
+        ensures parts { GivesColumn S.content self.old (λ a. parts_of a) result (kind_of dtype.now) rows (λ m p. plain_read m (kind_of dtype.now) p rows) }
         ensures shortened { ShortensColumn (kind_of dtype.now) self.old self.new }
         ensures shape { IfOk result (λ a. (kind_in (parts_of a) ≡ (kind_of dtype.now)) × (rows_in (parts_of a) ≡ rows)) }
         ensures cause { FailsToReadColumn S.faults self.old self.new result }
         ensures keeps { KeepsQueues S.content S.faults S.references self.old self.new }
         ensures fetched { FetchesColumn S.fetched (kind_of dtype.now) self.old self.new rows }
-        ensures cells { GivesColumn S.content self.old (λ a. cells_in (parts_of a)) result (kind_of dtype.now) rows (λ m p. from_on (cell m [] (kind_of dtype.now) p) 0 rows) }
+        ensures bytes { IfOk result (λ _. (m : Batch) (p : Place) → QueuesAt m p self.old → KnownTo S.content self.old.buffers m → AreBytes (numbers_bytes m (kind_of dtype.now) p rows)) }
     {
         let layout = dtype.to_physical_type();
         match layout {
@@ -206,8 +207,8 @@ impl<'n, 'a, S: Source> ColumnReader<'n, 'a, S> {
     }
 }
 
-/// The next array, as far as its first rows go. The kind has no children and is no dictionary, no float and no decimal
-/// of 256 bits.
+/// The next array, as far as its first rows go, with its children. The type is one of those that `is_carried` tells:
+/// in it stand no unions, no dictionaries, no floats and no decimals of 256 bits, and no size is 0. The call goes as deep as the type's tree.
 ///
 /// # Errors
 ///
@@ -228,7 +229,7 @@ pub fn read<S: Source>(
     version: MetadataVersion,
     scratch: &mut Vec<u8>,
 ) -> Result<Array, IpcError>
-    requires leaf { is_leaf_kind (kind_of field.now.dtype) ≡ true }
+    requires held { is_carried (kind_of field.now.dtype) ≡ true }
     requires readable { Readable (S.content source.old) body }
     ensures queues { ColumnTaken (kind_of field.now.dtype) nodes.old.items nodes.new.items buffers.old.items buffers.new.items variadic.old.items variadic.new.items result }
     ensures parts { ColumnGiven (S.content source.old) body is_little_endian nodes.old.items buffers.old.items variadic.old.items (λ a. parts_of a) result (kind_of field.now.dtype) rows (λ m p. parts_read m (kind_of field.now.dtype) p rows) }

@@ -7,18 +7,20 @@ ghost use Rattle.arrow_spec.specs.declared.message.MetadataVersion.{MetadataVers
 ghost use Rattle.arrow_spec.specs.declared.error.IpcError.TheVariants.{Memory};
 ghost use Rattle.arrow_spec.specs.Counts.{RecordBatch as Batch};
 ghost use Rattle.arrow_spec.specs.Faults.{top_node_faults};
-ghost use Rattle.arrow_spec.specs.Features.{float_faults, chosen_floats};
+ghost use Rattle.arrow_spec.specs.Features.{float_faults, floats_in, chosen_floats};
 ghost use Rattle.arrow_spec.specs.Files.{none_negative, lengths_sum, batch_of_tables, to_read, all_asked};
-ghost use Rattle.arrow_types.specs.KindOf.{kind_of};
+ghost use Rattle.arrow_types.specs.KindOf.{kind_of, fields_of};
 ghost use Rattle.arrow_types.specs.Physical.{physical_of};
 ghost use Rattle.arrow_types.specs.Schemas.{fields_in};
 ghost use Rattle.ipc_schema.specs.Views.{header_of};
-ghost use Rattle.ipc_read.specs.Batches.{AreQueuesOf, MayBeRead, IsFieldAt, are_column_kinds, are_leaf_kinds, unread_feature, unread_number};
+ghost use Rattle.ipc_read.specs.Batches.{AreQueuesOf, MayBeRead, IsFieldAt, is_column_kind, are_column_fields, are_column_kinds, are_carried_kinds, unread_feature, unread_number};
 ghost use Rattle.ipc_read.specs.Queues.{Left};
 ghost use Rattle.ipc_read.specs.Skips.{IsDamage, is_plain_kind};
 ghost use Rattle.ipc_read.specs.Sources.{Answers, IsRefusal};
 
+use crate::children::counted_fields;
 use crate::integers::{is_negative, magnitude};
+use crate::lists::list_child;
 use arrow_spec::{Feature, FieldNode, IpcBuffer, IpcError, OutOfSpecKind};
 use arrow_types::{ArrowDataType, ArrowSchema, Field, PhysicalType, PrimitiveType};
 use ipc_schema::BatchHeader;
@@ -115,8 +117,37 @@ fn unread_numbers(primitive: PrimitiveType) -> Option<Feature>
     }
 }
 
-/// Floats and decimals of 256 bits are not read.
+/// Floats and decimals of 256 bits are not read, nor lists, maps and structs of them.
+#[cycle(check)]
 fn check_kind(dtype: &ArrowDataType) -> Result<(), IpcError>
+    requires column { is_column_kind (kind_of dtype.now) ≡ true }
+    ensures exact { Answers (λ u. u) result (float_faults (kind_of dtype.now)) tt }
+    ensures cause { IfErr result IsRefusal }
+{
+    match counted_fields(dtype) {
+        Some((children, _)) => check_children(children),
+        None => match list_child(dtype) {
+            Some((child, _)) => check_kind(&child.dtype),
+            None => check_plain(dtype),
+        },
+    }
+}
+
+/// The same of each child.
+#[cycle(check)]
+fn check_children(children: &[Field]) -> Result<(), IpcError>
+    requires columns { are_column_fields (fields_of children.now) ≡ true }
+    ensures exact { Answers (λ u. u) result (floats_in (fields_of children.now)) tt }
+    ensures cause { IfErr result IsRefusal }
+{
+    for child in children {
+        check_kind(&child.dtype)?;
+    }
+    Ok(())
+}
+
+/// The same of a type without children.
+fn check_plain(dtype: &ArrowDataType) -> Result<(), IpcError>
     requires plain { is_plain_kind (kind_of dtype.now) ≡ true }
     ensures exact { Answers (λ u. u) result (float_faults (kind_of dtype.now)) tt }
     ensures cause { IfErr result IsRefusal }
@@ -142,7 +173,7 @@ pub(crate) fn field_at(schema: &ArrowSchema, i: usize) -> &Field
 pub(crate) fn check_kinds(schema: &ArrowSchema) -> Result<(), IpcError>
     requires columns { are_column_kinds schema.now ≡ true }
     ensures exact { Answers (λ u. u) result (chosen_floats None (fields_in schema.now) 0) tt }
-    ensures leaf { IfOk result (λ _. are_leaf_kinds schema.now ≡ true) }
+    ensures held { IfOk result (λ _. are_carried_kinds schema.now ≡ true) }
     ensures cause { IfErr result IsRefusal }
 {
     for i in 0..schema.len() {

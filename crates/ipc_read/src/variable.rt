@@ -76,13 +76,14 @@ fn make_variable<O: Offset, V: ViewType>(
 
 impl<'a, S: Source> BufferReader<'a, S> {
     /// Takes the next buffer, and reads one offset more than there are rows. Where there are none the buffer is not looked at, and there is the offset 0.
-    fn read_offsets<O: Offset>(&mut self, rows: usize) -> Result<Buffer<O>, IpcError>
+    pub(crate) fn read_offsets<O: Offset>(&mut self, rows: usize) -> Result<Buffer<O>, IpcError>
         requires few { rows < 2 ^ 63 }
         requires readable { CanRead S.content self.old }
         ensures takes { TakesBuffer self.old self.new result }
         ensures gives { GivesNumbers S.content self.old (λ b. map O.number b) result (λ m i. short_of m.buffers i ++ faults_where rows (offsets_buffer_faults m (offsets_by O.IS_LARGE) i rows)) (λ m i. offsets_of_rows m (offsets_by O.IS_LARGE) i rows) }
         ensures shortened { ShortensBuffers 1 self.old self.new }
         ensures rows { IfOk result (λ b. length b ≡ rows + 1) }
+        ensures none { IfOk result (λ b. rows ≡ 0 → map O.number b ≡ pos 0 ∷ []) }
         ensures cause { FailsToRead S.faults self.old self.new result }
         ensures keeps { KeepsSource S.content S.faults S.references self.old self.new }
         ensures fetched { FetchesBuffer S.fetched self.old self.new (λ m i. bytes_where rows (stated m i)) }

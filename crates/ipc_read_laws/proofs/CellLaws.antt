@@ -21,11 +21,11 @@ use Rattle.arrow_buffers.specs.Leaf.{fixed_row}
 use Rattle.arrow_buffers.specs.Variable.{variable_cells, row_bytes}
 use Rattle.arrow_buffers.specs.Views.{view_cells, view_at, view_bytes}
 use Rattle.arrow_buffers.proofs.Parts.{shift-from_on}
-use Rattle.arrow_arrays.specs.Parts.{number_size, cells_in, number_cell, layout_cell}
+use Rattle.arrow_arrays.specs.LeafParts.{number_size, leaf_cells_in, number_cell, layout_cell}
+use Rattle.arrow_arrays.specs.Parts.{cells_in}
 use Rattle.arrow_arrays.specs.LeafKinds.{is_leaf_kind}
-use Rattle.ipc_read_laws.specs.PartsRead.{parts_in, parts_read, numbers_bytes, bytes_of_rows, validity_read, variable_read, views_read, number_read, item_bytes}
-use Rattle.arrow_types.specs.BytesBack.{take_bytes}
-use Rattle.ipc_read_laws.proofs.Buffers.{buf_bytes, part_bytes, map-from_on, numbers_held}
+use Rattle.ipc_read_laws.specs.PartsRead.{parts_in, plain_read, numbers_bytes, bytes_of_rows, validity_read, variable_read, views_read, number_read, item_bytes}
+use Rattle.ipc_read_laws.proofs.Buffers.{part_bytes, map-from_on, numbers_held}
 use Rattle.ipc_read_laws.proofs.Validities.{masked-read, valid_cells}
 use Rattle.ipc_read_laws.proofs.KindCases.{IsNumbers, by_kind, Like, like_itself, primitive_at}
 use Rattle.ipc_read_laws.proofs.NumbersBack.{number_cell-read}
@@ -39,7 +39,7 @@ pub masked_same : (m : RecordBatch) (p : Place) (rows : ℕ) (f g : ℕ → Cell
 masked_same m p rows f g h = masked-read m p rows f ∙ valid_cells m p rows f g h
 
 abbrev CellsRead : RecordBatch → Dictionaries → Place → ℕ → Kind → Type 0
-CellsRead m d p rows k = (l : Kind) → Like l k → AreBytes (numbers_bytes m k p rows) → array_faults m d k p rows ≡ [] → cells_in (parts_in (physical_of k) m l p rows) ≡ from_on (cell m d k p) 0 rows
+CellsRead m d p rows k = (l : Kind) → Like l k → AreBytes (numbers_bytes m k p rows) → array_faults m d k p rows ≡ [] → leaf_cells_in (parts_in (physical_of k) m l p rows) ≡ from_on (cell m d k p) 0 rows
 
 nulls_told : (i n : ℕ) → replicate n cells.null ≡ from_on (λ row. cells.null) i n
 nulls_told i zero = refl
@@ -58,7 +58,7 @@ numbers_held_by m d p n t k is h =
     numbers_held m (p.buffer + 1) (primitive_size t) (suc n) (none_second (validity_faults m p (suc n)) _ fixed)
 
 cells_numbers : (m : RecordBatch) (d : Dictionaries) (p : Place) (rows : ℕ) (t : PrimitiveType) (k : Kind) → IsNumbers t k → CellsRead m d p rows k
-cells_numbers m d p zero t k is l like b h = ap (λ x. cells_in (parts_in x m l p 0)) is.layout
+cells_numbers m d p zero t k is l like b h = ap (λ x. leaf_cells_in (parts_in x m l p 0)) is.layout
 cells_numbers m d p (suc n) t k is l like b h =
     let rows = suc n in
     let held = numbers_held_by m d p n t k is h in
@@ -68,7 +68,7 @@ cells_numbers m d p (suc n) t k is l like b h =
     let bytes : AreBytes (bytes_of_rows m size (p.buffer + 1) rows) = subst (λ s. AreBytes (take (s * suc n) (buf m (p.buffer + 1)))) (ap number_size is.layout) b in
     let item : (row : ℕ) → row < rows → AreBytes (item_bytes m (p.buffer + 1) size row) = λ row lt. subst (λ x. AreBytes x) (row-of_rows m size (p.buffer + 1) rows row lt) (part_bytes (size * row) size (bytes_of_rows m size (p.buffer + 1) rows) bytes) in
     let here : (row : ℕ) → row < rows → number_cell l (read row) ≡ told row = λ row lt. ap (λ x. layout_cell x (read row)) (like.layout ∙ is.layout) ∙ number_cell-read t m p row rows (item row lt) lt held in
-    ap (λ x. cells_in (parts_in x m l p rows)) is.layout
+    ap (λ x. leaf_cells_in (parts_in x m l p rows)) is.layout
     ∙ ap (masked (validity_read m p rows)) (map-from_on (number_cell l) read 0 rows)
     ∙ masked_same m p rows (λ row. number_cell l (read row)) told (λ row lt v. here row lt)
     ∙ shift-from_on (λ row. if_valid m p row (told row)) (cell m d k p) 0 0 rows (λ row lt. sym (is.cells m d p (0 + row)))
@@ -132,8 +132,8 @@ cells_text_views m d p (suc n) l like b h =
     cells_led true m l p n (sound_first _ _ of) (none_first _ _ (sound_second (view_parts_faults m p (suc n)) _ of))
 
 -- an array that is not refused, and whose numbers are of bytes, is read with its cells
-pub cells_read_of : (m : RecordBatch) (d : Dictionaries) (k : Kind) (p : Place) (rows : ℕ) → is_leaf_kind k ≡ true → AreBytes (numbers_bytes m k p rows) → array_faults m d k p rows ≡ [] → cells_in (parts_read m k p rows) ≡ from_on (cell m d k p) 0 rows
-cells_read_of m d k p rows leaf b h = by_kind (CellsRead m d p rows) (record {
+pub cells_under : (m : RecordBatch) (d : Dictionaries) (k l : Kind) (p : Place) (rows : ℕ) → is_leaf_kind k ≡ true → Like l k → AreBytes (numbers_bytes m k p rows) → array_faults m d k p rows ≡ [] → leaf_cells_in (parts_in (physical_of k) m l p rows) ≡ from_on (cell m d k p) 0 rows
+cells_under m d k l p rows leaf like b h = by_kind (CellsRead m d p rows) (record {
   on_null = λ l like b h. nulls_told 0 rows;
   on_bits = cells_bits m d p rows;
   on_numbers = cells_numbers m d p rows;
@@ -143,8 +143,7 @@ cells_read_of m d k p rows leaf b h = by_kind (CellsRead m d p rows) (record {
   on_binary_view = cells_views m d p rows;
   on_text_view = cells_text_views m d p rows;
   on_extension = λ name metadata k f l like b h. f l (record { layout = like.layout; size = like.size }) b h;
-}) k leaf k (like_itself k) b h
+}) k leaf l like b h
 
--- and so is one of a body of bytes
-pub cells_read : (m : RecordBatch) (d : Dictionaries) (k : Kind) (p : Place) (rows : ℕ) → is_leaf_kind k ≡ true → AreBytes m.body → array_faults m d k p rows ≡ [] → cells_in (parts_read m k p rows) ≡ from_on (cell m d k p) 0 rows
-cells_read m d k p rows leaf b h = cells_read_of m d k p rows leaf (take_bytes (number_size (physical_of k) * rows) (buf m (p.buffer + 1)) (buf_bytes m (p.buffer + 1) b)) h
+pub cells_read_of : (m : RecordBatch) (d : Dictionaries) (k : Kind) (p : Place) (rows : ℕ) → is_leaf_kind k ≡ true → AreBytes (numbers_bytes m k p rows) → array_faults m d k p rows ≡ [] → cells_in (plain_read m k p rows) ≡ from_on (cell m d k p) 0 rows
+cells_read_of m d k p rows leaf b h = cells_under m d k k p rows leaf (like_itself k) b h

@@ -19,9 +19,10 @@ use Rattle.arrow_buffers.specs.Layouts.{is_variable_any}
 use Rattle.arrow_buffers.specs.Variable.{are_offsets, has_bad_text}
 use Rattle.arrow_buffers.specs.Views.{has_bad_view, has_bad_view_text}
 use Rattle.arrow_buffers.proofs.Parts.{length-from_on}
+use Rattle.arrow_arrays.specs.LeafParts.{leaf_fault_in}
 use Rattle.arrow_arrays.specs.Parts.{fault_in}
 use Rattle.arrow_arrays.specs.LeafKinds.{is_leaf_kind}
-use Rattle.ipc_read_laws.specs.PartsRead.{parts_in, parts_read, validity_read}
+use Rattle.ipc_read_laws.specs.PartsRead.{parts_in, plain_read, validity_read}
 use Rattle.ipc_read_laws.specs.LeftFaults.{IsLeft}
 use Rattle.ipc_read_laws.specs.LayoutFaults.{buffers_faults, between_faults}
 use Rattle.ipc_read_laws.proofs.Buffers.{numbers_held}
@@ -64,7 +65,7 @@ behind xs ys h = rw h refl
 
 -- the statement at a kind, for the parts under another kind of the same layout
 abbrev Left : RecordBatch → Dictionaries → Place → ℕ → Kind → Type 0
-Left m d p rows k = (l : Kind) → Like l k → buffers_faults m k p rows ≡ [] → IsLeft (fault_in (parts_in (physical_of k) m l p rows)) (array_faults m d k p rows)
+Left m d p rows k = (l : Kind) → Like l k → buffers_faults m k p rows ≡ [] → IsLeft (leaf_fault_in (parts_in (physical_of k) m l p rows)) (array_faults m d k p rows)
 
 null_left : (m : RecordBatch) (d : Dictionaries) (p : Place) (rows : ℕ) → Left m d p rows kinds.null
 null_left m d p zero l like h = nothing_left _ _ (rw like.layout refl) h
@@ -76,10 +77,10 @@ bits_left m d p (suc n) l like h = nothing_left _ _ (leaf_fault-read _ m p (suc 
 
 numbers_left : (m : RecordBatch) (d : Dictionaries) (p : Place) (rows : ℕ) (t : PrimitiveType) (k : Kind) → IsNumbers t k → Left m d p rows k
 numbers_left m d p zero t k n l like h =
-    nothing_left _ _ (ap (λ x. fault_in (parts_in x m l p 0)) n.layout ∙ numbers_fault-read t m l p 0 (like.layout ∙ n.layout) n.sized)
+    nothing_left _ _ (ap (λ x. leaf_fault_in (parts_in x m l p 0)) n.layout ∙ numbers_fault-read t m l p 0 (like.layout ∙ n.layout) n.sized)
     (n.none m d p ∙ sym (n.none m [] p) ∙ sym (n.buffers m p 0) ∙ h)
 numbers_left m d p (suc r) t k n l like h =
-    nothing_left _ _ (ap (λ x. fault_in (parts_in x m l p (suc r))) n.layout ∙ numbers_fault-read t m l p (suc r) (like.layout ∙ n.layout) n.sized)
+    nothing_left _ _ (ap (λ x. leaf_fault_in (parts_in x m l p (suc r))) n.layout ∙ numbers_fault-read t m l p (suc r) (like.layout ∙ n.layout) n.sized)
     (n.faults m d p r ∙ sym (n.faults m [] p r) ∙ sym (n.buffers m p (suc r)) ∙ h)
 
 -- the rows of byte strings of one size are all there
@@ -89,7 +90,7 @@ fixed_held m d p size (suc n) h =
     let fixed : fixed_faults m p size (suc n) ≡ [] = none_second (node_faults m p (suc n)) _ h in
     numbers_held m (p.buffer + 1) size (suc n) (none_second (validity_faults m p (suc n)) _ fixed)
 
-fixed_fine : (m : RecordBatch) (p : Place) (size rows : ℕ) (l : Kind) → nat_lt 0 size ≡ true → Like l (kinds.fixed_size_binary size) → array_faults m [] (kinds.fixed_size_binary size) p rows ≡ [] → fault_in (parts_in physical.FixedSizeBinary m l p rows) ≡ None
+fixed_fine : (m : RecordBatch) (p : Place) (size rows : ℕ) (l : Kind) → nat_lt 0 size ≡ true → Like l (kinds.fixed_size_binary size) → array_faults m [] (kinds.fixed_size_binary size) p rows ≡ [] → leaf_fault_in (parts_in physical.FixedSizeBinary m l p rows) ≡ None
 fixed_fine m p size rows l above like h =
     fixed_fault-read m l p rows (rw like.size above) (rw like.size (fixed_held m [] p size rows h))
 
@@ -164,6 +165,9 @@ left_cases m d p rows = record {
   on_extension = λ name metadata k f l like h. f l (record { layout = like.layout; size = like.size }) h;
 }
 
--- with the buffers themselves well, the faults that are left are those that are found in the parts
-pub fault_read : (m : RecordBatch) (d : Dictionaries) (k : Kind) (p : Place) (rows : ℕ) → is_leaf_kind k ≡ true → buffers_faults m k p rows ≡ [] → IsLeft (fault_in (parts_read m k p rows)) (array_faults m d k p rows)
-fault_read m d k p rows leaf h = by_kind (Left m d p rows) (left_cases m d p rows) k leaf k (like_itself k) h
+-- with the buffers themselves well, the faults that are left are those that are found in the parts, also under a label
+pub fault_under : (m : RecordBatch) (d : Dictionaries) (k l : Kind) (p : Place) (rows : ℕ) → is_leaf_kind k ≡ true → Like l k → buffers_faults m k p rows ≡ [] → IsLeft (leaf_fault_in (parts_in (physical_of k) m l p rows)) (array_faults m d k p rows)
+fault_under m d k l p rows leaf like h = by_kind (Left m d p rows) (left_cases m d p rows) k leaf l like h
+
+pub fault_read : (m : RecordBatch) (d : Dictionaries) (k : Kind) (p : Place) (rows : ℕ) → is_leaf_kind k ≡ true → buffers_faults m k p rows ≡ [] → IsLeft (fault_in (plain_read m k p rows)) (array_faults m d k p rows)
+fault_read m d k p rows leaf h = fault_under m d k k p rows leaf (like_itself k) h

@@ -10,3 +10,9 @@ pub mod SoundLaws
 pub mod CellLaws
 pub mod WrittenLaws
 pub mod LayoutLaws
+pub mod Labels
+pub mod Trees
+pub mod TreesSound
+pub mod TreesCells
+pub mod SparseUnions
+pub mod TreesWritten

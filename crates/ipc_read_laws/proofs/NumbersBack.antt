@@ -1,9 +1,9 @@
 -- A number that is read and held as its bytes is the number that the record batch has.
-use Rattle.std.proofs.Common.{◌≡◌, ℕ, zero, suc, ◌+◌, ◌-◌, ◌*◌, ◌^◌, ◌<◌, ◌≤◌, List, length, take, drop, ℤ, pos, refl, sym, ap, ◌∙◌, arith}
+use Rattle.std.proofs.Common.{◌≡◌, ℕ, suc, ◌+◌, ◌*◌, ◌<◌, ◌≤◌, List, length, take, drop, ℤ, pos, refl, sym, ap, ◌∙◌, arith}
 use Rattle.std.specs.Int.{Width, w8, w16, w32, w64, w128, byte_len, cast_signed}
 use Rattle.std.proofs.lemmas.Int.{of_z-to_z}
 use Rattle.std.proofs.lemmas.List.{drop-take, drop-drop}
-use Rattle.arrow_spec.specs.Flat.{Order, little, big, num, from_bytes}
+use Rattle.arrow_spec.specs.Flat.{Order, little, num, from_bytes}
 use Rattle.arrow_spec.specs.Kinds.{Kind}
 use Rattle.arrow_spec.specs.Cells.{number, interval}
 use Rattle.arrow_spec.specs.Counts.{RecordBatch, Place}
@@ -15,7 +15,7 @@ use Rattle.arrow_types.specs.BytesBack.{number_fits, take_bytes, drop_bytes}
 use Rattle.arrow_types.specs.declared.physical.PrimitiveType.{PrimitiveType}
 use Rattle.arrow_types.specs.declared.physical.PrimitiveType.TheVariants as primitive
 use Rattle.arrow_buffers.proofs.Parts.{part-part}
-use Rattle.arrow_arrays.specs.Parts.{as_bytes, primitive_cell}
+use Rattle.arrow_arrays.specs.LeafParts.{as_bytes, primitive_cell}
 use Rattle.arrow_types.specs.Physical.{primitive_size}
 use Rattle.ipc_read_laws.specs.PartsRead.{number_read, item_bytes, primitive_read}
 use Rattle.ipc_read_laws.proofs.Buffers.{map-from_on}

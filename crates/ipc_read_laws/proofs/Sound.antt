@@ -20,7 +20,7 @@ use Rattle.arrow_buffers.specs.Leaf.{leaf_fault, fixed_fault}
 use Rattle.arrow_buffers.specs.Variable.{are_offsets, has_bad_text, variable_fault}
 use Rattle.arrow_buffers.specs.Views.{has_bad_view, has_bad_view_text, view_fault}
 use Rattle.arrow_buffers.proofs.Parts.{length-from_on}
-use Rattle.arrow_arrays.specs.Parts.{numbers, fault_in, number_size}
+use Rattle.arrow_arrays.specs.LeafParts.{numbers, leaf_fault_in, number_size}
 use Rattle.ipc_read_laws.specs.PartsRead.{validity_read, primitive_read, fixed_read, variable_read, views_read, bytes_of_rows, number_read, item_bytes}
 use Rattle.ipc_read_laws.proofs.Buffers.{numbers_held, all-from_on}
 use Rattle.ipc_read_laws.proofs.Validities.{has_rows-read}
@@ -35,7 +35,7 @@ pub leaf_fault-read : (suits : Bool) (m : RecordBatch) (p : Place) (rows n : ℕ
 leaf_fault-read suits m p rows n s e = rw (s, e, has_rows-read m p rows) refl
 
 -- nor with numbers
-pub numbers_fault-read : (t : PrimitiveType) (m : RecordBatch) (l : Kind) (p : Place) (rows : ℕ) → physical_of l ≡ physical.Primitive t → nat_lt 0 (primitive_size t) ≡ true → fault_in (numbers (primitive_read (number_read t) (primitive_size t) m l p rows)) ≡ None
+pub numbers_fault-read : (t : PrimitiveType) (m : RecordBatch) (l : Kind) (p : Place) (rows : ℕ) → physical_of l ≡ physical.Primitive t → nat_lt 0 (primitive_size t) ≡ true → leaf_fault_in (numbers (primitive_read (number_read t) (primitive_size t) m l p rows)) ≡ None
 numbers_fault-read t m l p rows e s =
     let size : number_size (physical_of l) ≡ primitive_size t = ap number_size e in
     let read : ℕ → List ℕ = λ j. number_read t m.order (item_bytes m (p.buffer + 1) (primitive_size t) j) in

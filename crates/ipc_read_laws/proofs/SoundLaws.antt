@@ -19,17 +19,16 @@ use Rattle.arrow_buffers.specs.declared.error.ArrayError.{ArrayError}
 use Rattle.arrow_buffers.specs.declared.error.ArrayError.TheVariants.{DataType, Length, Offsets as BadOffsets, UnionType, Utf8, View, Key, Memory}
 use Rattle.arrow_buffers.specs.Variable.{variable_rows}
 use Rattle.arrow_buffers.proofs.Parts.{length-from_on}
-use Rattle.arrow_arrays.specs.Parts.{fault_in, kind_in, rows_in}
+use Rattle.arrow_arrays.specs.LeafParts.{leaf_fault_in, leaf_kind_in, leaf_rows_in}
 use Rattle.arrow_arrays.specs.LeafKinds.{is_leaf_kind}
-use Rattle.ipc_read_laws.specs.PartsRead.{parts_in, parts_read, variable_read, views_read}
+use Rattle.ipc_read_laws.specs.PartsRead.{parts_in, variable_read, views_read}
 use Rattle.ipc_read_laws.specs.LeftFaults.{IsLeft}
 use Rattle.ipc_read_laws.specs.LayoutFaults.{buffers_faults, between_faults}
-use Rattle.ipc_read_laws.specs.Laws.{PartsAreSound}
-use Rattle.ipc_read_laws.proofs.KindCases.{IsNumbers, by_kind, Like, like_itself}
+use Rattle.ipc_read_laws.proofs.KindCases.{IsNumbers, by_kind, Like}
 use Rattle.ipc_read_laws.proofs.OffsetsRead.{rows-told}
 use Rattle.ipc_read_laws.proofs.ViewsRead.{count-rows}
 use Rattle.ipc_read_laws.proofs.Sound.{views_held}
-use Rattle.ipc_read_laws.proofs.FaultLaws.{fixed_held, fault_read}
+use Rattle.ipc_read_laws.proofs.FaultLaws.{fixed_held, fault_under}
 
 -- ── nothing is wrong with the buffers ──
 
@@ -109,8 +108,10 @@ none_found (Some Key) h = absurd h
 none_found (Some Memory) h = absurd h
 
 -- an array that is not refused is read as sound parts
-pub sound_read : (m : RecordBatch) (d : Dictionaries) (k : Kind) (p : Place) (rows : ℕ) → is_leaf_kind k ≡ true → array_faults m d k p rows ≡ [] → fault_in (parts_read m k p rows) ≡ None
-sound_read m d k p rows leaf h = none_found (fault_in (parts_read m k p rows)) (subst (λ es. IsLeft (fault_in (parts_read m k p rows)) es) h (fault_read m d k p rows leaf (buffers_well m d k p rows leaf h)))
+pub sound_under : (m : RecordBatch) (d : Dictionaries) (k l : Kind) (p : Place) (rows : ℕ) → is_leaf_kind k ≡ true → Like l k → array_faults m d k p rows ≡ [] → leaf_fault_in (parts_in (physical_of k) m l p rows) ≡ None
+sound_under m d k l p rows leaf like h =
+    let f = leaf_fault_in (parts_in (physical_of k) m l p rows) in
+    none_found f (subst (λ es. IsLeft f es) h (fault_under m d k l p rows leaf like (buffers_well m d k p rows leaf h)))
 
 -- ── their kind ──
 
@@ -122,7 +123,7 @@ views_kind : (m : RecordBatch) (l : Kind) (p : Place) (rows : ℕ) → (views_re
 views_kind m l p zero = refl
 views_kind m l p (suc n) = refl
 
-kind_under : (layout : PhysicalType) (m : RecordBatch) (l : Kind) (p : Place) (rows : ℕ) → kind_in (parts_in layout m l p rows) ≡ l
+pub kind_under : (layout : PhysicalType) (m : RecordBatch) (l : Kind) (p : Place) (rows : ℕ) → leaf_kind_in (parts_in layout m l p rows) ≡ l
 kind_under physical.Null m l p rows = refl
 kind_under physical.Boolean m l p rows = refl
 kind_under (physical.Primitive t) m l p rows = refl
@@ -141,14 +142,10 @@ kind_under physical.Union m l p rows = refl
 kind_under physical.Map m l p rows = refl
 kind_under (physical.Dictionary i) m l p rows = refl
 
--- parts that are read are of the kind
-pub kind_read : (m : RecordBatch) (k : Kind) (p : Place) (rows : ℕ) → kind_in (parts_read m k p rows) ≡ k
-kind_read m k p rows = kind_under (physical_of k) m k p rows
-
 -- ── their rows ──
 
 abbrev RowsRead : RecordBatch → Dictionaries → Place → ℕ → Kind → Type 0
-RowsRead m d p rows k = (l : Kind) → Like l k → array_faults m d k p rows ≡ [] → rows_in (parts_in (physical_of k) m l p rows) ≡ rows
+RowsRead m d p rows k = (l : Kind) → Like l k → array_faults m d k p rows ≡ [] → leaf_rows_in (parts_in (physical_of k) m l p rows) ≡ rows
 
 variable_rows-read : (m : RecordBatch) (l : Kind) (o : Offsets) (p : Place) (rows : ℕ) → variable_rows (variable_read m l o p rows).offsets ≡ rows
 variable_rows-read m l o p zero = refl
@@ -176,19 +173,15 @@ rows_text_views m d p zero l like h = refl
 rows_text_views m d p (suc n) l like h = count-rows m 16 (p.buffer + 1) (suc n) (omega arith) (views_held m p (suc n) (sound_first _ _ (none_second (node_faults m p (suc n)) _ h)))
 
 -- an array that is not refused is read with its rows
-pub rows_read : (m : RecordBatch) (d : Dictionaries) (k : Kind) (p : Place) (rows : ℕ) → is_leaf_kind k ≡ true → array_faults m d k p rows ≡ [] → rows_in (parts_read m k p rows) ≡ rows
-rows_read m d k p rows leaf h = by_kind (RowsRead m d p rows) (record {
+pub rows_under : (m : RecordBatch) (d : Dictionaries) (k l : Kind) (p : Place) (rows : ℕ) → is_leaf_kind k ≡ true → Like l k → array_faults m d k p rows ≡ [] → leaf_rows_in (parts_in (physical_of k) m l p rows) ≡ rows
+rows_under m d k l p rows leaf like h = by_kind (RowsRead m d p rows) (record {
   on_null = λ l like h. refl;
   on_bits = λ l like h. length-from_on _ 0 rows;
-  on_numbers = λ t k n l like h. ap (λ x. rows_in (parts_in x m l p rows)) n.layout ∙ length-from_on _ 0 rows;
+  on_numbers = λ t k n l like h. ap (λ x. leaf_rows_in (parts_in x m l p rows)) n.layout ∙ length-from_on _ 0 rows;
   on_fixed = rows_fixed m d p rows;
   on_binary = rows_binary m d p rows;
   on_text = rows_text m d p rows;
   on_binary_view = rows_views m d p rows;
   on_text_view = rows_text_views m d p rows;
   on_extension = λ name metadata k f l like h. f l (record { layout = like.layout; size = like.size }) h;
-}) k leaf k (like_itself k) h
-
--- the parts of an array that is not refused are sound
-pub parts_sound : PartsAreSound
-parts_sound m d k p rows leaf h = record { same_kind = kind_read m k p rows; all_rows = rows_read m d k p rows leaf h; no_fault = sound_read m d k p rows leaf h }
+}) k leaf l like h

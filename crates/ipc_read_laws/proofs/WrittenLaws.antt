@@ -16,10 +16,10 @@ use Rattle.arrow_buffers.specs.Rows.{null_rows}
 use Rattle.arrow_buffers.specs.Layouts.{is_variable}
 use Rattle.arrow_buffers.specs.Variable.{Variable, place_at, variable_rows}
 use Rattle.arrow_buffers.proofs.Parts.{length-from_on}
-use Rattle.arrow_arrays.specs.Parts.{number_size}
+use Rattle.arrow_arrays.specs.LeafParts.{number_size}
 use Rattle.arrow_arrays.specs.LeafKinds.{is_leaf_kind}
-use Rattle.ipc_read_laws.specs.PartsRead.{parts_in, parts_read, bits_read, validity_read, variable_read, number_read, item_bytes}
-use Rattle.ipc_read_laws.specs.WrittenParts.{bits_length, validity_bytes, offset_bytes, variable_lengths, written_in}
+use Rattle.ipc_read_laws.specs.PartsRead.{parts_in, plain_read, bits_read, validity_read, variable_read, number_read, item_bytes}
+use Rattle.ipc_read_laws.specs.WrittenParts.{bits_length, validity_bytes, offset_bytes, variable_lengths, leaf_written_in, written_in}
 use Rattle.ipc_read_laws.proofs.Validities.{nulls-read}
 use Rattle.ipc_read_laws.proofs.KindCases.{IsNumbers, by_kind, Like, like_itself}
 use Rattle.ipc_read_laws.proofs.OffsetsRead.{offsets_told, rows-told, place-told}
@@ -51,7 +51,7 @@ one_more a b xs ys e f = rw (e, f) refl
 -- ── kind by kind ──
 
 abbrev WrittenRead : RecordBatch → Dictionaries → Place → ℕ → Kind → Type 0
-WrittenRead m d p rows k = (l : Kind) → Like l k → array_faults m d k p rows ≡ [] → written_part m k p rows 0 rows ≡ written_in (parts_in (physical_of k) m l p rows)
+WrittenRead m d p rows k = (l : Kind) → Like l k → array_faults m d k p rows ≡ [] → written_part m k p rows 0 rows ≡ leaf_written_in (parts_in (physical_of k) m l p rows)
 
 written_bits : (m : RecordBatch) (d : Dictionaries) (p : Place) (rows : ℕ) → WrittenRead m d p rows kinds.boolean
 written_bits m d p rows l like h =
@@ -64,7 +64,7 @@ written_numbers m d p rows t k is l like h =
     let size : number_size (physical_of l) ≡ primitive_size t = ap number_size (like.layout ∙ is.layout) in
     is.written m p rows
     ∙ own_held m p rows _ _ _ [] [] n (rw (size, n) refl) refl
-    ∙ ap (λ x. written_in (parts_in x m l p rows)) (sym is.layout)
+    ∙ ap (λ x. leaf_written_in (parts_in x m l p rows)) (sym is.layout)
 
 written_fixed : (m : RecordBatch) (d : Dictionaries) (p : Place) (rows size : ℕ) → nat_lt 0 size ≡ true → WrittenRead m d p rows (kinds.fixed_size_binary size)
 written_fixed m d p rows size above l like h =
@@ -121,7 +121,7 @@ written_text_views m d p zero l like h = refl
 written_text_views m d p (suc n) l like h = views_written-read m p n (sound_first _ _ (none_second (node_faults m p (suc n)) _ h))
 
 -- what is written of an array that is not refused is written of the parts that are read
-pub written_read : (m : RecordBatch) (d : Dictionaries) (k : Kind) (p : Place) (rows : ℕ) → is_leaf_kind k ≡ true → array_faults m d k p rows ≡ [] → written m k p rows 0 rows ≡ written_in (parts_read m k p rows)
+pub written_read : (m : RecordBatch) (d : Dictionaries) (k : Kind) (p : Place) (rows : ℕ) → is_leaf_kind k ≡ true → array_faults m d k p rows ≡ [] → written m k p rows 0 rows ≡ written_in (plain_read m k p rows)
 unfolding written
 written_read m d k p rows leaf h = by_kind (WrittenRead m d p rows) (record {
   on_null = λ l like h. refl;

@@ -1,4 +1,4 @@
--- What holds of the parts of an array without children as it is read. Each statement is the contract of a public function without a body (src/lib.rt).
+-- What holds of the parts of an array as it is read. Each statement is the contract of a public function without a body (src/lib.rt).
 use Rattle.std.specs.Prelude.{◌≡◌, ℕ, [], true, None}
 use Rattle.arrow_spec.specs.declared.error.IpcError.{IpcError}
 use Rattle.arrow_spec.specs.Readings.{IsAmong}
@@ -7,21 +7,21 @@ use Rattle.arrow_spec.specs.Counts.{RecordBatch, Place}
 use Rattle.arrow_spec.specs.Arrays.{Dictionaries, from_on}
 use Rattle.arrow_spec.specs.ArrayCells.{cell}
 use Rattle.arrow_spec.specs.Faults.{array_faults}
-use Rattle.arrow_spec.specs.Laws.{AreBytes}
 use Rattle.arrow_spec.specs.Sent.{written}
 use Rattle.arrow_arrays.specs.Parts.{kind_in, rows_in, cells_in, fault_in}
 use Rattle.arrow_arrays.specs.LeafKinds.{is_leaf_kind}
-use Rattle.ipc_read_laws.specs.PartsRead.{parts_read, numbers_bytes}
+use Rattle.ipc_read_laws.specs.Carried.{is_carried}
+use Rattle.ipc_read_laws.specs.PartsRead.{plain_read, parts_read, HaveBytes}
 use Rattle.ipc_read_laws.specs.LeftFaults.{IsLeft}
 use Rattle.ipc_read_laws.specs.LayoutFaults.{buffers_faults, layout_faults}
 use Rattle.ipc_read_laws.specs.WrittenParts.{written_in}
 
--- Where nothing is wrong with an array's node and buffers, what is wrong with the array is found in its parts.
+-- Where nothing is wrong with the node and the buffers of an array without children, what is wrong with the array is found in its parts.
 abbrev pub FaultsAreFound : Type 0
 FaultsAreFound = (m : RecordBatch) (d : Dictionaries) (k : Kind) (p : Place) (rows : ℕ) → is_leaf_kind k ≡ true → buffers_faults m k p rows ≡ []
-    → IsLeft (fault_in (parts_read m k p rows)) (array_faults m d k p rows)
+    → IsLeft (fault_in (plain_read m k p rows)) (array_faults m d k p rows)
 
--- What is wrong with an array is told by its layout, and what is wrong with its buffers is wrong with it.
+-- What is wrong with an array without children is told by its layout, and what is wrong with its buffers is wrong with it.
 pub record ToldByLayout (m : RecordBatch) (d : Dictionaries) (k : Kind) (p : Place) (rows : ℕ) : Type 0 where
   pub all_told : array_faults m d k p rows ≡ layout_faults m k p rows
   pub all_refused : (e : IpcError) → IsAmong (buffers_faults m k p rows) e → IsAmong (array_faults m d k p rows) e
@@ -37,15 +37,15 @@ pub record AreSound (m : RecordBatch) (k : Kind) (p : Place) (rows : ℕ) : Type
 
 -- The parts of an array that is not refused are sound.
 abbrev pub PartsAreSound : Type 0
-PartsAreSound = (m : RecordBatch) (d : Dictionaries) (k : Kind) (p : Place) (rows : ℕ) → is_leaf_kind k ≡ true → array_faults m d k p rows ≡ []
+PartsAreSound = (m : RecordBatch) (d : Dictionaries) (k : Kind) (p : Place) (rows : ℕ) → is_carried k ≡ true → array_faults m d k p rows ≡ []
     → AreSound m k p rows
 
 -- Their cells are the record batch's, where the numbers are of bytes.
 abbrev pub CellsAreRead : Type 0
-CellsAreRead = (m : RecordBatch) (d : Dictionaries) (k : Kind) (p : Place) (rows : ℕ) → is_leaf_kind k ≡ true → AreBytes (numbers_bytes m k p rows)
+CellsAreRead = (m : RecordBatch) (d : Dictionaries) (k : Kind) (p : Place) (rows : ℕ) → is_carried k ≡ true → HaveBytes m k p rows
     → array_faults m d k p rows ≡ [] → cells_in (parts_read m k p rows) ≡ from_on (cell m d k p) 0 rows
 
--- What is written of them is what is written of the record batch.
+-- What is written of the parts of an array is what is written of the record batch.
 abbrev pub WrittenAsSent : Type 0
-WrittenAsSent = (m : RecordBatch) (d : Dictionaries) (k : Kind) (p : Place) (rows : ℕ) → is_leaf_kind k ≡ true → array_faults m d k p rows ≡ []
+WrittenAsSent = (m : RecordBatch) (d : Dictionaries) (k : Kind) (p : Place) (rows : ℕ) → is_carried k ≡ true → array_faults m d k p rows ≡ []
     → written m k p rows 0 rows ≡ written_in (parts_read m k p rows)

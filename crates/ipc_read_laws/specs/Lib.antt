@@ -1,3 +1,4 @@
+pub mod Carried
 pub mod PartsRead
 pub mod Faults
 pub mod Batches

@@ -1,10 +1,14 @@
 -- The parts of the array that stands at a place of a record batch, as far as its first rows go. (Arrow Columnar Format, "Buffer Listing for Each Layout".)
-use Rattle.std.specs.Prelude.{ℕ, zero, suc, ◌+◌, ◌*◌, List, [], ◌∷◌, take, drop, Bool, Option, Some, None, if◌then◌else◌, pos}
+use Rattle.std.specs.Prelude.{ℕ, zero, suc, ◌+◌, ◌*◌, List, [], ◌∷◌, take, drop, Bool, Option, Some, None, if◌then◌else◌, ℤ, pos}
 use Rattle.std.specs.Int.{w8, w16, w32, w64, w128}
 use Rattle.arrow_spec.specs.Flat.{Order, little}
-use Rattle.arrow_spec.specs.Kinds.{Kind, Offsets, small, large}
-use Rattle.arrow_spec.specs.Counts.{RecordBatch, Place, count_at}
-use Rattle.arrow_spec.specs.Arrays.{buf, has_nulls, from_on, signed_in, offset_width}
+use Rattle.arrow_spec.specs.declared.types.UnionMode.TheVariants.{Dense, Sparse}
+use Rattle.arrow_spec.specs.Kinds as kind
+use Rattle.arrow_spec.specs.Kinds.{Kind, Fields, Offsets, small, large, «list», map, fixed_size_list, struct, union, extension, field}
+use Rattle.arrow_spec.specs.Counts.{RecordBatch, Place, count_at, union_buffers, after, inside}
+use Rattle.arrow_spec.specs.Arrays.{buf, has_nulls, from_on, signed_in, offset_width, types_buffer}
+use Rattle.arrow_spec.specs.Laws.{AreBytes}
+use Rattle.arrow_spec.specs.Sent.{offset_read, dense_rows}
 use Rattle.arrow_types.specs.Numbers.{signed_to_bytes, signed_from_bytes, unsigned_to_bytes, unsigned_from_bytes, days_ms_to_bytes, days_ms_from_bytes, months_days_ns_to_bytes, months_days_ns_from_bytes}
 use Rattle.arrow_types.specs.Physical.{primitive_size, physical_of}
 use Rattle.arrow_types.specs.declared.physical.PhysicalType.{PhysicalType}
@@ -16,7 +20,9 @@ use Rattle.arrow_buffers.specs.Layouts.{binary_size}
 use Rattle.arrow_buffers.specs.Leaf.{Leaf}
 use Rattle.arrow_buffers.specs.Variable.{Variable}
 use Rattle.arrow_buffers.specs.Views.{Views}
-use Rattle.arrow_arrays.specs.Parts.{Parts, nulls, bits, numbers, fixed, binary, text, binary_views, text_views, number_size}
+use Rattle.arrow_arrays.specs.LeafParts.{LeafParts, nulls, bits, numbers, fixed, binary, text, binary_views, text_views, number_size}
+use Rattle.arrow_arrays.specs.Heads.{Listed, Counted, Tagged, listed, mapped, sized, structured, tagged}
+use Rattle.arrow_arrays.specs.Parts.{Parts, Forest, leaf, nested, none, also}
 
 -- ── validity and values ──
 
@@ -97,8 +103,8 @@ number_read primitive.DaysMs order bytes = days_ms_to_bytes little (days_ms_from
 number_read primitive.MonthDayNano order bytes = months_days_ns_to_bytes little (months_days_ns_from_bytes order bytes)
 number_read p order bytes = []
 
--- the parts in a layout
-abbrev pub parts_in : PhysicalType → RecordBatch → Kind → Place → ℕ → Parts
+-- the parts of an array without children in a layout
+abbrev pub parts_in : PhysicalType → RecordBatch → Kind → Place → ℕ → LeafParts
 parts_in physical.Boolean m k p rows = bits (boolean_read m k p rows)
 parts_in (physical.Primitive t) m k p rows = numbers (primitive_read (number_read t) (primitive_size t) m k p rows)
 parts_in physical.FixedSizeBinary m k p rows = fixed (fixed_read m k p rows)
@@ -111,9 +117,71 @@ parts_in physical.Utf8View m k p rows = text_views (views_read m k p rows)
 parts_in layout m k p rows = nulls (record { kind = k; rows = rows })
 
 -- the parts of an array without children
-abbrev pub parts_read : RecordBatch → Kind → Place → ℕ → Parts
-parts_read m k p rows = parts_in (physical_of k) m k p rows
+abbrev pub plain_read : RecordBatch → Kind → Place → ℕ → Parts
+plain_read m k p rows = leaf (parts_in (physical_of k) m k p rows)
 
 -- the bytes of an array's numbers, as many as are read; none in another layout
 abbrev pub numbers_bytes : RecordBatch → Kind → Place → ℕ → List ℕ
 numbers_bytes m k p rows = take (number_size (physical_of k) * rows) (buf m (p.buffer + 1))
+
+-- ── arrays with children ──
+
+-- lists or maps: their offsets as they stand; where there are no rows no buffer is looked at
+abbrev pub listed_read : RecordBatch → Kind → Offsets → Place → ℕ → Listed
+listed_read m k o p zero = record { kind = k; width = o; offsets = pos 0 ∷ []; validity = None }
+listed_read m k o p (suc n) = record {
+  kind = k;
+  width = o;
+  offsets = from_on (λ j. signed_in m (offset_width o) (p.buffer + 1) j) 0 (suc (suc n));
+  validity = validity_read m p (suc n);
+}
+
+-- lists of one size, and structs
+abbrev pub counted_read : RecordBatch → Kind → Place → ℕ → Counted
+counted_read m k p rows = record { kind = k; rows = rows; validity = validity_read m p rows }
+
+-- unions: their types, and their offsets where they are dense
+abbrev pub tagged_read : RecordBatch → Kind → Place → ℕ → Option (List ℤ) → Tagged
+tagged_read m k p rows offsets = record { kind = k; types = from_on (λ j. signed_in m w8 (types_buffer m p) j) 0 rows; offsets = offsets }
+
+abbrev pub places_read : RecordBatch → Place → ℕ → List ℤ
+places_read m p rows = from_on (λ j. signed_in m w32 (suc (types_buffer m p)) j) 0 rows
+
+-- the parts of the array of a kind, which a label stands for: an extension that is looked through;
+-- and of children that stand from a place on, each read for the rows that its place says
+abbrev mutual
+  pub parts_under : Kind → RecordBatch → Kind → Place → ℕ → Parts
+  parts_under l m («list» o fs) p rows = nested (listed (listed_read m l o p rows)) (forest_read m fs (inside 2 p) (λ q. offset_read m o p rows))
+  parts_under l m (map sorted fs) p rows = nested (mapped (listed_read m l small p rows)) (forest_read m fs (inside 2 p) (λ q. offset_read m small p rows))
+  parts_under l m (fixed_size_list size fs) p rows = nested (sized (counted_read m l p rows)) (forest_read m fs (inside 1 p) (λ q. size * rows))
+  parts_under l m (struct fs) p rows = nested (structured (counted_read m l p rows)) (forest_read m fs (inside 1 p) (λ q. rows))
+  parts_under l m (union Sparse stated ids fs) p rows =
+      nested (tagged (tagged_read m l p rows None)) (forest_read m fs (inside (union_buffers m.version Sparse) p) (λ q. rows))
+  parts_under l m (union Dense stated ids fs) p rows = nested (tagged (tagged_read m l p rows (Some (places_read m p rows))))
+      (forest_read m fs (inside (union_buffers m.version Dense) p) (λ q. dense_rows m q rows))
+  parts_under l m (extension name metadata k) p rows = parts_under l m k p rows
+  parts_under l m k p rows = leaf (parts_in (physical_of k) m l p rows)
+
+  pub forest_read : RecordBatch → Fields → Place → (Place → ℕ) → Forest
+  forest_read m kind.none p rows = none
+  forest_read m (field name nullable metadata k others) p rows = also (parts_under k m k p (rows p)) (forest_read m others (after m k p) rows)
+
+-- the parts of an array
+abbrev pub parts_read : RecordBatch → Kind → Place → ℕ → Parts
+parts_read m k p rows = parts_under k m k p rows
+
+-- the numbers of an array, and of its children, are of bytes as far as they are read
+abbrev mutual
+  pub HaveBytes : RecordBatch → Kind → Place → ℕ → Type 0
+  HaveBytes m («list» o fs) p rows = AllHaveBytes m fs (inside 2 p) (λ q. offset_read m o p rows)
+  HaveBytes m (map sorted fs) p rows = AllHaveBytes m fs (inside 2 p) (λ q. offset_read m small p rows)
+  HaveBytes m (fixed_size_list size fs) p rows = AllHaveBytes m fs (inside 1 p) (λ q. size * rows)
+  HaveBytes m (struct fs) p rows = AllHaveBytes m fs (inside 1 p) (λ q. rows)
+  HaveBytes m (union Sparse stated ids fs) p rows = AllHaveBytes m fs (inside (union_buffers m.version Sparse) p) (λ q. rows)
+  HaveBytes m (union Dense stated ids fs) p rows = AllHaveBytes m fs (inside (union_buffers m.version Dense) p) (λ q. dense_rows m q rows)
+  HaveBytes m (extension name metadata k) p rows = HaveBytes m k p rows
+  HaveBytes m k p rows = AreBytes (numbers_bytes m k p rows)
+
+  pub AllHaveBytes : RecordBatch → Fields → Place → (Place → ℕ) → Type 0
+  AllHaveBytes m kind.none p rows = Unit {0}
+  AllHaveBytes m (field name nullable metadata k others) p rows = HaveBytes m k p (rows p) × AllHaveBytes m others (after m k p) rows

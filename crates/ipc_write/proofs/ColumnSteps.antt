@@ -1,5 +1,5 @@
 -- Columns one behind another come to the columns as a whole.
-use Rattle.std.proofs.Common.{◌≡◌, ℕ, zero, suc, ◌+◌, ◌-◌, ◌%◌, ◌^◌, ◌<◌, ◌≤◌, List, [], ◌∷◌, ◌++◌, Bool, true, false, length, drop, get_or, map, refl, sym, ap, ◌∙◌, arith, length-append, append_assoc, append-nil, subst, Result, Ok, Err, IsErrAnd, pos, ℤ, true≢false}
+use Rattle.std.proofs.Common.{◌≡◌, ℕ, zero, suc, ◌+◌, ◌%◌, ◌^◌, ◌<◌, ◌≤◌, List, [], ◌∷◌, ◌++◌, Bool, true, false, length, drop, get_or, map, refl, sym, ap, ◌∙◌, arith, length-append, append_assoc, append-nil, subst, Result, Ok, Err, IsErrAnd, pos, ℤ, true≢false}
 use Rattle.std.specs.Prelude.{◌&&◌}
 use Rattle.std.proofs.lemmas.List.{drop_more, drop_all, map-append}
 use Rattle.std.proofs.lemmas.Bool.{eqb-true}
@@ -14,13 +14,13 @@ use Rattle.arrow_spec.specs.Framing.{body_bytes}
 use Rattle.arrow_spec.specs.Sent.{placed, body_of}
 use Rattle.arrow_spec.proofs.Bodies.{length-body}
 use Rattle.arrow_arrays.specs.Batches.{have_rows}
-use Rattle.arrow_arrays.specs.Parts.{Parts, rows_in, binary_views, text_views}
+use Rattle.arrow_arrays.specs.Parts.{Parts, rows_in}
 use Rattle.arrow_arrays.specs.PartsOf.{parts_of, all_parts_of}
 use Rattle.arrow_arrays.specs.declared.array.Array.{Array}
-use Rattle.ipc_write_arrays.specs.Outputs.{Outputs, outputs, written_behind, MayHaveOrder}
-use Rattle.arrow_arrays.specs.Nodes.{node_in, counts_in}
+use Rattle.ipc_write_arrays.specs.Outputs.{Outputs, outputs, written_behind}
+use Rattle.arrow_arrays.specs.Nodes.{counts_in}
 use Rattle.ipc_write_laws.specs.Streams.{pieces_of}
-use Rattle.ipc_write_arrays.specs.Pieces.{pieces_in}
+use Rattle.ipc_write_arrays.specs.Pieces.{nodes_in, pieces_in}
 use Rattle.ipc_write_arrays.proofs.Adding.{placed-append, body-append}
 use Rattle.ipc_write.specs.Batches.{columns_written, columns_pieces, top_column}
 use Rattle.ipc_write.specs.Compaction.{top}
@@ -49,7 +49,7 @@ all_added (p ∷ ps) o =
     let lens = map length (pieces_in little t) in
     let at = length o.body in
     let more : (columns_written (p ∷ ps)).lengths ≡ lens ++ (columns_written ps).lengths = map-append length (pieces_in little t) (pieces_of (map top_column ps)) in
-    let nodes : w.nodes ++ (columns_written ps).nodes ≡ o.nodes ++ (columns_written (p ∷ ps)).nodes = append_assoc o.nodes (node_in t ∷ []) (columns_written ps).nodes in
+    let nodes : w.nodes ++ (columns_written ps).nodes ≡ o.nodes ++ (columns_written (p ∷ ps)).nodes = append_assoc o.nodes (nodes_in t) (columns_written ps).nodes in
     let buffers : w.buffers ++ placed (length w.body) (columns_written ps).lengths ≡ o.buffers ++ placed at (columns_written (p ∷ ps)).lengths =
     ap (λ n. w.buffers ++ placed n (columns_written ps).lengths) end ∙ append_assoc o.buffers (placed at lens) (placed (body_of at lens) (columns_written ps).lengths) ∙ ap (λ l. o.buffers ++ l) (sym (placed-append at lens (columns_written ps).lengths)) ∙ ap (λ ns. o.buffers ++ placed at ns) (sym more) in
     let body : w.body ++ body_bytes (length w.body) (columns_pieces ps) ≡ o.body ++ body_bytes at (columns_pieces (p ∷ ps)) =

@@ -1,6 +1,6 @@
 -- A view array that is laid anew has the same cells, and is sound.
 use Rattle.std.proofs.Common.{◌≡◌, ℕ, zero, suc, ◌+◌, ◌*◌, ◌%◌, ◌^◌, ◌≤◌, ◌<◌, ◌&&◌, List, [], ◌∷◌, Bool, true, false, Option, Some, None, length, nat_eq, refl, sym, ap, subst, ◌∙◌, arith, inl, inr}
-use Rattle.std.specs.Prelude.{not, if◌then◌else◌, slice_index_or}
+use Rattle.std.specs.Prelude.{not, slice_index_or}
 use Rattle.std.specs.Str.{is_utf8}
 use Rattle.std.proofs.lemmas.Bool.{and_left, eq-eqb, cases_Bool}
 use Rattle.std.proofs.Math.Nat.{mul-mod_right}
@@ -17,7 +17,8 @@ use Rattle.arrow_buffers.proofs.Parts.{shift-from_on}
 use Rattle.arrow_buffers.proofs.Fixed.{quotient}
 use Rattle.arrow_buffers.proofs.Rows.{none_below, none_from, fine_here, null_here}
 use Rattle.arrow_buffers.proofs.ViewParts.{Seen, view_sound, good_row}
-use Rattle.arrow_arrays.specs.Parts.{Parts, nulls, bits, numbers, fixed, binary, text, binary_views, text_views, rows_in, cells_in, fault_in}
+use Rattle.arrow_arrays.specs.LeafParts.{nulls, bits, numbers, fixed, binary, text, binary_views, text_views}
+use Rattle.arrow_arrays.specs.Parts.{Parts, leaf, nested, rows_in, cells_in, fault_in}
 use Rattle.arrow_arrays.proofs.PieceLaws.{Viewed}
 use Rattle.ipc_write.specs.Compaction.{laid_from, laid_anew, compacted, views_need_compaction, top, top_views, value_at, value_length}
 use Rattle.ipc_write.specs.Laying.{LaidFits, ColumnFits}
@@ -161,14 +162,15 @@ kind_kept p =
 
 -- a top column has the same cells
 pub top_cells : (p : Parts) → fault_in p ≡ None → ColumnFits p → cells_in (top p) ≡ cells_in p
-top_cells (binary_views p) e fits = top_views_cells false (is_view false (physical_of p.kind)) p e fits
-top_cells (text_views p) e fits = top_views_cells true (is_view true (physical_of p.kind)) p e fits
-top_cells (nulls n) e fits = refl
-top_cells (bits f) e fits = refl
-top_cells (numbers f) e fits = refl
-top_cells (fixed f) e fits = refl
-top_cells (binary p) e fits = refl
-top_cells (text p) e fits = refl
+top_cells (leaf (binary_views p)) e fits = top_views_cells false (is_view false (physical_of p.kind)) p e fits
+top_cells (leaf (text_views p)) e fits = top_views_cells true (is_view true (physical_of p.kind)) p e fits
+top_cells (leaf (nulls n)) e fits = refl
+top_cells (leaf (bits f)) e fits = refl
+top_cells (leaf (numbers f)) e fits = refl
+top_cells (leaf (fixed f)) e fits = refl
+top_cells (leaf (binary p)) e fits = refl
+top_cells (leaf (text p)) e fits = refl
+top_cells (nested h cs) e fits = refl
 
 top_views_rows : (is_text suits : Bool) (p : Views) → view_fault is_text suits p ≡ None → (views_need_compaction p ≡ true → LaidFits p) → view_rows (top_views p).views ≡ view_rows p.views
 top_views_rows is_text suits p e fits =
@@ -179,11 +181,12 @@ top_views_rows is_text suits p e fits =
 
 -- and has as many rows
 pub top_rows : (p : Parts) → fault_in p ≡ None → ColumnFits p → rows_in (top p) ≡ rows_in p
-top_rows (binary_views p) e fits = top_views_rows false (is_view false (physical_of p.kind)) p e fits
-top_rows (text_views p) e fits = top_views_rows true (is_view true (physical_of p.kind)) p e fits
-top_rows (nulls n) e fits = refl
-top_rows (bits f) e fits = refl
-top_rows (numbers f) e fits = refl
-top_rows (fixed f) e fits = refl
-top_rows (binary p) e fits = refl
-top_rows (text p) e fits = refl
+top_rows (leaf (binary_views p)) e fits = top_views_rows false (is_view false (physical_of p.kind)) p e fits
+top_rows (leaf (text_views p)) e fits = top_views_rows true (is_view true (physical_of p.kind)) p e fits
+top_rows (leaf (nulls n)) e fits = refl
+top_rows (leaf (bits f)) e fits = refl
+top_rows (leaf (numbers f)) e fits = refl
+top_rows (leaf (fixed f)) e fits = refl
+top_rows (leaf (binary p)) e fits = refl
+top_rows (leaf (text p)) e fits = refl
+top_rows (nested h cs) e fits = refl

@@ -10,3 +10,4 @@ pub mod Compacted
 mod Meanings
 pub mod Written
 mod SameRecords
+pub mod TreeEnds

@@ -9,7 +9,7 @@ use Rattle.arrow_spec.specs.declared.error.IpcError.TheVariants as errors
 use Rattle.arrow_spec.specs.Layout.{up_to, zeros}
 use Rattle.ipc_io.specs.Outside.{AppendsPrefix, Rose}
 use Rattle.ipc_write.specs.Outcomes.{continuation, message_frame}
-use Rattle.ipc_write.specs.Puts.{Moved, moved, NoneFalls, PutsPart, PutsText, PutsMessage}
+use Rattle.ipc_write.specs.Puts.{Moved, moved, NoneFalls, PutsPart, PutsText}
 
 after : (a b c : Option (List ℕ)) (xs ys : List ℕ) → Appends a b xs → AppendsPrefix b c ys → AppendsPrefix a c (xs ++ ys)
 after a b c xs ys h p = (length xs + p.0, subst (Appends a c) (sym (take-append-add xs ys p.0)) (Appends-trans a b c xs (take p.0 ys) h p.1))

@@ -1,5 +1,5 @@
 -- Records are equal where what they hold is.
-use Rattle.std.proofs.Common.{◌≡◌, List, Bool, true, false, Option, map, refl, sym, ap, subst, ◌∙◌, true≢false}
+use Rattle.std.proofs.Common.{◌≡◌, List, Bool, false, Option, map, refl, sym, ap, subst, ◌∙◌, true≢false}
 use Rattle.std.specs.Prelude.{IsTrue}
 use Rattle.std.specs.Cmp.Lexicographic.{pointwise}
 use Rattle.arrow_types.specs.KindCode.{by_tree_sound, by_tree_itself}

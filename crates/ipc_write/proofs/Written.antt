@@ -1,10 +1,8 @@
 -- A batch's message is that of its columns as they are written, and it may be sent where it is within the limits.
-use Rattle.std.proofs.Common.{◌≡◌, ℕ, ◌+◌, ◌-◌, ◌%◌, ◌^◌, ◌<◌, ◌≤◌, List, [], ◌∷◌, ◌++◌, Bool, true, false, length, map, min, refl, sym, ap, ◌∙◌, arith, append-nil}
+use Rattle.std.proofs.Common.{◌≡◌, ℕ, ◌+◌, ◌-◌, ◌%◌, ◌^◌, ◌<◌, ◌≤◌, List, [], ◌++◌, Bool, true, false, length, map, min, refl, sym, ap, ◌∙◌, arith, append-nil}
 use Rattle.std.specs.Prelude.{nat_le, ◌&&◌}
-use Rattle.std.specs.List.{flat_map}
 use Rattle.std.proofs.lemmas.List.Folds.{flat_map-map}
 use Rattle.std.proofs.lemmas.Bool.{le-leb}
-use Rattle.arrow_spec.specs.Flat.{little}
 use Rattle.arrow_spec.specs.Layout.{Node, layout, size, up_to, zeros}
 use Rattle.arrow_spec.specs.Framing.{body_bytes, message_bytes, prefixed}
 use Rattle.arrow_spec.specs.Sent.{message, batch_node, may_be_sent}
@@ -13,9 +11,7 @@ use Rattle.arrow_spec.proofs.NextMessages.{length-layout}
 use Rattle.arrow_arrays.specs.Batches.{Batch}
 use Rattle.arrow_arrays.specs.Parts.{Parts}
 use Rattle.ipc_write_laws.specs.Streams.{written_of, pieces_of, body_for, written_batch, batch_bytes}
-use Rattle.ipc_write_arrays.specs.Pieces.{pieces_in}
-use Rattle.ipc_write.specs.Batches.{columns_written, columns_pieces, batch_message, batch_body, is_within, top_column, written_batch_of}
-use Rattle.ipc_write.specs.Compaction.{top}
+use Rattle.ipc_write.specs.Batches.{columns_pieces, batch_message, batch_body, is_within, top_column, written_batch_of}
 use Rattle.ipc_write.specs.Outcomes.{message_frame}
 use Rattle.ipc_write.proofs.ColumnSteps.{aligned_end}
 

@@ -4,7 +4,8 @@ use Rattle.arrow_spec.specs.Layout.{u32, zeros}
 use Rattle.arrow_spec.specs.Arrays.{u32_of}
 use Rattle.arrow_buffers.specs.Rows.{is_valid}
 use Rattle.arrow_buffers.specs.Views.{Views, view_rows, view_at, view_bytes}
-use Rattle.arrow_arrays.specs.Parts.{Parts, binary_views, text_views}
+use Rattle.arrow_arrays.specs.LeafParts.{binary_views, text_views}
+use Rattle.arrow_arrays.specs.Parts.{Parts, leaf}
 
 -- ── when ──
 
@@ -80,6 +81,6 @@ top_views p = if views_need_compaction p then compacted p else p
 
 -- a top column
 abbrev pub top : Parts → Parts
-top (binary_views p) = binary_views (top_views p)
-top (text_views p) = text_views (top_views p)
+top (leaf (binary_views p)) = leaf (binary_views (top_views p))
+top (leaf (text_views p)) = leaf (text_views (top_views p))
 top p = p

@@ -1,7 +1,8 @@
 -- What is laid so far, and the rows that are still to be laid.
 use Rattle.std.specs.Prelude.{◌≡◌, ℕ, ◌<◌, ◌≤◌, ◌^◌, List, ◌++◌, length, true, false, Option, Some, None}
 use Rattle.arrow_buffers.specs.Views.{Views, view_rows}
-use Rattle.arrow_arrays.specs.Parts.{Parts, binary_views, text_views}
+use Rattle.arrow_arrays.specs.LeafParts.{binary_views, text_views}
+use Rattle.arrow_arrays.specs.Parts.{Parts, leaf}
 use Rattle.ipc_write.specs.Compaction.{Laid, laid_from, laid_anew, value_length, views_need_compaction, compacted}
 
 -- views, buffers and a buffer that is begun, and behind them n rows from one on
@@ -22,6 +23,6 @@ pub record LaidFits (p : Views) : Type 0 where
 
 -- the same of the views of a column that are laid anew
 abbrev pub ColumnFits : Parts → Type 0
-ColumnFits (binary_views p) = views_need_compaction p ≡ true → LaidFits p
-ColumnFits (text_views p) = views_need_compaction p ≡ true → LaidFits p
+ColumnFits (leaf (binary_views p)) = views_need_compaction p ≡ true → LaidFits p
+ColumnFits (leaf (text_views p)) = views_need_compaction p ≡ true → LaidFits p
 ColumnFits p = Unit

@@ -52,13 +52,13 @@ fn top_array(alloc: Global, array: &Array) -> Result<Option<Array>, AllocError>
 }
 
 /// Adds an array.
-fn add_array(array: &Array, columns: &mut Columns) -> Result<(), IpcError>
+fn add_array(alloc: Global, array: &Array, columns: &mut Columns) -> Result<(), IpcError>
     requires few { rows_in (parts_of array.now) < 2 ^ 63 }
     requires aligned { length columns.old.body.items % 64 ≡ 0 }
     ensures adds { Adds result (parts_of array.now) (outputs_of columns.old) (outputs_of columns.new) }
     ensures means { IfOk result (λ _. Means little [] (rows_in (parts_of array.now)) (column_in little (parts_of array.now))) }
 {
-    if array_end(columns.body.len(), array).is_none() {
+    if array_end(alloc, columns.body.len(), array)?.is_none() {
         return Err(IpcError::TooLarge);
     }
     let mut offset = columns.body.len() as i64;
@@ -82,9 +82,9 @@ fn add_column(alloc: Global, array: &Array, columns: &mut Columns) -> Result<(),
 {
     let _rows = array.len();
     let Some(compacted) = top_array(alloc, array)? else {
-        return add_array(array, columns);
+        return add_array(alloc, array, columns);
     };
-    let added = add_array(&compacted, columns);
+    let added = add_array(alloc, &compacted, columns);
     drop(compacted);
     added
 }

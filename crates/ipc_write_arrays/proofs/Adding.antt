@@ -1,6 +1,6 @@
 -- Steps of a write, one after another.
-use Rattle.std.proofs.Common.{◌≡◌, ℕ, ◌+◌, ◌-◌, ◌<◌, List, [], ◌∷◌, ◌++◌, length, map, Result, Ok, Err, refl, sym, ap, subst, ◌∙◌, arith, append_assoc, append-nil, length-append, pos}
-use Rattle.std.specs.Prelude.{IsErr, IfOk}
+use Rattle.std.proofs.Common.{◌≡◌, ℕ, ◌+◌, ◌-◌, ◌<◌, List, [], ◌∷◌, ◌++◌, length, map, Result, Ok, Err, refl, sym, ap, subst, ◌∙◌, arith, append_assoc, length-append, pos}
+use Rattle.std.specs.Prelude.{IsErr, IfOk, IfErr}
 use Rattle.std.proofs.lemmas.List.{map-append}
 use Rattle.arrow_spec.specs.declared.message.IpcBuffer.{IpcBuffer}
 use Rattle.arrow_spec.specs.Layout.{up_to, zeros}
@@ -81,3 +81,7 @@ short_as most d0 d xs ys e f h = subst (λ l. body_of (length d) (map length l) 
 pub if_ok : {T E A B : Type 0} (r : Result T E) → (A → B) → IfOk r (λ _. A) → IfOk r (λ _. B)
 if_ok (Ok x) f a = f a
 if_ok (Err e) f a = tt
+
+pub if_err : {T E A : Type 0} (r : Result T E) → IsErr r → A → IfErr r (λ _. A)
+if_err (Ok x) h a = tt
+if_err (Err e) h a = a

@@ -1,25 +1,242 @@
--- What an array without children is written as means its cells.
-use Rattle.std.proofs.Common.{◌≡◌, Bool, true, false, None}
+-- What an array is written as means its cells.
+use Rattle.std.proofs.Common.{◌≡◌, ℕ, suc, ◌+◌, ◌-◌, ◌≤◌, ◌<◌, List, [], ◌∷◌, Bool, true, false, Option, Some, None, map, length, ℤ, pos, refl, sym, ap, subst, ◌∙◌, arith}
+use Rattle.std.specs.List.{AllByRecursion}
+use Rattle.std.specs.Option.{option_map}
+use Rattle.std.proofs.lemmas.Bool.{and_parts, eqb-true}
+use Rattle.std.proofs.lemmas.List.{length-map}
+use Rattle.arrow_spec.specs.declared.message.FieldNode.{FieldNode}
+use Rattle.arrow_spec.specs.Flat.{Order, order_by}
+use Rattle.arrow_spec.specs.Kinds.{Kind}
+use Rattle.arrow_spec.specs.Cells.{Cell}
+use Rattle.arrow_spec.specs.Counts.{magnitude}
 use Rattle.arrow_spec.specs.Arrays.{Dictionaries}
-use Rattle.arrow_arrays.specs.Parts.{Parts, nulls, bits, numbers, fixed, binary, text, binary_views, text_views, rows_in, fault_in}
-use Rattle.ipc_write_laws.specs.Columns.{Means}
-use Rattle.ipc_write_arrays.specs.Pieces.{Fit, column_in}
-use Rattle.ipc_write_arrays.specs.Outputs.{MayHaveOrder}
-use Rattle.arrow_spec.specs.Flat.{order_by}
+use Rattle.arrow_buffers.specs.Rows.{part, null_rows}
+use Rattle.arrow_buffers.specs.Variable.{place_at, are_offsets, variable_rows}
+use Rattle.arrow_buffers.proofs.Parts.{length-part}
+use Rattle.arrow_buffers.proofs.Masks.{has_rows-part}
+use Rattle.arrow_buffers.proofs.Rising.{some_offset, offset_between}
+use Rattle.arrow_arrays.specs.LeafParts.{LeafParts, nulls, bits, numbers, fixed, binary, text, binary_views, text_views, leaf_rows_in, leaf_fault_in, leaf_part_of}
+use Rattle.arrow_arrays.specs.Heads.{Head, Listed, Counted, listed, mapped, sized, structured, tagged, Cut, whole, run, Reaches, head_kind, head_rows, head_validity, head_cells, suits, are_of, child_fields, first_or_0, is_list, is_map, is_sized, is_struct, is_union, tagged_cut, fits_places, ids_in, head_part, cut_of}
+use Rattle.arrow_arrays.specs.Parts.{Parts, Forest, leaf, nested, none, also, rows_in, null_rows_in, kinds_each, rows_each, fault_in, fault_each}
+use Rattle.arrow_arrays.proofs.LeafSliced as leaves
+use Rattle.arrow_arrays.proofs.HeadSliced.{Sound, place_at-part, fault-part, head_sound, cut_counts}
+use Rattle.arrow_arrays.proofs.Sliced.{top_sound, neither}
+use Rattle.ipc_write_laws.specs.Columns.{WrittenColumn, Means}
+use Rattle.ipc_write_laws.specs.Streams.{AreOf}
+use Rattle.ipc_write_laws.proofs.Tops.{top_column}
+use Rattle.ipc_write_arrays.specs.Pieces.{HeadFit, TagsFit, LeafFit, Fit, FitEach, column_in, head_pieces, tree_nodes, tree_pieces, offset_limit}
+use Rattle.ipc_write_arrays.specs.Trims.{counted_from, listed_trim, head_trim, held_between, held_by, trim, trim_each, sent}
+use Rattle.ipc_write_arrays.specs.Outputs.{LeafMayHaveOrder, MayHaveOrder, MayHaveOrderEach}
+use Rattle.ipc_write_arrays.proofs.TrimLaws.{place_from, head_holds, kind-trim, kinds-trim, all_rows-trim, counts-sent, cells-sent}
+use Rattle.ipc_write_arrays.proofs.TreeColumns.{tree_column, tree_columns, nodes_below, own_node, nested_is, columns_are_of}
+use Rattle.ipc_write_arrays.proofs.RoundTripUnions.{sparse_mean, dense_mean}
+use Rattle.ipc_write_arrays.proofs.RoundTripNested.{MeansOwn, own_rows, first_rows, Climbing, list_column, list_mean, map_mean, sized_mean, struct_mean}
 use Rattle.ipc_write_arrays.proofs.RoundTripPlain as plain
-use Rattle.ipc_write_arrays.proofs.RoundTripNumbers as sized
+use Rattle.ipc_write_arrays.proofs.RoundTripNumbers as numbered
 use Rattle.ipc_write_arrays.proofs.RoundTripOffsets as between
 use Rattle.ipc_write_arrays.proofs.RoundTripViews as viewed
 
--- any array's column, in any order that it may have, reads back as the array's cells
-pub column_means : (is_little_endian : Bool) (d : Dictionaries) (p : Parts) → fault_in p ≡ None → Fit p → MayHaveOrder p is_little_endian → Means (order_by is_little_endian) d (rows_in p) (column_in (order_by is_little_endian) p)
-column_means le d (nulls x) e fit may = plain.nulls_mean (order_by le) d x e
-column_means le d (bits f) e fit may = plain.bits_mean (order_by le) d f e
-column_means le d (numbers f) e fit may = sized.numbers_mean (order_by le) d f e
-column_means le d (fixed f) e fit may = plain.fixed_mean (order_by le) d f e
-column_means le d (binary x) e fit may = between.variable_mean false (order_by le) d x e fit
-column_means le d (text x) e fit may = between.variable_mean true (order_by le) d x e fit
-column_means true d (binary_views x) e fit may = viewed.views_mean false d x e
-column_means true d (text_views x) e fit may = viewed.views_mean true d x e
-column_means false d (binary_views x) e fit may = cc
-column_means false d (text_views x) e fit may = cc
+-- the column of an array without children, in any order that it may have, reads back as the array's cells
+pub leaf_means : (is_little_endian : Bool) (d : Dictionaries) (l : LeafParts) → leaf_fault_in l ≡ None → LeafFit l → LeafMayHaveOrder l is_little_endian
+    → Means (order_by is_little_endian) d (leaf_rows_in l) (column_in (order_by is_little_endian) (leaf l))
+leaf_means le d (nulls x) e fit may = plain.nulls_mean (order_by le) d x e
+leaf_means le d (bits f) e fit may = plain.bits_mean (order_by le) d f e
+leaf_means le d (numbers f) e fit may = numbered.numbers_mean (order_by le) d f e
+leaf_means le d (fixed f) e fit may = plain.fixed_mean (order_by le) d f e
+leaf_means le d (binary x) e fit may = between.variable_mean false (order_by le) d x e fit
+leaf_means le d (text x) e fit may = between.variable_mean true (order_by le) d x e fit
+leaf_means true d (binary_views x) e fit may = viewed.views_mean false d x e
+leaf_means true d (text_views x) e fit may = viewed.views_mean true d x e
+leaf_means false d (binary_views x) e fit may = cc
+leaf_means false d (text_views x) e fit may = cc
+
+-- ── tops ──
+
+-- children of which a cut is sent mean their cells
+abbrev AreCut : Order → Dictionaries → Cut → List WrittenColumn → Type 0
+AreCut order d whole cs = AllByRecursion (λ x. MeansOwn order d (own_rows x) x) cs
+AreCut order d (run o n) cs = AllByRecursion (λ x. MeansOwn order d n x) cs
+
+-- and their rows are those of the children that are held whole
+abbrev CutRows : Cut → List ℕ → List WrittenColumn → Type 0
+CutRows whole ns cs = map own_rows cs ≡ ns
+CutRows (run o n) ns cs = Unit {0}
+
+-- lists' offsets climb once they are laid anew
+climbing : (o n limit : ℕ) (os : List ℤ) → are_offsets os limit ≡ true → o + n ≤ variable_rows os → Climbing (counted_from (place_at os o) (part o (n + 1) os)) n (place_at os (o + n) - place_at os o)
+climbing o n limit os e le =
+    let some = some_offset os limit e in
+    let f = place_at os o in
+    let l = length-part os o (n + 1) (omega arith) in
+    let at : (j : ℕ) → j < n + 1 → place_at (counted_from f (part o (n + 1) os)) j ≡ place_at os (o + j) - f =
+    λ j lt. place_from f (part o (n + 1) os) j (omega (arith, l)) ∙ ap (λ m. m - f) (place_at-part o (n + 1) j os lt) in
+    let up : (i j : ℕ) → i ≤ j → j ≤ n → place_at os (o + i) ≤ place_at os (o + j) = λ i j a b. offset_between os limit (o + i) e (o + j) (omega arith) (omega arith) in
+    let z : place_at os (o + 0) ≡ f = ap (place_at os) (omega arith) in
+    record {
+      long = length-map (part o (n + 1) os) (λ x. pos (magnitude x - f)) ∙ l ∙ omega arith;
+      first = omega (arith, at 0 (omega arith), z);
+      climbs = λ j lt. omega (arith, at j (omega arith), at (suc j) (omega arith), up j (suc j) (omega arith) (omega arith));
+      below = λ j lt. omega (arith, at j (omega arith), up j n (omega arith) (omega arith));
+      end = at n (omega arith);
+    }
+
+-- a top as it is laid anew over columns
+abbrev trimmed : Order → ℕ → ℕ → Head → List WrittenColumn → WrittenColumn
+trimmed order o n h cs =
+    let t = head_trim o n h in
+    top_column (head_kind t) (head_rows t) (null_rows (head_validity t)) (head_pieces order t) cs (head_cells t (map (λ c. c.cells) cs))
+
+module _ (order : Order) (d : Dictionaries) (o n : ℕ) where
+  between_means : (make : Listed → Head) (l : Listed) (cs : List WrittenColumn) → length cs ≡ 1
+      → ((x : WrittenColumn) → MeansOwn order d (place_at l.offsets (o + n) - place_at l.offsets o) x → AreOf (child_fields l.kind) (x ∷ []) → Means order d n (trimmed order o n (make l) (x ∷ [])))
+      → AreOf (child_fields l.kind) cs → AreCut order d (held_between o n l.offsets) cs → Means order d n (trimmed order o n (make l) cs)
+  between_means make l [] one means kinds good = absurd (omega arith)
+  between_means make l (x ∷ []) one means kinds good = means x good.0 kinds
+  between_means make l (x ∷ y ∷ cs) one means kinds good = absurd (omega arith)
+
+  lists_mean : (l : Listed) (ks : List Kind) (ns : List ℕ) (x : WrittenColumn) → Sound (listed l) ks ns → o + n ≤ variable_rows l.offsets → AllByRecursion (λ y. magnitude y < offset_limit l.width) (listed_trim o n l).offsets
+      → MeansOwn order d (place_at l.offsets (o + n) - place_at l.offsets o) x → AreOf (child_fields l.kind) (x ∷ []) → Means order d n (trimmed order o n (listed l) (x ∷ []))
+  lists_mean l ks ns x s le fit good kinds =
+      let c = climbing o n (first_or_0 ns) l.offsets s.offsets le in
+      let rows : n ≡ variable_rows (listed_trim o n l).offsets = omega (arith, c.long) in
+      let v = option_map (part o n) l.validity in
+      subst (λ r. Means order d n (list_column order l.kind l.width r v (listed_trim o n l).offsets x)) rows
+      (list_mean order d l.kind l.width n (place_at l.offsets (o + n) - place_at l.offsets o) v (listed_trim o n l).offsets x (and_parts (is_list l.width l.kind) (are_of (child_fields l.kind) ks) s.suits).0
+      (has_rows-part o n (variable_rows l.offsets) l.validity s.valid le) kinds good c fit)
+
+  maps_mean : (l : Listed) (ks : List Kind) (ns : List ℕ) (x : WrittenColumn) → Sound (mapped l) ks ns → o + n ≤ variable_rows l.offsets → AllByRecursion (λ y. magnitude y < offset_limit l.width) (listed_trim o n l).offsets
+      → MeansOwn order d (place_at l.offsets (o + n) - place_at l.offsets o) x → AreOf (child_fields l.kind) (x ∷ []) → Means order d n (trimmed order o n (mapped l) (x ∷ []))
+  maps_mean l ks ns x s le fit good kinds =
+      let c = climbing o n (first_or_0 ns) l.offsets s.offsets le in
+      let rows : n ≡ variable_rows (listed_trim o n l).offsets = omega (arith, c.long) in
+      let v = option_map (part o n) l.validity in
+      subst (λ r. Means order d n (list_column order l.kind l.width r v (listed_trim o n l).offsets x)) rows
+      (map_mean order d l.kind l.width n (place_at l.offsets (o + n) - place_at l.offsets o) v (listed_trim o n l).offsets x (and_parts (is_map l.width l.kind) (are_of (child_fields l.kind) ks) s.suits).0
+      (has_rows-part o n (variable_rows l.offsets) l.validity s.valid le) kinds good c fit)
+
+  sizes_mean : (c : Counted) (ks : List Kind) (ns : List ℕ) (cs : List WrittenColumn) → Sound (sized c) ks ns → o + n ≤ c.rows → length cs ≡ 1 → AreOf (child_fields c.kind) cs → AreCut order d (held_by o n (sized c)) cs
+      → Means order d n (trimmed order o n (sized c) cs)
+  sizes_mean c ks ns [] s le one kinds good = absurd (omega arith)
+  sizes_mean c ks ns (x ∷ []) s le one kinds good =
+      sized_mean order d c.kind n (option_map (part o n) c.validity) x (and_parts (is_sized c.kind) (are_of (child_fields c.kind) ks) s.suits).0 (has_rows-part o n c.rows c.validity s.valid le) kinds good.0
+  sizes_mean c ks ns (x ∷ y ∷ cs) s le one kinds good = absurd (omega arith)
+
+  tags_mean : (k : Kind) (types : List ℤ) (offsets : Option (List ℤ)) (ks : List Kind) (ns : List ℕ) (cs : List WrittenColumn) → Sound (tagged (record { kind = k; types = types; offsets = offsets })) ks ns → o + n ≤ length types
+      → TagsFit (option_map (part o n) offsets) (part o n types) → AreOf (child_fields k) cs → AreCut order d (tagged_cut o n offsets) cs → CutRows (tagged_cut o n offsets) ns cs
+      → Means order d n (trimmed order o n (tagged (record { kind = k; types = types; offsets = offsets })) cs)
+  tags_mean k types None ks ns cs s le fit kinds good own =
+      let h : Head = tagged (record { kind = k; types = types; offsets = None }) in
+      let rows : length (part o n types) ≡ n = length-part types o n le in
+      let sound = head_sound (head_part o n h) ks (cut_counts (cut_of o n h) ns) (fault-part o n h ks ns s le) in
+      subst (λ r. Means order d r (trimmed order o n h cs)) rows
+      (sparse_mean order d k (part o n types) cs (and_parts (is_union false k) (are_of (child_fields k) ks) s.suits).0 sound.types fit kinds (subst (λ r. AllByRecursion (λ x. MeansOwn order d r x) cs) (sym rows) good))
+  tags_mean k types (Some offsets) ks ns cs s le fit kinds good own =
+      let h : Head = tagged (record { kind = k; types = types; offsets = Some offsets }) in
+      let rows : length (part o n types) ≡ n = length-part types o n le in
+      let all : length offsets ≡ length types = eqb-true (length offsets) (length types) s.rows in
+      let long : length (part o n offsets) ≡ n = length-part offsets o n (omega (arith, all)) in
+      let sound = head_sound (head_part o n h) ks (cut_counts (cut_of o n h) ns) (fault-part o n h ks ns s le) in
+      let there : fits_places (ids_in k) (part o n types) (Some (part o n offsets)) (map own_rows cs) ≡ true = ap (fits_places (ids_in k) (part o n types) (Some (part o n offsets))) own ∙ sound.offsets in
+      subst (λ r. Means order d r (trimmed order o n h cs)) rows
+      (dense_mean order d k (part o n types) (part o n offsets) cs (and_parts (is_union true k) (are_of (child_fields k) ks) s.suits).0 (long ∙ sym rows) sound.types there fit.0 fit.1 kinds good)
+
+  head_mean : (h : Head) (ks : List Kind) (ns ms : List ℕ) (cs : List WrittenColumn) → Sound h ks ns → o + n ≤ head_rows h → HeadFit (head_trim o n h) ms → length cs ≡ length ms → length ms ≡ length ns → AreOf (child_fields (head_kind h)) cs
+      → AreCut order d (held_by o n h) cs → CutRows (held_by o n h) ns cs → Means order d n (trimmed order o n h cs)
+  head_mean (listed l) ks ns ms cs s le fit count same kinds good own = between_means listed l cs (count ∙ same ∙ eqb-true (length ns) 1 s.rows) (λ x mine of. lists_mean l ks ns x s le fit mine of) kinds good
+  head_mean (mapped l) ks ns ms cs s le fit count same kinds good own = between_means mapped l cs (count ∙ same ∙ eqb-true (length ns) 1 s.rows) (λ x mine of. maps_mean l ks ns x s le fit mine of) kinds good
+  head_mean (sized c) ks ns ms cs s le fit count same kinds good own = sizes_mean c ks ns cs s le (count ∙ fit) kinds good
+  head_mean (structured c) ks ns ms cs s le fit count same kinds good own =
+      struct_mean order d c.kind n (option_map (part o n) c.validity) cs (and_parts (is_struct c.kind) (are_of (child_fields c.kind) ks) s.suits).0 (has_rows-part o n c.rows c.validity s.valid le) kinds good
+  head_mean (tagged t) ks ns ms cs s le fit count same kinds good own = tags_mean t.kind t.types t.offsets ks ns cs s le fit kinds good own
+
+-- ── trees ──
+
+may_part : (o n : ℕ) (l : LeafParts) (is_little_endian : Bool) → LeafMayHaveOrder l is_little_endian → LeafMayHaveOrder (leaf_part_of o n l) is_little_endian
+may_part o n (nulls x) le may = may
+may_part o n (bits f) le may = may
+may_part o n (numbers f) le may = may
+may_part o n (fixed f) le may = may
+may_part o n (binary x) le may = may
+may_part o n (text x) le may = may
+may_part o n (binary_views x) le may = may
+may_part o n (text_views x) le may = may
+
+length-columns : (order : Order) (cs : Forest) → length (tree_columns order cs) ≡ length (rows_each cs)
+length-columns order none = refl
+length-columns order (also p cs) = ap suc (length-columns order cs)
+
+length-trim : (c : Cut) (cs : Forest) → length (rows_each (trim_each c cs)) ≡ length (rows_each cs)
+length-trim whole none = refl
+length-trim whole (also p cs) = ap suc (length-trim whole cs)
+length-trim (run o n) none = refl
+length-trim (run o n) (also p cs) = ap suc (length-trim (run o n) cs)
+
+meant : (order : Order) (d : Dictionaries) (n : ℕ) (q : Parts) → rows_in q ≡ n → Means order d n (tree_column order q) → MeansOwn order d n (tree_column order q)
+meant order d n q e means = record {
+  means = means;
+  nulls = null_rows_in q;
+  others = nodes_below q;
+  own = own_node q ∙ ap (λ r. record { length = pos r; null_count = pos (null_rows_in q) } ∷ nodes_below q) e;
+}
+
+own_rows_are : (q : Parts) → rows_in q ≡ first_rows (tree_nodes q)
+own_rows_are q = ap first_rows (sym (own_node q))
+
+cut_rows : (order : Order) (c : Cut) (cs : Forest) → fault_each cs ≡ None → CutRows c (rows_each cs) (tree_columns order (trim_each c cs))
+cut_rows order whole none e = refl
+cut_rows order whole (also p cs) e =
+    let f = neither (fault_in p) (fault_each cs) e in
+    let q = trim 0 (rows_in p) p in
+    let rows : first_rows (tree_nodes q) ≡ rows_in p = sym (own_rows_are q) ∙ all_rows-trim 0 (rows_in p) p f.0 (omega arith) in
+    ap (λ r. r ∷ map own_rows (tree_columns order (trim_each whole cs))) rows ∙ ap (λ ns. rows_in p ∷ ns) (cut_rows order whole cs f.1)
+cut_rows order (run o n) cs e = tt
+
+-- what is sent of some rows means their cells
+mutual
+  pub tree_means : (is_little_endian : Bool) (d : Dictionaries) (o n : ℕ) (p : Parts) → fault_in p ≡ None → o + n ≤ rows_in p → Fit (trim o n p) → MayHaveOrder p is_little_endian
+      → Means (order_by is_little_endian) d n (tree_column (order_by is_little_endian) (trim o n p))
+  tree_means le d o n (leaf l) e within fit may =
+      subst (λ r. Means (order_by le) d r (tree_column (order_by le) (leaf (leaf_part_of o n l)))) (leaves.rows-part o n l e within)
+      (leaf_means le d (leaf_part_of o n l) (leaves.fault-part o n l e within) fit (may_part o n l le may))
+  tree_means le d o n (nested h cs) e within fit may =
+      let order = order_by le in
+      let t = top_sound h cs e in
+      let c = held_by o n h in
+      let sent = trim_each c cs in
+      let fs = child_fields (head_kind h) in
+      let good = each_means le d c cs t.1 (head_holds o n h (rows_each cs) t.0.rows t.0.offsets within) fit.1 may in
+      let kinds : AreOf fs (tree_columns order sent) = columns_are_of order fs sent (ap (are_of fs) (kinds-trim c cs) ∙ (and_parts (suits h) (are_of fs (kinds_each cs)) t.0.suits).1) in
+      subst (Means order d n) (sym (nested_is order (head_trim o n h) sent))
+      (head_mean order d o n h (kinds_each cs) (rows_each cs) (rows_each sent) (tree_columns order sent) t.0 within fit.0 (length-columns order sent) (length-trim c cs) kinds good (cut_rows order c cs t.1))
+
+  each_means : (is_little_endian : Bool) (d : Dictionaries) (c : Cut) (cs : Forest) → fault_each cs ≡ None → Reaches c (rows_each cs) → FitEach (trim_each c cs) → MayHaveOrderEach cs is_little_endian
+      → AreCut (order_by is_little_endian) d c (tree_columns (order_by is_little_endian) (trim_each c cs))
+  each_means le d whole none e r fit may = tt
+  each_means le d whole (also p cs) e r fit may =
+      let f = neither (fault_in p) (fault_each cs) e in
+      let q = trim 0 (rows_in p) p in
+      let rows : rows_in q ≡ rows_in p = all_rows-trim 0 (rows_in p) p f.0 (omega arith) in
+      let own : rows_in p ≡ first_rows (tree_nodes q) = sym rows ∙ own_rows_are q in
+      (subst (λ n. MeansOwn (order_by le) d n (tree_column (order_by le) q)) own (meant (order_by le) d (rows_in p) q rows (tree_means le d 0 (rows_in p) p f.0 (omega arith) fit.0 may.0)), each_means le d whole cs f.1 tt fit.1 may.1)
+  each_means le d (run o n) none e r fit may = tt
+  each_means le d (run o n) (also p cs) e r fit may =
+      let f = neither (fault_in p) (fault_each cs) e in
+      let q = trim o n p in
+      (meant (order_by le) d n q (all_rows-trim o n p f.0 r.0) (tree_means le d o n p f.0 r.0 fit.0 may.0), each_means le d (run o n) cs f.1 r.1 fit.1 may.1)
+
+abbrev column_of : Kind → List FieldNode → List (List ℕ) → List ℕ → List Cell → WrittenColumn
+column_of k nodes pieces ns xs = record { kind = k; nodes = nodes; pieces = pieces; views = ns; cells = xs }
+
+same_column : {k l : Kind} (nodes : List FieldNode) (pieces : List (List ℕ)) {ns ms : List ℕ} {xs ys : List Cell} → k ≡ l → ns ≡ ms → xs ≡ ys → column_of k nodes pieces ns xs ≡ column_of l nodes pieces ms ys
+same_column nodes pieces p q r = rw (p, q, r) refl
+
+-- so does any array's column
+pub column_means : (is_little_endian : Bool) (d : Dictionaries) (p : Parts) → fault_in p ≡ None → Fit (sent p) → MayHaveOrder p is_little_endian
+    → Means (order_by is_little_endian) d (rows_in p) (column_in (order_by is_little_endian) p)
+column_means le d (leaf l) e fit may = leaf_means le d l e fit may
+column_means le d (nested h cs) e fit may =
+    let order = order_by le in
+    let p = nested h cs in
+    let q = trim 0 (head_rows h) p in
+    let same : tree_column order q ≡ column_in order p = same_column (tree_nodes q) (tree_pieces order q) (kind-trim 0 (head_rows h) p) (counts-sent p) (cells-sent p e) in
+    subst (Means order d (head_rows h)) same (tree_means le d 0 (head_rows h) p e (omega arith) fit may)

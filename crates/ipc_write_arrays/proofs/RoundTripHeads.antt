@@ -1,9 +1,9 @@
 -- What a column's node and validity say where it stands, and what shows that a column means its cells.
-use Rattle.std.proofs.Common.{◌≡◌, ℕ, zero, suc, ◌+◌, ◌*◌, ◌≤◌, ◌<◌, List, [], ◌∷◌, ◌++◌, length, map, take, drop, get_or, slice_get, Option, Some, None, Bool, true, false, cond, ℤ, pos, refl, sym, ap, subst, ◌∙◌, arith, inl, inr}
+use Rattle.std.proofs.Common.{◌≡◌, ℕ, zero, suc, ◌+◌, ◌*◌, ◌≤◌, ◌<◌, List, [], ◌∷◌, ◌++◌, length, map, get_or, slice_get, Option, Some, None, Bool, true, false, cond, pos, refl, sym, ap, subst, ◌∙◌, arith, inl, inr}
 use Rattle.std.specs.Prelude.{not, nat_lt}
 use Rattle.std.specs.List.{count_by}
-use Rattle.std.proofs.lemmas.Bool.{lt-ltb, le-ltb, eqb-true, eq-eqb, cases_lt, cases_Bool}
-use Rattle.std.proofs.lemmas.List.{get_or_default, drop_at, take_at, length-append, length-map}
+use Rattle.std.proofs.lemmas.Bool.{lt-ltb, le-ltb, eqb-true, cases_lt, cases_Bool}
+use Rattle.std.proofs.lemmas.List.{get_or_default}
 use Rattle.std.proofs.lemmas.List.Sums.{get_or-le-sum_by}
 use Rattle.arrow_spec.specs.declared.error.IpcError.{IpcError}
 use Rattle.arrow_spec.specs.Flat.{Order}
@@ -13,12 +13,12 @@ use Rattle.arrow_spec.specs.Cells.{Cell}
 use Rattle.arrow_spec.specs.Counts.{RecordBatch, Place, nodes, buffers, views}
 use Rattle.arrow_spec.specs.Arrays.{Dictionaries, bit, valid, if_valid, from_on}
 use Rattle.arrow_spec.specs.ArrayCells.{cell}
-use Rattle.arrow_spec.specs.Faults.{some_negative, count_faults, node_faults, view_count_faults, bitmap_faults, validity_faults, array_faults, column_faults}
+use Rattle.arrow_spec.specs.Faults.{node_faults, bitmap_faults, validity_faults, array_faults}
 use Rattle.arrow_spec.specs.Framing.{packed}
 use Rattle.arrow_spec.specs.Framing.{validity_bytes}
 use Rattle.arrow_spec.proofs.PackedBits.{packed_bit, length-packed}
-use Rattle.arrow_spec.proofs.Bodies.{from_head, from_length, held_bytes, held_faults}
-use Rattle.arrow_spec.specs.Bodies.{From, BufferHeld}
+use Rattle.arrow_spec.proofs.Bodies.{from_head, held_bytes, held_faults}
+use Rattle.arrow_spec.specs.Bodies.{BufferHeld}
 use Rattle.arrow_spec.proofs.CellLists.{from_on-same}
 use Rattle.arrow_types.specs.BytesBack.{later}
 use Rattle.arrow_buffers.specs.Rows.{has_rows, is_valid, null_rows, masked}
@@ -26,6 +26,7 @@ use Rattle.arrow_buffers.proofs.Parts.{length-from_on}
 use Rattle.arrow_buffers.proofs.Masks.{length-masked}
 use Rattle.arrow_arrays.proofs.CellRows.{same_lists, get-row, null_told, valid_told}
 use Rattle.ipc_write_laws.specs.Columns.{WrittenColumn, StandsAt, Means}
+use Rattle.ipc_write_laws.proofs.Counted.{node_there, means_by_array}
 
 -- ── validity ──
 
@@ -126,53 +127,26 @@ pub extended : (d : Dictionaries) (name : List ℕ) (metadata : Option (List ℕ
     → Shape d k count own faults told → Shape d (extension name metadata k) count own faults told
 extended d name metadata k count own faults told s = record { node = s.node; view = s.view; buffer = s.buffer; empty = s.empty; some = s.some; row = s.row }
 
-from_taken : {A : Type 0} (l : List A) (i : ℕ) (xs ys : List A) → From l i (xs ++ ys) → take (length xs) (drop i l) ≡ xs
-from_taken l i xs ys f = ap (λ t. take (length xs) (drop i t)) f.whole ∙ ap (take (length xs)) (drop_at f.front (xs ++ ys) i f.place) ∙ take_at xs ys (length xs) refl
-
-none_below : (ns : List ℕ) → some_negative (map pos ns) ≡ false
-none_below [] = refl
-none_below (n ∷ ns) = none_below ns
-
-node_right : (m : RecordBatch) (p : Place) (rows n : ℕ) → slice_get m.nodes p.node ≡ Some (record { length = pos rows; null_count = pos n }) → node_faults m p rows ≡ []
+pub node_right : (m : RecordBatch) (p : Place) (rows n : ℕ) → slice_get m.nodes p.node ≡ Some (record { length = pos rows; null_count = pos n }) → node_faults m p rows ≡ []
 unfolding node_faults
 node_right m p rows n e = rw (e, le-ltb rows rows (omega arith)) refl
-
-pub counted : (m : RecordBatch) (k : Kind) (p : Place) (counts : List ℕ) (behind : List ℤ) → views k ≡ length counts → From m.variadic p.view (map pos counts ++ behind) → view_count_faults m k p ≡ []
-counted m k p counts behind e f =
-    let l : length (map pos counts) ≡ length counts = length-map counts pos in
-    let all : length m.variadic ≡ p.view + length (map pos counts ++ behind) = from_length m.variadic p.view (map pos counts ++ behind) f in
-    let a : nat_lt (length m.variadic) (p.view + length counts) ≡ false = le-ltb _ _ (omega (arith, length-append (map pos counts) behind)) in
-    let t : take (length counts) (drop p.view m.variadic) ≡ map pos counts = ap (λ n. take n (drop p.view m.variadic)) (sym l) ∙ from_taken m.variadic p.view (map pos counts) behind f in
-    rw (e, a, t, none_below counts) refl
 
 module _ (d : Dictionaries) (k : Kind) (count : ℕ) (own : RecordBatch → Place → ℕ) (faults : RecordBatch → Place → ℕ → List IpcError) (told : RecordBatch → Place → ℕ → Cell) (order : Order) (rows null_count : ℕ) (pieces : List (List ℕ)) (counts : List ℕ) (xs : List Cell) where
   array_right : (shape : Shape d k count own faults told) (m : RecordBatch) (p : Place) (n : ℕ) → slice_get m.nodes p.node ≡ Some (record { length = pos n; null_count = pos null_count }) → (0 < n → faults m p n ≡ []) → array_faults m d k p n ≡ []
   array_right shape m p zero e fine = shape.empty m p ∙ ap (λ l. l ++ []) (node_right m p 0 null_count e)
   array_right shape m p (suc n) e fine = shape.some m p n ∙ rw (node_right m p (suc n) null_count e, fine (omega arith)) refl
 
-  column_right : (shape : Shape d k count own faults told) (m : RecordBatch) (p : Place) → views k ≡ length counts → own m p ≡ length pieces → (0 < rows → faults m p rows ≡ []) → StandsAt m p (one_column k rows null_count pieces counts xs) → column_faults m d k p rows rows ≡ []
-  unfolding column_faults count_faults
-  column_right shape m p v b fine s =
-      let node : slice_get m.nodes p.node ≡ Some (record { length = pos rows; null_count = pos null_count }) = from_head m.nodes p.node (record { length = pos rows; null_count = pos null_count }) s.nodes_behind s.nodes in
-      let all : length m.nodes ≡ p.node + length (record { length = pos rows; null_count = pos null_count } ∷ s.nodes_behind) = from_length m.nodes p.node (record { length = pos rows; null_count = pos null_count } ∷ s.nodes_behind) s.nodes in
-      let enough_nodes : nat_lt (length m.nodes) (p.node + nodes k) ≡ false = le-ltb _ _ (omega (arith, shape.node)) in
-      let enough_buffers : nat_lt (length m.buffers) (p.buffer + buffers m.version m.variadic k p.view) ≡ false = le-ltb _ _ (omega (arith, s.room, shape.buffer m p)) in
-      let views_right : view_count_faults m k p ≡ [] = counted m k p counts s.views_behind v s.views in
-      let array : array_faults m d k p rows ≡ [] = array_right shape m p rows node fine in
-      rw (enough_nodes, enough_buffers, views_right, node, eq-eqb rows rows refl, array) refl
-
   -- a column of such a kind means its cells
   pub means_by : Shape d k count own faults told → count ≡ length counts → ((m : RecordBatch) (p : Place) → StandsAt m p (one_column k rows null_count pieces counts xs) → own m p ≡ length pieces)
       → ((m : RecordBatch) (p : Place) → m.order ≡ order → StandsAt m p (one_column k rows null_count pieces counts xs) → 0 < rows → faults m p rows ≡ [])
       → ((m : RecordBatch) (p : Place) → m.order ≡ order → StandsAt m p (one_column k rows null_count pieces counts xs) → from_on (told m p) 0 rows ≡ xs)
       → Means order d rows (one_column k rows null_count pieces counts xs)
-  means_by shape same taken fine read = record {
-    node_count = shape.node;
-    view_count = shape.view ∙ same;
-    buffer_count = λ m p version s. shape.buffer m p ∙ taken m p s;
-    right = λ m p o version s. column_right shape m p (shape.view ∙ same) (taken m p s) (fine m p o s) s;
-    cells_read = λ m p o version s. from_on-same (cell m d k p) (told m p) 0 rows (λ j lt. shape.row m p j) ∙ read m p o s;
-  }
+  means_by shape same taken fine read =
+      let c : WrittenColumn = one_column k rows null_count pieces counts xs in
+      means_by_array order d rows null_count c [] refl shape.node (shape.view ∙ same)
+      (λ m p five s. shape.buffer m p ∙ taken m p s)
+      (λ m p o five s. array_right shape m p rows (node_there order d rows null_count c [] refl m p s) (fine m p o s))
+      (λ m p o five s. from_on-same (cell m d k p) (told m p) 0 rows (λ j lt. shape.row m p j) ∙ read m p o s)
 
 -- a column whose first buffer is a validity has that and its node in front
 pub headed : (m : RecordBatch) (p : Place) (k : Kind) (rows : ℕ) (v : Option (List Bool)) (pieces : List (List ℕ)) (counts : List ℕ) (xs : List Cell) → has_rows v rows ≡ true

@@ -30,7 +30,8 @@ use Rattle.arrow_buffers.specs.Rows.{has_rows, null_rows, masked}
 use Rattle.arrow_buffers.specs.Leaf.{Leaf, leaf_cells}
 use Rattle.arrow_buffers.proofs.Sound.{leaf_sound}
 use Rattle.arrow_arrays.proofs.NumberParts.{leaf_suits}
-use Rattle.arrow_arrays.specs.Parts.{numbers, unsigned_at, primitive_cell, layout_cell, number_cell, number_size, are_numbers, fault_in}
+use Rattle.arrow_arrays.specs.LeafParts.{numbers, unsigned_at, primitive_cell, layout_cell, number_cell, number_size, are_numbers, leaf_fault_in}
+use Rattle.arrow_arrays.specs.Parts.{leaf}
 use Rattle.ipc_write_laws.specs.Columns.{StandsAt, Means}
 use Rattle.ipc_write_arrays.specs.Pieces.{in_order, layout_in_order, column_in}
 use Rattle.ipc_write_arrays.proofs.RoundTripHeads.{Shape, extended, means_by, headed, second, cells_told, map_told}
@@ -231,7 +232,7 @@ layout_sized : (order : Order) (l : PhysicalType) (values : List (List ℕ)) →
 layout_sized order (physical.Primitive q) values above sized = primitive_sized order q values sized
 layout_sized order l values above sized = absurd (omega arith)
 
-pub numbers_mean : (order : Order) (d : Dictionaries) (f : Leaf (List ℕ)) → fault_in (numbers f) ≡ None → Means order d (length f.values) (column_in order (numbers f))
+pub numbers_mean : (order : Order) (d : Dictionaries) (f : Leaf (List ℕ)) → leaf_fault_in (numbers f) ≡ None → Means order d (length f.values) (column_in order (leaf (numbers f)))
 numbers_mean order d f e =
     let rows = length f.values in
     let l = physical_of f.kind in
@@ -243,8 +244,8 @@ numbers_mean order d f e =
     let bytes = flat_map (layout_in_order order l) f.values in
     let xs = leaf_cells (number_cell f.kind) f in
     let long : length bytes ≡ number_size l * rows = length-items (layout_in_order order l) (number_size l) f.values [] s.wide in
-    let head = λ (m : RecordBatch) (p : Place) (here : StandsAt m p (column_in order (numbers f))). headed m p f.kind rows f.validity (bytes ∷ []) [] xs fit here in
-    let held = λ (m : RecordBatch) (p : Place) (here : StandsAt m p (column_in order (numbers f))). second m p f.kind rows (null_rows f.validity) (validity_bytes f.validity) bytes [] [] xs here in
+    let head = λ (m : RecordBatch) (p : Place) (here : StandsAt m p (column_in order (leaf (numbers f)))). headed m p f.kind rows f.validity (bytes ∷ []) [] xs fit here in
+    let held = λ (m : RecordBatch) (p : Place) (here : StandsAt m p (column_in order (leaf (numbers f)))). second m p f.kind rows (null_rows f.validity) (validity_bytes f.validity) bytes [] [] xs here in
     means_by d f.kind 0 two_of (number_faults l) (number_row l) order rows (null_rows f.validity) (validity_bytes f.validity ∷ bytes ∷ []) [] xs (number_shape d f.kind above) refl (λ m p here. refl)
     (λ m p o here few. fixed_right m p (number_size l) rows f.validity bytes (head m p here) (held m p here) (omega arith))
     (λ m p o here.

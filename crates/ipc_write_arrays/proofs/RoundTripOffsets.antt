@@ -1,26 +1,19 @@
 -- Columns of byte strings and of texts between offsets mean their cells.
-use Rattle.std.proofs.Common.{◌≡◌, ℕ, suc, ◌+◌, ◌-◌, ◌*◌, ◌<◌, ◌≤◌, ◌&&◌, List, [], ◌∷◌, length, take, drop, get_or, Option, None, Bool, true, false, ℤ, pos, refl, sym, ap, subst, ◌∙◌, arith}
-use Rattle.std.specs.Prelude.{nat_lt, not}
+use Rattle.std.proofs.Common.{◌≡◌, ℕ, suc, ◌+◌, ◌-◌, ◌*◌, ◌<◌, ◌≤◌, ◌&&◌, List, [], ◌∷◌, length, take, drop, Option, None, Bool, true, false, ℤ, refl, sym, ap, subst, ◌∙◌, arith}
+use Rattle.std.specs.Prelude.{not}
 use Rattle.std.specs.List.{AllByRecursion}
-use Rattle.std.specs.Int.{Width, w32, w64, byte_len, cast_signed}
+use Rattle.std.specs.Int.{byte_len}
 use Rattle.std.specs.Str.{is_utf8}
-use Rattle.std.proofs.lemmas.Bool.{le-ltb}
-use Rattle.std.proofs.lemmas.Int.{to_z_pos}
-use Rattle.std.proofs.lemmas.List.{get_or-map, length-map}
-use Rattle.std.proofs.lemmas.List.Elements.{All-from_recursion}
 use Rattle.arrow_spec.specs.declared.error.IpcError.{IpcError}
-use Rattle.arrow_spec.specs.Flat.{Order, fold_number, from_bytes}
+use Rattle.arrow_spec.specs.Flat.{Order}
 use Rattle.arrow_spec.specs.Kinds.{Kind, Offsets, small, large, binary, utf8, «list», extension}
-use Rattle.arrow_spec.specs.Held.{Stands}
 use Rattle.arrow_spec.specs.Cells.{Cell}
-use Rattle.arrow_spec.specs.Counts.{RecordBatch, Place, magnitude, is_negative}
-use Rattle.arrow_spec.specs.Arrays.{Dictionaries, buf, valid, if_valid, signed_in, unsigned_in, offset, offset_width, slice, row_bytes, from_on, or_0}
+use Rattle.arrow_spec.specs.Counts.{RecordBatch, Place, magnitude}
+use Rattle.arrow_spec.specs.Arrays.{Dictionaries, buf, valid, if_valid, offset, offset_width, slice, row_bytes, from_on}
 use Rattle.arrow_spec.specs.Faults.{some_row, offsets_faults, bytes_faults, utf8_faults, if_sound}
 use Rattle.arrow_spec.specs.Framing.{validity_bytes}
 use Rattle.arrow_spec.proofs.Bodies.{held_bytes, held_faults}
 use Rattle.arrow_spec.specs.Bodies.{BufferHeld}
-use Rattle.arrow_types.specs.Numbers.{to_bytes}
-use Rattle.arrow_types.specs.NumberLaws.{unsigned_back, unsigned_width}
 use Rattle.arrow_types.specs.Physical.{physical_of}
 use Rattle.arrow_buffers.specs.Rows.{is_valid, null_rows, bytes_cell}
 use Rattle.arrow_buffers.specs.Layouts.{is_variable_any}
@@ -31,11 +24,11 @@ use Rattle.arrow_buffers.proofs.Rows.{none_below, none_from}
 use Rattle.arrow_buffers.proofs.Rising.{some_offset, offset_risen, offset_climbs, offset_between}
 use Rattle.arrow_buffers.proofs.VariableParts.{Spanned, variable_sound}
 use Rattle.ipc_write_laws.specs.Columns.{WrittenColumn, StandsAt, Means}
-use Rattle.ipc_write_arrays.specs.Pieces.{width_of_kind, rebased, offset_bytes, bytes_between, variable_pieces, offset_limit, OffsetsFit}
+use Rattle.ipc_write_arrays.specs.Pieces.{width_of_kind, offset_bytes, bytes_between, variable_pieces, offset_limit, OffsetsFit}
 use Rattle.ipc_write_arrays.proofs.RoundTripHeads.{Headed, Shape, extended, one_column, means_by, headed, second, valid_by, validity_right, cells_told}
 use Rattle.ipc_write_arrays.proofs.RoundTripPlain.{numbers_right}
-use Rattle.ipc_write_arrays.proofs.RoundTripTurned.{itself, part_there}
-use Rattle.ipc_write_arrays.proofs.RoundTripNumbers.{item_stands, length-items}
+use Rattle.ipc_write_arrays.proofs.RoundTripPlaces as places
+use Rattle.ipc_write_arrays.proofs.RoundTripPlaces.{OffsetsHeld, length-offset_bytes}
 
 -- ── offsets ──
 
@@ -47,29 +40,6 @@ record Between (order : Order) (o : Offsets) (offsets : List ℤ) (values : List
   held : BufferHeld m (p.buffer + 1) (offset_bytes order o offsets)
   bytes : BufferHeld m (p.buffer + 2) (bytes_between offsets values)
 
--- an offset that fits is read back
-offset_back : (o : Offsets) (order : Order) (n : ℕ) → n < offset_limit o → cast_signed (offset_width o) (from_bytes order (offset_width o) (to_bytes order (offset_width o) n)) ≡ pos n
-offset_back small order n h = ap (cast_signed w32) (unsigned_back w32 order n (omega arith)) ∙ to_z_pos w32 n (omega arith)
-offset_back large order n h = ap (cast_signed w64) (unsigned_back w64 order n (omega arith)) ∙ to_z_pos w64 n (omega arith)
-
-rebased_at : (offsets : List ℤ) (j : ℕ) → j < length offsets → get_or (rebased offsets) j 0 ≡ place_at offsets j - place_at offsets 0
-rebased_at offsets j h = get_or-map (λ x. magnitude x - place_at offsets 0) offsets j (pos 0) 0 h
-
-length-rebased : (offsets : List ℤ) → length (rebased offsets) ≡ length offsets
-length-rebased offsets = length-map offsets (λ x. magnitude x - place_at offsets 0)
-
-offset_fits : (o : Offsets) (offsets : List ℤ) (j : ℕ) → AllByRecursion (λ x. magnitude x < offset_limit o) offsets → j < length offsets → place_at offsets j < offset_limit o
-offset_fits o offsets j fit h = All-from_recursion (λ x. magnitude x < offset_limit o) offsets fit j (pos 0) h
-
-length-offset_bytes : (order : Order) (o : Offsets) (offsets : List ℤ) → length (offset_bytes order o offsets) ≡ byte_len (offset_width o) * length offsets
-length-offset_bytes order o offsets =
-    let w = offset_width o in
-    length-items (λ n. to_bytes order w n) (byte_len w) (rebased offsets) 0 (λ i lt. unsigned_width w order (get_or (rebased offsets) i 0)) ∙ ap (λ n. byte_len w * n) (length-rebased offsets)
-
-signed_by : (w : Width) (order : Order) (m : RecordBatch) (i j : ℕ) (b x : List ℕ) → m.order ≡ order → buf m i ≡ b → length x ≡ byte_len w → Stands b (byte_len w * j) x → signed_in m w i j ≡ cast_signed w (from_bytes order w x)
-unfolding unsigned_in
-signed_by w order m i j b x o held e s = rw (held, o) (ap (λ r. cast_signed w (or_0 (fold_number order w r))) (part_there b (byte_len w * j) (byte_len w) x e s))
-
 sliced : (b c : List ℕ) (f g t u : ℕ) → b ≡ c → f ≡ g → t ≡ u → slice b f t ≡ slice c g u
 sliced b c f g t u e h i = rw (e, h, i) refl
 
@@ -77,20 +47,11 @@ no_text : (v w : Bool) (a b : List ℕ) → v ≡ w → a ≡ b → (v && not (i
 no_text v w a b e h = rw (e, h) refl
 
 module _ (order : Order) (o : Offsets) (offsets : List ℤ) (values : List ℕ) (m : RecordBatch) (p : Place) (b : Between order o offsets values m p) where
-  signed_read : (j : ℕ) → j < length offsets → signed_in m (offset_width o) (p.buffer + 1) j ≡ pos (place_at offsets j - place_at offsets 0)
-  signed_read j h =
-      let w = offset_width o in
-      let all = offset_bytes order o offsets in
-      let n = get_or (rebased offsets) j 0 in
-      let l : length (rebased offsets) ≡ length offsets = length-rebased offsets in
-      let at : 0 + byte_len w * j ≡ byte_len w * j = omega arith in
-      let there : Stands all (byte_len w * j) (to_bytes order w n) = subst (λ k. Stands all k (to_bytes order w n)) at (item_stands (λ k. to_bytes order w k) (byte_len w) (rebased offsets) 0 all 0 j (λ i lt. unsigned_width w order (get_or (rebased offsets) i 0)) (omega arith) (itself all)) in
-      let e : n ≡ place_at offsets j - place_at offsets 0 = rebased_at offsets j h in
-      let fits : place_at offsets j < offset_limit o = offset_fits o offsets j b.fit h in
-      signed_by w order m (p.buffer + 1) j all (to_bytes order w n) b.in_it (held_bytes m (p.buffer + 1) all b.held) (unsigned_width w order n) there ∙ offset_back o order n (omega arith) ∙ ap pos e
+  in_places : OffsetsHeld order o offsets m (p.buffer + 1)
+  in_places = record { in_it = b.in_it; fit = b.fit; held = b.held }
 
   offset_read : (j : ℕ) → j < length offsets → offset m o (p.buffer + 1) j ≡ place_at offsets j - place_at offsets 0
-  offset_read j h = ap magnitude (signed_read j h)
+  offset_read = places.offset_read order o offsets m (p.buffer + 1) in_places
 
   some_row_there : 0 < length offsets
   some_row_there = some_offset offsets (length values) b.rise
@@ -102,27 +63,11 @@ module _ (order : Order) (o : Offsets) (offsets : List ℤ) (values : List ℕ) 
       let most : place_at offsets (variable_rows offsets) ≤ length values = (offset_risen offsets (length values) (variable_rows offsets) b.rise (omega arith)).within in
       length-part values (place_at offsets 0) (place_at offsets (variable_rows offsets) - place_at offsets 0) (omega arith)
 
-  no_negative : some_row (λ j. is_negative (signed_in m (offset_width o) (p.buffer + 1) j)) (suc (variable_rows offsets)) ≡ false
-  no_negative =
-      let one : 0 < length offsets = some_row_there in
-      none_from (λ j. is_negative (signed_in m (offset_width o) (p.buffer + 1) j)) (suc (variable_rows offsets)) (λ k lt. ap is_negative (signed_read k (omega arith)))
-
-  none_falls : some_row (λ j. nat_lt (offset m o (p.buffer + 1) (suc j)) (offset m o (p.buffer + 1) j)) (variable_rows offsets) ≡ false
-  none_falls =
-      none_from (λ j. nat_lt (offset m o (p.buffer + 1) (suc j)) (offset m o (p.buffer + 1) j)) (variable_rows offsets) (λ k lt.
-      let e : offset m o (p.buffer + 1) (suc k) ≡ place_at offsets (suc k) - place_at offsets 0 = offset_read (suc k) (omega arith) in
-      let f : offset m o (p.buffer + 1) k ≡ place_at offsets k - place_at offsets 0 = offset_read k (omega arith) in
-      let c : place_at offsets k ≤ place_at offsets (suc k) = offset_climbs offsets (length values) k b.rise (omega arith) in
-      le-ltb (offset m o (p.buffer + 1) (suc k)) (offset m o (p.buffer + 1) k) (omega arith))
-
   offsets_right : offsets_faults m o (p.buffer + 1) (variable_rows offsets) (length (bytes_between offsets values)) ≡ []
-  unfolding offsets_faults
   offsets_right =
       let one : 0 < length offsets = some_row_there in
-      let e : offset m o (p.buffer + 1) (variable_rows offsets) ≡ place_at offsets (variable_rows offsets) - place_at offsets 0 = offset_read (variable_rows offsets) (omega arith) in
       let l : length (bytes_between offsets values) ≡ place_at offsets (variable_rows offsets) - place_at offsets 0 = length-between in
-      let inside : nat_lt (length (bytes_between offsets values)) (offset m o (p.buffer + 1) (variable_rows offsets)) ≡ false = le-ltb _ _ (omega arith) in
-      rw (no_negative, none_falls, inside) refl
+      places.offsets_right order o offsets m (p.buffer + 1) in_places (variable_rows offsets) (length (bytes_between offsets values)) (omega arith) (λ k lt. offset_climbs offsets (length values) k b.rise (omega arith)) (omega arith)
 
   -- a row's bytes are those between its offsets
   row_read : (row : ℕ) → row < variable_rows offsets → row_bytes m o p row ≡ held.row_bytes offsets values row

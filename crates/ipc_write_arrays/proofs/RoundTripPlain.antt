@@ -21,7 +21,8 @@ use Rattle.arrow_buffers.specs.Layouts.{is_null, is_boolean, binary_size}
 use Rattle.arrow_buffers.specs.Leaf.{Leaf, Nulls, null_cells, leaf_cells, nulls_fault, fixed_rows, fixed_row, fixed_cells}
 use Rattle.arrow_buffers.proofs.Sound.{leaf_sound, fixed_sound}
 use Rattle.arrow_arrays.proofs.NumberParts.{leaf_suits}
-use Rattle.arrow_arrays.specs.Parts.{nulls, bits, fixed, fault_in}
+use Rattle.arrow_arrays.specs.LeafParts.{nulls, bits, fixed, leaf_fault_in}
+use Rattle.arrow_arrays.specs.Parts.{leaf}
 use Rattle.ipc_write_laws.specs.Columns.{Means}
 use Rattle.ipc_write_arrays.specs.Pieces.{column_in}
 use Rattle.ipc_write_arrays.proofs.RoundTripHeads.{Headed, Shape, extended, means_by, headed, second, cells_told, map_told, validity_right}
@@ -56,7 +57,7 @@ null_rows_told : (i n : ℕ) → from_on (λ row. cells.null) i n ≡ replicate 
 null_rows_told i zero = refl
 null_rows_told i (suc n) = ap (λ r. cells.null ∷ r) (null_rows_told (suc i) n)
 
-pub nulls_mean : (order : Order) (d : Dictionaries) (x : Nulls) → fault_in (nulls x) ≡ None → Means order d x.rows (column_in order (nulls x))
+pub nulls_mean : (order : Order) (d : Dictionaries) (x : Nulls) → leaf_fault_in (nulls x) ≡ None → Means order d x.rows (column_in order (leaf (nulls x)))
 nulls_mean order d x e =
     means_by d x.kind 0 none_of nothing null_row order x.rows x.rows [] [] (null_cells x) (null_shape d x.kind (null_suits (is_null (physical_of x.kind)) e)) refl (λ m p s. refl) (λ m p o s few. refl) (λ m p o s. null_rows_told 0 x.rows)
 
@@ -101,7 +102,7 @@ bits_read m p values v h b =
     (λ row lt e. ap (λ bytes. cells.bool (bit bytes row)) (held_bytes m (p.buffer + 1) (packed values) b) ∙ ap cells.bool (packed_bit values row lt))
     ∙ ap (masked v) (map_told cells.bool values false)
 
-pub bits_mean : (order : Order) (d : Dictionaries) (f : Leaf Bool) → fault_in (bits f) ≡ None → Means order d (length f.values) (column_in order (bits f))
+pub bits_mean : (order : Order) (d : Dictionaries) (f : Leaf Bool) → leaf_fault_in (bits f) ≡ None → Means order d (length f.values) (column_in order (leaf (bits f)))
 bits_mean order d f e =
     let rows = length f.values in
     let suits = is_boolean (physical_of f.kind) in
@@ -145,7 +146,7 @@ strings_read m p size rows values v h b =
 pub whole_rows : (size n : ℕ) → 0 < size → n % size ≡ 0 → size * (n / size) ≡ n
 whole_rows size n h e = omega arith
 
-pub fixed_mean : (order : Order) (d : Dictionaries) (f : Leaf ℕ) → fault_in (fixed f) ≡ None → Means order d (fixed_rows f) (column_in order (fixed f))
+pub fixed_mean : (order : Order) (d : Dictionaries) (f : Leaf ℕ) → leaf_fault_in (fixed f) ≡ None → Means order d (fixed_rows f) (column_in order (leaf (fixed f)))
 fixed_mean order d f e =
     let rows = fixed_rows f in
     let size = binary_size f.kind in

@@ -23,7 +23,8 @@ use Rattle.arrow_buffers.proofs.Views.{short_view, long_view, short_good, long_g
 use Rattle.arrow_buffers.proofs.ViewParts.{Seen, view_sound, good_row}
 use Rattle.ipc_write_laws.specs.Columns.{WrittenColumn, StandsAt, Means}
 use Rattle.ipc_write_arrays.specs.Pieces.{view_pieces}
-use Rattle.ipc_write_arrays.proofs.RoundTripHeads.{Headed, Shape, extended, one_column, means_by, headed, second, counted, valid_by, cells_told}
+use Rattle.ipc_write_arrays.proofs.RoundTripHeads.{Headed, Shape, extended, one_column, means_by, headed, second, valid_by, cells_told}
+use Rattle.ipc_write_laws.proofs.Counted.{counts_there}
 use Rattle.ipc_write_arrays.proofs.RoundTripPlain.{fixed_right, whole_rows}
 
 -- ── data buffers ──
@@ -179,7 +180,7 @@ looked is_text x m p seen o s =
       data_held = subst (λ i. AreHeld m i x.buffers) next s.pieces.1.1;
       count = count_there is_text x m p s;
       room = omega (arith, s.room);
-      counted = counted m binary_view p (length x.buffers ∷ []) s.views_behind refl s.views;
+      counted = counts_there m p binary_view (view_column is_text x) refl s;
     }
 
 view_read : (is_text : Bool) (x : Views) (m : RecordBatch) (p : Place) → Seen x → Looked x m p → from_on (view_row is_text m p) 0 (view_rows x.views) ≡ view_cells is_text x

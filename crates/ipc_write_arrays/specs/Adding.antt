@@ -55,6 +55,10 @@ Ends (Err e) start buffers body new_buffers new_body = KeptBoth buffers body new
 pub record AllBelow (limit : ℕ) (offsets : List ℤ) : Type 0 where
   pub each : AllByRecursion (λ x. magnitude x < limit) offsets
 
+-- each number is one of its type
+pub record AllFit {A : Type 0} (fits : A → Type 0) (numbers : List A) : Type 0 where
+  pub each : AllByRecursion fits numbers
+
 -- an offset's bytes are those of its number
 pub record WritesNumbers {O : Type 0} (number : O → ℤ) (limit : ℕ) (is_large : Bool) (written : Order → O → List ℕ) : Type 0 where
   pub bytes : (order : Order) (x : O) (n : ℕ) → n < limit → number x ≡ pos n → written order x ≡ to_bytes order (offset_width (offsets_by is_large)) n

@@ -1,3 +1,6 @@
+pub mod Trims
+pub mod CutsOf
 pub mod Pieces
 pub mod Outputs
+pub mod OutputsOf
 pub mod Adding

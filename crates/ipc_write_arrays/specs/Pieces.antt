@@ -1,12 +1,14 @@
 -- What is written of an array: its node, the bytes of its buffers and its view counts. (Arrow Columnar Format, "Buffer Listing for Each Layout", "Variadic buffers".)
-use Rattle.std.specs.Prelude.{ℕ, ◌-◌, ◌^◌, ◌<◌, List, [], ◌∷◌, ◌++◌, map, take, drop, reverse, ℤ}
+use Rattle.std.specs.Prelude.{FitsSigned, ◌≡◌, length, ℕ, ◌-◌, ◌^◌, ◌<◌, List, [], ◌∷◌, ◌++◌, map, take, drop, reverse, Option, Some, None, ℤ}
+use Rattle.std.specs.Int.{w8, w32}
 use Rattle.std.specs.List.{flat_map, AllByRecursion}
+use Rattle.arrow_spec.specs.declared.message.FieldNode.{FieldNode}
 use Rattle.arrow_spec.specs.Flat.{Order, little, big}
 use Rattle.arrow_spec.specs.Kinds.{Kind, Offsets, small, large, binary, utf8, extension}
 use Rattle.arrow_spec.specs.Counts.{magnitude}
 use Rattle.arrow_spec.specs.Arrays.{offset_width, slice}
 use Rattle.arrow_spec.specs.Framing.{packed, validity_bytes}
-use Rattle.arrow_types.specs.Numbers.{to_bytes}
+use Rattle.arrow_types.specs.Numbers.{to_bytes, signed_to_bytes}
 use Rattle.arrow_types.specs.Physical.{physical_of}
 use Rattle.arrow_types.specs.declared.physical.PhysicalType.{PhysicalType}
 use Rattle.arrow_types.specs.declared.physical.PhysicalType.TheVariants as physical
@@ -14,9 +16,12 @@ use Rattle.arrow_types.specs.declared.physical.PrimitiveType.{PrimitiveType}
 use Rattle.arrow_types.specs.declared.physical.PrimitiveType.TheVariants as primitive
 use Rattle.arrow_buffers.specs.Variable.{Variable, place_at, variable_rows}
 use Rattle.arrow_buffers.specs.Views.{Views}
-use Rattle.arrow_arrays.specs.Parts.{Parts, nulls, bits, numbers, fixed, binary as binaries, text, binary_views, text_views, kind_in, cells_in}
+use Rattle.arrow_arrays.specs.LeafParts.{LeafParts, nulls, bits, numbers, fixed, binary as binaries, text, binary_views, text_views}
+use Rattle.arrow_arrays.specs.Heads.{Head, Listed, listed, mapped, sized, structured, tagged}
+use Rattle.arrow_arrays.specs.Parts.{Parts, Forest, leaf, nested, none, also, kind_in, cells_in, rows_each}
 use Rattle.arrow_arrays.specs.Nodes.{node_in, counts_in}
 use Rattle.ipc_write_laws.specs.Columns.{WrittenColumn}
+use Rattle.ipc_write_arrays.specs.Trims.{sent}
 
 -- ── numbers ──
 
@@ -63,20 +68,67 @@ variable_pieces order p = validity_bytes p.validity ∷ offset_bytes order (widt
 abbrev pub view_pieces : Views → List (List ℕ)
 view_pieces p = validity_bytes p.validity ∷ p.views ∷ p.buffers
 
--- the bytes of each buffer, in order; a validity that is not held has none
+-- the bytes of each buffer, in order, of an array without children; a validity that is not held has none
+abbrev pub leaf_pieces : Order → LeafParts → List (List ℕ)
+leaf_pieces order (nulls n) = []
+leaf_pieces order (bits f) = validity_bytes f.validity ∷ packed f.values ∷ []
+leaf_pieces order (numbers f) = validity_bytes f.validity ∷ flat_map (layout_in_order order (physical_of f.kind)) f.values ∷ []
+leaf_pieces order (fixed f) = validity_bytes f.validity ∷ f.values ∷ []
+leaf_pieces order (binaries p) = variable_pieces order p
+leaf_pieces order (text p) = variable_pieces order p
+leaf_pieces order (binary_views p) = view_pieces p
+leaf_pieces order (text_views p) = view_pieces p
+
+-- lists: a validity and offsets
+abbrev pub listed_pieces : Order → Listed → List (List ℕ)
+listed_pieces order l = validity_bytes l.validity ∷ offset_bytes order l.width l.offsets ∷ []
+
+-- the places of a dense union's rows
+abbrev pub place_pieces : Order → Option (List ℤ) → List (List ℕ)
+place_pieces order None = []
+place_pieces order (Some offsets) = flat_map (signed_to_bytes w32 order) offsets ∷ []
+
+-- the own buffers of an array with children
+abbrev pub head_pieces : Order → Head → List (List ℕ)
+head_pieces order (listed l) = listed_pieces order l
+head_pieces order (mapped l) = listed_pieces order l
+head_pieces order (sized c) = validity_bytes c.validity ∷ []
+head_pieces order (structured c) = validity_bytes c.validity ∷ []
+head_pieces order (tagged t) = flat_map (signed_to_bytes w8 order) t.types ∷ place_pieces order t.offsets
+
+-- ── trees ──
+
+-- the nodes of an array that is laid anew, in preorder
+abbrev mutual
+  pub tree_nodes : Parts → List FieldNode
+  tree_nodes (leaf l) = node_in (leaf l) ∷ []
+  tree_nodes (nested h cs) = node_in (nested h cs) ∷ trees_nodes cs
+
+  pub trees_nodes : Forest → List FieldNode
+  trees_nodes none = []
+  trees_nodes (also p cs) = tree_nodes p ++ trees_nodes cs
+
+-- and its buffers
+abbrev mutual
+  pub tree_pieces : Order → Parts → List (List ℕ)
+  tree_pieces order (leaf l) = leaf_pieces order l
+  tree_pieces order (nested h cs) = head_pieces order h ++ trees_pieces order cs
+
+  pub trees_pieces : Order → Forest → List (List ℕ)
+  trees_pieces order none = []
+  trees_pieces order (also p cs) = tree_pieces order p ++ trees_pieces order cs
+
+-- the nodes of an array as they are sent
+abbrev pub nodes_in : Parts → List FieldNode
+nodes_in p = tree_nodes (sent p)
+
+-- and its buffers
 abbrev pub pieces_in : Order → Parts → List (List ℕ)
-pieces_in order (nulls n) = []
-pieces_in order (bits f) = validity_bytes f.validity ∷ packed f.values ∷ []
-pieces_in order (numbers f) = validity_bytes f.validity ∷ flat_map (layout_in_order order (physical_of f.kind)) f.values ∷ []
-pieces_in order (fixed f) = validity_bytes f.validity ∷ f.values ∷ []
-pieces_in order (binaries p) = variable_pieces order p
-pieces_in order (text p) = variable_pieces order p
-pieces_in order (binary_views p) = view_pieces p
-pieces_in order (text_views p) = view_pieces p
+pieces_in order p = tree_pieces order (sent p)
 
 -- the array as a column that is written
 abbrev pub column_in : Order → Parts → WrittenColumn
-column_in order p = record { kind = kind_in p; nodes = node_in p ∷ []; pieces = pieces_in order p; views = counts_in p; cells = cells_in p }
+column_in order p = record { kind = kind_in p; nodes = nodes_in p; pieces = pieces_in order p; views = counts_in p; cells = cells_in p }
 
 -- ── numbers that fit ──
 
@@ -89,8 +141,31 @@ offset_limit large = 2 ^ 63
 abbrev pub OffsetsFit : Kind → List ℤ → Type 0
 OffsetsFit k offsets = AllByRecursion (λ x. magnitude x < offset_limit (width_of_kind k)) offsets
 
--- The numbers of an array fit the width that they are written in. The arrays' types say so: `write` tells it of each.
-abbrev pub Fit : Parts → Type 0
-Fit (binaries p) = OffsetsFit p.kind p.offsets
-Fit (text p) = OffsetsFit p.kind p.offsets
-Fit p = Unit {0}
+-- the same of an array without children
+abbrev pub LeafFit : LeafParts → Type 0
+LeafFit (binaries p) = OffsetsFit p.kind p.offsets
+LeafFit (text p) = OffsetsFit p.kind p.offsets
+LeafFit p = Unit {0}
+
+-- types are numbers of 8 bits, and places of 32
+abbrev pub TagsFit : Option (List ℤ) → List ℤ → Type 0
+TagsFit None types = AllByRecursion (λ x. FitsSigned w8 x) types
+TagsFit (Some offsets) types = AllByRecursion (λ x. FitsSigned w8 x) types × AllByRecursion (λ x. FitsSigned w32 x) offsets
+
+-- the same of a top that is laid anew over children of so many rows: offsets, and that lists of one size have one child
+abbrev pub HeadFit : Head → List ℕ → Type 0
+HeadFit (listed l) ns = AllByRecursion (λ x. magnitude x < offset_limit l.width) l.offsets
+HeadFit (mapped l) ns = AllByRecursion (λ x. magnitude x < offset_limit l.width) l.offsets
+HeadFit (sized c) ns = length ns ≡ 1
+HeadFit (structured c) ns = Unit {0}
+HeadFit (tagged t) ns = TagsFit t.offsets t.types
+
+-- What is sent of an array fits the widths that it is written in. The arrays' types say so: `write` tells it of each.
+abbrev mutual
+  pub Fit : Parts → Type 0
+  Fit (leaf l) = LeafFit l
+  Fit (nested h cs) = HeadFit h (rows_each cs) × FitEach cs
+
+  pub FitEach : Forest → Type 0
+  FitEach none = Unit {0}
+  FitEach (also p cs) = Fit p × FitEach cs

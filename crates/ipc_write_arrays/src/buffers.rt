@@ -1,17 +1,18 @@
 //! Buffers, each put behind the last with zeros up to a multiple of 64 (Arrow Columnar Format, "Buffer Alignment and Padding").
-ghost use Rattle.std.specs.Prelude.{◌≡◌, ◌-◌, ◌^◌, ◌<◌, ◌≤◌, [], ◌∷◌, length, map, true, IfOk};
+ghost use Rattle.std.specs.Prelude.{◌≡◌, ◌+◌, ◌-◌, ◌^◌, ◌<◌, ◌≤◌, [], ◌∷◌, length, map, true, IfOk};
 ghost use Rattle.std.specs.Option.{option_map};
 ghost use Rattle.std.specs.List.{flat_map};
 ghost use Rattle.arrow_spec.specs.Layout.{up_to, zeros};
 ghost use Rattle.arrow_spec.specs.Sent.{body_of};
 ghost use Rattle.arrow_spec.specs.Framing.{packed, validity_bytes};
 ghost use Rattle.arrow_types.specs.Numbers.{offsets_by};
+ghost use Rattle.arrow_buffers.specs.Rows.{part};
 ghost use Rattle.arrow_buffers.specs.Variable.{are_offsets};
 ghost use Rattle.ipc_write_arrays.specs.Pieces.{offset_bytes};
 ghost use Rattle.arrow_spec.specs.Flat.{order_by};
-ghost use Rattle.ipc_write_arrays.specs.Adding.{Appends, Adds, Ends, AllBelow, WritesNumbers};
+ghost use Rattle.ipc_write_arrays.specs.Adding.{Appends, Adds, Ends, AllBelow, AllFit, WritesNumbers};
 
-use crate::bytes::{push_bits, push_numbers, push_offsets, push_validity};
+use crate::bytes::{push_bits, push_numbers, push_offsets, push_turned, push_validity};
 use arrow_buffers::{Bitmap, Buffer};
 use arrow_spec::IpcBuffer;
 use arrow_types::{NativeType, Offset};
@@ -98,6 +99,27 @@ pub(crate) fn put_numbers<T: NativeType>(
 {
     let start = arrow_data.len();
     push_numbers(numbers, arrow_data, is_little_endian)?;
+    finish_buffer(buffers, arrow_data, start)
+}
+
+/// Puts the numbers from one on, so many of them, each of which is known to be one of its type.
+pub(crate) fn put_part<T: NativeType>(
+    numbers: &Buffer<T>,
+    offset: usize,
+    count: usize,
+    buffers: &mut Vec<IpcBuffer>,
+    arrow_data: &mut Vec<u8>,
+    is_little_endian: bool,
+) -> Result<(), AllocError>
+    requires within { offset + count ≤ length numbers.now }
+    requires short { body_of (length arrow_data.old.items) (length (flat_map (T.written (order_by is_little_endian)) (part offset count numbers.now)) ∷ []) < 2 ^ 63 }
+    ensures bytes { Adds result buffers.old.items arrow_data.old.items buffers.new.items arrow_data.new.items (flat_map (T.written (order_by is_little_endian)) (part offset count numbers.now) ∷ []) }
+    ensures fit { IfOk result (λ _. AllFit T.fits (part offset count numbers.now)) }
+{
+    let clone = numbers.try_clone()?;
+    let part = clone.sliced(offset, count);
+    let start = arrow_data.len();
+    push_turned(&part, arrow_data, is_little_endian)?;
     finish_buffer(buffers, arrow_data, start)
 }
 

@@ -9,7 +9,7 @@ ghost use Rattle.arrow_types.specs.Numbers.{to_bytes, usize_of, offsets_by};
 ghost use Rattle.arrow_buffers.specs.Variable.{place_at, variable_rows, are_offsets};
 ghost use Rattle.ipc_write_arrays.specs.Pieces.{offset_bytes};
 ghost use Rattle.arrow_spec.specs.Flat.{order_by};
-ghost use Rattle.ipc_write_arrays.specs.Adding.{Appends, AllBelow, WritesNumbers};
+ghost use Rattle.ipc_write_arrays.specs.Adding.{Appends, AllBelow, AllFit, WritesNumbers};
 
 use arrow_buffers::{Bitmap, Buffer, place_of};
 use arrow_types::{NativeType, Offset};
@@ -61,7 +61,8 @@ fn push_number<T: NativeType>(
     out: &mut Vec<u8>,
     is_little_endian: bool,
 ) -> Result<(), AllocError>
-    ensures { Appends result out.old.items out.new.items (T.written (order_by is_little_endian) number) }
+    ensures bytes { Appends result out.old.items out.new.items (T.written (order_by is_little_endian) number) }
+    ensures fit { T.fits number }
 {
     if is_little_endian {
         let bytes = number.to_le_bytes();
@@ -73,12 +74,13 @@ fn push_number<T: NativeType>(
 }
 
 /// The bytes of numbers, each turned into the order that is asked for.
-fn push_turned<T: NativeType>(
+pub(crate) fn push_turned<T: NativeType>(
     numbers: &Buffer<T>,
     out: &mut Vec<u8>,
     is_little_endian: bool,
 ) -> Result<(), AllocError>
-    ensures { Appends result out.old.items out.new.items (flat_map (T.written (order_by is_little_endian)) numbers.now) }
+    ensures bytes { Appends result out.old.items out.new.items (flat_map (T.written (order_by is_little_endian)) numbers.now) }
+    ensures fit { IfOk result (λ _. AllFit T.fits numbers.now) }
 {
     for i in 0..numbers.len() {
         push_number(numbers.get(i), out, is_little_endian)?;

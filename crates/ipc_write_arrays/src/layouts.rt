@@ -6,8 +6,8 @@ ghost use Rattle.arrow_spec.specs.Sent.{body_of};
 ghost use Rattle.arrow_spec.specs.Framing.{validity_bytes};
 ghost use Rattle.arrow_types.specs.Numbers.{offsets_by};
 ghost use Rattle.arrow_buffers.specs.Variable.{are_offsets};
-ghost use Rattle.arrow_arrays.specs.Parts.{bits, numbers, fixed, as_bytes};
-ghost use Rattle.ipc_write_arrays.specs.Pieces.{OffsetsFit, in_order, pieces_in, variable_pieces, view_pieces, bytes_between, offset_bytes, offset_limit};
+ghost use Rattle.arrow_arrays.specs.LeafParts.{bits, numbers, fixed, as_bytes};
+ghost use Rattle.ipc_write_arrays.specs.Pieces.{OffsetsFit, in_order, leaf_pieces, variable_pieces, view_pieces, bytes_between, offset_bytes, offset_limit};
 ghost use Rattle.ipc_write_arrays.specs.Adding.{Adds, AllBelow, WritesNumbers};
 
 use crate::buffers::{put_bits, put_bytes, put_each, put_numbers, put_offsets, put_validity};
@@ -27,8 +27,8 @@ pub(crate) fn write_bits(
     arrow_data: &mut Vec<u8>,
     is_little_endian: bool,
 ) -> Result<(), AllocError>
-    requires { body_of (length arrow_data.old.items) (map length (pieces_in (order_by is_little_endian) (bits array.now))) < 2 ^ 63 }
-    ensures { Adds result buffers.old.items arrow_data.old.items buffers.new.items arrow_data.new.items (pieces_in (order_by is_little_endian) (bits array.now)) }
+    requires { body_of (length arrow_data.old.items) (map length (leaf_pieces (order_by is_little_endian) (bits array.now))) < 2 ^ 63 }
+    ensures { Adds result buffers.old.items arrow_data.old.items buffers.new.items arrow_data.new.items (leaf_pieces (order_by is_little_endian) (bits array.now)) }
 {
     put_validity(array.validity(), buffers, arrow_data)?;
     put_bits(array.values(), buffers, arrow_data)
@@ -42,8 +42,8 @@ pub(crate) fn write_numbers<T: NativeType>(
     is_little_endian: bool,
 ) -> Result<(), AllocError>
     requires turned { (order : Order) (x : T) → in_order order T.PRIMITIVE (T.written little x) ≡ T.written order x }
-    requires short { body_of (length arrow_data.old.items) (map length (pieces_in (order_by is_little_endian) (numbers (as_bytes (T.written little) array.now)))) < 2 ^ 63 }
-    ensures { Adds result buffers.old.items arrow_data.old.items buffers.new.items arrow_data.new.items (pieces_in (order_by is_little_endian) (numbers (as_bytes (T.written little) array.now))) }
+    requires short { body_of (length arrow_data.old.items) (map length (leaf_pieces (order_by is_little_endian) (numbers (as_bytes (T.written little) array.now)))) < 2 ^ 63 }
+    ensures { Adds result buffers.old.items arrow_data.old.items buffers.new.items arrow_data.new.items (leaf_pieces (order_by is_little_endian) (numbers (as_bytes (T.written little) array.now))) }
 {
     arrow_data.reserve(array.len().saturating_mul(T::WIDTH))?;
     put_validity(array.validity(), buffers, arrow_data)?;
@@ -57,8 +57,8 @@ pub(crate) fn write_fixed(
     arrow_data: &mut Vec<u8>,
     is_little_endian: bool,
 ) -> Result<(), AllocError>
-    requires { body_of (length arrow_data.old.items) (map length (pieces_in (order_by is_little_endian) (fixed array.now))) < 2 ^ 63 }
-    ensures { Adds result buffers.old.items arrow_data.old.items buffers.new.items arrow_data.new.items (pieces_in (order_by is_little_endian) (fixed array.now)) }
+    requires { body_of (length arrow_data.old.items) (map length (leaf_pieces (order_by is_little_endian) (fixed array.now))) < 2 ^ 63 }
+    ensures { Adds result buffers.old.items arrow_data.old.items buffers.new.items arrow_data.new.items (leaf_pieces (order_by is_little_endian) (fixed array.now)) }
 {
     put_validity(array.validity(), buffers, arrow_data)?;
     put_bytes(array.values().as_slice(), buffers, arrow_data)

@@ -4,6 +4,13 @@
 mod array;
 mod buffers;
 mod bytes;
+mod cuts;
 mod layouts;
+mod leaves;
+mod outputs;
+mod trees;
 
 pub use array::write;
+pub use cuts::{Cut, cut_rows, items_between, union_cut};
+pub use leaves::is_leaf;
+pub use trees::ends_between;

@@ -1,5 +1,8 @@
 pub mod Counted
 pub mod Batches
+pub mod Children
+pub mod NoRows
+pub mod Tops
 pub mod Counts
 pub mod Streams
 pub mod SentBatches

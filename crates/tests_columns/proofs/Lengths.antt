@@ -19,10 +19,12 @@ use Rattle.arrow_types.specs.declared.physical.PhysicalType.TheVariants as physi
 use Rattle.arrow_types.specs.declared.physical.PrimitiveType.{PrimitiveType}
 use Rattle.arrow_types.specs.declared.physical.PrimitiveType.TheVariants as primitive
 use Rattle.arrow_buffers.specs.Variable.{Variable}
-use Rattle.arrow_arrays.specs.Parts.{Parts, nulls, bits, numbers, fixed, binary, text, binary_views, text_views}
+use Rattle.arrow_arrays.specs.LeafParts.{LeafParts, nulls, bits, numbers, fixed, binary, text, binary_views, text_views}
+use Rattle.arrow_arrays.specs.Parts.{Parts, leaf, nested}
 use Rattle.arrow_arrays.specs.Batches.{Batch}
-use Rattle.ipc_write_arrays.specs.Pieces.{in_order, layout_in_order, rebased, offset_bytes, width_of_kind, bytes_between, variable_pieces, pieces_in}
-use Rattle.ipc_write_arrays.specs.Outputs.{MayHaveOrder}
+use Rattle.ipc_write_arrays.specs.Pieces.{in_order, layout_in_order, rebased, offset_bytes, width_of_kind, bytes_between, variable_pieces, leaf_pieces, pieces_in}
+use Rattle.ipc_write_arrays.specs.Trims.{has_no_children}
+use Rattle.ipc_write_arrays.specs.Outputs.{LeafMayHaveOrder, MayHaveOrder}
 use Rattle.ipc_write.specs.Batches.{batch_body, columns_pieces, is_within, batch_message}
 use Rattle.ipc_write.specs.Compaction.{top}
 
@@ -51,7 +53,7 @@ length-offsets o offsets = length-each (λ n. to_bytes big (offset_width o) n) (
 variable_turned : (p : Variable) → map length (variable_pieces big p) ≡ map length (variable_pieces little p)
 variable_turned p = ap (λ n. length (validity_bytes p.validity) ∷ n ∷ length (bytes_between p.offsets p.values) ∷ []) (length-offsets (width_of_kind p.kind) p.offsets)
 
-lengths_turned : (p : Parts) → map length (pieces_in big p) ≡ map length (pieces_in little p)
+lengths_turned : (p : LeafParts) → map length (leaf_pieces big p) ≡ map length (leaf_pieces little p)
 lengths_turned (nulls n) = refl
 lengths_turned (bits f) = refl
 lengths_turned (numbers f) = ap (λ n. length (validity_bytes f.validity) ∷ n ∷ []) (length-each (layout_in_order big (physical_of f.kind)) (layout_in_order little (physical_of f.kind)) f.values (length-turned (physical_of f.kind)))
@@ -62,20 +64,27 @@ lengths_turned (binary_views p) = refl
 lengths_turned (text_views p) = refl
 
 -- an array is of no views, and so is written as it is, in either order
-plain_top : (p : Parts) → MayHaveOrder p false → top p ≡ p
+plain_top : (p : LeafParts) → LeafMayHaveOrder p false → top (leaf p) ≡ leaf p
 plain_top (binary_views p) h = cc
 plain_top (text_views p) h = cc
 plain_top p h = refl
 
-pub plain_order : (p : Parts) (is_little_endian : Bool) → MayHaveOrder p false → MayHaveOrder p is_little_endian
+plain_order : (p : LeafParts) (is_little_endian : Bool) → LeafMayHaveOrder p false → LeafMayHaveOrder p is_little_endian
 plain_order p false h = h
 plain_order (binary_views p) true h = refl
 plain_order (text_views p) true h = refl
 plain_order p true h = tt
 
-pub short_in : (p : Parts) (is_little_endian : Bool) → MayHaveOrder p false → body_of 0 (map length (pieces_in little (top p))) < 2 ^ 63 → body_of 0 (map length (pieces_in (order_by is_little_endian) p)) < 2 ^ 63
-short_in p true h short = subst (λ q. body_of 0 (map length (pieces_in little q)) < 2 ^ 63) (plain_top p h) short
-short_in p false h short = subst (λ ns. body_of 0 ns < 2 ^ 63) (sym (lengths_turned p)) (subst (λ q. body_of 0 (map length (pieces_in little q)) < 2 ^ 63) (plain_top p h) short)
+pub order_in : (p : Parts) (is_little_endian : Bool) → has_no_children p ≡ true → MayHaveOrder p false → MayHaveOrder p is_little_endian
+order_in (leaf l) is_little_endian c h = plain_order l is_little_endian h
+order_in (nested h cs) is_little_endian c k = cc
+
+pub short_in : (p : Parts) (is_little_endian : Bool) → has_no_children p ≡ true → MayHaveOrder p false → body_of 0 (map length (pieces_in little (top p))) < 2 ^ 63
+    → body_of 0 (map length (pieces_in (order_by is_little_endian) p)) < 2 ^ 63
+short_in (nested h cs) is_little_endian c k short = cc
+short_in (leaf l) true c h short = subst (λ q. body_of 0 (map length (pieces_in little q)) < 2 ^ 63) (plain_top l h) short
+short_in (leaf l) false c h short =
+    subst (λ ns. body_of 0 ns < 2 ^ 63) (sym (lengths_turned l)) (subst (λ q. body_of 0 (map length (pieces_in little q)) < 2 ^ 63) (plain_top l h) short)
 
 -- ── a message of one column ──
 

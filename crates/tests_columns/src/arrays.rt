@@ -1,11 +1,11 @@
 //! Arrays of four rows, of which the third is null.
-use arrow_arrays::Array;
+use arrow_arrays::{Array, FixedSizeListArray, ListArray, ListOffsets, MapArray, StructArray};
 use arrow_buffers::{
     ArrayError, BinaryViewArrayGeneric, Bitmap, BooleanArray, Buffer, ByteRows,
     FixedSizeBinaryArray, NullArray, PrimitiveArray, TextRows, VariableArray, ViewType,
 };
 use arrow_types::{
-    ArrowDataType, ExtensionType, IntervalUnit, NativeType, Offset, days_ms, months_days_ns,
+    ArrowDataType, ExtensionType, Field, IntervalUnit, NativeType, Offset, days_ms, months_days_ns,
 };
 use std::alloc::{AllocError, Global};
 
@@ -180,4 +180,68 @@ fn own(alloc: Global) -> Result<ArrowDataType, AllocError> {
 
 pub(crate) fn text_views(alloc: Global) -> Result<Array, ArrayError> {
     Ok(Array::Utf8View(views::<TextRows>(alloc, own(alloc)?)?))
+}
+
+fn field(alloc: Global, dtype: ArrowDataType) -> Field {
+    Field::new(alloc, String::new(alloc), dtype, true)
+}
+
+fn boxed(alloc: Global, dtype: ArrowDataType) -> Result<Box<Field>, AllocError> {
+    Ok(Box::new(alloc, field(alloc, dtype))?)
+}
+
+/// Lists of texts, from behind the first on.
+pub(crate) fn lists(alloc: Global) -> Result<Array, ArrayError> {
+    let dtype = ArrowDataType::List(boxed(alloc, ArrowDataType::Utf8)?);
+    let offsets = ListOffsets::Small(places(alloc, &[1, 3, 3, 4, 4])?);
+    let validity = validity(alloc)?;
+    let array = ListArray::try_new(alloc, dtype, offsets, utf8(alloc)?, validity)?;
+    Ok(Array::List(array))
+}
+
+/// Large lists of lists of one size of views.
+pub(crate) fn large_lists(alloc: Global) -> Result<Array, ArrayError> {
+    let pairs = ArrowDataType::FixedSizeList(boxed(alloc, ArrowDataType::BinaryView)?, 2);
+    let dtype = ArrowDataType::LargeList(boxed(alloc, pairs)?);
+    let offsets = ListOffsets::Large(places(alloc, &[0, 1, 1, 2, 2])?);
+    let inner = ArrowDataType::FixedSizeList(boxed(alloc, ArrowDataType::BinaryView)?, 2);
+    let validity = validity(alloc)?;
+    let items = FixedSizeListArray::try_new(alloc, inner, 2, binary_views(alloc)?, None)?;
+    let items = Array::FixedSizeList(items);
+    let array = ListArray::try_new(alloc, dtype, offsets, items, validity)?;
+    Ok(Array::List(array))
+}
+
+/// Adds a column.
+pub(crate) fn add(columns: &mut Vec<Array>, column: Array) -> Result<(), AllocError> {
+    columns.push(column)?;
+    Ok(())
+}
+
+fn struct_type(
+    alloc: Global,
+    first: ArrowDataType,
+    second: ArrowDataType,
+) -> Result<ArrowDataType, AllocError> {
+    let fields = vec![in alloc; field(alloc, first), field(alloc, second)]?;
+    Ok(ArrowDataType::Struct(fields))
+}
+
+/// Structs of truth values and of numbers.
+pub(crate) fn structs(alloc: Global) -> Result<Array, ArrayError> {
+    let dtype = struct_type(alloc, ArrowDataType::Boolean, ArrowDataType::Int32)?;
+    let mut values = Vec::new(alloc);
+    add(&mut values, flags(alloc)?)?;
+    add(&mut values, int32(alloc)?)?;
+    Ok(Array::Struct(StructArray::try_new(dtype, 4, values, validity(alloc)?)?))
+}
+
+/// Maps of structs of truth values and of numbers.
+pub(crate) fn maps(alloc: Global) -> Result<Array, ArrayError> {
+    let entry = struct_type(alloc, ArrowDataType::Boolean, ArrowDataType::Int32)?;
+    let dtype = ArrowDataType::Map(boxed(alloc, entry)?, false);
+    let offsets = places(alloc, &[0, 2, 2, 3, 4])?;
+    let validity = validity(alloc)?;
+    let array = MapArray::try_new(alloc, dtype, offsets, structs(alloc)?, validity)?;
+    Ok(Array::Map(array))
 }

@@ -1,14 +1,10 @@
 //! Worked columns over memory, read and passed over.
-ghost use Rattle.std.specs.Prelude.{◌≡◌, true};
-ghost use Rattle.arrow_types.specs.KindOf.{kind_of};
-ghost use Rattle.arrow_arrays.specs.LeafKinds.{is_leaf_kind};
-
 use arrow_arrays::Array;
 use arrow_buffers::PrimitiveArray;
 use arrow_spec::{FieldNode, IpcBuffer, IpcError, MetadataVersion, OutOfSpecKind};
 use arrow_types::{ArrowDataType, Field};
 use ipc_fields::IpcField;
-use ipc_read::{Body, read, read_null, read_primitive, skip, skip_binview};
+use ipc_read::{Body, is_carried, read, read_null, read_primitive, skip, skip_binview};
 use ipc_schema::{MemorySource, Source};
 use std::alloc::{AllocError, Global};
 use std::collections::{BTreeMap, VecDeque};
@@ -20,13 +16,16 @@ const TABLE: &[u8] =
 
 /// What is left of a batch's tables.
 #[derive(Drop)]
-struct Queues {
-    nodes: VecDeque<FieldNode>,
-    buffers: VecDeque<IpcBuffer>,
-    variadic: VecDeque<i64>,
+pub(crate) struct Queues {
+    pub nodes: VecDeque<FieldNode>,
+    pub buffers: VecDeque<IpcBuffer>,
+    pub variadic: VecDeque<i64>,
 }
 
-fn nodes(alloc: Global, nodes: &[(i64, i64)]) -> Result<VecDeque<FieldNode>, AllocError> {
+pub(crate) fn nodes(
+    alloc: Global,
+    nodes: &[(i64, i64)],
+) -> Result<VecDeque<FieldNode>, AllocError> {
     let mut queue = VecDeque::new(alloc);
     for (length, null_count) in nodes {
         queue.push_back(FieldNode {
@@ -37,7 +36,10 @@ fn nodes(alloc: Global, nodes: &[(i64, i64)]) -> Result<VecDeque<FieldNode>, All
     Ok(queue)
 }
 
-fn buffers(alloc: Global, buffers: &[(i64, i64)]) -> Result<VecDeque<IpcBuffer>, AllocError> {
+pub(crate) fn buffers(
+    alloc: Global,
+    buffers: &[(i64, i64)],
+) -> Result<VecDeque<IpcBuffer>, AllocError> {
     let mut queue = VecDeque::new(alloc);
     for (offset, length) in buffers {
         queue.push_back(IpcBuffer {
@@ -49,23 +51,21 @@ fn buffers(alloc: Global, buffers: &[(i64, i64)]) -> Result<VecDeque<IpcBuffer>,
 }
 
 /// Two bytes stand before the body.
-fn source(alloc: Global, body: &[u8]) -> Result<MemorySource, AllocError> {
+pub(crate) fn source(alloc: Global, body: &[u8]) -> Result<MemorySource, AllocError> {
     let mut bytes = b"ab".to_vec(alloc)?;
     bytes.extend_from_slice(body)?;
     Ok(MemorySource::new(bytes, Vec::new(alloc), Vec::new(alloc)))
 }
 
 /// The next array of a body of 48 bytes.
-fn next(
+pub(crate) fn next(
     alloc: Global,
     queues: &mut Queues,
     source: &mut MemorySource,
     dtype: ArrowDataType,
     rows: usize,
-) -> Result<Array, IpcError>
-    requires leaf { is_leaf_kind (kind_of dtype) ≡ true }
-{
-    if source.size()? < 50 {
+) -> Result<Array, IpcError> {
+    if source.size()? < 50 || !is_carried(&dtype) {
         return Err(IpcError::State);
     }
     let body = Body {
@@ -100,9 +100,7 @@ fn three_rows(alloc: Global, places: &[(i64, i64)]) -> Result<Queues, AllocError
 }
 
 /// The first column of such a batch.
-fn first(alloc: Global, places: &[(i64, i64)], dtype: ArrowDataType) -> Result<Array, Fail>
-    requires leaf { is_leaf_kind (kind_of dtype) ≡ true }
-{
+fn first(alloc: Global, places: &[(i64, i64)], dtype: ArrowDataType) -> Result<Array, Fail> {
     let mut queues = three_rows(alloc, places)?;
     let mut source = source(alloc, TABLE)?;
     Ok(next(alloc, &mut queues, &mut source, dtype, 3)?)

@@ -4,11 +4,15 @@
 #[cfg(test)]
 mod arrays;
 #[cfg(test)]
+mod bodies;
+#[cfg(test)]
 mod columns;
 #[cfg(test)]
 mod memory;
 #[cfg(test)]
 mod messages;
+#[cfg(test)]
+mod nested;
 #[cfg(test)]
 mod round_trips;
 #[cfg(test)]

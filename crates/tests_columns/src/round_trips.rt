@@ -1,16 +1,18 @@
 //! Arrays that are read back as they were written.
-ghost use Rattle.std.specs.Prelude.{◌≡◌, ◌^◌, ◌<◌, length, map, false};
+ghost use Rattle.std.specs.Prelude.{◌≡◌, ◌^◌, ◌<◌, length, map, false, true};
 ghost use Rattle.arrow_spec.specs.Flat.{little};
 ghost use Rattle.arrow_spec.specs.Sent.{body_of};
 ghost use Rattle.arrow_arrays.specs.Parts.{rows_in};
 ghost use Rattle.arrow_arrays.specs.PartsOf.{parts_of};
 ghost use Rattle.ipc_write_arrays.specs.Outputs.{MayHaveOrder};
 ghost use Rattle.ipc_write_arrays.specs.Pieces.{pieces_in};
+ghost use Rattle.ipc_write_arrays.specs.Trims.{has_no_children};
 ghost use Rattle.ipc_write.specs.Compaction.{top};
 
 use crate::arrays::{
     binary, binary_views, days, decimals, fixed, flags, int8, int16, int32, int64, large_binary,
-    large_utf8, months, nulls, text_views, uint8, uint16, uint32, uint64, utf8,
+    large_lists, large_utf8, lists, maps, months, nulls, structs, text_views, uint8, uint16,
+    uint32, uint64, utf8,
 };
 use crate::steps::{encoded, read_back, write_alone};
 use arrow_arrays::Array;
@@ -18,11 +20,21 @@ use std::alloc::Global;
 use std::process::Abort;
 use std::test::Fail;
 
-/// Whether an array is one of views, which are written in little-endian order alone.
-fn has_views(array: &Array) -> bool
-    ensures { result ≡ false → MayHaveOrder (parts_of array.now) false }
+/// Whether an array has views, which are written in little-endian order alone, or children, which may have some.
+fn may_have_views(array: &Array) -> bool
+    ensures order { result ≡ false → MayHaveOrder (parts_of array.now) false }
+    ensures children { result ≡ false → has_no_children (parts_of array.now) ≡ true }
 {
-    matches!(array, Array::BinaryView(_) | Array::Utf8View(_))
+    matches!(
+        array,
+        Array::BinaryView(_)
+            | Array::Utf8View(_)
+            | Array::List(_)
+            | Array::FixedSizeList(_)
+            | Array::Map(_)
+            | Array::Struct(_)
+            | Array::Union(_)
+    )
 }
 
 /// The array goes through nodes, buffers and a body of its own, in an order.
@@ -34,6 +46,7 @@ fn goes_alone(
     is_little_endian: bool,
 ) -> Result<(), Fail>
     requires plain { MayHaveOrder (parts_of array.now) false }
+    requires childless { has_no_children (parts_of array.now) ≡ true }
     requires few { rows_in (parts_of array.now) < 2 ^ 63 }
     requires short { body_of 0 (map length (pieces_in little (top (parts_of array.now)))) < 2 ^ 63 }
 {
@@ -45,12 +58,17 @@ fn goes_alone(
 }
 
 /// The array goes through the message of a batch, and without it in both orders.
-fn goes_round(rt: &impl Abort, alloc: Global, title: &str, array: &Array) -> Result<(), Fail> {
+pub(crate) fn goes_round(
+    rt: &impl Abort,
+    alloc: Global,
+    title: &str,
+    array: &Array,
+) -> Result<(), Fail> {
     let message = encoded(alloc, array)?;
     let back = read_back(alloc, array.dtype(), array.len(), message, true)??;
     assert!(rt; back == *array, "{title}");
     drop(back);
-    if has_views(array) {
+    if may_have_views(array) {
         return Ok(());
     }
     goes_alone(rt, alloc, title, array, true)?;
@@ -119,4 +137,18 @@ fn views(rt: HostRuntime) -> Result<(), Fail> {
     let alloc = rt.alloc();
     both_go_round(&rt, alloc, "byte strings", binary_views(alloc)?)?;
     both_go_round(&rt, alloc, "texts under an extension", text_views(alloc)?)
+}
+
+#[test]
+fn lists_of_texts_and_of_pairs_of_views(rt: HostRuntime) -> Result<(), Fail> {
+    let alloc = rt.alloc();
+    both_go_round(&rt, alloc, "lists", lists(alloc)?)?;
+    both_go_round(&rt, alloc, "large lists", large_lists(alloc)?)
+}
+
+#[test]
+fn structs_and_maps(rt: HostRuntime) -> Result<(), Fail> {
+    let alloc = rt.alloc();
+    both_go_round(&rt, alloc, "structs", structs(alloc)?)?;
+    both_go_round(&rt, alloc, "maps", maps(alloc)?)
 }

@@ -3,7 +3,6 @@ ghost use Rattle.std.specs.Prelude.{◌≡◌, ◌^◌, ◌<◌, [], ◌∷◌, 
 ghost use Rattle.arrow_spec.specs.Flat.{little, order_by};
 ghost use Rattle.arrow_spec.specs.Sent.{body_of};
 ghost use Rattle.arrow_types.specs.KindOf.{kind_of};
-ghost use Rattle.arrow_arrays.specs.LeafKinds.{is_leaf_kind};
 ghost use Rattle.arrow_arrays.specs.Parts.{rows_in};
 ghost use Rattle.arrow_arrays.specs.PartsOf.{parts_of};
 ghost use Rattle.ipc_write_arrays.specs.Pieces.{pieces_in};
@@ -14,7 +13,7 @@ use arrow_arrays::{Array, RecordBatch};
 use arrow_spec::{FieldNode, IpcBuffer, IpcError, MetadataVersion};
 use arrow_types::{ArrowDataType, ArrowSchema, Field};
 use ipc_fields::IpcField;
-use ipc_read::{Body, Dictionaries, read};
+use ipc_read::{Body, Dictionaries, is_carried, read};
 use ipc_schema::{MemorySource, Source, read_record_message};
 use ipc_write::{EncodedData, WriteOptions, encode_record_batch};
 use ipc_write_arrays::write;
@@ -127,9 +126,10 @@ pub(crate) fn read_back(
     rows: usize,
     written: Written,
     is_little_endian: bool,
-) -> Result<Result<Array, IpcError>, Fail>
-    requires { is_leaf_kind (kind_of dtype.now) ≡ true }
-{
+) -> Result<Result<Array, IpcError>, Fail> {
+    if !is_carried(dtype) {
+        return Err(Fail::from("a type that is not read"));
+    }
     let mut queues = queues_of(alloc, &written)?;
     let field = field_of(alloc, dtype)?;
     let mut source = MemorySource::new(written.body, Vec::new(alloc), Vec::new(alloc));

@@ -10,6 +10,8 @@ mod error_texts;
 #[cfg(test)]
 mod flatbuffers;
 #[cfg(test)]
+mod nested;
+#[cfg(test)]
 mod numbers;
 #[cfg(test)]
 mod types;

@@ -4,7 +4,8 @@ ghost use Rattle.arrow_spec.specs.declared.types.IntegerType.TheVariants.{UInt8}
 ghost use Rattle.arrow_spec.specs.declared.types.IntervalUnit.TheVariants.{DayTime};
 ghost use Rattle.arrow_spec.specs.Kinds.{boolean, integer, interval, small, utf8, utf8_view};
 ghost use Rattle.arrow_spec.specs.Sent.{body_of};
-ghost use Rattle.arrow_arrays.specs.Parts.{bits, numbers, text, text_views, rows_in};
+ghost use Rattle.arrow_arrays.specs.LeafParts.{bits, numbers, text, text_views};
+ghost use Rattle.arrow_arrays.specs.Parts.{leaf, rows_in};
 ghost use Rattle.arrow_arrays.specs.PartsOf.{parts_of};
 ghost use Rattle.ipc_write_arrays.specs.Pieces.{pieces_in};
 ghost use Rattle.ipc_write_arrays.specs.Outputs.{MayHaveOrder};
@@ -84,7 +85,7 @@ fn stands(body: &[u8], at: usize, bytes: &[u8]) -> bool {
 }
 
 fn three_numbers(alloc: Global) -> Result<Array, Fail>
-    ensures { IfOk result (λ a. parts_of a ≡ numbers (record { kind = integer UInt8; values = (1 ∷ []) ∷ (2 ∷ []) ∷ (3 ∷ []) ∷ []; validity = None })) }
+    ensures { IfOk result (λ a. parts_of a ≡ leaf (numbers (record { kind = integer UInt8; values = (1 ∷ []) ∷ (2 ∷ []) ∷ (3 ∷ []) ∷ []; validity = None }))) }
 {
     let values = Buffer::from_vec([1, 2, 3].to_vec(alloc)?)?;
     match PrimitiveArray::try_new(ArrowDataType::UInt8, values, None) {
@@ -94,7 +95,7 @@ fn three_numbers(alloc: Global) -> Result<Array, Fail>
 }
 
 fn three_texts(alloc: Global) -> Result<Array, Fail>
-    ensures { IfOk result (λ a. parts_of a ≡ text (record { kind = utf8 small; offsets = pos 0 ∷ pos 2 ∷ pos 2 ∷ pos 3 ∷ []; values = 97 ∷ 98 ∷ 99 ∷ []; validity = Some (true ∷ false ∷ true ∷ []) })) }
+    ensures { IfOk result (λ a. parts_of a ≡ leaf (text (record { kind = utf8 small; offsets = pos 0 ∷ pos 2 ∷ pos 2 ∷ pos 3 ∷ []; values = 97 ∷ 98 ∷ 99 ∷ []; validity = Some (true ∷ false ∷ true ∷ []) }))) }
 {
     let offsets = Buffer::from_vec([0, 2, 2, 3].to_vec(alloc)?)?;
     let values = Buffer::from_bytes(b"abc".to_vec(alloc)?)?;
@@ -106,7 +107,7 @@ fn three_texts(alloc: Global) -> Result<Array, Fail>
 }
 
 fn three_flags(alloc: Global) -> Result<Array, Fail>
-    ensures { IfOk result (λ a. parts_of a ≡ bits (record { kind = boolean; values = false ∷ true ∷ false ∷ []; validity = None })) }
+    ensures { IfOk result (λ a. parts_of a ≡ leaf (bits (record { kind = boolean; values = false ∷ true ∷ false ∷ []; validity = None }))) }
 {
     let values = Bitmap::from_vec([0b1111_0101].to_vec(alloc)?, 4)?;
     match BooleanArray::try_new(ArrowDataType::Boolean, values, None) {
@@ -119,7 +120,7 @@ fn three_flags(alloc: Global) -> Result<Array, Fail>
 const VIEW: [u8; 16] = [13, 0, 0, 0, 97, 110, 100, 32, 0, 0, 0, 0, 0, 0, 0, 0];
 
 fn long_text(alloc: Global) -> Result<Array, Fail>
-    ensures { IfOk result (λ a. parts_of a ≡ text_views (record { kind = utf8_view; views = 13 ∷ 0 ∷ 0 ∷ 0 ∷ 97 ∷ 110 ∷ 100 ∷ 32 ∷ 0 ∷ 0 ∷ 0 ∷ 0 ∷ 0 ∷ 0 ∷ 0 ∷ 0 ∷ []; buffers = (97 ∷ 110 ∷ 100 ∷ 32 ∷ 116 ∷ 104 ∷ 105 ∷ 114 ∷ 116 ∷ 101 ∷ 101 ∷ 110 ∷ 46 ∷ []) ∷ []; validity = None })) }
+    ensures { IfOk result (λ a. parts_of a ≡ leaf (text_views (record { kind = utf8_view; views = 13 ∷ 0 ∷ 0 ∷ 0 ∷ 97 ∷ 110 ∷ 100 ∷ 32 ∷ 0 ∷ 0 ∷ 0 ∷ 0 ∷ 0 ∷ 0 ∷ 0 ∷ 0 ∷ []; buffers = (97 ∷ 110 ∷ 100 ∷ 32 ∷ 116 ∷ 104 ∷ 105 ∷ 114 ∷ 116 ∷ 101 ∷ 101 ∷ 110 ∷ 46 ∷ []) ∷ []; validity = None }))) }
 {
     let views = Buffer::from_bytes(VIEW.to_vec(alloc)?)?;
     let held = Buffer::from_bytes(b"and thirteen.".to_vec(alloc)?)?;
@@ -131,7 +132,7 @@ fn long_text(alloc: Global) -> Result<Array, Fail>
 }
 
 fn one_interval(alloc: Global) -> Result<Array, Fail>
-    ensures { IfOk result (λ a. parts_of a ≡ numbers (record { kind = interval DayTime; values = (1 ∷ 0 ∷ 0 ∷ 0 ∷ 3 ∷ 2 ∷ 0 ∷ 0 ∷ []) ∷ []; validity = None })) }
+    ensures { IfOk result (λ a. parts_of a ≡ leaf (numbers (record { kind = interval DayTime; values = (1 ∷ 0 ∷ 0 ∷ 0 ∷ 3 ∷ 2 ∷ 0 ∷ 0 ∷ []) ∷ []; validity = None }))) }
 {
     let interval = days_ms {
         days: 1,

@@ -1,7 +1,6 @@
 -- What a file means of which blocks were sent, and what refuses it.
 use Rattle.std.proofs.Common.{◌≡◌, ℕ, suc, List, [], ◌∷◌, ◌++◌, length, take, Some, None, Err, refl, ap, ◌∙◌, true}
 use Rattle.std.specs.Prelude.{map}
-use Rattle.arrow_spec.specs.Flat.{little}
 use Rattle.arrow_spec.specs.Readings.{meaning}
 use Rattle.arrow_spec.specs.Kinds.{Metadata}
 use Rattle.arrow_spec.specs.Built.{Built}
@@ -14,7 +13,7 @@ use Rattle.transcode_laws.proofs.Blocks.{block_refused}
 use Rattle.transcode_laws.proofs.Readings.{custom_may, first_batches, on_err}
 
 -- what was sent is a table of which a stream may be written
-pub table_may_be_written : (built : Built) (b : List ℕ) (meta : Meta) (custom : Metadata) (blocks : List FileBlock) (xs : List WrittenBatch) → IsSentFile built b meta custom → SentSoFar built b meta.schema.fields blocks xs → StreamMayBeWritten meta.schema.fields meta.schema.metadata custom xs
+pub table_may_be_written : (built : Built) (b : List ℕ) (meta : Meta) (custom : Metadata) (blocks : List FileBlock) (xs : List WrittenBatch) → IsSentFile built b meta custom → SentSoFar built b meta.schema.order meta.schema.fields blocks xs → StreamMayBeWritten meta.schema.fields meta.schema.metadata custom xs
 table_may_be_written built b meta custom blocks xs file s = record {
   schema = file.schema.may;
   message = custom_may built.custom b custom file.pairs;
@@ -41,9 +40,9 @@ up_to (x ∷ xs) block rest = ap (λ ys. x ∷ ys) (up_to xs block rest)
 pub file_refused : BlockRefusesItsFile
 file_refused built b meta custom blocks block rest xs es file parts s h =
     let fs = meta.schema.fields in
-    let refused : (behind : List FileBlock) → batches_of built.custom to_send b (all_asked little fs (length b)) true (blocks ++ block ∷ behind) None ≡ Err es = λ behind. block_refused built to_send b fs (length b) true blocks block behind (map table_batch xs) es file.schema.no_dictionaries s.sent h in
-    let whole : batches_of built.custom to_send b (all_asked little fs (length b)) true meta.blocks None ≡ Err es = rw parts (refused rest) in
-    let part : batches_of built.custom to_send b (all_asked little fs (length b)) true (take (suc (length blocks)) meta.blocks) None ≡ Err es = rw (parts, up_to blocks block rest) (refused []) in (
+    let refused : (behind : List FileBlock) → batches_of built.custom to_send b (all_asked meta.schema.order fs (length b)) true (blocks ++ block ∷ behind) None ≡ Err es = λ behind. block_refused built to_send b meta.schema.order fs (length b) true blocks block behind (map table_batch xs) es file.schema.no_dictionaries s.sent h in
+    let whole : batches_of built.custom to_send b (all_asked meta.schema.order fs (length b)) true meta.blocks None ≡ Err es = rw parts (refused rest) in
+    let part : batches_of built.custom to_send b (all_asked meta.schema.order fs (length b)) true (take (suc (length blocks)) meta.blocks) None ≡ Err es = rw (parts, up_to blocks block rest) (refused []) in (
       first_batches built to_send b None meta custom file.read file.pairs file.schema file.small file.no_dictionaries ∙ on_err _ _ es whole,
       first_batches built to_send b (Some (suc (length blocks))) meta custom file.read file.pairs file.schema file.small file.no_dictionaries ∙ on_err _ _ es part,
     )

@@ -8,8 +8,9 @@ pub mod Refusals
 pub mod Numbers
 pub mod Headers
 pub mod SoFar
-pub mod LeafFields
+pub mod SentFields
 pub mod Pieces
 pub mod LaidRows
+pub mod TreeLengths
 pub mod TopColumns
 pub mod ReadBatches

@@ -4,7 +4,7 @@ use Rattle.std.specs.Prelude.{nat_le, nat_lt, slice_get, ℤ, negsuc}
 use Rattle.std.specs.Int.{w64}
 use Rattle.std.specs.List.{AllByRecursion}
 use Rattle.std.proofs.lemmas.Bool.{ltb-false}
-use Rattle.arrow_spec.specs.Flat.{little}
+use Rattle.arrow_spec.specs.Flat.{Order}
 use Rattle.arrow_spec.specs.declared.error.IpcError.{IpcError}
 use Rattle.arrow_spec.specs.declared.error.IpcError.TheVariants.{Unsupported}
 use Rattle.arrow_spec.specs.declared.error.Feature.TheVariants as features
@@ -83,24 +83,6 @@ node_small m p rows fit h = by_node (slice_get m.nodes p.node) refl h
         omega (arith, most, less)
 
 array_small : (m : RecordBatch) (d : Dictionaries) (k : Kind) (p : Place) (read : ℕ) → TablesHaveWidth m → array_faults m d k p read ≡ [] → read < 2 ^ 63
-array_small m d null p read fit h = node_small m p read fit (none_first _ _ h)
-array_small m d boolean p read fit h = node_small m p read fit (none_first _ _ h)
-array_small m d (integer t) p read fit h = node_small m p read fit (none_first _ _ h)
-array_small m d (float t) p read fit h = node_small m p read fit (none_first _ _ h)
-array_small m d date32 p read fit h = node_small m p read fit (none_first _ _ h)
-array_small m d date64 p read fit h = node_small m p read fit (none_first _ _ h)
-array_small m d (time32 u) p read fit h = node_small m p read fit (none_first _ _ h)
-array_small m d (time64 u) p read fit h = node_small m p read fit (none_first _ _ h)
-array_small m d (timestamp u tz) p read fit h = node_small m p read fit (none_first _ _ h)
-array_small m d (duration u) p read fit h = node_small m p read fit (none_first _ _ h)
-array_small m d (interval u) p read fit h = node_small m p read fit (none_first _ _ h)
-array_small m d (decimal precision scale) p read fit h = node_small m p read fit (none_first _ _ h)
-array_small m d (decimal256 precision scale) p read fit h = node_small m p read fit (none_first _ _ h)
-array_small m d (binary o) p read fit h = node_small m p read fit (none_first _ _ h)
-array_small m d (utf8 o) p read fit h = node_small m p read fit (none_first _ _ h)
-array_small m d binary_view p read fit h = node_small m p read fit (none_first _ _ h)
-array_small m d utf8_view p read fit h = node_small m p read fit (none_first _ _ h)
-array_small m d (fixed_size_binary n) p read fit h = node_small m p read fit (none_first _ _ h)
 array_small m d («list» o fs) p zero fit h = omega arith
 array_small m d («list» o fs) p (suc n) fit h = node_small m p (suc n) fit (none_first _ _ (none_first _ _ h))
 array_small m d (fixed_size_list n fs) p read fit h = node_small m p read fit (none_first _ _ (none_first _ _ h))
@@ -110,8 +92,8 @@ array_small m d (map sorted fs) p (suc n) fit h = node_small m p (suc n) fit (no
 array_small m d (union mode stated ids fs) p zero fit h = omega arith
 array_small m d (union Sparse stated ids fs) p (suc n) fit h = node_small m p (suc n) fit (none_first _ _ (none_first _ _ h))
 array_small m d (union Dense stated ids fs) p (suc n) fit h = node_small m p (suc n) fit (none_first _ _ (none_first _ _ h))
-array_small m d (dictionary t ordered id k) p read fit h = node_small m p read fit (none_first _ _ h)
 array_small m d (extension name metadata k) p read fit h = array_small m d k p read fit h
+array_small m d k p read fit h = node_small m p read fit (none_first _ _ h)
 
 -- ── what is written ──
 
@@ -187,25 +169,11 @@ times_within n from (suc k) read w = λ positive. omega (arith, times_less n (fr
 mutual
   part_fits : (m : RecordBatch) (d : Dictionaries) (k : Kind) (p : Place) (read from rows : ℕ) → TablesHaveWidth m → array_faults m d k p read ≡ [] → Within from rows read → WrittenFits (written_part m k p read from rows)
   part_fits m d null p read from rows fit h w = let few = rows_small m d null p read from rows fit h w in node_fits rows rows [] few (omega arith) tt
-  part_fits m d boolean p read from rows fit h w = own_fits m p from rows (rows_small m d boolean p read from rows fit h w)
-  part_fits m d (integer t) p read from rows fit h w = own_fits m p from rows (rows_small m d (integer t) p read from rows fit h w)
   part_fits m d (float t) p read from rows fit h w = nothing_fits
-  part_fits m d date32 p read from rows fit h w = own_fits m p from rows (rows_small m d date32 p read from rows fit h w)
-  part_fits m d date64 p read from rows fit h w = own_fits m p from rows (rows_small m d date64 p read from rows fit h w)
-  part_fits m d (time32 u) p read from rows fit h w = own_fits m p from rows (rows_small m d (time32 u) p read from rows fit h w)
-  part_fits m d (time64 u) p read from rows fit h w = own_fits m p from rows (rows_small m d (time64 u) p read from rows fit h w)
-  part_fits m d (timestamp u tz) p read from rows fit h w = own_fits m p from rows (rows_small m d (timestamp u tz) p read from rows fit h w)
-  part_fits m d (duration u) p read from rows fit h w = own_fits m p from rows (rows_small m d (duration u) p read from rows fit h w)
   part_fits m d (interval YearMonth) p read from rows fit h w = own_fits m p from rows (rows_small m d (interval YearMonth) p read from rows fit h w)
-  part_fits m d (interval DayTime) p read from rows fit h w = own_fits m p from rows (rows_small m d (interval DayTime) p read from rows fit h w)
-  part_fits m d (interval MonthDayNano) p read from rows fit h w = own_fits m p from rows (rows_small m d (interval MonthDayNano) p read from rows fit h w)
-  part_fits m d (decimal precision scale) p read from rows fit h w = own_fits m p from rows (rows_small m d (decimal precision scale) p read from rows fit h w)
   part_fits m d (decimal256 precision scale) p read from rows fit h w = nothing_fits
-  part_fits m d (binary o) p read from rows fit h w = own_fits m p from rows (rows_small m d (binary o) p read from rows fit h w)
-  part_fits m d (utf8 o) p read from rows fit h w = own_fits m p from rows (rows_small m d (utf8 o) p read from rows fit h w)
   part_fits m d binary_view p read from rows fit h w = views_fit m p read from rows fit (rows_small m d binary_view p read from rows fit h w)
   part_fits m d utf8_view p read from rows fit h w = views_fit m p read from rows fit (rows_small m d utf8_view p read from rows fit h w)
-  part_fits m d (fixed_size_binary n) p read from rows fit h w = own_fits m p from rows (rows_small m d (fixed_size_binary n) p read from rows fit h w)
   part_fits m d («list» o fs) p zero from rows fit h w =
       also_fits (own_fits m p from rows (rows_small m d («list» o fs) p 0 from rows fit h w)) (parts_fit m d fs (inside 2 p) (λ q. 0) (offset m o (p.buffer + 1) from) (λ q. offset m o (p.buffer + 1) (from + rows) - offset m o (p.buffer + 1) from) fit (none_second _ _ h) (λ q. none_within m o (p.buffer + 1) from rows w))
   part_fits m d («list» o fs) p (suc n) from rows fit h w =
@@ -232,8 +200,8 @@ mutual
   part_fits m d (union Dense stated ids fs) p (suc n) from rows fit h w =
       let few = rows_small m d (union Dense stated ids fs) p (suc n) from rows fit h w in
       also_fits (node_fits rows 0 [] few (omega arith) tt) (parts_fit m d fs (inside (union_buffers m.version Dense) p) (λ q. magnitude (node_of m q.node).length) 0 (λ q. magnitude (node_of m q.node).length) fit (none_second _ _ h) (λ q. λ positive. omega arith))
-  part_fits m d (dictionary t ordered id k) p read from rows fit h w = own_fits m p from rows (rows_small m d (dictionary t ordered id k) p read from rows fit h w)
   part_fits m d (extension name metadata k) p read from rows fit h w = part_fits m d k p read from rows fit h w
+  part_fits m d k p read from rows fit h w = own_fits m p from rows (rows_small m d k p read from rows fit h w)
 
   parts_fit : (m : RecordBatch) (d : Dictionaries) (fs : Fields) (p : Place) (read : Place → ℕ) (from : ℕ) (rows : Place → ℕ) → TablesHaveWidth m → child_faults m d fs p read ≡ [] → ((q : Place) → Within from (rows q) (read q)) → WrittenFits (parts_written m fs p read from rows)
   parts_fit m d none p read from rows fit h w = nothing_fits
@@ -280,33 +248,12 @@ top_views_fit m p (suc n) fit h =
 
 top_fits : (m : RecordBatch) (d : Dictionaries) (k : Kind) (p : Place) (rows : ℕ) → TablesHaveWidth m → array_faults m d k p rows ≡ [] → WrittenFits (top_written m k p rows)
 unfolding written views_faults view_text_faults
-top_fits m d null p rows fit h = part_fits m d null p rows 0 rows fit h (λ positive. omega arith)
-top_fits m d boolean p rows fit h = part_fits m d boolean p rows 0 rows fit h (λ positive. omega arith)
-top_fits m d (integer t) p rows fit h = part_fits m d (integer t) p rows 0 rows fit h (λ positive. omega arith)
-top_fits m d (float t) p rows fit h = part_fits m d (float t) p rows 0 rows fit h (λ positive. omega arith)
-top_fits m d date32 p rows fit h = part_fits m d date32 p rows 0 rows fit h (λ positive. omega arith)
-top_fits m d date64 p rows fit h = part_fits m d date64 p rows 0 rows fit h (λ positive. omega arith)
-top_fits m d (time32 u) p rows fit h = part_fits m d (time32 u) p rows 0 rows fit h (λ positive. omega arith)
-top_fits m d (time64 u) p rows fit h = part_fits m d (time64 u) p rows 0 rows fit h (λ positive. omega arith)
-top_fits m d (timestamp u tz) p rows fit h = part_fits m d (timestamp u tz) p rows 0 rows fit h (λ positive. omega arith)
-top_fits m d (duration u) p rows fit h = part_fits m d (duration u) p rows 0 rows fit h (λ positive. omega arith)
-top_fits m d (interval u) p rows fit h = part_fits m d (interval u) p rows 0 rows fit h (λ positive. omega arith)
-top_fits m d (decimal precision scale) p rows fit h = part_fits m d (decimal precision scale) p rows 0 rows fit h (λ positive. omega arith)
-top_fits m d (decimal256 precision scale) p rows fit h = part_fits m d (decimal256 precision scale) p rows 0 rows fit h (λ positive. omega arith)
-top_fits m d (binary o) p rows fit h = part_fits m d (binary o) p rows 0 rows fit h (λ positive. omega arith)
-top_fits m d (utf8 o) p rows fit h = part_fits m d (utf8 o) p rows 0 rows fit h (λ positive. omega arith)
 top_fits m d binary_view p zero fit h = views_fit m p 0 0 0 fit (omega arith)
 top_fits m d binary_view p (suc n) fit h = top_views_fit m p (suc n) fit (sound_first (view_parts_faults m p (suc n)) _ (none_second _ _ h))
 top_fits m d utf8_view p zero fit h = views_fit m p 0 0 0 fit (omega arith)
 top_fits m d utf8_view p (suc n) fit h = top_views_fit m p (suc n) fit (sound_first (view_parts_faults m p (suc n)) _ (none_second _ _ h))
-top_fits m d (fixed_size_binary n) p rows fit h = part_fits m d (fixed_size_binary n) p rows 0 rows fit h (λ positive. omega arith)
-top_fits m d («list» o fs) p rows fit h = part_fits m d («list» o fs) p rows 0 rows fit h (λ positive. omega arith)
-top_fits m d (fixed_size_list n fs) p rows fit h = part_fits m d (fixed_size_list n fs) p rows 0 rows fit h (λ positive. omega arith)
-top_fits m d (struct fs) p rows fit h = part_fits m d (struct fs) p rows 0 rows fit h (λ positive. omega arith)
-top_fits m d (map sorted fs) p rows fit h = part_fits m d (map sorted fs) p rows 0 rows fit h (λ positive. omega arith)
-top_fits m d (union mode stated ids fs) p rows fit h = part_fits m d (union mode stated ids fs) p rows 0 rows fit h (λ positive. omega arith)
-top_fits m d (dictionary t ordered id k) p rows fit h = part_fits m d (dictionary t ordered id k) p rows 0 rows fit h (λ positive. omega arith)
 top_fits m d (extension name metadata k) p rows fit h = top_fits m d k p rows fit h
+top_fits m d k p rows fit h = part_fits m d k p rows 0 rows fit h (λ positive. omega arith)
 
 columns_fit : (m : RecordBatch) (d : Dictionaries) (fs : Fields) (c : ℕ) (p : Place) (rows : ℕ) (xs : List (List Cell)) → TablesHaveWidth m → columns_at m d None fs c p rows rows ≡ Ok xs → WrittenFits (all_written (columns_written m None fs c p rows))
 unfolding columns_at column_faults
@@ -322,11 +269,11 @@ natural_small (pos k) n fit h = let e : k ≡ n = cc in subst (λ j. j < 2 ^ 63)
 natural_small (negsuc k) n fit h = cc
 
 -- the rows, nodes and view counts of a batch that was read
-pub batch_fits : (fs : Fields) (most : ℕ) (v : MetadataVersion) (custom : Metadata) (tables : BatchHeader) (body : List ℕ) (x : TableBatch) → HeaderFits tables → batch_of_tables to_read (all_asked little fs most) v custom tables body None ≡ Ok x
-    → (x.rows < 2 ^ 63) × WrittenFits (all_written (columns_written (record_batch_of little v tables body) None fs 0 first_place x.rows))
+pub batch_fits : (o : Order) (fs : Fields) (most : ℕ) (v : MetadataVersion) (custom : Metadata) (tables : BatchHeader) (body : List ℕ) (x : TableBatch) → HeaderFits tables → batch_of_tables to_read (all_asked o fs most) v custom tables body None ≡ Ok x
+    → (x.rows < 2 ^ 63) × WrittenFits (all_written (columns_written (record_batch_of o v tables body) None fs 0 first_place x.rows))
 unfolding batch_of_tables
-batch_fits fs most v custom tables body x fit h =
+batch_fits o fs most v custom tables body x fit h =
     through _ _ x h λ u compression h1. through _ _ x h1 λ rows rows_are h2. through _ _ x h2 λ u' negative h3. through _ _ x h3 λ u'' sum h4. through _ _ x h4 λ columns columns_are h5. through _ _ x h5 λ u''' size h6.
-    let m : RecordBatch = record_batch_of little v tables body in
+    let m : RecordBatch = record_batch_of o v tables body in
     let width : TablesHaveWidth m = record { nodes = fit.nodes; buffers = fit.buffers; views = fit.views } in
     subst (λ (y : TableBatch). (y.rows < 2 ^ 63) × WrittenFits (all_written (columns_written m None fs 0 first_place y.rows))) (same_read _ x h6) (natural_small tables.length rows fit.rows rows_are, columns_fit m [] fs 0 first_place rows columns width columns_are)

@@ -16,16 +16,17 @@ use Rattle.arrow_types.specs.declared.physical.PhysicalType.{PhysicalType}
 use Rattle.arrow_buffers.specs.Layouts.{is_variable, is_variable_any}
 use Rattle.arrow_buffers.specs.Variable.{Variable, variable_fault}
 use Rattle.arrow_buffers.proofs.VariableParts.{variable_sound}
-use Rattle.arrow_arrays.specs.Parts.{Parts, nulls, bits, numbers, fixed, binary as binaries, text, binary_views, text_views, number_size, are_numbers}
-use Rattle.arrow_arrays.specs.Nodes.{node_in, counts_in}
+use Rattle.arrow_arrays.specs.LeafParts.{LeafParts, nulls, bits, numbers, fixed, binary as binaries, text, binary_views, text_views, number_size, are_numbers}
+use Rattle.arrow_arrays.specs.Parts.{leaf}
+use Rattle.arrow_arrays.specs.Nodes.{node_in, leaf_counts_in}
 use Rattle.arrow_arrays.proofs.NumberParts.{leaf_suits}
 use Rattle.ipc_write_laws.specs.Streams.{written_of}
 use Rattle.ipc_write_laws.proofs.SentBatches.{written_of_one}
-use Rattle.ipc_read_laws.specs.WrittenParts.{validity_bytes, offset_bytes, variable_lengths, lengths_in, written_in}
-use Rattle.ipc_write_arrays.specs.Pieces.{layout_in_order, width_of_kind, variable_pieces, pieces_in, column_in}
+use Rattle.ipc_read_laws.specs.WrittenParts.{validity_bytes, offset_bytes, variable_lengths, leaf_lengths_in, written_in}
+use Rattle.ipc_write_arrays.specs.Pieces.{layout_in_order, width_of_kind, variable_pieces, leaf_pieces, column_in}
 use Rattle.ipc_write_arrays.proofs.LayoutKinds.{variable_offsets}
 use Rattle.ipc_write.proofs.Lengths.{in_little, length-offsets, length-between}
-use Rattle.transcode_laws.specs.ColumnLaws.{LengthsAreOfPieces, WrittenAsColumn}
+use Rattle.transcode_laws.specs.ColumnLaws.{LengthsAreOfPieces}
 
 -- ── buffer by buffer ──
 
@@ -93,8 +94,5 @@ lengths_are (text_views p) h = ap (λ n. n ∷ length p.views ∷ map length p.b
 -- ── a column ──
 
 -- parts whose lengths are those of their buffers are written as a column
-pub by_lengths : (p : Parts) → lengths_in p ≡ map length (pieces_in little p) → written_in p ≡ written_of (column_in little p ∷ [])
-by_lengths p h = ap (λ lengths. record { nodes = node_in p ∷ []; lengths = lengths; views = counts_in p }) h ∙ sym (written_of_one (column_in little p))
-
-pub column_written : WrittenAsColumn
-column_written p h = by_lengths p (lengths_are p h)
+pub by_lengths : (l : LeafParts) → leaf_lengths_in l ≡ map length (leaf_pieces little l) → written_in (leaf l) ≡ written_of (column_in little (leaf l) ∷ [])
+by_lengths l h = ap (λ lengths. record { nodes = node_in (leaf l) ∷ []; lengths = lengths; views = leaf_counts_in l }) h ∙ sym (written_of_one (column_in little (leaf l)))

@@ -1,22 +1,21 @@
 -- How a file is read to be sent before its first block: its footer, its kinds, its schema's size, its dictionaries.
-use Rattle.std.proofs.Common.{◌≡◌, ℕ, zero, suc, List, [], ◌∷◌, ◌++◌, length, take, Option, Some, None, Ok, Err, refl, sym, ap, ◌∙◌, true, false, Bool, not, append-nil}
+use Rattle.std.proofs.Common.{◌≡◌, ℕ, zero, suc, List, [], ◌∷◌, length, take, Option, Some, None, Ok, Err, refl, ◌∙◌, true, false, Bool, not}
 use Rattle.std.specs.Prelude.{◌||◌}
 use Rattle.arrow_spec.specs.declared.error.IpcError.{IpcError}
 use Rattle.arrow_spec.specs.declared.error.IpcError.TheVariants.{Unsupported, TooLarge}
 use Rattle.arrow_spec.specs.declared.error.Feature.TheVariants as features
 use Rattle.arrow_spec.specs.Readings.{◌>>=◌, Reading, unless, free_of}
-use Rattle.arrow_spec.specs.Flat.{little}
 use Rattle.arrow_spec.specs.declared.error.OutOfSpecKind.TheVariants.{InvalidFlatbufferFooter}
 use Rattle.arrow_spec.specs.WrittenSchemas.{CustomMayBeWritten}
 use Rattle.arrow_spec.specs.Kinds.{Metadata, bare}
 use Rattle.arrow_spec.specs.Built.{Built}
-use Rattle.arrow_spec.specs.Features.{chosen_floats, feature_faults}
+use Rattle.arrow_spec.specs.Features.{feature_faults}
 use Rattle.arrow_spec.specs.Sent.{stream_schema, may_be_sent}
 use Rattle.arrow_spec.specs.Files.{ArrowTable, FileBlock, Meta, Purpose, «all», batches_of, dictionaries_of, dictionaries_read, file_reading, has_any, if_sent, custom_of, meta_of, taken, to_read, to_send, all_asked}
 pub use Rattle.arrow_spec.proofs.SentMessages.{on_err}
-use Rattle.arrow_spec.proofs.FeatureFaults.{features-carried, features-floats, features-none}
-use Rattle.arrow_spec.proofs.Projection.{on, ok-place, place-ok}
-use Rattle.arrow_spec.proofs.ReadPairs.{same_read, through}
+use Rattle.arrow_spec.proofs.FeatureFaults.{features-none}
+use Rattle.arrow_spec.proofs.Projection.{on, ok-place}
+use Rattle.arrow_spec.proofs.ReadPairs.{through}
 use Rattle.arrow_spec.proofs.ReadPairs.{custom_may as pairs_may}
 use Rattle.transcode_laws.specs.Files.{IsSendable, table_of}
 
@@ -51,14 +50,14 @@ behind_kinds built purpose b j meta custom =
     if_sent purpose (may_be_sent (stream_schema meta.schema.fields meta.schema.metadata custom)) >>= λ size.
     unless (built.dictionaries || not (has_any (dictionaries_read (taken j meta.blocks) meta.dictionaries))) (Unsupported features.NotYet) >>= λ read.
     dictionaries_of b meta [] (dictionaries_read (taken j meta.blocks) meta.dictionaries) >>= λ dictionaries.
-    batches_of built.custom purpose b (record { order = little; fields = meta.schema.fields; columns = None; dictionaries = dictionaries; most = length b }) true (taken j meta.blocks) None >>= λ batches.
+    batches_of built.custom purpose b (record { order = meta.schema.order; fields = meta.schema.fields; columns = None; dictionaries = dictionaries; most = length b }) true (taken j meta.blocks) None >>= λ batches.
     Ok (table_of (bare meta.schema.fields) meta.schema.metadata custom batches)
 
 sendable_reading : (built : Built) (purpose : Purpose) (b : List ℕ) (j : Option ℕ) (meta : Meta) (custom : Metadata) → meta_of b ≡ Ok meta → custom_of built.custom b ≡ Ok custom → IsSendable built meta.schema → file_reading built purpose b «all» j ≡ behind_kinds built purpose b j meta custom
 unfolding file_reading behind_kinds
 sendable_reading built purpose b j meta custom h pairs is =
     let kinds : free_of (feature_faults None meta.schema.fields (built.chosen meta.schema.order meta.schema.fields)) ≡ Ok tt = rw is.chosen (ok-place _ (features-none None meta.schema.fields is.readable)) in
-    on _ _ tt (fine built.requests (Unsupported features.NotYet)) ∙ on _ _ meta h ∙ on _ _ custom pairs ∙ on _ _ tt refl ∙ on _ _ tt kinds ∙ rw is.order refl
+    on _ _ tt (fine built.requests (Unsupported features.NotYet)) ∙ on _ _ meta h ∙ on _ _ custom pairs ∙ on _ _ tt refl ∙ on _ _ tt kinds
 
 -- a schema message that is too large
 pub schema_refused : (built : Built) (b : List ℕ) (meta : Meta) (custom : Metadata) → meta_of b ≡ Ok meta → custom_of built.custom b ≡ Ok custom → IsSendable built meta.schema → may_be_sent (stream_schema meta.schema.fields meta.schema.metadata custom) ≡ false → file_reading built to_send b «all» None ≡ Err (TooLarge ∷ [])
@@ -98,7 +97,7 @@ nothing_read b meta = refl
 
 -- a file whose schema may be sent and that has no dictionaries is read block by block
 pub first_batches : (built : Built) (purpose : Purpose) (b : List ℕ) (j : Option ℕ) (meta : Meta) (custom : Metadata) → meta_of b ≡ Ok meta → custom_of built.custom b ≡ Ok custom → IsSendable built meta.schema → may_be_sent (stream_schema meta.schema.fields meta.schema.metadata custom) ≡ true → has_any (dictionaries_read meta.blocks meta.dictionaries) ≡ false
-    → file_reading built purpose b «all» j ≡ (batches_of built.custom purpose b (all_asked little meta.schema.fields (length b)) true (taken j meta.blocks) None >>= λ batches. Ok (table_of (bare meta.schema.fields) meta.schema.metadata custom batches))
+    → file_reading built purpose b «all» j ≡ (batches_of built.custom purpose b (all_asked meta.schema.order meta.schema.fields (length b)) true (taken j meta.blocks) None >>= λ batches. Ok (table_of (bare meta.schema.fields) meta.schema.metadata custom batches))
 unfolding behind_kinds
 first_batches built purpose b j meta custom h pairs is small nothing =
     let none = none_taken j meta.blocks meta.dictionaries nothing in

@@ -1,6 +1,5 @@
 -- What refuses a part of a file refuses the file where it is to be sent.
 use Rattle.std.proofs.Common.{◌≡◌, ℕ, suc, List, [], ◌∷◌, ◌++◌, length, None, Some, Ok, Err, refl, ◌∙◌, subst, append-nil}
-use Rattle.arrow_spec.specs.Flat.{little}
 use Rattle.arrow_spec.specs.declared.error.IpcError.{IpcError}
 use Rattle.arrow_spec.specs.Kinds.{Metadata}
 use Rattle.arrow_spec.specs.Built.{Built}
@@ -37,10 +36,10 @@ custom_refuses built e b meta is h = by_reading (custom_of built.custom b) refl 
     by_reading (Ok custom) found k = none_refuses e (refusals (file_reading built to_send b «all» None)) k
 
 -- what refuses a block behind those that were sent refuses the file, and the file up to it
-pub block_refuses : (built : Built) (e : IpcError) (b : List ℕ) (meta : Meta) (custom : Metadata) (blocks : List FileBlock) (block : FileBlock) (rest : List FileBlock) (xs : List WrittenBatch) → IsSentFile built b meta custom → meta.blocks ≡ blocks ++ block ∷ rest → SentSoFar built b meta.schema.fields blocks xs
-    → Refuses e (refusals (batch_of built.custom to_send b (all_asked little meta.schema.fields (length b)) block None)) → Refuses e (refusals (file_reading built to_send b «all» None)) × StopsBehind built b «all» (length blocks) e
-block_refuses built e b meta custom blocks block rest xs file parts s h = by_reading (batch_of built.custom to_send b (all_asked little meta.schema.fields (length b)) block None) refl h
+pub block_refuses : (built : Built) (e : IpcError) (b : List ℕ) (meta : Meta) (custom : Metadata) (blocks : List FileBlock) (block : FileBlock) (rest : List FileBlock) (xs : List WrittenBatch) → IsSentFile built b meta custom → meta.blocks ≡ blocks ++ block ∷ rest → SentSoFar built b meta.schema.order meta.schema.fields blocks xs
+    → Refuses e (refusals (batch_of built.custom to_send b (all_asked meta.schema.order meta.schema.fields (length b)) block None)) → Refuses e (refusals (file_reading built to_send b «all» None)) × StopsBehind built b «all» (length blocks) e
+block_refuses built e b meta custom blocks block rest xs file parts s h = by_reading (batch_of built.custom to_send b (all_asked meta.schema.order meta.schema.fields (length b)) block None) refl h
   where
-    by_reading : (r : Reading TableBatch) → batch_of built.custom to_send b (all_asked little meta.schema.fields (length b)) block None ≡ r → Refuses e (refusals r) → Refuses e (refusals (file_reading built to_send b «all» None)) × StopsBehind built b «all» (length blocks) e
+    by_reading : (r : Reading TableBatch) → batch_of built.custom to_send b (all_asked meta.schema.order meta.schema.fields (length b)) block None ≡ r → Refuses e (refusals r) → Refuses e (refusals (file_reading built to_send b «all» None)) × StopsBehind built b «all» (length blocks) e
     by_reading (Err es) is k = let refused = file_refused built b meta custom blocks block rest xs es file parts s is in (rw refused.0 k, rw refused.1 k)
     by_reading (Ok x) is k = (none_refuses e (refusals (file_reading built to_send b «all» None)) k, none_refuses e (refusals (file_reading built to_send b «all» (Some (suc (length blocks))))) k)

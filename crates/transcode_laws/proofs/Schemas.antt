@@ -1,15 +1,14 @@
--- A schema that is read, little-endian and without dictionaries, is one that a stream takes as it is.
+-- A schema that is read without dictionaries is one whose fields a stream takes as they are.
 use Rattle.std.proofs.Common.{◌≡◌, ℕ, ◌+◌, List, [], Ok, None, refl, ◌∙◌, ap, subst, arith, true}
-use Rattle.arrow_spec.specs.Flat.{Table, little}
+use Rattle.arrow_spec.specs.Flat.{Table}
 use Rattle.arrow_spec.specs.Kinds.{Kind, Fields, none, field, null, boolean, integer, float, date32, date64, time32, time64, timestamp, duration, interval, decimal, decimal256, binary, utf8, binary_view, utf8_view, fixed_size_binary, «list», fixed_size_list, struct, map, union, dictionary, extension, dictionary_count, dictionary_counts}
 use Rattle.arrow_spec.specs.Built.{Built}
 use Rattle.arrow_spec.specs.Arrays.{Dictionaries}
 use Rattle.arrow_spec.specs.Features.{chosen_floats}
 use Rattle.arrow_spec.specs.Schema.{Schema, schema_of}
 use Rattle.arrow_spec.specs.Sent.{Sending, send_fields, send_kind}
-use Rattle.arrow_spec.specs.Files.{Meta, meta_in, meta_of}
-use Rattle.arrow_spec.specs.Laws.{AreBytes}
-use Rattle.arrow_spec.specs.WrittenSchemas.{AreSizes, SchemaMayBeWritten, sizes_in}
+use Rattle.arrow_spec.specs.Files.{Meta, meta_in}
+use Rattle.arrow_spec.specs.WrittenSchemas.{SchemaMayBeWritten}
 use Rattle.arrow_spec.proofs.ReadPairs.{same_read, through}
 use Rattle.arrow_spec.proofs.ReadSchemas.{schema_read}
 use Rattle.ipc_write_laws.proofs.PlainFields.{fields_stay}
@@ -20,24 +19,6 @@ use Rattle.transcode_laws.specs.Laws.{ReadSchemaIsSendable}
 
 mutual
   kind_sends_none : (k : Kind) (d : Dictionaries) (id : ℕ) (s : Sending) → dictionary_count k ≡ 0 → send_kind d k id s ≡ s
-  kind_sends_none null d id w h = refl
-  kind_sends_none boolean d id w h = refl
-  kind_sends_none (integer t) d id w h = refl
-  kind_sends_none (float t) d id w h = refl
-  kind_sends_none date32 d id w h = refl
-  kind_sends_none date64 d id w h = refl
-  kind_sends_none (time32 u) d id w h = refl
-  kind_sends_none (time64 u) d id w h = refl
-  kind_sends_none (timestamp u tz) d id w h = refl
-  kind_sends_none (duration u) d id w h = refl
-  kind_sends_none (interval u) d id w h = refl
-  kind_sends_none (decimal p s) d id w h = refl
-  kind_sends_none (decimal256 p s) d id w h = refl
-  kind_sends_none (binary o) d id w h = refl
-  kind_sends_none (utf8 o) d id w h = refl
-  kind_sends_none binary_view d id w h = refl
-  kind_sends_none utf8_view d id w h = refl
-  kind_sends_none (fixed_size_binary n) d id w h = refl
   kind_sends_none («list» o fs) d id w h = fields_send_none fs d id w h
   kind_sends_none (fixed_size_list n fs) d id w h = fields_send_none fs d id w h
   kind_sends_none (struct fs) d id w h = fields_send_none fs d id w h
@@ -45,6 +26,7 @@ mutual
   kind_sends_none (union mode stated ids fs) d id w h = fields_send_none fs d id w h
   kind_sends_none (dictionary t ordered old k) d id w h = absurd (omega (arith, h))
   kind_sends_none (extension name metadata k) d id w h = kind_sends_none k d id w h
+  kind_sends_none k d id w h = refl
 
   -- fields without dictionaries have none to send
   pub fields_send_none : (fs : Fields) (d : Dictionaries) (id : ℕ) (s : Sending) → dictionary_counts fs ≡ 0 → send_fields d fs id s ≡ s
@@ -55,16 +37,16 @@ mutual
 
 -- ── the schema ──
 
--- a little-endian schema of built kinds without dictionaries
-pub plain_sendable : (built : Built) (s : Schema) → s.order ≡ little → built.chosen s.order s.fields ≡ true → chosen_floats None s.fields 0 ≡ [] → dictionary_counts s.fields ≡ 0 → SchemaMayBeWritten s.fields s.metadata → IsSendable built s
-plain_sendable built s order chosen floats none_there may =
-    record { order = order; chosen = chosen; readable = floats; plain = fields_stay s.fields 0 none_there; no_dictionaries = λ d id u. fields_send_none s.fields d id u none_there; may = may }
+-- a schema of built kinds without dictionaries
+pub plain_sendable : (built : Built) (s : Schema) → built.chosen s.order s.fields ≡ true → chosen_floats None s.fields 0 ≡ [] → dictionary_counts s.fields ≡ 0 → SchemaMayBeWritten s.fields s.metadata → IsSendable built s
+plain_sendable built s chosen floats none_there may =
+    record { chosen = chosen; readable = floats; plain = fields_stay s.fields 0 none_there; no_dictionaries = λ d id u. fields_send_none s.fields d id u none_there; may = may }
 
 -- such a schema that was read
 pub schema_sendable : ReadSchemaIsSendable
-schema_sendable built b t s h order chosen floats none_there sizes =
+schema_sendable built b t s h chosen floats none_there sizes =
     let read = schema_read b t s h in
-    plain_sendable built s order chosen floats none_there (read.may sizes)
+    plain_sendable built s chosen floats none_there (read.may sizes)
 
 -- ── the schema of a file ──
 

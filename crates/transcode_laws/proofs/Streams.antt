@@ -29,4 +29,4 @@ stream_of built b meta custom xs file s =
 
 -- before the first block the schema's message is a front
 pub schema_front : (built : Built) (b : List ℕ) (meta : Meta) (custom : Metadata) → IsSentFile built b meta custom → IsFrontOf built b «all» (written_so_far meta.schema.fields meta.schema.metadata custom []) (bare_table meta.schema.fields meta.schema.metadata custom [])
-schema_front built b meta custom file = front_of built b meta custom 0 [] file (none_sent built b meta.schema.fields) refl
+schema_front built b meta custom file = front_of built b meta custom 0 [] file (none_sent built b meta.schema.order meta.schema.fields) refl

@@ -4,8 +4,8 @@ use Rattle.std.specs.Int.{w64}
 use Rattle.std.specs.List.{AllByRecursion}
 use Rattle.arrow_spec.specs.declared.error.IpcError.{IpcError}
 use Rattle.arrow_spec.specs.Readings.{Refuses, meaning, refusals}
-use Rattle.arrow_spec.specs.Flat.{little}
-use Rattle.arrow_spec.specs.Kinds.{Fields, Metadata, bare, numbered}
+use Rattle.arrow_spec.specs.Flat.{Order, little}
+use Rattle.arrow_spec.specs.Kinds.{Fields, Metadata, numbered}
 use Rattle.arrow_spec.specs.Built.{Built}
 use Rattle.arrow_spec.specs.Schema.{Schema}
 use Rattle.arrow_spec.specs.Counts.{RecordBatch, first_place}
@@ -13,7 +13,7 @@ use Rattle.arrow_spec.specs.Arrays.{Dictionaries}
 use Rattle.arrow_spec.specs.Features.{chosen_floats}
 use Rattle.arrow_spec.specs.Messages.{BatchHeader}
 use Rattle.arrow_spec.specs.Sent.{Sending, all_written, columns_written, may_be_sent, send_fields, stream_schema}
-use Rattle.arrow_spec.specs.Files.{ArrowTable, Asked, FileBlock, Meta, Request, TableBatch, batch_of, batches_of, custom_of, dictionaries_read, file_reading, has_any, meta_of, to_read, to_send, all_asked}
+use Rattle.arrow_spec.specs.Files.{ArrowTable, FileBlock, Meta, Request, TableBatch, batch_of, batches_of, custom_of, dictionaries_read, file_reading, has_any, meta_of, to_read, to_send, all_asked}
 use Rattle.arrow_spec.specs.Streams.{closed, stream_table, unended}
 use Rattle.arrow_spec.specs.WrittenSchemas.{SchemaMayBeWritten}
 use Rattle.arrow_spec.specs.Bodies.{BufferFits, NodeFits}
@@ -26,9 +26,8 @@ use Rattle.ipc_write_laws.specs.Streams.{AreOf, MayBeWritten, WrittenBatch, tabl
 abbrev pub HaveNoDictionaries : Fields → Type 0
 HaveNoDictionaries fs = (d : Dictionaries) (id : ℕ) (s : Sending) → send_fields d fs id s ≡ s
 
--- a schema that a stream takes as it is: little-endian, of built kinds that can be read, without dictionaries, and may be written
+-- a schema whose fields a stream takes as they are, in whatever byte order: of built kinds that can be read, without dictionaries, and may be written
 pub record IsSendable (built : Built) (s : Schema) : Type 0 where
-  pub order : s.order ≡ little
   pub chosen : built.chosen s.order s.fields ≡ true
   pub readable : chosen_floats None s.fields 0 ≡ []
   pub plain : numbered s.fields 0 ≡ s.fields
@@ -62,16 +61,16 @@ pub record IsReadBatch (fs : Fields) (m : RecordBatch) (x : WrittenBatch) : Type
   pub good : AllByRecursion (λ c. Means little [] x.rows c) x.columns
   pub written : all_written (columns_written m None fs 0 first_place x.rows) ≡ written_of x.columns
 
--- a block that is read and sent as a batch that may be written
-pub record IsSentBatch (built : Built) (b : List ℕ) (fs : Fields) (block : FileBlock) (x : WrittenBatch) : Type 0 where
-  pub read : batch_of built.custom to_read b (all_asked little fs (length b)) block None ≡ Ok (table_batch x)
-  pub sent : batch_of built.custom to_send b (all_asked little fs (length b)) block None ≡ Ok (table_batch x)
+-- a block that is read in a byte order and sent as a batch that may be written
+pub record IsSentBatch (built : Built) (b : List ℕ) (o : Order) (fs : Fields) (block : FileBlock) (x : WrittenBatch) : Type 0 where
+  pub read : batch_of built.custom to_read b (all_asked o fs (length b)) block None ≡ Ok (table_batch x)
+  pub sent : batch_of built.custom to_send b (all_asked o fs (length b)) block None ≡ Ok (table_batch x)
   pub fit : MayBeWritten fs x
 
 -- some blocks were read and sent as such batches
-pub record SentSoFar (built : Built) (b : List ℕ) (fs : Fields) (blocks : List FileBlock) (xs : List WrittenBatch) : Type 0 where
-  pub read : batches_of built.custom to_read b (all_asked little fs (length b)) true blocks None ≡ Ok (map table_batch xs)
-  pub sent : batches_of built.custom to_send b (all_asked little fs (length b)) true blocks None ≡ Ok (map table_batch xs)
+pub record SentSoFar (built : Built) (b : List ℕ) (o : Order) (fs : Fields) (blocks : List FileBlock) (xs : List WrittenBatch) : Type 0 where
+  pub read : batches_of built.custom to_read b (all_asked o fs (length b)) true blocks None ≡ Ok (map table_batch xs)
+  pub sent : batches_of built.custom to_send b (all_asked o fs (length b)) true blocks None ≡ Ok (map table_batch xs)
   pub fit : AllByRecursion (λ x. MayBeWritten fs x) xs
 
 -- ── streams ──

@@ -2,5 +2,4 @@ pub mod Built
 pub mod Meaning
 pub mod Files
 pub mod Laws
-pub mod LeafFields
 pub mod ColumnLaws

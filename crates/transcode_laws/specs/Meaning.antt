@@ -1,5 +1,5 @@
 -- What a file means as far as its reading is built, and what may refuse it.
-use Rattle.std.specs.Prelude.{ℕ, List, Option, Some, None}
+use Rattle.std.specs.Prelude.{ℕ, List, Option, None}
 use Rattle.arrow_spec.specs.declared.error.IpcError.{IpcError}
 use Rattle.arrow_spec.specs.Readings.{IsAmong, meaning, refusals}
 use Rattle.arrow_spec.specs.Files.{ArrowTable, Request, file_reading, to_read, to_send}

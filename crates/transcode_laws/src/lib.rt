@@ -2,14 +2,14 @@
 #![tactic(auto)]
 
 ghost use Rattle.transcode_laws.specs.Laws.{BatchIsSendable, BlockRefusesItsFile, PartOfFileMeansItsTable, ReadSchemaIsSendable, SchemaSoFarIsSendable, SentBlocksAreAFront, SentFileIsItsStream, SentMeans, SentOrTooLarge, WholeFileMeansItsTable};
-ghost use Rattle.transcode_laws.specs.ColumnLaws.{FittingFieldsAreLeaves, LengthsAreOfPieces, ReadBatchIsSendable, ReadBatchIsSent, TopIsSent, WrittenAsColumn};
+ghost use Rattle.transcode_laws.specs.ColumnLaws.{FittingFieldsAreCarried, LengthsAreOfPieces, ReadBatchIsSendable, ReadBatchIsSent, TopIsSent, WrittenAsColumn};
 
-/// A schema that was read, little-endian and without dictionaries, is one that a stream takes as it is (Arrow Columnar Format, "Schema message").
+/// A schema that was read without dictionaries, in either byte order, is one whose fields a stream takes as they are (Arrow Columnar Format, "Schema message").
 pub fn read_schema_is_sendable()
     ensures { ReadSchemaIsSendable }
 {}
 
-/// So is a schema of little-endian columns of leaf kinds, which alone is let through so far.
+/// So is a schema of columns of the kinds that are let through so far.
 pub fn schema_so_far_is_sendable()
     ensures { SchemaSoFarIsSendable }
 {}
@@ -79,7 +79,7 @@ pub fn read_batch_is_sendable()
     ensures { ReadBatchIsSendable }
 {}
 
-/// Fields that are let through so far are those of arrays without children, in a schema that may be written.
-pub fn fitting_fields_are_leaves()
-    ensures { FittingFieldsAreLeaves }
+/// Fields that are let through so far are those that arrays are read of, in a schema that may be written.
+pub fn fitting_fields_are_carried()
+    ensures { FittingFieldsAreCarried }
 {}

@@ -7,6 +7,7 @@ use Rattle.arrow_spec.specs.declared.error.Feature.TheVariants.{Float, NotYet}
 use Rattle.arrow_spec.specs.declared.types.IntegerType.TheVariants.{Int16}
 use Rattle.arrow_spec.specs.Readings.{refusals}
 use Rattle.arrow_spec.specs.Cells as cells
+use Rattle.arrow_spec.specs.Cells.{cells_of}
 use Rattle.arrow_spec.specs.Kinds.{none, field, integer, extension}
 use Rattle.arrow_spec.specs.Layout.{layout, table_head}
 use Rattle.arrow_spec.specs.Framing.{message_bytes}
@@ -25,7 +26,7 @@ use Rattle.transcode_laws.specs.Meaning.{file_table}
 abbrev pub why : List ℕ → Request → List IpcError
 why b r = refusals (file_reading so_far to_send b r None)
 
--- ── files of flat columns ──
+-- ── files ──
 
 pub int32 : file_table int32_file «all» ≡ Some int32_table
 unfolding computed file_table
@@ -56,6 +57,16 @@ pub extensions : option_fields (file_table extension_file «all») ≡ field (co
 unfolding computed file_table
 extensions = refl
 
+-- lists whose offsets begin behind 0
+pub lists : batches (file_table list_offsets_file «all») ≡ ((cells.«list» (cells_of (int 8 ∷ int 9 ∷ [])) ∷ []) ∷ []) ∷ []
+unfolding computed file_table
+lists = refl
+
+-- numbers in big-endian order
+pub big_endian : file_table big_endian_file «all» ≡ Some int32_table
+unfolding computed file_table
+big_endian = refl
+
 -- ── what is not built ──
 
 -- the schema of any kinds is read, and a chosen column of floats is told by its name
@@ -67,17 +78,9 @@ pub dictionary : why inner_first_file «all» ≡ Unsupported NotYet ∷ []
 unfolding computed
 dictionary = refl
 
-pub lists : why list_offsets_file «all» ≡ Unsupported NotYet ∷ []
-unfolding computed
-lists = refl
-
 pub union : why sparse_union_file «all» ≡ Unsupported NotYet ∷ []
 unfolding computed
 union = refl
-
-pub big_endian : why big_endian_file «all» ≡ Unsupported NotYet ∷ []
-unfolding computed
-big_endian = refl
 
 pub columns : why int32_file (record { columns = Some []; limit = None }) ≡ Unsupported NotYet ∷ []
 unfolding computed

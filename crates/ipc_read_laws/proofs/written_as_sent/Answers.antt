@@ -1,5 +1,5 @@
 use Rattle.ipc_read_laws.proofs.written_as_sent.Goals as goal
-use Rattle.ipc_read_laws.proofs.WrittenLaws as law
+use Rattle.ipc_read_laws.proofs.TreesWritten as law
 
 pub returns : goal.returns
-returns c = law.written_read
+returns c = law.all_written

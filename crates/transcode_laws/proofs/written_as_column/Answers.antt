@@ -1,4 +1,4 @@
-use Rattle.transcode_laws.proofs.Pieces.{column_written}
+use Rattle.transcode_laws.proofs.TreeLengths.{column_written}
 use Rattle.transcode_laws.proofs.written_as_column.Goals as goal
 
 pub returns : goal.returns

@@ -1,6 +1,6 @@
 use Rattle.std.proofs.Common.{ap}
 use Rattle.arrow_spec.specs.Flat.{little}
-use Rattle.arrow_arrays.specs.Parts.{numbers}
+use Rattle.arrow_arrays.specs.LeafParts.{numbers}
 use Rattle.arrow_arrays.proofs.NumberParts.{as_bytes-part, number_cells-part}
 use Rattle.arrow_arrays.proofs.numbers.narrow_numbers.Goals as goal
 

@@ -8,13 +8,13 @@ use Rattle.arrow_arrays.proofs.NumberParts.{leaf_suits}
 use Rattle.arrow_arrays.proofs.CellRows.{read_valid, null_number, valid_number}
 use Rattle.arrow_arrays.proofs.rows.number_in.Goals as goal
 
-pub returns-then-is_valid_in : goal.returns-then-is_valid_in
-returns-then-is_valid_in g c =
+pub returns-then-is_valid_in-clause-cell : goal.returns-then-is_valid_in-clause-cell
+returns-then-is_valid_in-clause-cell g c =
     let valid : is_valid c.args.array.now.validity c.args.row ≡ true = read_valid c.args.array.now.validity (option_map (λ (bits : Bor (List Bool)). bits.now) c.validity.result) c.args.row c.is_valid_in.result true c.validity.ensures.bits c.is_valid_in.ensures c.if-is_valid_in.true in
     let suits = leaf_suits (is_primitive g.T.NativeType.PRIMITIVE (physical_of c.args.array.now.kind)) (length c.args.array.now.values) c.args.array.now.validity c.len.ensures.sound in
     valid_number (g.T.NativeType.written little) c.args.array.now c.args.row c.value.result c.validity.ensures.rows valid c.value.ensures ∙ ap Some (g.met.T.RowNumber.cell_under c.args.array.now.kind c.value.result c.row_value.ensures.fits suits ∙ sym c.row_value.ensures.cell)
 
-pub returns-else-is_valid_in : goal.returns-else-is_valid_in
-returns-else-is_valid_in g c =
+pub returns-else-is_valid_in-clause-cell : goal.returns-else-is_valid_in-clause-cell
+returns-else-is_valid_in-clause-cell g c =
     let valid : is_valid c.args.array.now.validity c.args.row ≡ false = read_valid c.args.array.now.validity (option_map (λ (bits : Bor (List Bool)). bits.now) c.validity.result) c.args.row c.is_valid_in.result false c.validity.ensures.bits c.is_valid_in.ensures c.if-is_valid_in.false in
     null_number (g.T.NativeType.written little) c.args.array.now c.args.row c.validity.ensures.rows c.requires valid

@@ -1,10 +1,9 @@
-use Rattle.std.proofs.Common.{◌≡◌, ◌∙◌, ap, subst, sym}
+use Rattle.std.proofs.Common.{◌∙◌, ap, subst, sym}
 use Rattle.ipc_fields.specs.IpcFields.{fields_with, ids_of}
 use Rattle.arrow_types.specs.Schemas.{fields_in}
-use Rattle.ipc_files.specs.FileBlocks.{file_block}
 use Rattle.ipc_files.specs.FileViews.{IsBuilt, meta_view}
 use Rattle.ipc_files.specs.Fetching.{BlockFetched}
-use Rattle.ipc_files.proofs.LeafFields.{let_in}
+use Rattle.ipc_files.proofs.SentFields.{let_in}
 use Rattle.ipc_files.proofs.ReadBatches.{all_asked_for, batch_given, batch_not_built, batch_not_known, columns_asked, indexed, limit_asked}
 use Rattle.ipc_files.proofs.batch.read_batch.Goals as goal
 use Rattle.ipc_files.proofs.batch.read_batch.Goals.{then-is_some-via-then-is_some, then-is_some-via-else-is_some+then-is_some-2}
@@ -29,7 +28,7 @@ returns-clause-gives g c = λ block at.
     let built : IsBuilt (meta_view file) = c.is_built.ensures.0 (let t = c.if-not-is_built.false in cc) in
     let is = let_in file built in
     batch_given (g.S.Source.content c.args.source.now) _ (meta_view file) block _ c.read_block.result (all_asked_for c.args.projection c.args.limit (sym c.is_some.ensures ∙ c.if-is_some.false) (sym c.is_some-else-is_some.ensures ∙ c.if-is_some-2.false))
-    built is.order is.readable (indexed file.blocks.items c.args.index c.index.result.now block c.requires.in_range c.index.ensures at) c.read_block.ensures.gives
+    built is.readable (indexed file.blocks.items c.args.index c.index.result.now block c.requires.in_range c.index.ensures at) c.read_block.ensures.gives
 
 pub returns-clause-fetched : goal.returns-clause-fetched
 returns-clause-fetched g c = λ block at.

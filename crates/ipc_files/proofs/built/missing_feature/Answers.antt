@@ -5,7 +5,7 @@ use Rattle.arrow_types.specs.KindOf.{child_of}
 use Rattle.arrow_types.specs.Physical.{physical_of}
 use Rattle.arrow_types.specs.Schemas.{Keyed}
 use Rattle.ipc_read.specs.Batches.{unread_feature}
-use Rattle.ipc_files.proofs.LeafFields.{kind_of_field}
+use Rattle.ipc_files.proofs.SentFields.{kind_of_field}
 use Rattle.ipc_files.proofs.MissingFeatures.{missing, last_missing, none_more, none_yet}
 use Rattle.ipc_files.proofs.built.missing_feature.Goals as goal
 

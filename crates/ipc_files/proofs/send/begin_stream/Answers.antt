@@ -1,7 +1,7 @@
 use Rattle.std.proofs.Common.{◌≡◌, Err, ◌∙◌, ap, length, sym}
 use Rattle.ipc_files.specs.FileViews.{meta_view}
 use Rattle.ipc_files.proofs.Errors.{is_err}
-use Rattle.ipc_files.proofs.LeafFields.{sendable}
+use Rattle.ipc_files.proofs.SentFields.{sendable}
 use Rattle.ipc_files.proofs.SentFiles.{of_err}
 use Rattle.ipc_files.proofs.StreamSteps.{dictionaries_not_built, schema_not_put, schema_not_written, schema_put}
 use Rattle.ipc_files.proofs.send.begin_stream.Goals as goal

@@ -2,19 +2,15 @@ use Rattle.std.proofs.Common.{◌≡◌, Err, sym, ◌∙◌, ap, arith, subst, 
 use Rattle.arrow_spec.specs.Features.{float_faults}
 use Rattle.arrow_spec.specs.Readings.{Refuses}
 use Rattle.arrow_types.specs.KindOf.{child_of}
-use Rattle.arrow_buffers.specs.Layouts.{binary_size}
-use Rattle.arrow_types.specs.Physical.{physical_of}
-use Rattle.ipc_read.specs.Skips.{is_plain_kind}
+use Rattle.ipc_read.specs.Batches.{is_column_kind}
 use Rattle.ipc_read.proofs.Passing.{is_err, answers_err}
-use Rattle.ipc_read.proofs.ColumnKinds.{columns_next, column_is_plain, column_is_leaf, leaf_next, floats_next, floats_refused, floats_end, leaf_end}
+use Rattle.ipc_read.proofs.ColumnKinds.{columns_next, column_carried, held_next, floats_next, floats_refused, floats_end, held_end}
 use Rattle.ipc_read.proofs.tables.check_kinds.Goals as goal
 
 pub check_kind-requires : goal.check_kind-requires
 check_kind-requires c =
     let f = c.field_at-field.ensures in
-    let k = (columns_next c.args.schema.now c.loop-i.i _ f.at c.loop-i.invariant.columns).0 in
-    let p = column_is_plain (physical_of (child_of c.field_at-field.result.now).kind) (binary_size (child_of c.field_at-field.result.now).kind) k in
-    record { plain = ap is_plain_kind (sym f.kind) ∙ p }
+    record { column = ap is_column_kind (sym f.kind) ∙ (columns_next c.args.schema.now c.loop-i.i _ f.at c.loop-i.invariant.columns).0 }
 
 pub returns-in_err-check_kind-clause-exact : goal.returns-in_err-check_kind-clause-exact
 returns-in_err-check_kind-clause-exact c =
@@ -26,7 +22,7 @@ returns-in_err-check_kind-clause-exact c =
 pub returns : goal.returns
 returns c = record {
   exact = record { ok = (c.loop-i.invariant.floats ∙ floats_end c.args.schema.now c.loop-i.i (omega arith), refl); err = tt };
-  leaf = c.loop-i.invariant.leaf ∙ leaf_end c.args.schema.now c.loop-i.i (omega arith);
+  held = c.loop-i.invariant.held ∙ held_end c.args.schema.now c.loop-i.i (omega arith);
   cause = tt;
 }
 
@@ -39,5 +35,5 @@ loop-i-preserved c =
       within = omega arith;
       floats = c.loop-i.invariant.floats ∙ floats_next c.args.schema.now c.loop-i.i _ f.at z;
       columns = n.1;
-      leaf = c.loop-i.invariant.leaf ∙ leaf_next c.args.schema.now c.loop-i.i _ f.at (column_is_leaf (child_of c.field_at-field.result.now).kind n.0 z);
+      held = c.loop-i.invariant.held ∙ held_next c.args.schema.now c.loop-i.i _ f.at (column_carried (child_of c.field_at-field.result.now).kind n.0 z);
     }

@@ -1,4 +1,4 @@
-use Rattle.std.proofs.Common.{◌≡◌, ap, ◌∙◌}
+use Rattle.std.proofs.Common.{ap, ◌∙◌}
 use Rattle.ipc_write.specs.Outcomes.{message_frame}
 use Rattle.ipc_write.proofs.Written.{framed_whole}
 use Rattle.ipc_write.proofs.frame.message_to_bytes.Goals as goal

@@ -1,6 +1,5 @@
-use Rattle.std.proofs.Common.{◌-◌, map, length, arith, sym, ap, ◌∙◌}
+use Rattle.std.proofs.Common.{map, arith}
 use Rattle.std.proofs.lemmas.List.{length-map}
-use Rattle.arrow_buffers.specs.Variable.{place_at}
 use Rattle.arrow_buffers.proofs.Rising.{some_offset}
 use Rattle.ipc_write_arrays.proofs.bytes.ends_of.Goals as goal
 

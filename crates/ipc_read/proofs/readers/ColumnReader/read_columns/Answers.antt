@@ -10,11 +10,11 @@ use Rattle.ipc_read.specs.Batches.{columns_fetched}
 use Rattle.ipc_read.proofs.Passing.{is_err}
 use Rattle.ipc_read.proofs.BatchTables.{gives_err}
 use Rattle.ipc_read.proofs.ReaderSteps.{known_on, readable_on, queues_then}
-use Rattle.ipc_read.proofs.Columns.{AreDone, none_done, place_at_first, all_cells, all_parts, rows_next, field_leaf, field_place, field_refused, field_done, field_fetched}
+use Rattle.ipc_read.proofs.Columns.{AreDone, none_done, place_at_first, all_cells, all_parts, rows_next, field_held, field_place, field_refused, field_done, field_fetched}
 use Rattle.ipc_read.proofs.readers.ColumnReader.read_columns.Goals as goal
 
-pub read_column-requires-clause-leaf : goal.read_column-requires-clause-leaf
-read_column-requires-clause-leaf g c = field_leaf c.args.schema.now c.loop-i.i c.field_at-field.result.now c.field_at-field.ensures c.requires.leaf
+pub read_column-requires-clause-held : goal.read_column-requires-clause-held
+read_column-requires-clause-held g c = field_held c.args.schema.now c.loop-i.i c.field_at-field.result.now c.field_at-field.ensures c.requires.held
 
 pub returns-in_err-array-clause-gives : goal.returns-in_err-array-clause-gives
 returns-in_err-array-clause-gives g c = λ m a known.

@@ -1,6 +1,7 @@
 use Rattle.std.proofs.Common.{refl, sym, ap}
 use Rattle.arrow_types.specs.KindOf.{kind_of}
-use Rattle.arrow_arrays.specs.Parts.{nulls}
+use Rattle.arrow_arrays.specs.LeafParts.{nulls}
+use Rattle.arrow_arrays.specs.Parts.{leaf}
 use Rattle.ipc_read_laws.specs.PartsRead.{parts_in}
 use Rattle.ipc_read.proofs.Refusals.{err_from}
 use Rattle.ipc_read.proofs.Arrays.{answers_as, null_at}
@@ -14,7 +15,7 @@ pub returns-clause-takes : goal.returns-clause-takes
 returns-clause-takes g c = λ m p a. null_at m (kind_of c.args.dtype.now) p _ _ _ c.requires.kind a (c.in_ok-array.ensures.queue m p (nodes_at a))
 
 pub returns-clause-parts : goal.returns-clause-parts
-returns-clause-parts g c = λ m p a t. answers_as nulls _ _ _ _ _ _ _ (c.in_ok-array.ensures.gives m p (nodes_at a)) refl (ap (λ layout. parts_in layout m (kind_of c.args.dtype.now) p c.args.rows) (sym c.requires.kind))
+returns-clause-parts g c = λ m p a t. answers_as (λ n. leaf (nulls n)) _ _ _ _ _ _ _ (c.in_ok-array.ensures.gives m p (nodes_at a)) refl (ap (λ layout. leaf (parts_in layout m (kind_of c.args.dtype.now) p c.args.rows)) (sym c.requires.kind))
 
 pub returns-in_err-array-clause-shortened : goal.returns-in_err-array-clause-shortened
 returns-in_err-array-clause-shortened g c = λ version vs. c.in_err-array.ensures.shortened version _ vs

@@ -1,0 +1,259 @@
+-- Fields that are sent: their ids, and that a stream takes a schema of them as it is.
+use Rattle.std.proofs.Common.{◌≡◌, ℕ, zero, suc, ◌+◌, ◌^◌, ◌<◌, List, [], ◌∷◌, length, map, Option, None, Bool, true, false, ◌&&◌, refl, sym, ap, ◌∙◌, subst, arith, rules}
+use Rattle.std.specs.Prelude.{ℤ, IsTrue, nat_eq, nat_lt, drop, get_or, slice_get, Some}
+use Rattle.std.specs.Rc.{rc_value}
+use Rattle.std.proofs.lemmas.Bool.{and_parts, and_from, eq-eqb}
+use Rattle.std.proofs.lemmas.Option.{slice_get-get_or, slice_get-map}
+use Rattle.arrow_spec.specs.Kinds.{Kind, Fields, none, field, decimal, decimal256, binary, utf8, fixed_size_binary, «list», fixed_size_list, struct, union, dictionary, extension, small, large, width, numbered, uses_in, uses_of}
+use Rattle.arrow_spec.specs.Kinds as kind
+use Rattle.arrow_spec.specs.Schema.{first_is_struct_of_two}
+use Rattle.arrow_spec.specs.Regular.{is_no_dictionary, is_representable_kind, is_size, representable}
+use Rattle.arrow_spec.specs.WrittenSchemas.{FieldsFit, KindFits, Part, of_dictionary, of_extension, of_field}
+use Rattle.arrow_types.specs.Child.{Child}
+use Rattle.arrow_types.specs.Child as child
+use Rattle.arrow_types.specs.KindOf.{child_of, kind_of}
+use Rattle.arrow_types.specs.Schemas.{Keyed, fields_in}
+use Rattle.arrow_types.specs.declared.data_type.Field.{Field, the_lemmas}
+use Rattle.ipc_fields.specs.IpcFields.{Ids, no_fields, ids, ids_from, ids_of, fields_with, have_shapes, kind_with, tree_of, Tree}
+use Rattle.ipc_fields.specs.declared.ipc_field.IpcField.{IpcField}
+use Rattle.schema_writer.specs.Tables.{all_fit, fits_below}
+use Rattle.schema_writer.proofs.Saying.{representable_is}
+use Rattle.ipc_write_laws.proofs.PlainFields as plain
+use Rattle.arrow_arrays.specs.LeafKinds.{is_leaf_kind}
+use Rattle.ipc_read_laws.specs.Carried.{is_carried, are_carried}
+use Rattle.ipc_read_laws.proofs.Trees.{by_tree}
+use Rattle.transcode_laws.specs.Built.{are_sent_fields, are_unions_sent, is_sent_kind, so_far}
+use Rattle.transcode_laws.specs.Files.{IsSendable}
+use Rattle.transcode_laws.proofs.Schemas.{plain_sendable}
+use Rattle.transcode_laws.proofs.SentFields.{fields_carried, no_dictionaries}
+use Rattle.transcode_laws.proofs.SoFar.{IsLetThrough, let_through}
+use Rattle.ipc_read.specs.Batches.{are_column_fields, are_column_kinds, is_column_kind}
+use Rattle.ipc_files.specs.FileViews.{meta_view, IsBuilt, IsReadable, WasRead}
+use Rattle.ipc_files.specs.declared.metadata.FileMetadata.{FileMetadata}
+
+-- ── what is sent of a file ──
+
+-- what is let through of a file whose columns are built
+abbrev pub let_in : (file : FileMetadata) → IsBuilt (meta_view file) → IsLetThrough (meta_view file).schema.fields
+let_in file h = let_through (meta_view file).schema.order (meta_view file).schema.fields h
+
+pub sendable : (file : FileMetadata) → IsBuilt (meta_view file) → WasRead file → IsSendable so_far (meta_view file).schema
+sendable file h w =
+    let is = let_in file h in
+    plain_sendable so_far (meta_view file).schema h is.readable is.no_dictionaries w.may
+
+-- ── ids ──
+
+-- ids change nothing in whether kinds are sent
+mutual
+  same_sent : (k : Kind) (id : Option ℤ) (below : Ids) → is_sent_kind (kind_with k id below) ≡ is_sent_kind k
+  same_sent («list» o fs) id below = ids_aside fs below
+  same_sent (fixed_size_list n fs) id below = ids_aside fs below
+  same_sent (struct fs) id below = ids_aside fs below
+  same_sent (kind.map sorted fs) id below = ids_aside fs below
+  same_sent (union mode stated types fs) id below = ap (λ b. are_unions_sent && b) (ids_aside fs below)
+  same_sent (extension name metadata k) id below = same_sent k id below
+  same_sent k id below = refl
+
+  pub ids_aside : (fs : Fields) (below : Ids) → are_sent_fields (fields_with fs below) ≡ are_sent_fields fs
+  ids_aside none below = refl
+  ids_aside (field name nullable metadata k others) no_fields = rw (same_sent k None no_fields, ids_aside others no_fields) refl
+  ids_aside (field name nullable metadata k others) (ids id below rest) = rw (same_sent k id below, ids_aside others rest) refl
+
+-- and nothing in fields that are sent
+mutual
+  kind_stays : (k : Kind) (id : Option ℤ) (below : Ids) → is_sent_kind k ≡ true → kind_with k id below ≡ k
+  kind_stays («list» o fs) id below h = ap (λ gs. «list» o gs) (fields_stay fs below h)
+  kind_stays (fixed_size_list n fs) id below h = ap (λ gs. fixed_size_list n gs) (fields_stay fs below h)
+  kind_stays (struct fs) id below h = ap struct (fields_stay fs below h)
+  kind_stays (kind.map sorted fs) id below h = ap (λ gs. kind.map sorted gs) (fields_stay fs below h)
+  kind_stays (union mode stated types fs) id below h = ap (λ gs. union mode stated types gs) (fields_stay fs below (and_parts are_unions_sent (are_sent_fields fs) h).1)
+  kind_stays (dictionary t ordered old k) id below h = cc
+  kind_stays (extension name metadata k) id below h = ap (λ l. extension name metadata l) (kind_stays k id below h)
+  kind_stays k id below h = refl
+
+  pub fields_stay : (fs : Fields) (below : Ids) → are_sent_fields fs ≡ true → fields_with fs below ≡ fs
+  fields_stay none below h = refl
+  fields_stay (field name nullable metadata k others) no_fields h =
+      let both = and_parts (is_sent_kind k) (are_sent_fields others) h in
+      rw (kind_stays k None no_fields both.0, fields_stay others no_fields both.1) refl
+  fields_stay (field name nullable metadata k others) (ids id below rest) h =
+      let both = and_parts (is_sent_kind k) (are_sent_fields others) h in
+      rw (kind_stays k id below both.0, fields_stay others rest both.1) refl
+
+-- as they are numbered, they are
+pub numbers_aside : (fs : Fields) → are_sent_fields fs ≡ true → numbered fs 0 ≡ fs
+numbers_aside fs h = plain.fields_stay fs 0 (no_dictionaries fs h)
+
+-- ── dictionaries ──
+
+mutual
+  kind_has_no_uses : (k : Kind) → is_sent_kind k ≡ true → uses_of k ≡ []
+  kind_has_no_uses («list» o fs) h = no_uses fs h
+  kind_has_no_uses (fixed_size_list n fs) h = no_uses fs h
+  kind_has_no_uses (struct fs) h = no_uses fs h
+  kind_has_no_uses (kind.map sorted fs) h = no_uses fs h
+  kind_has_no_uses (union mode stated types fs) h = no_uses fs (and_parts are_unions_sent (are_sent_fields fs) h).1
+  kind_has_no_uses (dictionary t ordered old k) h = cc
+  kind_has_no_uses (extension name metadata k) h = kind_has_no_uses k h
+  kind_has_no_uses k h = refl
+
+  pub no_uses : (fs : Fields) → are_sent_fields fs ≡ true → uses_in fs ≡ []
+  no_uses none h = refl
+  no_uses (field name nullable metadata k others) h =
+      let both = and_parts (is_sent_kind k) (are_sent_fields others) h in
+      rw (kind_has_no_uses k both.0, no_uses others both.1) refl
+
+-- ── what the tables of a schema can say ──
+
+is_small : (n : ℕ) → n < 2 ^ 31 → is_size n ≡ true
+is_small n h = grind arith
+
+no_dictionary : (k : Kind) → is_sent_kind k ≡ true → is_no_dictionary k ≡ true
+no_dictionary (dictionary t ordered old k) h = cc
+no_dictionary k h = refl
+
+kind_said : (at : Part) (levels : ℕ) (k : Kind) → is_sent_kind k ≡ true → KindFits at levels k → is_representable_kind k ≡ true
+kind_said at levels (decimal p s) h fit = and_from (is_size p) (is_size s) (is_small p fit.0) (is_small s fit.1)
+kind_said at levels (fixed_size_binary n) h fit = is_small n fit.1
+kind_said at levels (fixed_size_list n fs) h fit = is_small n fit.2
+kind_said of_field levels (extension name metadata k) h fit = and_from (is_no_dictionary k) (is_representable_kind k) (no_dictionary k h) (kind_said of_extension levels k h fit.2)
+kind_said of_dictionary levels (extension name metadata k) h fit = and_from (is_no_dictionary k) (is_representable_kind k) (no_dictionary k h) (kind_said of_extension levels k h fit.2)
+kind_said of_extension levels (extension name metadata k) h fit = absurd fit
+kind_said at levels (decimal256 p s) h fit = cc
+kind_said at levels (union mode stated types fs) h fit = cc
+kind_said at levels (dictionary t ordered old k) h fit = cc
+kind_said at levels k h fit = refl
+
+mutual
+  below_said : (at : Part) (levels : ℕ) (k : Kind) → is_sent_kind k ≡ true → KindFits at levels k → fits_below k ≡ true
+  below_said at levels («list» o fs) h fit = fields_said levels fs h fit.1
+  below_said at levels (fixed_size_list n fs) h fit = fields_said levels fs h fit.3
+  below_said at levels (struct fs) h fit = fields_said levels fs h fit
+  below_said at levels (kind.map sorted fs) h fit = fields_said levels fs h fit.2
+  below_said at levels (union mode stated types fs) h fit = fields_said levels fs (and_parts are_unions_sent (are_sent_fields fs) h).1 fit.2
+  below_said at levels (dictionary t ordered old k) h fit = cc
+  below_said of_field levels (extension name metadata k) h fit = below_said of_extension levels k h fit.2
+  below_said of_dictionary levels (extension name metadata k) h fit = below_said of_extension levels k h fit.2
+  below_said of_extension levels (extension name metadata k) h fit = absurd fit
+  below_said at levels k h fit = refl
+
+  fields_said : (levels : ℕ) (fs : Fields) → are_sent_fields fs ≡ true → FieldsFit levels fs → all_fit fs ≡ true
+  fields_said levels none h fit = refl
+  fields_said zero (field name nullable metadata k others) h fit = absurd fit
+  fields_said (suc levels) (field name nullable metadata k others) h fit =
+      let both = and_parts (is_sent_kind k) (are_sent_fields others) h in
+      and_from (is_representable_kind k && fits_below k) (all_fit others) (and_from (is_representable_kind k) (fits_below k) (kind_said of_field levels k both.0 fit.2) (below_said of_field levels k both.0 fit.2)) (fields_said (suc levels) others both.1 fit.3)
+
+-- fields that are sent can be said where they fit
+pub can_be_said : (levels : ℕ) (fs : Fields) → are_sent_fields fs ≡ true → FieldsFit levels fs → representable fs ≡ true
+can_be_said levels fs h fit = representable_is fs ∙ fields_said levels fs h fit
+
+-- ── the schema of a file ──
+
+pub sent_schema : (file : FileMetadata) → IsBuilt (meta_view file) → are_sent_fields (fields_in (rc_value file.schema)) ≡ true
+sent_schema file h = sym (ids_aside (fields_in (rc_value file.schema)) (ids_of file.ipc_schema.fields.items)) ∙ (let_in file h).sent
+
+-- the fields of a file are those of its schema
+pub same_fields : (file : FileMetadata) → IsBuilt (meta_view file) → (meta_view file).schema.fields ≡ fields_in (rc_value file.schema)
+same_fields file h = fields_stay (fields_in (rc_value file.schema)) (ids_of file.ipc_schema.fields.items) (sent_schema file h)
+
+-- they fit
+pub fit : (file : FileMetadata) → IsBuilt (meta_view file) → WasRead file → FieldsFit 64 (fields_in (rc_value file.schema))
+fit file h w = subst (λ fs. FieldsFit 64 fs) (same_fields file h) w.may.fit
+
+-- ── the kinds of its columns ──
+
+leaf_column : (k : Kind) → is_leaf_kind k ≡ true → is_column_kind k ≡ true
+leaf_column (fixed_size_binary n) h = h
+leaf_column (binary small) h = refl
+leaf_column (binary large) h = refl
+leaf_column (utf8 small) h = refl
+leaf_column (utf8 large) h = refl
+leaf_column («list» small fs) h = cc
+leaf_column («list» large fs) h = cc
+leaf_column (extension name metadata k) h = leaf_column k h
+leaf_column k h = cc
+
+-- a kind that arrays are read of may be a column's
+carried_column : (k : Kind) → is_carried k ≡ true → is_column_kind k ≡ true
+carried_column = by_tree (λ k. is_column_kind k ≡ true) (λ fs. are_column_fields fs ≡ true) (record {
+  on_leaf = leaf_column;
+  on_list = λ o fs w g. and_from (nat_eq (width fs) 1) (are_column_fields fs) (eq-eqb (width fs) 1 w) g;
+  on_map = λ sorted fs w two g. and_from (nat_eq (width fs) 1 && first_is_struct_of_two fs) (are_column_fields fs) (and_from (nat_eq (width fs) 1) (first_is_struct_of_two fs) (eq-eqb (width fs) 1 w) two) g;
+  on_sized = λ size fs w s g. and_from (nat_eq (width fs) 1 && nat_lt 0 size) (are_column_fields fs) (and_from (nat_eq (width fs) 1) (nat_lt 0 size) (eq-eqb (width fs) 1 w) s) g;
+  on_struct = λ fs g. g;
+  on_extension = λ name metadata k f. f;
+  on_none = refl;
+  on_field = λ name nullable metadata k others f g. and_from (is_column_kind k) (are_column_fields others) f g;
+})
+
+carried_columns : (s : List Keyed) → are_carried (fields_in s) ≡ true → are_column_kinds s ≡ true
+carried_columns [] h = refl
+carried_columns (p ∷ ps) h =
+    let both = and_parts (is_carried p.1.kind) (are_carried (fields_in ps)) h in
+    and_from (is_column_kind p.1.kind) (are_column_kinds ps) (carried_column p.1.kind both.0) (carried_columns ps both.1)
+
+-- columns of each field of a schema that was read may be read
+pub columns_fit : (s : List Keyed) (below : Ids) → FieldsFit 64 (fields_with (fields_in s) below) → are_sent_fields (fields_in s) ≡ true → are_column_kinds s ≡ true
+columns_fit s below fit sent = carried_columns s (fields_carried 64 (fields_in s) sent (subst (λ fs. FieldsFit 64 fs) (fields_stay (fields_in s) below sent) fit))
+
+pub columns_readable : (file : FileMetadata) → IsBuilt (meta_view file) → IsReadable file → are_column_kinds (rc_value file.schema) ≡ true
+columns_readable file h r = r.columns (sent_schema file h)
+
+-- ── its IPC fields ──
+
+as_many : (s : List Keyed) (ts : List Tree) → have_shapes (fields_in s) (ids_from ts) ≡ true → length ts ≡ length s
+as_many [] [] h = refl
+as_many [] (t ∷ ts) h = cc
+as_many (p ∷ ps) [] h = cc
+as_many (p ∷ ps) (t ∷ ts) h = ap (λ n. suc n) (as_many ps ts (and_parts _ _ h).1)
+
+as_many_trees : (fs : List IpcField) → length (map tree_of fs) ≡ length fs
+as_many_trees [] = refl
+as_many_trees (f ∷ fs) = ap (λ n. suc n) (as_many_trees fs)
+
+-- there is one for each field
+pub field_count : (file : FileMetadata) → IsReadable file → length file.ipc_schema.fields.items ≡ length (rc_value file.schema)
+field_count file w = sym (as_many_trees file.ipc_schema.fields.items) ∙ as_many (rc_value file.schema) (map tree_of file.ipc_schema.fields.items) w.shapes
+
+-- ── what is built, looked at field by field ──
+
+pub kind_of_field : (f : Field) → (child_of f).kind ≡ kind_of f.dtype
+kind_of_field f = search (rules, the_lemmas)
+
+-- the field at a place
+pub field_item : (fs : List Field) (i : ℕ) (x : Field) → i < length fs → x ≡ get_or fs i x → slice_get (map child_of fs) i ≡ Some (child_of x)
+field_item fs i x within h =
+    let e = slice_get-map child_of fs i in
+    let found = slice_get-get_or fs i x within in
+    cc
+
+-- the fields from one on
+pub fields_left : (cs : List Child) (i : ℕ) (c : Child) → slice_get cs i ≡ Some c → are_sent_fields (child.fields_from (drop i cs)) ≡ (is_sent_kind c.kind && are_sent_fields (child.fields_from (drop (i + 1) cs)))
+fields_left [] i c h = cc
+fields_left (x ∷ xs) zero c h = let e : x ≡ c = cc in ap (λ y. is_sent_kind y.kind && are_sent_fields (child.fields_from xs)) e
+fields_left (x ∷ xs) (suc i) c h = let e : suc i + 1 ≡ suc (i + 1) = omega arith in rw e (fields_left xs i c h)
+
+pub one_is_other : (all left rest : Bool) (c : Bool) → all ≡ left → left ≡ (c && rest) → c ≡ false → false ≡ all
+one_is_other all left rest c h k is = sym (h ∙ k ∙ ap (λ x. x && rest) is)
+
+pub one_more : (all left rest : Bool) (c : Bool) → all ≡ left → left ≡ (c && rest) → c ≡ true → all ≡ rest
+one_more all left rest c h k is = h ∙ k ∙ ap (λ x. x && rest) is
+
+-- a field alone
+pub only_sent : (b : Bool) → (b && true) ≡ b
+only_sent true = refl
+only_sent false = refl
+
+-- as it is asked of a file that was read
+pub built_as_read : (file : FileMetadata) (are : Bool) → are ≡ are_sent_fields (fields_in (rc_value file.schema)) → (IsTrue are → IsBuilt (meta_view file)) × (IsBuilt (meta_view file) → IsTrue are)
+built_as_read file are h =
+    let same : are_sent_fields (meta_view file).schema.fields ≡ are = ids_aside (fields_in (rc_value file.schema)) (ids_of file.ipc_schema.fields.items) ∙ sym h in
+    (λ t. same ∙ is_true are t, λ c. true_is are (sym same ∙ c))
+  where
+    is_true : (x : Bool) → IsTrue x → x ≡ true
+    is_true x t = cc
+
+    true_is : (x : Bool) → x ≡ true → IsTrue x
+    true_is x h = cc

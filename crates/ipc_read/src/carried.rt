@@ -1,0 +1,90 @@
+//! Which types arrays are read of (Arrow Columnar Format, "Physical Memory Layout").
+ghost use Rattle.std.specs.Prelude.{◌≡◌, nat_lt};
+ghost use Rattle.arrow_spec.specs.Schema.{is_struct_of_two};
+ghost use Rattle.arrow_types.specs.KindOf.{kind_of, fields_of};
+ghost use Rattle.arrow_types.specs.Physical.{primitive_size};
+ghost use Rattle.arrow_arrays.specs.LeafKinds.{is_leaf_kind, is_leaf_layout};
+ghost use Rattle.ipc_read_laws.specs.Carried.{is_carried, are_carried};
+
+use crate::makes::binary_size;
+use arrow_types::{ArrowDataType, Field, PhysicalType, PrimitiveType};
+
+/// Whether a type is of structs of two fields, extensions looked through.
+fn is_entry(dtype: &ArrowDataType) -> bool
+    ensures { result ≡ is_struct_of_two (kind_of dtype.now) }
+{
+    match dtype {
+        ArrowDataType::Struct(fields) => fields.len() == 2,
+        ArrowDataType::Extension(extension) => is_entry(&extension.inner),
+        _ => false,
+    }
+}
+
+/// Whether numbers are read: floats and decimals of 256 bits are not.
+fn are_read(primitive: PrimitiveType) -> bool
+    ensures { result ≡ nat_lt 0 (primitive_size primitive) }
+{
+    match primitive {
+        PrimitiveType::Float16
+        | PrimitiveType::Float32
+        | PrimitiveType::Float64
+        | PrimitiveType::Int256 => false,
+        _ => true,
+    }
+}
+
+/// Whether a layout is one without children that is read; byte strings of one size have this size.
+fn is_leaf_layout(layout: PhysicalType, size: usize) -> bool
+    ensures { result ≡ is_leaf_layout layout size }
+{
+    match layout {
+        PhysicalType::FixedSizeBinary => size > 0,
+        PhysicalType::Primitive(primitive) => are_read(primitive),
+        PhysicalType::Null
+        | PhysicalType::Boolean
+        | PhysicalType::Binary
+        | PhysicalType::LargeBinary
+        | PhysicalType::Utf8
+        | PhysicalType::LargeUtf8
+        | PhysicalType::BinaryView
+        | PhysicalType::Utf8View => true,
+        _ => false,
+    }
+}
+
+/// The same of a type.
+fn is_leaf(dtype: &ArrowDataType) -> bool
+    ensures { result ≡ is_leaf_kind (kind_of dtype.now) }
+{
+    is_leaf_layout(dtype.to_physical_type(), binary_size(dtype))
+}
+
+/// Whether arrays of a type are read: in it stand no unions, no dictionaries, no floats and no decimals of 256 bits, no
+/// size is 0, and maps are of structs of two. The call goes as deep as the type's tree.
+#[cycle(carried)]
+pub fn is_carried(dtype: &ArrowDataType) -> bool
+    ensures { result ≡ is_carried (kind_of dtype.now) }
+{
+    match dtype {
+        ArrowDataType::List(field) => is_carried(&field.dtype),
+        ArrowDataType::LargeList(field) => is_carried(&field.dtype),
+        ArrowDataType::Map(field, _) => is_entry(&field.dtype) && is_carried(&field.dtype),
+        ArrowDataType::FixedSizeList(field, size) => *size > 0 && is_carried(&field.dtype),
+        ArrowDataType::Struct(fields) => are_carried(fields.as_slice()),
+        ArrowDataType::Extension(extension) => is_carried(&extension.inner),
+        _ => is_leaf(dtype),
+    }
+}
+
+/// The same of each field.
+#[cycle(carried)]
+fn are_carried(fields: &[Field]) -> bool
+    ensures { result ≡ are_carried (fields_of fields.now) }
+{
+    for field in fields {
+        if !is_carried(&field.dtype) {
+            return false;
+        }
+    }
+    true
+}

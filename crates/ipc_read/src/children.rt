@@ -1,0 +1,287 @@
+//! Arrays with children (Arrow Columnar Format, "Variable-size List Layout", "Fixed-Size List Layout", "Map Layout", "Struct Layout").
+ghost use Rattle.std.specs.Prelude.{◌≡◌, ℕ, suc, ◌+◌, ◌*◌, ◌^◌, ◌≤◌, ◌++◌, [], length, slice_get, true, false, IfOk, IfErr, IfSome, IfNone, None};
+ghost use Rattle.arrow_spec.specs.Counts.{RecordBatch as Batch, Place};
+ghost use Rattle.arrow_spec.specs.Kinds.{«list»};
+ghost use Rattle.arrow_spec.specs.Readings.{Refuses};
+ghost use Rattle.arrow_spec.specs.Arrays.{from_on};
+ghost use Rattle.arrow_spec.specs.ArrayCells.{cell};
+ghost use Rattle.arrow_spec.specs.Faults.{child_faults, node_causes};
+ghost use Rattle.arrow_spec.specs.declared.error.IpcError.TheVariants.{Memory};
+ghost use Rattle.arrow_types.specs.KindOf.{kind_of, child_of, fields_of};
+ghost use Rattle.arrow_types.specs.Child.{one_field};
+ghost use Rattle.arrow_types.specs.Numbers.{offsets_by};
+ghost use Rattle.arrow_types.specs.Physical.{under_extensions};
+ghost use Rattle.arrow_buffers.specs.Rows.{has_rows};
+ghost use Rattle.arrow_arrays.specs.Heads.{structured, sized, suits, is_struct, is_sized, list_size, child_fields, are_of, are_all};
+ghost use Rattle.arrow_arrays.specs.Parts.{nested, kind_in, rows_in, cells_in, kinds_each, rows_each, fault_each};
+ghost use Rattle.arrow_arrays.specs.PartsOf.{parts_of, forest_of};
+ghost use Rattle.ipc_read_laws.specs.PartsRead.{parts_read, forest_read, HaveBytes, AllHaveBytes};
+ghost use Rattle.ipc_read.specs.Batches.{columns_fetched};
+ghost use Rattle.ipc_read.specs.Places.{behind, place_faults};
+ghost use Rattle.ipc_read.specs.Queues.{Left, Shortened};
+ghost use Rattle.ipc_read_laws.specs.Carried.{is_carried, are_carried};
+ghost use Rattle.ipc_read.specs.CountedArrays.{is_any_counted, counted_kind, counted_rows, counted_head, items_faults};
+ghost use Rattle.ipc_read.specs.Lists.{as_lists};
+ghost use Rattle.ipc_read.specs.Readers.{QueuesAt, KnownTo, CanRead, KeepsQueues, FailsToReadColumn, TakesColumn, GivesColumn, FetchesColumn, ShortensColumn, ShortensColumns};
+ghost use Rattle.ipc_read.specs.Sources.{Answers, IsRefusal};
+
+use crate::integers::is_negative;
+use crate::lists::{list_child, make_listed};
+use crate::readers::ColumnReader;
+use arrow_arrays::{Array, FixedSizeListArray, StructArray};
+use arrow_buffers::{ArrayError, Bitmap};
+use arrow_spec::{FieldNode, IpcError, OutOfSpecKind};
+use arrow_types::{ArrowDataType, Field};
+use ipc_schema::Source;
+use std::alloc::Global;
+use std::collections::VecDeque;
+use std::slice::from_ref;
+
+/// The fields of structs, or the field of lists of one size with that size, extensions looked through; none of other types.
+pub(crate) fn counted_fields(dtype: &ArrowDataType) -> Option<(&[Field], Option<usize>)>
+    ensures columns { IfSome result (λ r. under_extensions (kind_of dtype.now) ≡ counted_kind r.1 (fields_of r.0.now)) }
+    ensures none { IfNone result (is_any_counted (kind_of dtype.now) ≡ false) }
+{
+    match dtype {
+        ArrowDataType::Struct(fields) => Some((fields.as_slice(), None)),
+        ArrowDataType::FixedSizeList(field, size) => Some((from_ref(field), Some(*size))),
+        ArrowDataType::Extension(extension) => counted_fields(&extension.inner),
+        _ => None,
+    }
+}
+
+/// Why an array of more rows than can be counted is refused: its node is missing or below 0, or has fewer.
+fn refuse_rows(nodes: &VecDeque<FieldNode>) -> IpcError
+    ensures refuses { (m : Batch) (i rows : ℕ) → Left m.nodes i nodes.now.items → 2 ^ 63 ≤ rows → Refuses result (node_causes (slice_get m.nodes i) rows) }
+    ensures refusal { IsRefusal result }
+{
+    match nodes.front() {
+        Some(node) => {
+            if is_negative(node.length) {
+                return IpcError::OutOfSpec(OutOfSpecKind::UnexpectedNegativeInteger);
+            }
+            IpcError::OutOfSpec(OutOfSpecKind::NodeLength)
+        }
+        None => IpcError::OutOfSpec(OutOfSpecKind::ExpectedBuffer),
+    }
+}
+
+/// How many rows the children of structs have, or the items of lists of one size, of which the node is the next one.
+fn rows_under(
+    nodes: &VecDeque<FieldNode>,
+    size: Option<usize>,
+    rows: usize,
+) -> Result<usize, IpcError>
+    ensures rows { IfOk result (λ n. n ≡ counted_rows size rows) }
+    ensures err { IfErr result (λ e. (m : Batch) (i : ℕ) → Left m.nodes i nodes.now.items → Refuses e (items_faults (slice_get m.nodes i) size rows)) }
+    ensures refusal { IfErr result IsRefusal }
+{
+    let Some(size) = size else {
+        return Ok(rows);
+    };
+    match size.checked_mul(rows) {
+        Some(items) => Ok(items),
+        None => Err(refuse_rows(nodes)),
+    }
+}
+
+/// The array of structs of these columns.
+fn make_struct(
+    alloc: Global,
+    dtype: &ArrowDataType,
+    rows: usize,
+    values: Vec<Array>,
+    validity: Option<Bitmap>,
+) -> Result<Array, IpcError>
+    requires suits { is_struct (kind_of dtype.now) ≡ true }
+    requires kinds { are_of (child_fields (kind_of dtype.now)) (kinds_each (forest_of values.items)) ≡ true }
+    requires all { are_all rows (rows_each (forest_of values.items)) ≡ true }
+    requires sound { fault_each (forest_of values.items) ≡ None }
+    requires rows { has_rows validity rows ≡ true }
+    ensures parts { IfOk result (λ a. parts_of a ≡ nested (structured (record { kind = kind_of dtype.now; rows = rows; validity = validity })) (forest_of values.items)) }
+    ensures memory { IfErr result (λ e. e ≡ Memory) }
+{
+    let dtype = dtype.try_clone(alloc)?;
+    match StructArray::try_new(dtype, rows, values, validity) {
+        Ok(array) => Ok(Array::Struct(array)),
+        Err(_) => unreachable!(),
+    }
+}
+
+/// The array of lists of one size of these items.
+fn make_sized(
+    alloc: Global,
+    dtype: &ArrowDataType,
+    rows: usize,
+    values: Vec<Array>,
+    validity: Option<Bitmap>,
+) -> Result<Array, IpcError>
+    requires suits { is_sized (kind_of dtype.now) ≡ true }
+    requires kinds { are_of (child_fields (kind_of dtype.now)) (kinds_each (forest_of values.items)) ≡ true }
+    requires all { are_all (list_size (kind_of dtype.now) * rows) (rows_each (forest_of values.items)) ≡ true }
+    requires one { length values.items ≡ 1 }
+    requires sound { fault_each (forest_of values.items) ≡ None }
+    requires rows { has_rows validity rows ≡ true }
+    ensures parts { IfOk result (λ a. parts_of a ≡ nested (sized (record { kind = kind_of dtype.now; rows = rows; validity = validity })) (forest_of values.items)) }
+    ensures memory { IfErr result (λ e. e ≡ Memory) }
+{
+    let dtype = dtype.try_clone(alloc)?;
+    let mut values = values;
+    let Some(items) = values.pop() else {
+        unreachable!()
+    };
+    match FixedSizeListArray::try_new(alloc, dtype, rows, items, validity) {
+        Ok(array) => Ok(Array::FixedSizeList(array)),
+        Err(ArrayError::Memory) => Err(IpcError::Memory),
+        Err(_) => unreachable!(),
+    }
+}
+
+/// The array of structs of these columns, or of lists of one size of these items.
+fn make_counted(
+    alloc: Global,
+    dtype: &ArrowDataType,
+    size: Option<usize>,
+    rows: usize,
+    values: Vec<Array>,
+    validity: Option<Bitmap>,
+) -> Result<Array, IpcError>
+    requires suits { suits (counted_head size (record { kind = kind_of dtype.now; rows = rows; validity = validity })) ≡ true }
+    requires kinds { are_of (child_fields (kind_of dtype.now)) (kinds_each (forest_of values.items)) ≡ true }
+    requires all { are_all (counted_rows size rows) (rows_each (forest_of values.items)) ≡ true }
+    requires size { IfSome size (λ n. list_size (kind_of dtype.now) ≡ n) }
+    requires one { IfSome size (λ n. length values.items ≡ 1) }
+    requires sound { fault_each (forest_of values.items) ≡ None }
+    requires rows { has_rows validity rows ≡ true }
+    ensures parts { IfOk result (λ a. parts_of a ≡ nested (counted_head size (record { kind = kind_of dtype.now; rows = rows; validity = validity })) (forest_of values.items)) }
+    ensures memory { IfErr result (λ e. e ≡ Memory) }
+{
+    match size {
+        None => make_struct(alloc, dtype, rows, values, validity),
+        Some(_) => make_sized(alloc, dtype, rows, values, validity),
+    }
+}
+
+impl<'n, 'a, S: Source> ColumnReader<'n, 'a, S> {
+    /// The next array, as far as its first rows go, with its children.
+    pub(crate) fn read_array(
+        &mut self,
+        dtype: &ArrowDataType,
+        rows: usize,
+    ) -> Result<Array, IpcError>
+        requires held { is_carried (kind_of dtype.now) ≡ true }
+        requires readable { CanRead S.content self.old.buffers }
+        ensures takes { TakesColumn (kind_of dtype.now) self.old self.new result }
+        ensures parts { GivesColumn S.content self.old (λ a. parts_of a) result (kind_of dtype.now) rows (λ m p. parts_read m (kind_of dtype.now) p rows) }
+        ensures shortened { ShortensColumn (kind_of dtype.now) self.old self.new }
+        ensures shape { IfOk result (λ a. (kind_in (parts_of a) ≡ (kind_of dtype.now)) × (rows_in (parts_of a) ≡ rows)) }
+        ensures cause { FailsToReadColumn S.faults self.old self.new result }
+        ensures keeps { KeepsQueues S.content S.faults S.references self.old self.new }
+        ensures fetched { FetchesColumn S.fetched (kind_of dtype.now) self.old self.new rows }
+        ensures cells { GivesColumn S.content self.old (λ a. cells_in (parts_of a)) result (kind_of dtype.now) rows (λ m p. from_on (cell m [] (kind_of dtype.now) p) 0 rows) }
+    {
+        self.read_tree(dtype, rows)
+    }
+
+    /// An array and its children.
+    #[cycle(read)]
+    fn read_tree(&mut self, dtype: &ArrowDataType, rows: usize) -> Result<Array, IpcError>
+        requires held { is_carried (kind_of dtype.now) ≡ true }
+        requires readable { CanRead S.content self.old.buffers }
+        ensures takes { TakesColumn (kind_of dtype.now) self.old self.new result }
+        ensures parts { GivesColumn S.content self.old (λ a. parts_of a) result (kind_of dtype.now) rows (λ m p. parts_read m (kind_of dtype.now) p rows) }
+        ensures bytes { IfOk result (λ _. (m : Batch) (p : Place) → QueuesAt m p self.old → KnownTo S.content self.old.buffers m → HaveBytes m (kind_of dtype.now) p rows) }
+        ensures shortened { ShortensColumn (kind_of dtype.now) self.old self.new }
+        ensures shape { IfOk result (λ a. (kind_in (parts_of a) ≡ (kind_of dtype.now)) × (rows_in (parts_of a) ≡ rows)) }
+        ensures cause { FailsToReadColumn S.faults self.old self.new result }
+        ensures keeps { KeepsQueues S.content S.faults S.references self.old self.new }
+        ensures fetched { FetchesColumn S.fetched (kind_of dtype.now) self.old self.new rows }
+    {
+        match counted_fields(dtype) {
+            Some((children, size)) => self.read_counted(dtype, children, size, rows),
+            None => match list_child(dtype) {
+                Some((child, is_large)) => self.read_list(dtype, child, is_large, rows),
+                None => self.read_plain(dtype, rows),
+            },
+        }
+    }
+
+    /// An array of structs, or of lists of one size: a node, a validity and the columns, or the items.
+    #[cycle(read)]
+    fn read_counted(
+        &mut self,
+        dtype: &ArrowDataType,
+        children: &[Field],
+        size: Option<usize>,
+        rows: usize,
+    ) -> Result<Array, IpcError>
+        requires kind { under_extensions (kind_of dtype.now) ≡ counted_kind size (fields_of children.now) }
+        requires held { is_carried (kind_of dtype.now) ≡ true }
+        requires readable { CanRead S.content self.old.buffers }
+        ensures takes { TakesColumn (kind_of dtype.now) self.old self.new result }
+        ensures parts { GivesColumn S.content self.old (λ a. parts_of a) result (kind_of dtype.now) rows (λ m p. parts_read m (kind_of dtype.now) p rows) }
+        ensures bytes { IfOk result (λ _. (m : Batch) (p : Place) → QueuesAt m p self.old → KnownTo S.content self.old.buffers m → HaveBytes m (kind_of dtype.now) p rows) }
+        ensures shortened { ShortensColumn (kind_of dtype.now) self.old self.new }
+        ensures shape { IfOk result (λ a. (kind_in (parts_of a) ≡ (kind_of dtype.now)) × (rows_in (parts_of a) ≡ rows)) }
+        ensures cause { FailsToReadColumn S.faults self.old self.new result }
+        ensures keeps { KeepsQueues S.content S.faults S.references self.old self.new }
+        ensures fetched { FetchesColumn S.fetched (kind_of dtype.now) self.old self.new rows }
+    {
+        let validity = self.read_head(rows)?;
+        let under = rows_under(self.nodes, size, rows)?;
+        let values = self.read_children(children, under)?;
+        make_counted(self.buffers.alloc, dtype, size, rows, values, validity)
+    }
+
+    /// An array of lists or of maps: a node, a validity, offsets and the child as far as the last offset.
+    #[cycle(read)]
+    fn read_list(
+        &mut self,
+        dtype: &ArrowDataType,
+        child: &Field,
+        is_large: bool,
+        rows: usize,
+    ) -> Result<Array, IpcError>
+        requires kind { as_lists (kind_of dtype.now) ≡ «list» (offsets_by is_large) (one_field (child_of child.now)) }
+        requires held { is_carried (kind_of dtype.now) ≡ true }
+        requires readable { CanRead S.content self.old.buffers }
+        ensures takes { TakesColumn (kind_of dtype.now) self.old self.new result }
+        ensures parts { GivesColumn S.content self.old (λ a. parts_of a) result (kind_of dtype.now) rows (λ m p. parts_read m (kind_of dtype.now) p rows) }
+        ensures bytes { IfOk result (λ _. (m : Batch) (p : Place) → QueuesAt m p self.old → KnownTo S.content self.old.buffers m → HaveBytes m (kind_of dtype.now) p rows) }
+        ensures shortened { ShortensColumn (kind_of dtype.now) self.old self.new }
+        ensures shape { IfOk result (λ a. (kind_in (parts_of a) ≡ (kind_of dtype.now)) × (rows_in (parts_of a) ≡ rows)) }
+        ensures cause { FailsToReadColumn S.faults self.old self.new result }
+        ensures keeps { KeepsQueues S.content S.faults S.references self.old self.new }
+        ensures fetched { FetchesColumn S.fetched (kind_of dtype.now) self.old self.new rows }
+    {
+        let parts = self.read_list_parts(is_large, rows)?;
+        let values = self.read_tree(&child.dtype, parts.last)?;
+        make_listed(self.buffers.alloc, dtype, parts, values)
+    }
+
+    /// Arrays of so many rows, one after another.
+    #[cycle(read)]
+    fn read_children(&mut self, children: &[Field], rows: usize) -> Result<Vec<Array>, IpcError>
+        requires held { are_carried (fields_of children.now) ≡ true }
+        requires readable { CanRead S.content self.old.buffers }
+        ensures takes { IfOk result (λ _. (m : Batch) (p : Place) → QueuesAt m p self.old → QueuesAt m (behind m (fields_of children.now) p) self.new) }
+        ensures parts { (m : Batch) (p : Place) → QueuesAt m p self.old → KnownTo S.content self.old.buffers m → Answers (λ v. forest_of v.items) result (place_faults m p (behind m (fields_of children.now) p) ++ child_faults m [] (fields_of children.now) p (λ q. rows)) (forest_read m (fields_of children.now) p (λ q. rows)) }
+        ensures bytes { IfOk result (λ _. (m : Batch) (p : Place) → QueuesAt m p self.old → KnownTo S.content self.old.buffers m → AllHaveBytes m (fields_of children.now) p (λ q. rows)) }
+        ensures shortened { ShortensColumns (fields_of children.now) self.old self.new }
+        ensures kinds { IfOk result (λ v. are_of (fields_of children.now) (kinds_each (forest_of v.items)) ≡ true) }
+        ensures all { IfOk result (λ v. are_all rows (rows_each (forest_of v.items)) ≡ true) }
+        ensures sound { IfOk result (λ v. fault_each (forest_of v.items) ≡ None) }
+        ensures cause { FailsToReadColumn S.faults self.old self.new result }
+        ensures keeps { KeepsQueues S.content S.faults S.references self.old self.new }
+        ensures fetched { (m : Batch) (p : Place) → QueuesAt m p self.old → S.fetched self.new.buffers.source.now ≤ S.fetched self.old.buffers.source.now + columns_fetched m (fields_of children.now) p rows }
+    {
+        let mut arrays = Vec::new(self.buffers.alloc);
+        for child in children {
+            let array = self.read_tree(&child.dtype, rows)?;
+            let held = array.len();
+            prove!(held == rows);
+            arrays.push(array)?;
+        }
+        Ok(arrays)
+    }
+}

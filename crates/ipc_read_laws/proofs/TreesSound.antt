@@ -1,0 +1,228 @@
+-- The parts of an array that is not refused are sound, of its kind and of the rows that were asked for.
+use Rattle.std.proofs.Common.{◌≡◌, ℕ, zero, suc, ◌+◌, ◌*◌, ◌&&◌, List, [], length, Bool, true, false, Option, None, nat_eq, nat_lt, not, refl, sym, ap, ◌∙◌, arith, subst}
+use Rattle.std.proofs.lemmas.Bool.{and_from, eq-eqb, le-ltb, or_parts, or_from}
+use Rattle.arrow_spec.specs.Kinds as kind
+use Rattle.arrow_spec.specs.Kinds.{Kind, Fields, Metadata, Offsets, small, large, width, none, field}
+use Rattle.arrow_spec.specs.Counts.{RecordBatch, Place, magnitude, after, inside}
+use Rattle.arrow_spec.specs.Arrays.{Dictionaries, node_of, offset}
+use Rattle.arrow_spec.specs.Faults.{array_faults, child_faults, offsets_faults, view_count_faults}
+use Rattle.arrow_spec.specs.Sent.{offset_read}
+use Rattle.arrow_spec.proofs.Fewer.{cause-none, none_first, none_second, sound_second}
+use Rattle.arrow_types.specs.KindCode.{kind_eq}
+use Rattle.arrow_types.specs.Physical.{physical_of}
+use Rattle.arrow_buffers.specs.declared.error.ArrayError.{ArrayError}
+use Rattle.arrow_buffers.specs.Rows.{has_rows}
+use Rattle.arrow_buffers.specs.Variable.{are_offsets, variable_rows}
+use Rattle.arrow_arrays.specs.Heads.{Head, listed, mapped, sized, structured, head_kind, head_fault, is_list, is_map, is_sized, is_struct, list_size, are_of, child_fields, are_all, first_or_0}
+use Rattle.arrow_arrays.specs.LeafKinds.{is_leaf_kind}
+use Rattle.arrow_arrays.specs.Parts.{Parts, Forest, nested, kind_in, rows_in, fault_in, kinds_each, rows_each, fault_each, either}
+use Rattle.arrow_arrays.proofs.HeadSliced.{sound_head}
+use Rattle.ipc_read_laws.specs.Carried.{is_carried}
+use Rattle.ipc_read_laws.specs.PartsRead.{parts_in, parts_under, forest_read, listed_read, counted_read}
+use Rattle.ipc_read_laws.specs.Laws.{PartsAreSound}
+use Rattle.ipc_read_laws.proofs.Validities.{has_rows-read}
+use Rattle.ipc_read_laws.proofs.OffsetsRead.{offsets_told, offsets_bad, offsets-bad, rows-told}
+use Rattle.ipc_read_laws.proofs.SoundLaws.{sound_under, kind_under, rows_under}
+use Rattle.ipc_read_laws.proofs.Labels.{Label, label_itself, label_like, label_fields, label_size, label_list, label_map, label_sized, label_struct}
+use Rattle.ipc_read_laws.proofs.Trees.{TreeCases, by_tree, by_fields, rows_told, told_all, told_length, told_first, same_kind}
+
+-- sound parts of a kind and of so many rows, and sound children under fields
+pub record SoundAs (l : Kind) (rows : ℕ) (x : Parts) : Type 0 where
+  pub kind_is : kind_in x ≡ l
+  pub rows_are : rows_in x ≡ rows
+  pub none : fault_in x ≡ None
+
+pub record ForestSound (fs : Fields) (ns : List ℕ) (cs : Forest) : Type 0 where
+  pub kinds : are_of fs (kinds_each cs) ≡ true
+  pub rows : rows_each cs ≡ ns
+  pub none : fault_each cs ≡ None
+
+pub both_none : (e f : Option ArrayError) → e ≡ None → f ≡ None → either e f ≡ None
+both_none e f h k = rw h k
+
+-- ── lists and maps ──
+
+not_false : (b : Bool) → false ≡ not b → b ≡ true
+not_false true h = refl
+not_false false h = cc
+
+-- offsets that are not refused rise up to the last one
+pub offsets_rise : (m : RecordBatch) (o : Offsets) (i rows most : ℕ) → offsets_faults m o i rows most ≡ [] → are_offsets (offsets_told m o i rows) (offset m o i rows) ≡ true
+unfolding offsets_faults
+offsets_rise m o i rows most h =
+    let outer = or_parts _ (nat_lt most (offset m o i rows)) (cause-none _ _ h) in
+    let fine : offsets_bad m o i rows (offset m o i rows) ≡ false = or_from _ _ outer.0 (le-ltb (offset m o i rows) (offset m o i rows) (omega arith)) in
+    not_false _ (sym fine ∙ offsets-bad m o i rows (offset m o i rows))
+
+pub list_rows : (m : RecordBatch) (l : Kind) (o : Offsets) (p : Place) (rows : ℕ) → variable_rows (listed_read m l o p rows).offsets ≡ rows
+list_rows m l o p zero = refl
+list_rows m l o p (suc n) = rows-told m o (p.buffer + 1) (suc n)
+
+list_valid : (m : RecordBatch) (l : Kind) (o : Offsets) (p : Place) (rows : ℕ) → has_rows (listed_read m l o p rows).validity (variable_rows (listed_read m l o p rows).offsets) ≡ true
+list_valid m l o p zero = refl
+list_valid m l o p (suc n) = rw (rows-told m o (p.buffer + 1) (suc n)) (has_rows-read m p (suc n))
+
+list_kind : (m : RecordBatch) (l : Kind) (o : Offsets) (p : Place) (rows : ℕ) → (listed_read m l o p rows).kind ≡ l
+list_kind m l o p zero = refl
+list_kind m l o p (suc n) = refl
+
+list_width : (m : RecordBatch) (l : Kind) (o : Offsets) (p : Place) (rows : ℕ) → (listed_read m l o p rows).width ≡ o
+list_width m l o p zero = refl
+list_width m l o p (suc n) = refl
+
+list_itself : (o : Offsets) (fs : Fields) → is_list o (kind.«list» o fs) ≡ true
+list_itself small fs = refl
+list_itself large fs = refl
+
+-- lists, or maps, over sound children are sound
+pub list_head : (h : Head) (suits : Bool) (l : Kind) (fs : Fields) (ks : List Kind) → head_kind h ≡ l → suits ≡ true → child_fields l ≡ fs → are_of fs ks ≡ true → (suits && are_of (child_fields (head_kind h)) ks) ≡ true
+list_head h suits l fs ks e s f a = and_from suits _ s (ap (λ k. are_of (child_fields k) ks) e ∙ ap (λ g. are_of g ks) f ∙ a)
+
+first_rows : (m : RecordBatch) (fs : Fields) (q : Place) (n : ℕ) (cs : Forest) → width fs ≡ 1 → rows_each cs ≡ rows_told m fs q (λ q. n) → (nat_eq (length (rows_each cs)) 1 ≡ true) × (first_or_0 (rows_each cs) ≡ n)
+first_rows m fs q n cs w r = (ap (λ ns. nat_eq (length ns) 1) r ∙ eq-eqb _ 1 (told_length m fs q (λ q. n) ∙ w), ap first_or_0 r ∙ told_first m fs q n w)
+
+pub list_sound : (m : RecordBatch) (l : Kind) (o : Offsets) (fs : Fields) (p : Place) (rows : ℕ) (cs : Forest) → is_list o l ≡ true → child_fields l ≡ fs → width fs ≡ 1 → ForestSound fs (rows_told m fs (inside 2 p) (λ q. offset_read m o p rows)) cs
+    → are_offsets (listed_read m l o p rows).offsets (offset_read m o p rows) ≡ true → SoundAs l rows (nested (listed (listed_read m l o p rows)) cs)
+list_sound m l o fs p rows cs s f w c a =
+    let r = first_rows m fs (inside 2 p) (offset_read m o p rows) cs w c.rows in
+    let h = listed (listed_read m l o p rows) in
+    let suit : is_list (listed_read m l o p rows).width (listed_read m l o p rows).kind ≡ true = ap (λ x. is_list x (listed_read m l o p rows).kind) (list_width m l o p rows) ∙ ap (is_list o) (list_kind m l o p rows) ∙ s in
+    record {
+      kind_is = list_kind m l o p rows;
+      rows_are = list_rows m l o p rows;
+      none = both_none (head_fault h (kinds_each cs) (rows_each cs)) _ (sound_head h (kinds_each cs) (rows_each cs) (record {
+        suits = list_head h _ l fs (kinds_each cs) (list_kind m l o p rows) suit f c.kinds;
+        valid = list_valid m l o p rows;
+        rows = r.0;
+        offsets = ap (are_offsets (listed_read m l o p rows).offsets) r.1 ∙ a;
+        types = refl;
+      })) c.none;
+    }
+
+pub map_sound : (m : RecordBatch) (l : Kind) (fs : Fields) (p : Place) (rows : ℕ) (cs : Forest) → is_map small l ≡ true → child_fields l ≡ fs → width fs ≡ 1 → ForestSound fs (rows_told m fs (inside 2 p) (λ q. offset_read m small p rows)) cs
+    → are_offsets (listed_read m l small p rows).offsets (offset_read m small p rows) ≡ true → SoundAs l rows (nested (mapped (listed_read m l small p rows)) cs)
+map_sound m l fs p rows cs s f w c a =
+    let r = first_rows m fs (inside 2 p) (offset_read m small p rows) cs w c.rows in
+    let h = mapped (listed_read m l small p rows) in
+    let suit : is_map (listed_read m l small p rows).width (listed_read m l small p rows).kind ≡ true = ap (λ x. is_map x (listed_read m l small p rows).kind) (list_width m l small p rows) ∙ ap (is_map small) (list_kind m l small p rows) ∙ s in
+    record {
+      kind_is = list_kind m l small p rows;
+      rows_are = list_rows m l small p rows;
+      none = both_none (head_fault h (kinds_each cs) (rows_each cs)) _ (sound_head h (kinds_each cs) (rows_each cs) (record {
+        suits = list_head h _ l fs (kinds_each cs) (list_kind m l small p rows) suit f c.kinds;
+        valid = list_valid m l small p rows;
+        rows = r.0;
+        offsets = ap (are_offsets (listed_read m l small p rows).offsets) r.1 ∙ a;
+        types = refl;
+      })) c.none;
+    }
+
+-- ── lists of one size, and structs ──
+
+pub sized_sound : (m : RecordBatch) (l : Kind) (size : ℕ) (fs : Fields) (p : Place) (rows : ℕ) (cs : Forest) → is_sized l ≡ true → list_size l ≡ size → child_fields l ≡ fs → ForestSound fs (rows_told m fs (inside 1 p) (λ q. size * rows)) cs → SoundAs l rows (nested (sized (counted_read m l p rows)) cs)
+sized_sound m l size fs p rows cs s z f c =
+    let h = sized (counted_read m l p rows) in
+    record {
+      kind_is = refl;
+      rows_are = refl;
+      none = both_none (head_fault h (kinds_each cs) (rows_each cs)) _ (sound_head h (kinds_each cs) (rows_each cs) (record {
+        suits = list_head h _ l fs (kinds_each cs) refl s f c.kinds;
+        valid = has_rows-read m p rows;
+        rows = ap (λ n. are_all (n * rows) (rows_each cs)) z ∙ ap (are_all (size * rows)) c.rows ∙ told_all m fs (inside 1 p) (size * rows);
+        offsets = refl;
+        types = refl;
+      })) c.none;
+    }
+
+pub struct_sound : (m : RecordBatch) (l : Kind) (fs : Fields) (p : Place) (rows : ℕ) (cs : Forest) → is_struct l ≡ true → child_fields l ≡ fs → ForestSound fs (rows_told m fs (inside 1 p) (λ q. rows)) cs → SoundAs l rows (nested (structured (counted_read m l p rows)) cs)
+struct_sound m l fs p rows cs s f c =
+    let h = structured (counted_read m l p rows) in
+    record {
+      kind_is = refl;
+      rows_are = refl;
+      none = both_none (head_fault h (kinds_each cs) (rows_each cs)) _ (sound_head h (kinds_each cs) (rows_each cs) (record {
+        suits = list_head h _ l fs (kinds_each cs) refl s f c.kinds;
+        valid = has_rows-read m p rows;
+        rows = ap (are_all rows) c.rows ∙ told_all m fs (inside 1 p) rows;
+        offsets = refl;
+        types = refl;
+      })) c.none;
+    }
+
+-- ── every kind ──
+
+-- what is not wrong with an array of lists: its children, and its offsets
+pub list_children : (m : RecordBatch) (d : Dictionaries) (o : Offsets) (fs : Fields) (p : Place) (rows : ℕ) → array_faults m d (kind.«list» o fs) p rows ≡ [] → child_faults m d fs (inside 2 p) (λ q. offset_read m o p rows) ≡ []
+list_children m d o fs p zero h = none_second _ _ h
+list_children m d o fs p (suc n) h = none_second _ _ (sound_second _ _ (none_second _ _ h))
+
+pub list_rises : (m : RecordBatch) (d : Dictionaries) (l : Kind) (o : Offsets) (fs : Fields) (p : Place) (rows : ℕ) → array_faults m d (kind.«list» o fs) p rows ≡ [] → are_offsets (listed_read m l o p rows).offsets (offset_read m o p rows) ≡ true
+list_rises m d l o fs p zero h = refl
+list_rises m d l o fs p (suc n) h = offsets_rise m o (p.buffer + 1) (suc n) (magnitude (node_of m (suc p.node)).length) (none_first _ _ (sound_second _ _ (none_second _ _ h)))
+
+pub map_is_list : (m : RecordBatch) (d : Dictionaries) (sorted : Bool) (fs : Fields) (p : Place) (rows : ℕ) → array_faults m d (kind.map sorted fs) p rows ≡ array_faults m d (kind.«list» small fs) p rows
+map_is_list m d sorted fs p zero = refl
+map_is_list m d sorted fs p (suc n) = refl
+
+abbrev pub KindSound : Kind → Type 0
+KindSound k = (l : Kind) → Label l k → (m : RecordBatch) (d : Dictionaries) (p : Place) (rows : ℕ) → array_faults m d k p rows ≡ [] → SoundAs l rows (parts_under l m k p rows)
+
+abbrev pub FieldsSound : Fields → Type 0
+FieldsSound fs = (m : RecordBatch) (d : Dictionaries) (p : Place) (rows : Place → ℕ) → child_faults m d fs p rows ≡ [] → ForestSound fs (rows_told m fs p rows) (forest_read m fs p rows)
+
+leaf_sound : (k : Kind) → is_leaf_kind k ≡ true → (l : Kind) → Label l k → (m : RecordBatch) (d : Dictionaries) (p : Place) (rows : ℕ) → array_faults m d k p rows ≡ [] → SoundAs l rows (Rattle.arrow_arrays.specs.Parts.leaf (parts_in (physical_of k) m l p rows))
+leaf_sound k leaf l e m d p rows h = record {
+  kind_is = kind_under (physical_of k) m l p rows;
+  rows_are = rows_under m d k l p rows leaf (label_like l k e) h;
+  none = sound_under m d k l p rows leaf (label_like l k e) h;
+}
+
+-- a kind without children has no tree
+pub plain_under : (l : Kind) (m : RecordBatch) (k : Kind) (p : Place) (rows : ℕ) → is_leaf_kind k ≡ true → Rattle.arrow_arrays.specs.Parts.leaf (parts_in (physical_of k) m l p rows) ≡ parts_under l m k p rows
+plain_under l m (kind.«list» small fs) p rows h = cc
+plain_under l m (kind.«list» large fs) p rows h = cc
+plain_under l m (kind.map sorted fs) p rows h = cc
+plain_under l m (kind.fixed_size_list size fs) p rows h = cc
+plain_under l m (kind.struct fs) p rows h = cc
+plain_under l m (kind.union mode stated ids fs) p rows h = cc
+plain_under l m (kind.extension name metadata k) p rows h = plain_under l m k p rows h
+plain_under l m k p rows h = refl
+
+field_sound : (name : List ℕ) (nullable : Bool) (metadata : Metadata) (k : Kind) (others : Fields) → KindSound k → FieldsSound others → FieldsSound (field name nullable metadata k others)
+field_sound name nullable metadata k others f g m d p rows h =
+    let a = f k (label_itself k) m d p (rows p) (none_first _ _ h) in
+    let b = g m d (after m k p) rows (sound_second (view_count_faults m k p) _ (none_second (array_faults m d k p (rows p)) _ h)) in
+    record {
+      kinds = and_from (kind_eq k _) _ (same_kind k _ a.kind_is) b.kinds;
+      rows = rw (a.rows_are, b.rows) refl;
+      none = both_none _ _ a.none b.none;
+    }
+
+sound_cases : TreeCases KindSound FieldsSound
+sound_cases = record {
+  on_leaf = λ k leaf l e m d p rows h. subst (SoundAs l rows) (plain_under l m k p rows leaf) (leaf_sound k leaf l e m d p rows h);
+  on_list = λ o fs w g l e m d p rows h. list_sound m l o fs p rows _ (label_list o l (kind.«list» o fs) e ∙ list_itself o fs) (label_fields l (kind.«list» o fs) e) w (g m d (inside 2 p) (λ q. offset_read m o p rows) (list_children m d o fs p rows h)) (list_rises m d l o fs p rows h);
+  on_map = λ sorted fs w two g l e m d p rows h.
+      let k : array_faults m d (kind.«list» small fs) p rows ≡ [] = sym (map_is_list m d sorted fs p rows) ∙ h in
+      map_sound m l fs p rows _ (label_map small l (kind.map sorted fs) e ∙ two) (label_fields l (kind.map sorted fs) e) w (g m d (inside 2 p) (λ q. offset_read m small p rows) (list_children m d small fs p rows k)) (list_rises m d l small fs p rows k);
+  on_sized = λ size fs w s g l e m d p rows h. sized_sound m l size fs p rows _ (label_sized l (kind.fixed_size_list size fs) e ∙ sized_itself size fs s) (label_size l (kind.fixed_size_list size fs) e) (label_fields l (kind.fixed_size_list size fs) e) (g m d (inside 1 p) (λ q. size * rows) (none_second _ _ h));
+  on_struct = λ fs g l e m d p rows h. struct_sound m l fs p rows _ (label_struct l (kind.struct fs) e) (label_fields l (kind.struct fs) e) (g m d (inside 1 p) (λ q. rows) (none_second _ _ h));
+  on_extension = λ name metadata k f l e m d p rows h. f l (record { under = e.under }) m d p rows h;
+  on_none = λ m d p rows h. record { kinds = refl; rows = refl; none = refl };
+  on_field = field_sound;
+}
+  where
+    sized_itself : (size : ℕ) (fs : Fields) → nat_lt 0 size ≡ true → is_sized (kind.fixed_size_list size fs) ≡ true
+    sized_itself zero fs s = cc
+    sized_itself (suc n) fs s = refl
+
+pub tree_sound : (k : Kind) → is_carried k ≡ true → KindSound k
+tree_sound = by_tree KindSound FieldsSound sound_cases
+
+pub forest_sound : (fs : Fields) → Rattle.ipc_read_laws.specs.Carried.are_carried fs ≡ true → FieldsSound fs
+forest_sound = by_fields KindSound FieldsSound sound_cases
+
+pub parts_sound : PartsAreSound
+parts_sound m d k p rows carried h =
+    let s = tree_sound k carried k (label_itself k) m d p rows h in
+    record { same_kind = s.kind_is; all_rows = s.rows_are; no_fault = s.none }

@@ -1,0 +1,31 @@
+use Rattle.std.proofs.Common.{◌+◌, map, ap, ◌∙◌, arith}
+use Rattle.arrow_buffers.specs.Rows.{part}
+use Rattle.arrow_buffers.proofs.Parts.{map-part}
+use Rattle.arrow_buffers.proofs.Rising.{are_offsets-part}
+use Rattle.std.proofs.lemmas.List.{length-map}
+use Rattle.ipc_write_arrays.proofs.trees.put_places.Goals as goal
+
+pub put_offsets-requires-clause-rise : goal.put_offsets-requires-clause-rise
+put_offsets-requires-clause-rise g c =
+    let number = g.O.Offset.number in
+    let all = c.args.places.now in
+    let same = ap (map number) (c.sliced-part.ensures ∙ ap (part c.args.offset (c.args.rows + 1)) c.in_ok-clone.ensures) ∙ map-part number c.args.offset (c.args.rows + 1) all in
+    rw same (are_offsets-part c.args.offset c.args.rows c.args.limit (map number all) c.requires.rise (omega (arith, length-map all number, c.requires.below)))
+
+pub put_offsets-requires-clause-short : goal.put_offsets-requires-clause-short
+put_offsets-requires-clause-short g c =
+    let number = g.O.Offset.number in
+    let same = ap (map number) (c.sliced-part.ensures ∙ ap (part c.args.offset (c.args.rows + 1)) c.in_ok-clone.ensures) ∙ map-part number c.args.offset (c.args.rows + 1) c.args.places.now in
+    rw same c.requires.short
+
+pub returns-clause-bytes : goal.returns-clause-bytes
+returns-clause-bytes g c =
+    let number = g.O.Offset.number in
+    let same = ap (map number) (c.sliced-part.ensures ∙ ap (part c.args.offset (c.args.rows + 1)) c.in_ok-clone.ensures) ∙ map-part number c.args.offset (c.args.rows + 1) c.args.places.now in
+    rw same at c.put_offsets.ensures.bytes
+
+pub returns-clause-below : goal.returns-clause-below
+returns-clause-below g c =
+    let number = g.O.Offset.number in
+    let same = ap (map number) (c.sliced-part.ensures ∙ ap (part c.args.offset (c.args.rows + 1)) c.in_ok-clone.ensures) ∙ map-part number c.args.offset (c.args.rows + 1) c.args.places.now in
+    rw same at c.put_offsets.ensures.below

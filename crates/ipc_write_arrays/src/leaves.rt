@@ -1,0 +1,136 @@
+//! Arrays without children (Arrow Columnar Format, "Buffer Listing for Each Layout").
+ghost use Rattle.std.specs.Prelude.{◌≡◌, ◌^◌, ◌<◌, [], ◌∷◌, length, map, pos, None, true, IfOk, IfErr};
+ghost use Rattle.arrow_spec.specs.Flat.{order_by};
+ghost use Rattle.arrow_spec.specs.Sent.{body_of};
+ghost use Rattle.arrow_arrays.specs.Parts.{rows_in};
+ghost use Rattle.arrow_arrays.specs.PartsOf.{parts_of};
+ghost use Rattle.arrow_arrays.specs.Nodes.{node_in, counts_in};
+ghost use Rattle.ipc_write_arrays.specs.Trims.{has_no_children};
+ghost use Rattle.ipc_write_arrays.specs.Pieces.{Fit, tree_pieces};
+ghost use Rattle.ipc_write_arrays.specs.Outputs.{laid_behind, outputs};
+ghost use Rattle.ipc_write_arrays.specs.Adding.{Appends, Adds, KeptAll};
+
+use crate::layouts::{write_bits, write_fixed, write_numbers, write_variable, write_views};
+use arrow_arrays::Array;
+use arrow_spec::{FieldNode, IpcBuffer};
+use std::alloc::AllocError;
+
+/// Whether an array has no children.
+pub fn is_leaf(array: &Array) -> bool
+    ensures { result ≡ has_no_children (parts_of array.now) }
+{
+    match array {
+        Array::List(_)
+        | Array::FixedSizeList(_)
+        | Array::Map(_)
+        | Array::Struct(_)
+        | Array::Union(_) => false,
+        _ => true,
+    }
+}
+
+/// Adds an array without children.
+pub(crate) fn add_leaf(
+    array: &Array,
+    buffers: &mut Vec<IpcBuffer>,
+    arrow_data: &mut Vec<u8>,
+    nodes: &mut Vec<FieldNode>,
+    variadic: &mut Vec<i64>,
+    is_little_endian: bool,
+) -> Result<(), AllocError>
+    requires leaf { has_no_children (parts_of array.now) ≡ true }
+    requires few { rows_in (parts_of array.now) < 2 ^ 63 }
+    requires short { body_of (length arrow_data.old.items) (map length (tree_pieces (order_by is_little_endian) (parts_of array.now))) < 2 ^ 63 }
+    ensures ok { IfOk result (λ _. outputs nodes.new.items buffers.new.items arrow_data.new.items variadic.new.items ≡ laid_behind (order_by is_little_endian) (parts_of array.now) (outputs nodes.old.items buffers.old.items arrow_data.old.items variadic.old.items)) }
+    ensures end { IfOk result (λ _. length arrow_data.new.items < 2 ^ 63) }
+    ensures err { IfErr result (λ _. KeptAll (outputs nodes.old.items buffers.old.items arrow_data.old.items variadic.old.items) (outputs nodes.new.items buffers.new.items arrow_data.new.items variadic.new.items)) }
+    ensures fit { IfOk result (λ _. Fit (parts_of array.now)) }
+{
+    push_own_node(array, nodes)?;
+    push_view_count(array, variadic)?;
+    write_buffers(array, buffers, arrow_data, is_little_endian)
+}
+
+// The node of an array without children; its nulls are no more than its rows.
+fn push_own_node(array: &Array, nodes: &mut Vec<FieldNode>) -> Result<(), AllocError>
+    requires { rows_in (parts_of array.now) < 2 ^ 63 }
+    ensures { Appends result nodes.old.items nodes.new.items (node_in (parts_of array.now) ∷ []) }
+{
+    push_node(array.len(), array.null_count(), nodes)
+}
+
+/// A node.
+pub(crate) fn push_node(
+    rows: usize,
+    nulls: usize,
+    nodes: &mut Vec<FieldNode>,
+) -> Result<(), AllocError>
+    requires rows { rows < 2 ^ 63 }
+    requires nulls { nulls < 2 ^ 63 }
+    ensures { Appends result nodes.old.items nodes.new.items (record { length = pos rows; null_count = pos nulls } ∷ []) }
+{
+    let length = rows as i64;
+    let null_count = nulls as i64;
+    nodes.push(FieldNode { length, null_count })?;
+    Ok(())
+}
+
+// A view array's number of data buffers.
+fn push_view_count(array: &Array, variadic: &mut Vec<i64>) -> Result<(), AllocError>
+    requires { has_no_children (parts_of array.now) ≡ true }
+    ensures { Appends result variadic.old.items variadic.new.items (map pos (counts_in (parts_of array.now))) }
+{
+    match array {
+        Array::BinaryView(array) => push_count(array.data_buffers().len(), variadic),
+        Array::Utf8View(array) => push_count(array.data_buffers().len(), variadic),
+        _ => Ok(()),
+    }
+}
+
+fn push_count(count: usize, variadic: &mut Vec<i64>) -> Result<(), AllocError>
+    requires { count < 2 ^ 63 }
+    ensures { Appends result variadic.old.items variadic.new.items (pos count ∷ []) }
+{
+    variadic.push(count as i64)?;
+    Ok(())
+}
+
+fn write_buffers(
+    array: &Array,
+    buffers: &mut Vec<IpcBuffer>,
+    arrow_data: &mut Vec<u8>,
+    is_little_endian: bool,
+) -> Result<(), AllocError>
+    requires leaf { has_no_children (parts_of array.now) ≡ true }
+    requires short { body_of (length arrow_data.old.items) (map length (tree_pieces (order_by is_little_endian) (parts_of array.now))) < 2 ^ 63 }
+    ensures bytes { Adds result buffers.old.items arrow_data.old.items buffers.new.items arrow_data.new.items (tree_pieces (order_by is_little_endian) (parts_of array.now)) }
+    ensures fit { IfOk result (λ _. Fit (parts_of array.now)) }
+{
+    match array {
+        Array::Null(_) => Ok(()),
+        Array::Boolean(array) => write_bits(array, buffers, arrow_data, is_little_endian),
+        Array::Int8(array) => write_numbers(array, buffers, arrow_data, is_little_endian),
+        Array::Int16(array) => write_numbers(array, buffers, arrow_data, is_little_endian),
+        Array::Int32(array) => write_numbers(array, buffers, arrow_data, is_little_endian),
+        Array::Int64(array) => write_numbers(array, buffers, arrow_data, is_little_endian),
+        Array::Int128(array) => write_numbers(array, buffers, arrow_data, is_little_endian),
+        Array::UInt8(array) => write_numbers(array, buffers, arrow_data, is_little_endian),
+        Array::UInt16(array) => write_numbers(array, buffers, arrow_data, is_little_endian),
+        Array::UInt32(array) => write_numbers(array, buffers, arrow_data, is_little_endian),
+        Array::UInt64(array) => write_numbers(array, buffers, arrow_data, is_little_endian),
+        Array::DaysMs(array) => write_numbers(array, buffers, arrow_data, is_little_endian),
+        Array::MonthsDaysNs(array) => write_numbers(array, buffers, arrow_data, is_little_endian),
+        Array::Binary(array) => write_variable(array, buffers, arrow_data, is_little_endian),
+        Array::LargeBinary(array) => write_variable(array, buffers, arrow_data, is_little_endian),
+        Array::Utf8(array) => write_variable(array, buffers, arrow_data, is_little_endian),
+        Array::LargeUtf8(array) => write_variable(array, buffers, arrow_data, is_little_endian),
+        Array::BinaryView(array) => write_views(array, buffers, arrow_data),
+        Array::Utf8View(array) => write_views(array, buffers, arrow_data),
+        Array::FixedSizeBinary(array) => write_fixed(array, buffers, arrow_data, is_little_endian),
+        Array::List(_)
+        | Array::FixedSizeList(_)
+        | Array::Map(_)
+        | Array::Struct(_)
+        | Array::Union(_) => unreachable!(),
+    }
+}

@@ -1,0 +1,98 @@
+"""Random files of columns with children, in either byte order, with their streams, as cases for
+`rt try --cases FOLDER -- stream`: python3 fuzz_nested.py FOLDER COUNT SEED [unions]."""
+import os
+import random
+import struct
+import sys
+
+import arrow
+import schemas
+from arrow import up_to
+from layout import Numbers64, Structs, Table, Value, lay, number
+from nested import garbage, random_array, random_kind
+
+
+def schema_kind(kind):
+    """The kind as schemas.py has it, with names."""
+    name = kind[0]
+    if name in ("list", "large_list"):
+        return name, schemas.field("item", schema_kind(kind[1]))
+    if name == "fixed_list":
+        return name, kind[1], schemas.field("item", schema_kind(kind[2]))
+    if name == "map":
+        entry = ("struct", [schemas.field("key", schema_kind(kind[1]), False), schemas.field("value", schema_kind(kind[2]))])
+        return name, False, schemas.field("entries", entry, False)
+    if name == "struct":
+        return name, [schemas.field(f"f{i}", schema_kind(k)) for i, k in enumerate(kind[1:])]
+    if name == "union":
+        return name, kind[1], list(kind[2]), [schemas.field(f"u{i}", schema_kind(k)) for i, k in enumerate(kind[3:])]
+    return kind
+
+
+def held_batch(r, rows, columns):
+    """Buffers at multiples of 8 in any order, with gaps."""
+    pieces = [(c, p, piece) for c, held in enumerate(columns) for p, piece in enumerate(held.pieces)]
+    r.shuffle(pieces)
+    body, places = b"", {}
+    for c, p, piece in pieces:
+        body += garbage(r, 8 * r.choice([0, 0, 1, 3]))
+        places[c, p] = len(body)
+        body += piece + bytes(up_to(8, len(piece)) - len(piece))
+    buffers = [struct.pack("<qq", places[c, p], len(piece)) for c, held in enumerate(columns) for p, piece in enumerate(held.pieces)]
+    nodes = [struct.pack("<qq", c.rows, c.nulls) for c in columns]
+    views = [c.views for c in columns if c.views is not None]
+    header = Table(number(8, rows), Structs(nodes), Structs(buffers), None, Numbers64(views) if views else None)
+    return arrow.message(3, header, len(body)), body
+
+
+def file_of(fields, order, batches):
+    table = schemas.schema_table(fields, {}, order)
+    parts = [arrow.MAGIC, arrow.message(1, table, 0)]
+    blocks = []
+    for head, body in batches:
+        blocks.append(struct.pack("<qiiq", sum(map(len, parts)), len(head), 0, len(body)))
+        parts += [head, body]
+    footer = lay(footer_table(fields, order, blocks))
+    return b"".join(parts + [arrow.END, footer + struct.pack("<i", len(footer)) + b"ARROW1"])
+
+
+def footer_table(fields, order, blocks):
+    return Table(Value(2, 4), schemas.schema_table(fields, {}, order), Structs([]), Structs(blocks))
+
+
+def case(r, unions):
+    order = r.choice(["little", "little", "big"])
+    kinds = [top_kind(r, unions, order) for _ in range(r.choice([1, 1, 2, 3]))]
+    fields = [schemas.field(f"c{i}", schema_kind(k)) for i, k in enumerate(kinds)]
+    file_batches, stream = [], [arrow.message(1, schemas.schema_table(fields, {}), 0)]
+    for _ in range(r.choice([0, 1, 1, 2])):
+        rows = r.choice([0, 1, 2, 3, 9])
+        arrays = [random_array(r, k, rows) for k in kinds]
+        file_batches.append(held_batch(r, rows, [c for a in arrays for c in a.held(r, order)]))
+        stream += arrow.batch(rows, [c for a in arrays for c in a.sent(rows, 0, rows)])
+    return file_of(fields, order, file_batches), b"".join(stream + [arrow.END])
+
+
+def top_kind(r, unions, order):
+    """No view stands at the top, where it might be laid anew, and none in big-endian order, where it is refused."""
+    while True:
+        kind = random_kind(r, 3, unions, order == "little")
+        if "view" not in kind[0]:
+            return kind
+
+
+def main():
+    folder, count, seed = sys.argv[1], int(sys.argv[2]), int(sys.argv[3])
+    unions = sys.argv[4:] == ["unions"]
+    os.makedirs(folder, exist_ok=True)
+    for i in range(count):
+        r = random.Random(seed * 100000 + i)
+        file, stream = case(r, unions)
+        with open(os.path.join(folder, f"case{i:04}"), "w") as out:
+            out.write(file.hex())
+        with open(os.path.join(folder, f"case{i:04}.stdout"), "w") as out:
+            out.write(stream.hex() + "\n")
+
+
+if __name__ == "__main__":
+    main()

@@ -1,0 +1,272 @@
+"""Columns of any kind but dictionaries, with their children: what a file holds of them, and what its stream does.
+
+A kind is a tuple as in arrow.py, or ("list", kind), ("large_list", kind), ("fixed_list", size, kind),
+("map", key kind, value kind), ("struct", kind, ..) or ("union", mode, ids, kind, ..).
+"""
+import struct
+
+from arrow import Column, bits
+
+CHILDREN = {"list": 1, "large_list": 1, "fixed_list": 1, "map": 1, "struct": 0, "union": 0}
+
+
+def children_of(kind):
+    if kind[0] in ("list", "large_list"):
+        return [kind[1]]
+    if kind[0] == "fixed_list":
+        return [kind[2]]
+    if kind[0] == "map":
+        return [("struct", kind[1], kind[2])]
+    if kind[0] == "struct":
+        return list(kind[1:])
+    if kind[0] == "union":
+        return list(kind[3:])
+    if kind[0] == "extension":
+        return children_of(kind[3])
+    return []
+
+
+def turned(data, widths, order):
+    """Bytes of numbers that are little-endian, in an order; each row has numbers of these widths."""
+    if order == "little":
+        return data
+    out, at = b"", 0
+    while at < len(data):
+        for width in widths:
+            out += data[at:at + width][::-1]
+            at += width
+    return out
+
+
+WIDTHS = {"int8": [1], "int16": [2], "int32": [4], "int64": [8], "uint8": [1], "uint16": [2], "uint32": [4], "uint64": [8],
+          "decimal": [16], "date32": [4], "date64": [8], "time32": [4], "time64": [8], "timestamp": [8], "duration": [8]}
+INTERVALS = {"year_month": [4], "day_time": [4, 4], "month_day_nano": [4, 4, 8]}
+
+
+def widths_of(kind):
+    if kind[0] == "interval":
+        return INTERVALS[kind[1]]
+    return WIDTHS.get(kind[0])
+
+
+class Array:
+    """An array of so many rows: which rows are valid, where that is told, and what its layout has."""
+
+    def __init__(self, kind, rows, flags, **parts):
+        self.kind, self.rows, self.flags, self.parts = kind, rows, flags, parts
+        self.children = parts.get("children", [])
+
+    # ── as the file has it ──
+
+    def held(self, r, order):
+        """Its columns in preorder."""
+        own = Column(self.rows, self.stated(r), self.held_pieces(r, order), self.views())
+        return [own] + [c for child in self.children for c in child.held(r, order)]
+
+    def stated(self, r):
+        if self.kind[0] == "null":
+            return self.rows
+        if self.flags is None:
+            return 0
+        count = self.flags.count(False)
+        return max(1, count if r.random() < 0.7 else r.randint(1, max(1, self.rows)))
+
+    def views(self):
+        return len(self.parts["buffers"]) if "buffers" in self.parts else None
+
+    def held_pieces(self, r, order):
+        name = self.kind[0]
+        if name == "null":
+            return []
+        if name == "union":
+            places = self.parts["places"]
+            types = [bytes(self.parts["types"])]
+            return types + ([turned(pack("<i", places), [4], order)] if places is not None else [])
+        first = [bits(self.flags) if self.flags is not None else b""]
+        if name in ("list", "map"):
+            return first + [turned(pack("<i", self.parts["offsets"]), [4], order)]
+        if name == "large_list":
+            return first + [turned(pack("<q", self.parts["offsets"]), [8], order)]
+        if name in ("fixed_list", "struct"):
+            return first
+        if "offsets" in self.parts:
+            pattern, width = ("<q", [8]) if name.startswith("large") else ("<i", [4])
+            return first + [turned(pack(pattern, self.parts["offsets"]), width, order), self.parts["data"]]
+        if "buffers" in self.parts:
+            return first + [b"".join(self.parts["views"])] + self.parts["buffers"]
+        if name == "boolean":
+            return first + [bits(self.parts["values"])]
+        widths = widths_of(self.kind)
+        data = self.parts["data"]
+        return first + [turned(data, widths, order) if widths else data]
+
+    # ── as the stream has it ──
+
+    def sent(self, read, begin, count, is_top=False):
+        """The columns of count rows from one on, of an array that was read for so many rows."""
+        name = self.kind[0]
+        rows = range(begin, begin + count)
+        nulls = count if name == "null" else sum(1 for i in rows if self.flags is not None and not self.flags[i])
+        pieces, below = self.sent_pieces(read, begin, count, is_top)
+        views = None
+        if "buffers" in self.parts:
+            views = len(pieces) - 1
+        if name not in ("null", "union"):
+            has_validity = read > 0 and self.flags is not None
+            pieces = [bits([self.flags[i] for i in rows]) if has_validity else b""] + pieces
+        return [Column(count, nulls, pieces, views)] + below
+
+    def sent_pieces(self, read, begin, count, is_top):
+        name, parts = self.kind[0], self.parts
+        end = begin + count
+        if name == "null":
+            return [], []
+        if name == "union":
+            return self.sent_union(read, begin, count)
+        if name in ("list", "large_list", "map"):
+            offsets = parts["offsets"] if read else [0]
+            first, last = offsets[begin], offsets[end]
+            pattern = "<q" if name == "large_list" else "<i"
+            part = pack(pattern, [o - first for o in offsets[begin:end + 1]])
+            return [part], self.children[0].sent(offsets[read], first, last - first)
+        if name == "fixed_list":
+            size = self.kind[1]
+            return [], self.children[0].sent(size * read, size * begin, size * count)
+        if name == "struct":
+            return [], [c for child in self.children for c in child.sent(read, begin, count)]
+        if "offsets" in parts:
+            offsets = parts["offsets"] if read else [0]
+            pattern = "<q" if name.startswith("large") else "<i"
+            return [pack(pattern, [o - offsets[begin] for o in offsets[begin:end + 1]]), parts["data"][offsets[begin]:offsets[end]]], []
+        if "buffers" in parts:
+            return [b"".join(parts["views"][begin:end])] + (parts["buffers"] if read else []), []
+        if name == "boolean":
+            return [bits(parts["values"][begin:end])], []
+        width = parts["width"]
+        return [parts["data"][width * begin:width * end]], []
+
+    def sent_union(self, read, begin, count):
+        end = begin + count
+        types = bytes(self.parts["types"][begin:end])
+        if self.parts["places"] is None:
+            return [types], [c for child in self.children for c in child.sent(read, begin, count)]
+        whole = [child.rows if read else 0 for child in self.children]
+        below = [c for child, rows in zip(self.children, whole) for c in child.sent(rows, 0, rows)]
+        return [types, pack("<i", self.parts["places"][begin:end])], below
+
+
+def pack(pattern, numbers):
+    return b"".join(struct.pack(pattern, n) for n in numbers)
+
+
+# ── random arrays ──
+
+
+def garbage(r, n):
+    return bytes(r.randrange(256) for _ in range(n))
+
+
+LEAVES = [("int8",), ("int16",), ("int32",), ("int64",), ("uint16",), ("uint64",), ("decimal", 38, 10), ("date32",), ("date64",),
+          ("time32", "ms"), ("timestamp", "us", ""), ("duration", "s"), ("interval", "year_month"), ("interval", "day_time"),
+          ("interval", "month_day_nano"), ("fixed", 3), ("boolean",), ("null",), ("utf8",), ("large_utf8",), ("binary",), ("large_binary",),
+          ("utf8_view",), ("binary_view",)]
+TEXTS = ["", "a", "é", "abcdefghijkl", "abcdefghijklm", "日本語テキスト"]
+
+
+def random_kind(r, depth, unions=False, views=True):
+    leaves = [k for k in LEAVES if views or "view" not in k[0]]
+    if depth == 0 or r.random() < 0.3:
+        return r.choice(leaves)
+
+    def below():
+        return random_kind(r, depth - 1, unions, views)
+
+    name = r.choice(["list", "large_list", "fixed_list", "map", "struct"] + (["union"] if unions else []))
+    if name == "fixed_list":
+        return (name, r.choice([1, 2, 5]), below())
+    if name == "map":
+        return (name, below(), below())
+    if name == "struct":
+        return (name, *[below() for _ in range(r.choice([0, 1, 2, 3]))])
+    if name == "union":
+        count = r.choice([1, 2, 3])
+        return (name, r.choice(["sparse", "dense"]), tuple(r.sample(range(128), count)), *[below() for _ in range(count)])
+    return (name, below())
+
+
+def flags_of(r, rows):
+    if rows == 0 or r.random() < 0.4:
+        return None
+    return [r.random() < 0.7 for _ in range(rows)]
+
+
+def more(r):
+    return r.choice([0, 0, 0, 1, 2])
+
+
+def rising(r, rows, step):
+    offsets = [r.choice([0, 0, 1, 3]) if rows else 0]
+    for _ in range(rows):
+        offsets.append(offsets[-1] + r.choice([0, 1, 2, step]))
+    return offsets
+
+
+def random_array(r, kind, rows):
+    name = kind[0]
+    flags = None if name in ("null", "union") else flags_of(r, rows)
+    if name in ("list", "large_list", "map"):
+        offsets = rising(r, rows, 4)
+        return Array(kind, rows, flags, offsets=offsets, children=[random_array(r, children_of(kind)[0], offsets[-1] + more(r))])
+    if name == "fixed_list":
+        return Array(kind, rows, flags, children=[random_array(r, kind[2], kind[1] * rows + more(r))])
+    if name == "struct":
+        return Array(kind, rows, flags, children=[random_array(r, k, rows + more(r)) for k in kind[1:]])
+    if name == "union":
+        return random_union(r, kind, rows)
+    if name == "null":
+        return Array(kind, rows, None)
+    if name == "boolean":
+        return Array(kind, rows, flags, values=[r.random() < 0.5 for _ in range(rows)])
+    if name in ("utf8", "large_utf8", "binary", "large_binary"):
+        return random_variable(r, kind, rows, flags)
+    if name in ("utf8_view", "binary_view"):
+        return random_views(r, kind, rows, flags)
+    width = kind[1] if name == "fixed" else sum(widths_of(kind))
+    return Array(kind, rows, flags, data=garbage(r, width * rows), width=width)
+
+
+def random_union(r, kind, rows):
+    _, mode, ids, *kinds = kind
+    types = [r.choice(ids) for _ in range(rows)]
+    if mode == "sparse":
+        return Array(kind, rows, None, types=types, places=None, children=[random_array(r, k, rows + more(r)) for k in kinds])
+    children = [random_array(r, k, r.choice([1, 2, 5])) for k in kinds]
+    places = [r.randrange(children[ids.index(t)].rows) for t in types]
+    return Array(kind, rows, None, types=types, places=places, children=children)
+
+
+def random_variable(r, kind, rows, flags):
+    data = garbage(r, r.choice([0, 0, 1, 9])) if rows else b""
+    offsets = [len(data)]
+    for i in range(rows):
+        if "utf8" in kind[0] and (flags is None or flags[i]):
+            data += r.choice(TEXTS).encode()
+        else:
+            data += garbage(r, r.choice([0, 1, 4, 20]))
+        offsets.append(len(data))
+    return Array(kind, rows, flags, offsets=offsets, data=data)
+
+
+def random_views(r, kind, rows, flags):
+    buffer, views = b"", []
+    for i in range(rows):
+        if flags is not None and not flags[i]:
+            views.append(garbage(r, 16))
+            continue
+        value = r.choice(TEXTS).encode()
+        if len(value) <= 12:
+            views.append(struct.pack("<I", len(value)) + value.ljust(12, b"\0"))
+        else:
+            views.append(struct.pack("<I", len(value)) + value[:4] + struct.pack("<II", 0, len(buffer)))
+            buffer += value
+    return Array(kind, rows, flags, views=views, buffers=[buffer])
