@@ -76,8 +76,8 @@ def up_to(n, at):
     return (at + n - 1) // n * n
 
 
-def message(tag, header, body):
-    metadata = lay(Table(Value(2, 4), Value(1, tag), header, number(8, body)))
+def message(tag, header, body, version=4):
+    metadata = lay(Table(Value(2, version), Value(1, tag), header, number(8, body)))
     metadata = metadata.ljust(up_to(8, len(metadata)), b"\0")
     return b"\xff\xff\xff\xff" + struct.pack("<I", len(metadata)) + metadata
 

@@ -1,4 +1,4 @@
-"""Random files of columns with children, in either byte order, with their streams, as cases for
+"""Random files of columns with children, in either byte order and of metadata versions V4 and V5, with their streams, as cases for
 `rt try --cases FOLDER -- stream`: python3 fuzz_nested.py FOLDER COUNT SEED [unions]."""
 import os
 import random
@@ -29,7 +29,7 @@ def schema_kind(kind):
     return kind
 
 
-def held_batch(r, rows, columns):
+def held_batch(r, rows, columns, version):
     """Buffers at multiples of 8 in any order, with gaps."""
     pieces = [(c, p, piece) for c, held in enumerate(columns) for p, piece in enumerate(held.pieces)]
     r.shuffle(pieces)
@@ -42,35 +42,36 @@ def held_batch(r, rows, columns):
     nodes = [struct.pack("<qq", c.rows, c.nulls) for c in columns]
     views = [c.views for c in columns if c.views is not None]
     header = Table(number(8, rows), Structs(nodes), Structs(buffers), None, Numbers64(views) if views else None)
-    return arrow.message(3, header, len(body)), body
+    return arrow.message(3, header, len(body), version), body
 
 
-def file_of(fields, order, batches):
+def file_of(fields, order, batches, version):
     table = schemas.schema_table(fields, {}, order)
-    parts = [arrow.MAGIC, arrow.message(1, table, 0)]
+    parts = [arrow.MAGIC, arrow.message(1, table, 0, version)]
     blocks = []
     for head, body in batches:
         blocks.append(struct.pack("<qiiq", sum(map(len, parts)), len(head), 0, len(body)))
         parts += [head, body]
-    footer = lay(footer_table(fields, order, blocks))
+    footer = lay(footer_table(fields, order, blocks, version))
     return b"".join(parts + [arrow.END, footer + struct.pack("<i", len(footer)) + b"ARROW1"])
 
 
-def footer_table(fields, order, blocks):
-    return Table(Value(2, 4), schemas.schema_table(fields, {}, order), Structs([]), Structs(blocks))
+def footer_table(fields, order, blocks, version):
+    return Table(Value(2, version), schemas.schema_table(fields, {}, order), Structs([]), Structs(blocks))
 
 
 def case(r, unions):
     order = r.choice(["little", "little", "big"])
+    version = r.choice([4, 4, 3])
     kinds = [top_kind(r, unions, order) for _ in range(r.choice([1, 1, 2, 3]))]
     fields = [schemas.field(f"c{i}", schema_kind(k)) for i, k in enumerate(kinds)]
     file_batches, stream = [], [arrow.message(1, schemas.schema_table(fields, {}), 0)]
     for _ in range(r.choice([0, 1, 1, 2])):
         rows = r.choice([0, 1, 2, 3, 9])
         arrays = [random_array(r, k, rows) for k in kinds]
-        file_batches.append(held_batch(r, rows, [c for a in arrays for c in a.held(r, order)]))
+        file_batches.append(held_batch(r, rows, [c for a in arrays for c in a.held(r, order, version)], version))
         stream += arrow.batch(rows, [c for a in arrays for c in a.sent(rows, 0, rows)])
-    return file_of(fields, order, file_batches), b"".join(stream + [arrow.END])
+    return file_of(fields, order, file_batches, version), b"".join(stream + [arrow.END])
 
 
 def top_kind(r, unions, order):

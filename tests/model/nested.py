@@ -58,10 +58,13 @@ class Array:
 
     # ── as the file has it ──
 
-    def held(self, r, order):
-        """Its columns in preorder."""
-        own = Column(self.rows, self.stated(r), self.held_pieces(r, order), self.views())
-        return [own] + [c for child in self.children for c in child.held(r, order)]
+    def held(self, r, order, version=4):
+        """Its columns in preorder, as messages of a metadata version have them: 4 is V5, and 3 V4, in which unions have a validity."""
+        pieces = self.held_pieces(r, order)
+        if self.kind[0] == "union" and version < 4:
+            pieces = [garbage(r, r.choice([0, 1, 8]))] + pieces
+        own = Column(self.rows, self.stated(r), pieces, self.views())
+        return [own] + [c for child in self.children for c in child.held(r, order, version)]
 
     def stated(self, r):
         if self.kind[0] == "null":
