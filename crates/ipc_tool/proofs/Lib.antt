@@ -4,4 +4,4 @@ pub mod Digits
 pub mod Front
 pub mod Noting
 pub mod SchemaTexts
-pub mod Commands
+pub mod Words

@@ -1,5 +1,6 @@
 pub mod Refusal
 pub mod Request
+pub mod Commands
 pub mod SchemaPuts
 pub mod Input
 pub mod Run

@@ -5,6 +5,8 @@ use Rattle.arrow_spec.specs.declared.error.IpcError.TheVariants as errors
 use Rattle.arrow_spec.specs.Names.{error_name}
 use Rattle.ipc_io.specs.declared.outside.PutError.{PutError}
 use Rattle.ipc_io.specs.Faults.{put_error}
+use Rattle.ipc_words.specs.declared.words_error.WordsError.{WordsError}
+use Rattle.ipc_words.specs.declared.words_error.WordsError.TheVariants as words_error
 use Rattle.ipc_tool.specs.declared.refusal.Refusal.{Refusal}
 use Rattle.ipc_tool.specs.declared.refusal.Refusal.TheVariants.{Ipc, Words, NotHex, InputTooLong, NoName}
 
@@ -39,6 +41,10 @@ name_of NoName = codes "NoName"
 
 abbrev pub put_refusal : PutError → Refusal
 put_refusal error = Ipc (put_error error)
+
+abbrev pub words_refusal : WordsError → Refusal
+words_refusal words_error.NoRequest = Words
+words_refusal words_error.Memory = Ipc errors.Memory
 
 -- the line of a refusal up to the name
 unfoldable pub front_of : Refusal → List ℕ

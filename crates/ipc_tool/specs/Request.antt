@@ -1,19 +1,12 @@
--- What words ask for, and the refusal of words that are no request.
-use denote.Ref.{Bor}
-use Rattle.std.specs.Prelude.{◌≡◌, ℕ, Bool, true, false, List, [], ◌∷◌, Some, None, codes, map}
-use Rattle.std.specs.Str.{bytes_eq}
-use Rattle.arrow_spec.specs.declared.error.IpcError.TheVariants.{Unsupported}
+-- What words ask for, of what is built, and why other words are refused.
+use Rattle.std.specs.Prelude.{◌≡◌, ◌⊎◌, ◌&&◌, ℕ, Bool, false, not, is_none, List, Option, Some, None, IsSome, IsNone, if◌then◌else◌, option_and_then}
+use Rattle.arrow_spec.specs.declared.error.IpcError.TheVariants as errors
 use Rattle.arrow_spec.specs.declared.error.Feature.TheVariants.{NotYet}
 use Rattle.arrow_spec.specs.Files.{«all»}
-use Rattle.arrow_spec.specs.Words.{SchemaAsked, command_of, request_of, schema_request_of, StreamAsked}
-use Rattle.ipc_tool.specs.declared.request.Command.{Command}
-use Rattle.ipc_tool.specs.declared.request.Command.TheVariants as command
+use Rattle.arrow_spec.specs.Words.{Command, SchemaAsked, StreamAsked, of_schema, of_stream}
+use Rattle.ipc_words.specs.Requests.{Request, request_of as asked_of, schema, stream}
 use Rattle.ipc_tool.specs.declared.refusal.Refusal.{Refusal}
 use Rattle.ipc_tool.specs.declared.refusal.Refusal.TheVariants.{Ipc, Words}
-
--- the texts of words that are lent
-abbrev pub texts : List (Bor (List ℕ)) → List (List ℕ)
-texts words = map (λ word. word.now) words
 
 -- a whole file from the input, as hex text
 abbrev pub whole_input : StreamAsked
@@ -23,20 +16,39 @@ whole_input = record { request = «all»; raw = false; name = None }
 abbrev pub schema_of_input : SchemaAsked
 schema_of_input = record { name = None }
 
--- words ask for a command of the input, and for no other
-abbrev pub IsAsked : Command → List (List ℕ) → Type 0
-IsAsked command.Stream words = (request_of words ≡ Some whole_input) × (schema_request_of words ≡ None)
-IsAsked command.Schema words = (request_of words ≡ None) × (schema_request_of words ≡ Some schema_of_input)
+-- built are the stream of the whole input, as hex text, and the schema of the input
+abbrev pub is_built : Request → Bool
+is_built (stream s) = is_none s.columns && is_none s.limit && not s.raw && is_none s.name
+is_built (schema name) = is_none name
 
-abbrev pub begins_with_stream : List (List ℕ) → Bool
-begins_with_stream [] = false
-begins_with_stream (word ∷ words) = bytes_eq word (codes "stream")
+-- the command of a request
+abbrev pub command_in : Request → Command
+command_in (stream s) = of_stream (record { request = record { columns = s.columns; limit = s.limit }; raw = s.raw; name = s.name })
+command_in (schema name) = of_schema (record { name = name })
 
--- the refusal of words that are no request: of the command stream with words that are not read yet, or of no command
-abbrev pub no_request : Bool → Refusal
-no_request true = Ipc (Unsupported NotYet)
-no_request false = Words
+abbrev pub built_command : Request → Option Command
+built_command r = if is_built r then Some (command_in r) else None
 
--- the refusal of words
+-- what words ask for, where it is built
+unfoldable pub command_of : List (List ℕ) → Option Command
+command_of words = option_and_then built_command (asked_of words)
+
+abbrev pub stream_in : Command → Option StreamAsked
+stream_in (of_stream s) = Some s
+stream_in (of_schema s) = None
+
+abbrev pub schema_in : Command → Option SchemaAsked
+schema_in (of_stream s) = None
+schema_in (of_schema s) = Some s
+
+-- the same, where it is a stream
+abbrev pub request_of : List (List ℕ) → Option StreamAsked
+request_of words = option_and_then stream_in (command_of words)
+
+-- the same, where it is the text of a schema
+abbrev pub schema_request_of : List (List ℕ) → Option SchemaAsked
+schema_request_of words = option_and_then schema_in (command_of words)
+
+-- why words that ask for nothing that is built are refused: they are no request, or one for later, or memory was wanting
 abbrev pub WordsCause : Refusal → List (List ℕ) → Type 0
-WordsCause e words = (command_of words ≡ None) × (e ≡ no_request (begins_with_stream words))
+WordsCause e words = ((e ≡ Words) × IsNone (asked_of words)) ⊎ ((e ≡ Ipc (errors.Unsupported NotYet)) × IsSome (asked_of words)) ⊎ (e ≡ Ipc errors.Memory)

@@ -4,11 +4,11 @@ use Rattle.std.specs.Io.KnownBytes.{Appends, Keeps}
 use Rattle.arrow_spec.specs.declared.error.IpcError.{IpcError}
 use Rattle.arrow_spec.specs.declared.error.IpcError.TheVariants as errors
 use Rattle.transcode_laws.specs.Meaning.{file_table, may}
-use Rattle.arrow_spec.specs.Words.{SchemaAsked, Command, of_stream, of_schema, command_of, shown, StreamAsked, Held, source_of}
+use Rattle.arrow_spec.specs.Words.{SchemaAsked, Command, of_stream, of_schema, shown, StreamAsked, Held, source_of}
 use Rattle.arrow_spec.specs.SchemaText.{schema_text_of}
 use Rattle.ipc_io.specs.Outside.{Rose, Stands, Lacks, AppendsPrefix}
 use Rattle.ipc_tool.specs.Refusal.{number_of, line_of}
-use Rattle.ipc_tool.specs.Request.{WordsCause}
+use Rattle.ipc_tool.specs.Request.{WordsCause, command_of}
 use Rattle.ipc_tool.specs.SchemaPuts.{AddsText, AddsTextFront, may_print}
 use Rattle.ipc_files.specs.declared.encoding.Encoding.{Encoding}
 use Rattle.ipc_files.specs.declared.encoding.Encoding.TheVariants.{Bytes, HexText}

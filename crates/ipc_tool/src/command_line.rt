@@ -1,19 +1,22 @@
-//! A run over the words of a process, an input and two outputs.
+//! A run over the words of a process, an input and two outputs, and the texts of help and of the version.
 ghost use Rattle.std.specs.Prelude.{◌≡◌, ◌⊎◌, ◌≤◌, IfOk, IfErr, ℕ, map, string_bytes};
 ghost use Rattle.arrow_spec.specs.declared.error.IpcError.TheVariants.{Memory};
-ghost use Rattle.ipc_tool.specs.Request.{texts};
-ghost use Rattle.ipc_tool.specs.CommandLine.{IsAnswer, IsStatus, noted_of, seen_of};
+ghost use Rattle.ipc_words.specs.Views.{texts};
+ghost use Rattle.ipc_tool.specs.CommandLine.{IsAnswer, IsNotedAs, IsShown, IsStatus, RanBeside, noted_of, seen_of};
 ghost use Rattle.ipc_tool.specs.declared.refusal.Refusal.TheVariants.{Ipc, Words};
 
 use crate::adapters::{InputFeed, OutputSink};
 use crate::note::note_refusal;
 use crate::program::run;
 use crate::refusal::Refusal;
+use arrow_spec::IpcError;
 use ipc_schema::{Feed, MemoryShelf, Sink};
+use ipc_words::help_text;
 use std::alloc::{AllocError, Global};
 use std::env;
+use std::io::ErrorKind;
 
-/// The words, lent.
+// The words, lent.
 fn views<'a>(alloc: Global, words: &'a [String]) -> Result<Vec<&'a str>, AllocError>
     ensures { IfOk result (λ v. texts v.items ≡ map string_bytes words.now) }
 {
@@ -24,7 +27,47 @@ fn views<'a>(alloc: Global, words: &'a [String]) -> Result<Vec<&'a str>, AllocEr
     Ok(all)
 }
 
-/// Answers what the words ask for: reads the input to its end, adds to the output, and notes a refusal. The status is that of `run`. Nothing stands under any name.
+// Notes a refusal, and gives its status.
+fn refuse<N: Sink>(refusal: Refusal, notes: &mut N) -> u8
+    ensures { IsNotedAs result refusal
+        (noted_of N.written N.faults N.wants notes.old)
+        (noted_of N.written N.faults N.wants notes.new) }
+{
+    note_refusal(notes, &refusal);
+    refusal.status()
+}
+
+// Puts a text of help or of the version.
+fn show<W: Sink, N: Sink>(text: &str, output: &mut W, notes: &mut N) -> u8
+    ensures { IsShown result text.now (W.written output.old) (W.written output.new) (W.faults output.old) (W.faults output.new)
+        (noted_of N.written N.faults N.wants notes.old)
+        (noted_of N.written N.faults N.wants notes.new) }
+{
+    match output.put(text.as_bytes()) {
+        Ok(()) => 0,
+        Err(error) => refuse(Refusal::from(error), notes),
+    }
+}
+
+// A run over a shelf on which nothing stands.
+fn run_alone<I: Feed, W: Sink, N: Sink>(
+    alloc: Global,
+    words: &[&str],
+    input: &mut I,
+    output: &mut W,
+    notes: &mut N,
+) -> u8
+    ensures { RanBeside result (texts words.now)
+        (seen_of I.rest I.faults W.written W.faults input.old output.old)
+        (seen_of I.rest I.faults W.written W.faults input.new output.new)
+        (noted_of N.written N.faults N.wants notes.old)
+        (noted_of N.written N.faults N.wants notes.new) }
+{
+    let mut shelf = MemoryShelf::new(alloc, Vec::new(alloc), Vec::new(alloc));
+    run(alloc, words, &mut shelf, input, output, notes)
+}
+
+/// Answers what the words ask for: puts the text of help or of the version, where that is asked for, and else runs, over a shelf on which nothing stands. Then the input is read to its end, and the status is that of `run`.
 pub fn answer<I: Feed, W: Sink, N: Sink>(
     alloc: Global,
     words: &[String],
@@ -40,22 +83,25 @@ pub fn answer<I: Feed, W: Sink, N: Sink>(
 {
     let asked = match views(alloc, words) {
         Ok(asked) => asked,
-        Err(error) => {
-            let refusal = Refusal::from(error);
-            note_refusal(notes, &refusal);
-            return refusal.status();
-        }
+        Err(error) => return refuse(Refusal::from(error), notes),
     };
-    let mut shelf = MemoryShelf::new(alloc, Vec::new(alloc), Vec::new(alloc));
-    run(alloc, &asked, &mut shelf, input, output, notes)
+    match help_text(alloc, &asked) {
+        Ok(Some(text)) => show(&text, output, notes),
+        Ok(None) => run_alone(alloc, &asked, input, output, notes),
+        Err(error) => refuse(Refusal::from(error), notes),
+    }
 }
 
-/// The words behind the program's name.
+// The words behind the program's name.
 fn words(rt: &HostRuntime) -> Result<Vec<String>, Refusal>
     ensures { IfErr result (λ e. (e ≡ Words) ⊎ (e ≡ Ipc Memory)) }
 {
-    let Ok(arguments) = env::args(rt) else {
-        return Err(Refusal::Words);
+    let arguments = match env::args(rt) {
+        Ok(arguments) => arguments,
+        Err(error) if error.kind() == ErrorKind::OutOfMemory => {
+            return Err(Refusal::Ipc(IpcError::Memory));
+        }
+        Err(_) => return Err(Refusal::Words),
     };
     let mut all = Vec::new(rt.alloc());
     for word in arguments.skip(1) {
@@ -77,9 +123,6 @@ pub fn status_of_process(rt: &HostRuntime) -> u8
             &mut OutputSink::new(rt.stdout()),
             &mut notes,
         ),
-        Err(refusal) => {
-            note_refusal(&mut notes, &refusal);
-            refusal.status()
-        }
+        Err(refusal) => refuse(refusal, &mut notes),
     }
 }

@@ -1,10 +1,11 @@
 //! A run from words to status.
-ghost use Rattle.std.specs.Prelude.{◌≡◌, ◌⊎◌, ◌↔◌, ◌<◌, ◌≤◌, IsNone, IsSome, IsSomeAnd, MatchOption, IsTrue, IsFalse, Some, None, OnOk, IfErr, IfSome};
+ghost use Rattle.std.specs.Prelude.{◌≡◌, ◌⊎◌, ◌<◌, ◌≤◌, IsNone, IsSome, IsSomeAnd, MatchOption, Some, None, OnOk, IfErr, IfSome};
 ghost use Rattle.std.specs.Io.KnownBytes.{Keeps, IsAtEnd};
-ghost use Rattle.arrow_spec.specs.Words.{command_of, request_of, schema_request_of};
 ghost use Rattle.ipc_io.specs.Outside.{Rose, Lacks};
 ghost use Rattle.ipc_tool.specs.Refusal.{number_of};
-ghost use Rattle.ipc_tool.specs.Request.{texts, whole_input, schema_of_input, begins_with_stream, WordsCause};
+ghost use Rattle.ipc_words.specs.Requests.{request_of as asked_of};
+ghost use Rattle.ipc_words.specs.Views.{texts};
+ghost use Rattle.ipc_tool.specs.Request.{whole_input, schema_of_input, command_of, request_of, schema_request_of, WordsCause};
 ghost use Rattle.ipc_tool.specs.Input.{TakesTooMany, IsNoHex};
 ghost use Rattle.ipc_tool.specs.Run.{HasMeaning, HasText, IsRefused, IsWhole, IsText, AddsPartOf, AddsTextOf, RequestCause, SchemaCause, CommandAdds, CommandCause, NoneFailed, IsNoted, MayBe, IsComplete, IsTold, SourceFailed, name_in, outside_of, beside_shelf};
 ghost use Rattle.ipc_tool.specs.declared.refusal.Refusal.{Refusal};
@@ -13,7 +14,7 @@ ghost use Rattle.arrow_spec.specs.declared.error.IpcError.TheVariants.{TooLarge}
 use crate::input::read_hex;
 use crate::note::note_refusal;
 use crate::refusal::Refusal;
-use crate::request::{Command, read_words};
+use crate::request::{Command, read_command};
 use crate::schema_output::write_schema;
 use ipc_files::{Encoding, transcode_as};
 use ipc_schema::{Failed, Feed, Got, Shelf, Sink, Source};
@@ -150,7 +151,7 @@ fn work<H: Shelf, I: Feed, W: Sink>(
     ensures untouched { IfErr result (λ e. 14 ≤ number_of e → Keeps (W.written output.old) (W.written output.new)) }
     ensures not_read { IfErr result (λ e. number_of e ≡ 11 → Keeps (W.written output.old) (W.written output.new)) }
 {
-    match read_words(words)? {
+    match read_command(alloc, words)? {
         Command::Stream => stream_from_input(alloc, input, output),
         Command::Schema => schema_from_input(alloc, input, output),
     }
@@ -158,8 +159,9 @@ fn work<H: Shelf, I: Feed, W: Sink>(
 
 /// Answers what the words ask for.
 ///
-/// Both commands read hex text from the input to its end, which stands for the bytes of a file. `stream` alone adds to the output the hex text of one stream that means what the file means, and a line feed.
-/// `schema` alone adds the text of the schema that the file's footer says, for columns of all types and in either byte order, as it is and in one put.
+/// Both commands read hex text from the input to its end, which stands for the bytes of a file. `stream` adds to the output the hex text of one stream that means what the file means, and a line feed.
+/// `schema` adds the text of the schema that the file's footer says, for columns of all types and in either byte order, as it is and in one put.
+/// Columns, a limit, `--raw` and a NAME other than `-` are not built: they are refused before anything is read. Words that ask for help or the version are no request here.
 /// The status is 0 then, and else that of a refusal, of which one line is noted: `refused`, the status, the name. What the notes answer changes nothing.
 pub fn run<H: Shelf, I: Feed, W: Sink, N: Sink>(
     alloc: Global,
@@ -203,13 +205,14 @@ pub fn run<H: Shelf, I: Feed, W: Sink, N: Sink>(
         (outside_of H.held H.faults I.rest I.faults W.written W.faults shelf.old input.old output.old)
         (outside_of H.held H.faults I.rest I.faults W.written W.faults shelf.new input.new output.new)) }
     ensures write_fault { result ≡ 12 → Rose (W.faults output.old) (W.faults output.new) }
-    ensures words { (result ≡ 14) ↔ (IsNone (command_of (texts words.now)) × IsFalse (begins_with_stream (texts words.now))) }
-    ensures later_words { IsNone (command_of (texts words.now)) → IsTrue (begins_with_stream (texts words.now)) → result ≡ 2 }
+    ensures words { result ≡ 14 → IsNone (asked_of (texts words.now)) }
+    ensures no_request { IsNone (asked_of (texts words.now)) → (result ≡ 14) ⊎ (result ≡ 13) }
+    ensures later_words { IsSome (asked_of (texts words.now)) → IsNone (command_of (texts words.now)) → (result ≡ 2) ⊎ (result ≡ 13) }
     ensures not_hex { result ≡ 15 → IsNoHex (I.rest input.old) (I.rest input.new) }
     ensures too_long { result ≡ 16 → TakesTooMany (I.rest input.old) (I.rest input.new) }
     ensures no_name { result ≡ 17 → IsSomeAnd (command_of (texts words.now)) (λ c. IsSomeAnd (name_in c) (Lacks (H.held shelf.old))) }
 
-    // What was refused before a file was read added nothing, and words that are no request are refused before the input is read.
+    // What was refused before a file was read added nothing, and words that are no request, or one that is not built, are refused before the input is read.
     ensures untouched { 14 ≤ result → Keeps (W.written output.old) (W.written output.new) }
     ensures not_read { result ≡ 11 → IfSome (command_of (texts words.now)) (λ c. IsNone (name_in c) → Keeps (W.written output.old) (W.written output.new)) }
     ensures unread { IsNone (command_of (texts words.now)) → input.new ≡ input.old }

@@ -1,9 +1,15 @@
-//! What the words of a call ask for.
-ghost use Rattle.std.specs.Prelude.{◌∷◌, [], IfOk, IfErr};
-ghost use Rattle.ipc_tool.specs.Request.{texts, IsAsked, WordsCause};
+//! What the words of a call ask for, of what is built.
+ghost use Rattle.std.specs.Prelude.{◌≡◌, ◌⊎◌, IfOk, IfErr, None, Some};
+ghost use Rattle.arrow_spec.specs.declared.error.IpcError.TheVariants.{Memory};
+ghost use Rattle.ipc_words.specs.Views.{request_view, texts};
+ghost use Rattle.ipc_tool.specs.Commands.{asked_command};
+ghost use Rattle.ipc_tool.specs.Request.{WordsCause, command_of, is_built as is_built_request};
+ghost use Rattle.ipc_tool.specs.declared.refusal.Refusal.TheVariants.{Ipc};
 
 use crate::refusal::Refusal;
 use arrow_spec::{Feature, IpcError};
+use ipc_words::{Request, read_words};
+use std::alloc::Global;
 
 /// What words ask for, of the file whose hex text is the input.
 #[derive(Clone, Copy, Debug, PartialEq, Eq)]
@@ -14,30 +20,32 @@ pub enum Command {
     Schema,
 }
 
-// The request of one word.
-fn read_word(word: &str) -> Result<Command, Refusal>
-    ensures request { IfOk result (λ c. IsAsked c (word.now ∷ [])) }
-    ensures cause { IfErr result (λ e. WordsCause e (word.now ∷ [])) }
+// Whether what is asked for is built: no columns, no limit, hex text, and the input.
+fn is_built(request: &Request<'_>) -> bool
+    ensures { result ≡ is_built_request (request_view request.now) }
 {
-    if word == "stream" {
-        return Ok(Command::Stream);
+    match request {
+        Request::Stream(stream) => {
+            stream.columns.is_none()
+                && stream.limit.is_none()
+                && !stream.raw
+                && stream.name.is_none()
+        }
+        Request::Schema(name) => name.is_none(),
     }
-    if word == "schema" {
-        return Ok(Command::Schema);
-    }
-    Err(Refusal::Words)
 }
 
-/// The request of the words. Two are read today: `stream` alone, and `schema` alone.
-pub fn read_words(words: &[&str]) -> Result<Command, Refusal>
-    ensures request { IfOk result (λ c. IsAsked c (texts words.now)) }
-    ensures cause { IfErr result (λ e. WordsCause e (texts words.now)) }
+/// The command that the words ask for: `stream` or `schema`, of the whole input.
+pub fn read_command(alloc: Global, words: &[&str]) -> Result<Command, Refusal>
+    ensures request { IfOk result (λ c. command_of (texts words.now) ≡ Some (asked_command c)) }
+    ensures cause { IfErr result (λ e. (e ≡ Ipc Memory) ⊎ ((command_of (texts words.now) ≡ None) × WordsCause e (texts words.now))) }
 {
-    match words {
-        [word] => read_word(word),
-        [word, ..] if *word == "stream" => Err(Refusal::Ipc(IpcError::Unsupported(
-            Feature::NotYet,
-        ))),
-        _ => Err(Refusal::Words),
+    let request = read_words(alloc, words)?;
+    if !is_built(&request) {
+        return Err(Refusal::Ipc(IpcError::Unsupported(Feature::NotYet)));
+    }
+    match request {
+        Request::Stream(_) => Ok(Command::Stream),
+        Request::Schema(_) => Ok(Command::Schema),
     }
 }

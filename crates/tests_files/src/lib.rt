@@ -1,4 +1,4 @@
-//! Files and streams through `transcode`, runs of the program, readers and writers, and the texts of refusals. All of it is tests.
+//! Files and streams through `transcode`, runs of the program and its words, readers and writers, and the texts of refusals. All of it is tests.
 #![tactic(auto)]
 
 #[cfg(test)]
@@ -17,3 +17,5 @@ mod refusal_texts;
 mod runs;
 #[cfg(test)]
 mod transcodes;
+#[cfg(test)]
+mod words;

@@ -132,6 +132,13 @@ const CASES: &[Case] = &[
         ..REFUSED
     },
     Case {
+        title: "help is no request here",
+        words: &["stream", "--help"],
+        status: 14,
+        notes: b"refused 14 Words\n",
+        ..REFUSED
+    },
+    Case {
         title: "a word that is not built yet, before the input",
         words: &["stream", "--raw"],
         failing_pulls: &[0],
@@ -187,11 +194,18 @@ const OF_SCHEMAS: &[Case] = &[
         ..WHOLE
     },
     Case {
-        title: "a word behind the command",
+        title: "the name - stands for the input",
+        words: &["schema", "-"],
+        text: &[Part::SchemaText],
+        added: 26,
+        ..WHOLE
+    },
+    Case {
+        title: "a name that is not built yet, before the input",
         words: &["schema", "x"],
         failing_pulls: &[0],
-        status: 14,
-        notes: b"refused 14 Words\n",
+        status: 2,
+        notes: b"refused 2 NotYet\n",
         ..REFUSED
     },
     Case {

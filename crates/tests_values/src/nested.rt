@@ -37,8 +37,9 @@ fn pair_type(alloc: Global) -> Result<ArrowDataType, AllocError> {
 
 /// Lists of two numbers each.
 fn pairs(alloc: Global, rows: usize, items: &[i8]) -> Result<Array, ArrayError> {
+    let dtype = pair_type(alloc)?;
     let items = numbers(alloc, items)?;
-    let array = FixedSizeListArray::try_new(alloc, pair_type(alloc)?, rows, items, None)?;
+    let array = FixedSizeListArray::try_new(alloc, dtype, rows, items, None)?;
     Ok(Array::FixedSizeList(array))
 }
 
@@ -75,8 +76,9 @@ fn map_type(alloc: Global) -> Result<ArrowDataType, AllocError> {
 /// Maps of three entries.
 fn maps(alloc: Global, ends: &[i32]) -> Result<Array, ArrayError> {
     let offsets = Buffer::from_vec(ends.to_vec(alloc)?)?;
+    let dtype = map_type(alloc)?;
     let entries = structs(alloc, 3, &[4, 5, 6])?;
-    Ok(Array::Map(MapArray::try_new(alloc, map_type(alloc)?, offsets, entries, None)?))
+    Ok(Array::Map(MapArray::try_new(alloc, dtype, offsets, entries, None)?))
 }
 
 /// Dense unions of numbers under the ids 5 and 7.

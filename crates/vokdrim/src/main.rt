@@ -1,4 +1,4 @@
-//! An Arrow file as hex text on standard input; on standard output an Arrow stream as hex text, or the text of its schema.
+//! An Arrow file as hex text on standard input; on standard output an Arrow stream as hex text, or the text of its schema; or the text of help or of the version.
 #![tactic(auto)]
 
 ghost use Rattle.std.specs.Process.{exit_status};

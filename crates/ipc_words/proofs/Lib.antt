@@ -1,0 +1,8 @@
+mod Building
+mod CommandNames
+mod DecimalSteps
+mod ErrorSteps
+mod HelpLemmas
+pub mod NumberSteps
+mod Parsing
+mod WorkedWords

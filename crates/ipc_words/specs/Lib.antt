@@ -1,0 +1,6 @@
+pub mod CommandLine
+pub mod Commands
+pub mod Help
+pub mod Numbers
+pub mod Requests
+pub mod Views

@@ -1,0 +1,25 @@
+-- The requests that the program reads, as those of the definition.
+use Rattle.std.specs.Prelude.{ℕ, List, Vec, map, option_map}
+use Rattle.std.specs.declared.alloc.Global.{Global}
+use Rattle.std.specs.Borrow.{Bor}
+use Rattle.clap.specs.Walk.{Text}
+use Rattle.ipc_words.specs.Requests.{Request, Stream, schema, stream}
+use Rattle.ipc_words.specs.declared.requests.Stream.{Stream as GivenStream}
+use Rattle.ipc_words.specs.declared.requests.Request.{Request as Given}
+use Rattle.ipc_words.specs.declared.requests.Request.TheVariants as given
+
+abbrev pub text : Bor Text → Text
+text t = t.now
+
+abbrev pub texts : List (Bor Text) → List Text
+texts words = map text words
+
+abbrev pub numbers : Vec ℕ Global → List ℕ
+numbers v = v.items
+
+abbrev pub stream_view : GivenStream → Stream
+stream_view s = record { columns = option_map numbers s.columns; limit = s.limit; raw = s.raw; name = option_map text s.name }
+
+abbrev pub request_view : Given → Request
+request_view (given.Stream s) = stream (stream_view s)
+request_view (given.Schema name) = schema (option_map text name)

@@ -1,0 +1,68 @@
+//! What `clap` found of a command's own words.
+ghost use Rattle.std.specs.Prelude.{◌≡◌, IfOk, IfErr, Some, None, option_map};
+ghost use Rattle.clap.specs.Walk.{first_of, rows_of};
+ghost use Rattle.clap.specs.Words.{found_of};
+ghost use Rattle.ipc_words.specs.Requests.{columns_in, is_on, limit_in, name_in};
+ghost use Rattle.ipc_words.specs.Views.{numbers, text};
+ghost use Rattle.ipc_words.specs.declared.words_error.WordsError.TheVariants.{NoRequest};
+
+use crate::numbers::{read_decimal, read_numbers};
+use crate::words_error::WordsError;
+use clap::ArgMatches;
+use std::alloc::Global;
+
+// The first value under an id.
+fn text_in<'a>(found: &ArgMatches<'a>, id: &str) -> Option<&'a str>
+    ensures { option_map text result ≡ first_of id.now (rows_of (found_of found.now)) }
+{
+    found.get_str(id)
+}
+
+/// Whether a flag was given.
+pub(crate) fn is_flag_in(found: &ArgMatches<'_>, id: &str) -> bool
+    ensures { result ≡ is_on id.now (rows_of (found_of found.now)) }
+{
+    match text_in(found, id) {
+        Some(value) => value == "true",
+        None => false,
+    }
+}
+
+/// --columns LIST
+pub(crate) fn read_columns(
+    alloc: Global,
+    found: &ArgMatches<'_>,
+) -> Result<Option<Vec<usize>>, WordsError>
+    ensures asked { IfOk result (λ r. columns_in (rows_of (found_of found.now)) ≡ Some (option_map numbers r)) }
+    ensures refused { IfErr result (λ e. e ≡ NoRequest → columns_in (rows_of (found_of found.now)) ≡ None) }
+{
+    match text_in(found, "columns") {
+        Some(text) => {
+            let columns = read_numbers(alloc, text.as_bytes())?;
+            Ok(Some(columns))
+        }
+        None => Ok(None),
+    }
+}
+
+/// --limit N
+pub(crate) fn read_limit(found: &ArgMatches<'_>) -> Result<Option<usize>, WordsError>
+    ensures asked { IfOk result (λ r. limit_in (rows_of (found_of found.now)) ≡ Some r) }
+    ensures refused { IfErr result (λ e. e ≡ NoRequest → limit_in (rows_of (found_of found.now)) ≡ None) }
+{
+    match text_in(found, "limit") {
+        Some(text) => match read_decimal(text.as_bytes()) {
+            Some(limit) => Ok(Some(limit as usize)),
+            None => Err(WordsError::NoRequest),
+        },
+        None => Ok(None),
+    }
+}
+
+/// [NAME], where `-` stands for the input.
+pub(crate) fn read_name<'a>(found: &ArgMatches<'a>) -> Option<&'a str>
+    ensures { option_map text result ≡ name_in (rows_of (found_of found.now)) }
+{
+    let name = text_in(found, "NAME")?;
+    if name == "-" { None } else { Some(name) }
+}

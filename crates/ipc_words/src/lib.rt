@@ -1,0 +1,15 @@
+//! The words of the command line: what they ask for, read with `clap`, and the texts of help and of the version.
+#![tactic(auto)]
+
+mod command_line;
+mod found;
+mod help;
+mod numbers;
+mod requests;
+mod words;
+mod words_error;
+
+pub use help::help_text;
+pub use requests::{Request, Stream};
+pub use words::read_words;
+pub use words_error::WordsError;

@@ -1,0 +1,23 @@
+//! What words may ask for.
+
+/// stream [--columns LIST] [--limit N] [--raw] [NAME]
+#[derive(Debug, Drop, PartialEq, Eq)]
+pub struct Stream<'a> {
+    /// The columns, or all of them.
+    pub columns: Option<Vec<usize>>,
+    /// The greatest number of rows, or all of them.
+    pub limit: Option<usize>,
+    /// Whether the stream is put as it is, and not as hex text.
+    pub raw: bool,
+    /// The name of the file, or the input.
+    pub name: Option<&'a str>,
+}
+
+/// What words ask for.
+#[derive(Debug, Drop, PartialEq, Eq)]
+pub enum Request<'a> {
+    /// A stream of a file.
+    Stream(Stream<'a>),
+    /// The text of a file's schema, by the name of the file, or of the input.
+    Schema(Option<&'a str>),
+}
