@@ -31,6 +31,13 @@ fn lists(alloc: Global) -> Result<ListArray, ArrayError> {
     )
 }
 
+/// What an array is written as, which is not needed behind it.
+fn written(alloc: Global, array: Array) -> Result<Written, Fail> {
+    let written = encoded(alloc, &array);
+    drop(array);
+    written
+}
+
 /// Whether the nodes and the buffers are these.
 fn lies(written: &Written, nodes: &[(i64, i64)], places: &[(i64, i64)]) -> bool {
     if written.nodes.len() != nodes.len() || written.buffers.len() != places.len() {
@@ -84,9 +91,7 @@ fn stands(body: &[u8], at: usize, bytes: &[u8]) -> bool {
 #[test]
 fn lists_and_their_items(rt: HostRuntime) -> Result<(), Fail> {
     let alloc = rt.alloc();
-    let array = Array::List(lists(alloc)?);
-    let written = encoded(alloc, &array)?;
-    drop(array);
+    let written = written(alloc, Array::List(lists(alloc)?))?;
     assert!(rt;
         lies(
             &written,
@@ -110,9 +115,7 @@ fn a_part_of_lists_has_its_items_alone(rt: HostRuntime) -> Result<(), Fail> {
     let alloc = rt.alloc();
     let lists = lists(alloc)?;
     assert!(rt; lists.len() == 4);
-    let array = Array::List(lists.sliced(1, 3));
-    let written = encoded(alloc, &array)?;
-    drop(array);
+    let written = written(alloc, Array::List(lists.sliced(1, 3)))?;
     assert!(rt;
         lies(
             &written,

@@ -143,8 +143,9 @@ fn holds_texts(
 fn texts_have_their_values_and_their_nulls(rt: HostRuntime) -> Result<(), Fail> {
     let places = [(16, 1), (24, 16), (40, 3)];
     let texts = first(rt.alloc(), &places, ArrowDataType::Utf8)?;
-    assert!(rt; holds_texts(rt.alloc(), &texts, &[0, 1, 3, 3], b"xyz")?);
+    let held = holds_texts(rt.alloc(), &texts, &[0, 1, 3, 3], b"xyz");
     drop(texts);
+    assert!(rt; held?);
     Ok(())
 }
 

@@ -81,8 +81,9 @@ fn a_view_has_its_text_or_leads_to_it(rt: HostRuntime) -> Result<(), Fail> {
 #[test]
 fn bits_past_the_end_of_a_validity_are_zeros(rt: HostRuntime) -> Result<(), Fail> {
     let array = uint8(rt.alloc())?;
-    let written = encoded(rt.alloc(), &array)?;
-    assert!(rt; written.body.first() == Some(&0b1011));
+    let written = encoded(rt.alloc(), &array);
+    drop(array);
+    assert!(rt; written?.body.first() == Some(&0b1011));
     Ok(())
 }
 
