@@ -10,3 +10,5 @@ pub mod SameRows
 pub mod CellRows
 pub mod SameBatches
 pub mod UnionPlaces
+pub mod CarriedTypes
+pub mod EmptyTops

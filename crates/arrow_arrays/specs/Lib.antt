@@ -16,3 +16,5 @@ pub mod RowCells
 pub mod Contents
 pub mod BatchCode
 pub mod SameBatches
+pub mod Carried
+pub mod EmptyTops

@@ -1,11 +1,11 @@
-//! Arrays without rows.
-ghost use Rattle.std.specs.Prelude.{◌≡◌, ◌∷◌, ◌<◌, [], map, pos, None, IfOk, true};
+//! Arrays of no rows and without children.
+ghost use Rattle.std.specs.Prelude.{◌≡◌, ◌∷◌, ◌<◌, [], map, pos, None, IfOk, true, false};
 ghost use Rattle.arrow_types.specs.KindOf.{kind_of};
 ghost use Rattle.arrow_types.specs.Physical.{primitive_size, physical_of};
 ghost use Rattle.arrow_buffers.specs.Layouts.{is_null, is_boolean, is_primitive, is_variable, is_view, binary_size};
 ghost use Rattle.arrow_arrays.specs.Parts.{kind_in, rows_in};
 ghost use Rattle.arrow_arrays.specs.PartsOf.{parts_of};
-ghost use Rattle.arrow_arrays.specs.LeafKinds.{is_leaf_kind};
+ghost use Rattle.arrow_arrays.specs.LeafKinds.{is_leaf_layout};
 
 use crate::array::Array;
 use arrow_buffers::{
@@ -15,24 +15,48 @@ use arrow_buffers::{
 use arrow_types::{ArrowDataType, NativeType, Offset, PhysicalType, PrimitiveType};
 use std::alloc::{AllocError, Global};
 
-fn no_nulls(dtype: ArrowDataType) -> NullArray
+fn no_nulls(dtype: ArrowDataType) -> Array
     requires { is_null (physical_of (kind_of dtype)) ≡ true }
-    ensures { result ≡ record { kind = kind_of dtype; rows = 0 } }
+    ensures kind { kind_in (parts_of result) ≡ kind_of dtype }
+    ensures rows { rows_in (parts_of result) ≡ 0 }
 {
     match NullArray::try_new(dtype, 0) {
-        Ok(array) => array,
+        Ok(array) => Array::Null(array),
         Err(_) => unreachable!(),
     }
 }
 
-fn no_bits(alloc: Global, dtype: ArrowDataType) -> Result<BooleanArray, AllocError>
+fn no_bits(alloc: Global, dtype: ArrowDataType) -> Result<Array, AllocError>
     requires { is_boolean (physical_of (kind_of dtype)) ≡ true }
-    ensures { IfOk result (λ a. a ≡ record { kind = kind_of dtype; values = []; validity = None }) }
+    ensures kind { IfOk result (λ a. kind_in (parts_of a) ≡ kind_of dtype) }
+    ensures rows { IfOk result (λ a. rows_in (parts_of a) ≡ 0) }
 {
-    let values = Bitmap::from_vec(Vec::new(alloc), 0)?;
-    match BooleanArray::try_new(dtype, values, None) {
-        Ok(array) => Ok(array),
-        Err(_) => unreachable!(),
+    match Bitmap::from_vec(Vec::new(alloc), 0) {
+        Ok(values) => match BooleanArray::try_new(dtype, values, None) {
+            Ok(array) => Ok(Array::Boolean(array)),
+            Err(_) => unreachable!(),
+        },
+        Err(error) => {
+            drop(dtype);
+            Err(error)
+        }
+    }
+}
+
+fn no_fixed(alloc: Global, dtype: ArrowDataType) -> Result<Array, AllocError>
+    requires { 0 < binary_size (kind_of dtype) }
+    ensures kind { IfOk result (λ a. kind_in (parts_of a) ≡ kind_of dtype) }
+    ensures rows { IfOk result (λ a. rows_in (parts_of a) ≡ 0) }
+{
+    match Buffer::from_vec(Vec::new(alloc)) {
+        Ok(values) => match FixedSizeBinaryArray::try_new(dtype, values, None) {
+            Ok(array) => Ok(Array::FixedSizeBinary(array)),
+            Err(_) => unreachable!(),
+        },
+        Err(error) => {
+            drop(dtype);
+            Err(error)
+        }
     }
 }
 
@@ -43,65 +67,15 @@ fn no_numbers<T: NativeType>(
     requires { is_primitive T.PRIMITIVE (physical_of (kind_of dtype)) ≡ true }
     ensures { IfOk result (λ a. a ≡ record { kind = kind_of dtype; values = []; validity = None }) }
 {
-    let values = Buffer::from_vec(Vec::new(alloc))?;
-    match PrimitiveArray::try_new(dtype, values, None) {
-        Ok(array) => Ok(array),
-        Err(_) => unreachable!(),
-    }
-}
-
-fn no_fixed(alloc: Global, dtype: ArrowDataType) -> Result<FixedSizeBinaryArray, AllocError>
-    requires { 0 < binary_size (kind_of dtype) }
-    ensures { IfOk result (λ a. a ≡ record { kind = kind_of dtype; values = []; validity = None }) }
-{
-    let values = Buffer::from_vec(Vec::new(alloc))?;
-    match FixedSizeBinaryArray::try_new(dtype, values, None) {
-        Ok(array) => Ok(array),
-        Err(_) => unreachable!(),
-    }
-}
-
-/// The offset from which a first row would begin.
-fn first_offset(alloc: Global) -> Result<Buffer<i32>, AllocError>
-    ensures { IfOk result (λ b. b ≡ pos 0 ∷ []) }
-{
-    Buffer::from_vec(vec![in alloc; 0]?)
-}
-
-/// The same in 64 bits.
-fn first_large_offset(alloc: Global) -> Result<Buffer<i64>, AllocError>
-    ensures { IfOk result (λ b. b ≡ pos 0 ∷ []) }
-{
-    Buffer::from_vec(vec![in alloc; 0]?)
-}
-
-fn no_variable<O: Offset, V: ViewType>(
-    alloc: Global,
-    dtype: ArrowDataType,
-    offsets: Buffer<O>,
-) -> Result<VariableArray<O, V>, AllocError>
-    requires layout { is_variable V.IS_TEXT O.IS_LARGE (physical_of (kind_of dtype)) ≡ true }
-    requires start { map O.number offsets ≡ pos 0 ∷ [] }
-    ensures { IfOk result (λ a. a ≡ record { kind = kind_of dtype; offsets = pos 0 ∷ []; values = []; validity = None }) }
-{
-    let values = Buffer::from_vec(Vec::new(alloc))?;
-    match VariableArray::try_new(dtype, offsets, values, None) {
-        Ok(array) => Ok(array),
-        Err(_) => unreachable!(),
-    }
-}
-
-fn no_views<V: ViewType>(
-    alloc: Global,
-    dtype: ArrowDataType,
-) -> Result<BinaryViewArrayGeneric<V>, AllocError>
-    requires { is_view V.IS_TEXT (physical_of (kind_of dtype)) ≡ true }
-    ensures { IfOk result (λ a. a ≡ record { kind = kind_of dtype; views = []; buffers = []; validity = None }) }
-{
-    let views = Buffer::from_vec(Vec::new(alloc))?;
-    match BinaryViewArrayGeneric::try_new(dtype, views, Vec::new(alloc), None) {
-        Ok(array) => Ok(array),
-        Err(_) => unreachable!(),
+    match Buffer::from_vec(Vec::new(alloc)) {
+        Ok(values) => match PrimitiveArray::try_new(dtype, values, None) {
+            Ok(array) => Ok(array),
+            Err(_) => unreachable!(),
+        },
+        Err(error) => {
+            drop(dtype);
+            Err(error)
+        }
     }
 }
 
@@ -135,29 +109,133 @@ fn empty_numbers(
     }
 }
 
-/// An array of the type that has no rows.
-pub fn new_empty_array(alloc: Global, dtype: ArrowDataType) -> Result<Array, AllocError>
-    requires { is_leaf_kind (kind_of dtype) ≡ true }
+/// The offset from which a first row would begin.
+pub(crate) fn first_offset(alloc: Global) -> Result<Buffer<i32>, AllocError>
+    ensures { IfOk result (λ b. b ≡ pos 0 ∷ []) }
+{
+    Buffer::from_vec(vec![in alloc; 0]?)
+}
+
+/// The same in 64 bits.
+pub(crate) fn first_large_offset(alloc: Global) -> Result<Buffer<i64>, AllocError>
+    ensures { IfOk result (λ b. b ≡ pos 0 ∷ []) }
+{
+    Buffer::from_vec(vec![in alloc; 0]?)
+}
+
+/// That offset, and no bytes.
+fn first_place(alloc: Global) -> Result<(Buffer<i32>, Buffer<u8>), AllocError>
+    ensures offsets { IfOk result (λ r. r.0 ≡ pos 0 ∷ []) }
+    ensures values { IfOk result (λ r. r.1 ≡ []) }
+{
+    let offsets = first_offset(alloc)?;
+    Ok((offsets, Buffer::from_vec(Vec::new(alloc))?))
+}
+
+/// The same in 64 bits.
+fn first_large_place(alloc: Global) -> Result<(Buffer<i64>, Buffer<u8>), AllocError>
+    ensures offsets { IfOk result (λ r. r.0 ≡ pos 0 ∷ []) }
+    ensures values { IfOk result (λ r. r.1 ≡ []) }
+{
+    let offsets = first_large_offset(alloc)?;
+    Ok((offsets, Buffer::from_vec(Vec::new(alloc))?))
+}
+
+fn no_variable<O: Offset, V: ViewType>(
+    dtype: ArrowDataType,
+    offsets: Buffer<O>,
+    values: Buffer<u8>,
+) -> VariableArray<O, V>
+    requires layout { is_variable V.IS_TEXT O.IS_LARGE (physical_of (kind_of dtype)) ≡ true }
+    requires start { map O.number offsets ≡ pos 0 ∷ [] }
+    requires values { values ≡ [] }
+    ensures { result ≡ record { kind = kind_of dtype; offsets = pos 0 ∷ []; values = []; validity = None } }
+{
+    match VariableArray::try_new(dtype, offsets, values, None) {
+        Ok(array) => array,
+        Err(_) => unreachable!(),
+    }
+}
+
+fn no_small(alloc: Global, dtype: ArrowDataType, is_text: bool) -> Result<Array, AllocError>
+    requires { is_variable is_text false (physical_of (kind_of dtype)) ≡ true }
     ensures kind { IfOk result (λ a. kind_in (parts_of a) ≡ kind_of dtype) }
     ensures rows { IfOk result (λ a. rows_in (parts_of a) ≡ 0) }
 {
-    match dtype.to_physical_type() {
-        PhysicalType::Null => Ok(Array::Null(no_nulls(dtype))),
-        PhysicalType::Boolean => Ok(Array::Boolean(no_bits(alloc, dtype)?)),
+    match first_place(alloc) {
+        Ok((offsets, values)) => {
+            if is_text {
+                Ok(Array::Utf8(no_variable(dtype, offsets, values)))
+            } else {
+                Ok(Array::Binary(no_variable(dtype, offsets, values)))
+            }
+        }
+        Err(error) => {
+            drop(dtype);
+            Err(error)
+        }
+    }
+}
+
+fn no_large(alloc: Global, dtype: ArrowDataType, is_text: bool) -> Result<Array, AllocError>
+    requires { is_variable is_text true (physical_of (kind_of dtype)) ≡ true }
+    ensures kind { IfOk result (λ a. kind_in (parts_of a) ≡ kind_of dtype) }
+    ensures rows { IfOk result (λ a. rows_in (parts_of a) ≡ 0) }
+{
+    match first_large_place(alloc) {
+        Ok((offsets, values)) => {
+            if is_text {
+                Ok(Array::LargeUtf8(no_variable(dtype, offsets, values)))
+            } else {
+                Ok(Array::LargeBinary(no_variable(dtype, offsets, values)))
+            }
+        }
+        Err(error) => {
+            drop(dtype);
+            Err(error)
+        }
+    }
+}
+
+fn no_views<V: ViewType>(
+    alloc: Global,
+    dtype: ArrowDataType,
+) -> Result<BinaryViewArrayGeneric<V>, AllocError>
+    requires { is_view V.IS_TEXT (physical_of (kind_of dtype)) ≡ true }
+    ensures { IfOk result (λ a. a ≡ record { kind = kind_of dtype; views = []; buffers = []; validity = None }) }
+{
+    match Buffer::from_vec(Vec::new(alloc)) {
+        Ok(views) => match BinaryViewArrayGeneric::try_new(dtype, views, Vec::new(alloc), None) {
+            Ok(array) => Ok(array),
+            Err(_) => unreachable!(),
+        },
+        Err(error) => {
+            drop(dtype);
+            Err(error)
+        }
+    }
+}
+
+/// An array without children of the type that has no rows.
+pub(crate) fn empty_leaf(
+    alloc: Global,
+    dtype: ArrowDataType,
+    layout: PhysicalType,
+) -> Result<Array, AllocError>
+    requires layout { layout ≡ physical_of (kind_of dtype) }
+    requires leaf { is_leaf_layout layout (binary_size (kind_of dtype)) ≡ true }
+    ensures kind { IfOk result (λ a. kind_in (parts_of a) ≡ kind_of dtype) }
+    ensures rows { IfOk result (λ a. rows_in (parts_of a) ≡ 0) }
+{
+    match layout {
+        PhysicalType::Null => Ok(no_nulls(dtype)),
+        PhysicalType::Boolean => no_bits(alloc, dtype),
         PhysicalType::Primitive(number) => empty_numbers(alloc, dtype, number),
-        PhysicalType::Binary => Ok(Array::Binary(no_variable(alloc, dtype, first_offset(alloc)?)?)),
-        PhysicalType::LargeBinary => Ok(Array::LargeBinary(no_variable(
-            alloc,
-            dtype,
-            first_large_offset(alloc)?,
-        )?)),
-        PhysicalType::FixedSizeBinary => Ok(Array::FixedSizeBinary(no_fixed(alloc, dtype)?)),
-        PhysicalType::Utf8 => Ok(Array::Utf8(no_variable(alloc, dtype, first_offset(alloc)?)?)),
-        PhysicalType::LargeUtf8 => Ok(Array::LargeUtf8(no_variable(
-            alloc,
-            dtype,
-            first_large_offset(alloc)?,
-        )?)),
+        PhysicalType::Binary => no_small(alloc, dtype, false),
+        PhysicalType::LargeBinary => no_large(alloc, dtype, false),
+        PhysicalType::FixedSizeBinary => no_fixed(alloc, dtype),
+        PhysicalType::Utf8 => no_small(alloc, dtype, true),
+        PhysicalType::LargeUtf8 => no_large(alloc, dtype, true),
         PhysicalType::BinaryView => Ok(Array::BinaryView(no_views(alloc, dtype)?)),
         PhysicalType::Utf8View => Ok(Array::Utf8View(no_views(alloc, dtype)?)),
         PhysicalType::List

@@ -1,12 +1,12 @@
 //! Arrays of lists of one size (Arrow Columnar Format, "Fixed-Size List Layout").
-ghost use Rattle.std.specs.Prelude.{◌≡◌, ◌+◌, ◌*◌, ◌≤◌, ◌<◌, ◌≢◌, length, Some, None, IfOk, IfErr, true, nat_eq, ◌&&◌, [], ◌∷◌};
+ghost use Rattle.std.specs.Prelude.{◌≡◌, ◌+◌, ◌*◌, ◌≤◌, ◌<◌, ◌≢◌, length, Some, None, IfOk, IfErr, true, ◌&&◌, [], ◌∷◌};
 ghost use Rattle.std.specs.Option.{option_map};
 ghost use Rattle.arrow_types.specs.KindOf.{kind_of};
 ghost use Rattle.arrow_buffers.specs.declared.error.ArrayError.TheVariants.{Memory};
 ghost use Rattle.arrow_buffers.specs.Rows.{part, has_rows, null_rows};
-ghost use Rattle.arrow_arrays.specs.Heads.{sized, counted_part, first_or_0, is_sized, list_size, child_fields, are_of, run};
+ghost use Rattle.arrow_arrays.specs.Heads.{sized, counted_part, first_or_0, is_sized, list_size, child_fields, are_of, are_all, run};
 ghost use Rattle.arrow_arrays.specs.Parts.{nested, rows_each, cells_in, cut, fault_in};
-ghost use Rattle.arrow_arrays.specs.PartsOf.{parts_of, only};
+ghost use Rattle.arrow_arrays.specs.PartsOf.{only};
 
 use crate::array::{Array, FixedSizeListArray};
 use crate::list::is_of;
@@ -38,7 +38,7 @@ fn size_of(dtype: &ArrowDataType) -> usize
 
 /// Whether there are so many items, of each row one size.
 fn are_whole(items: usize, size: usize, rows: usize) -> bool
-    ensures { result ≡ nat_eq items (size * rows) }
+    ensures { result ≡ are_all (size * rows) (items ∷ []) }
 {
     match size.checked_mul(rows) {
         Some(count) => items == count,

@@ -2,7 +2,9 @@
 #![tactic(auto)]
 
 mod array;
+mod carried;
 mod empty;
+mod empty_nested;
 mod fixed_size_list;
 mod list;
 mod map;
@@ -20,7 +22,8 @@ mod union_types;
 pub use array::{
     Array, ArrayRef, FixedSizeListArray, ListArray, MapArray, StructArray, UnionArray,
 };
-pub use empty::new_empty_array;
+pub use carried::is_carried;
+pub use empty_nested::new_empty_array;
 pub use offsets::ListOffsets;
 pub use pieces::extend_from_lengths;
 pub use record_batch::{BatchError, RecordBatch, RecordBatchT};

@@ -21,7 +21,7 @@ use arrow_types::ArrowDataType;
 use std::alloc::{AllocError, Global};
 
 /// Whether a type is of structs of two fields, extensions looked through.
-fn is_entry(dtype: &ArrowDataType) -> bool
+pub(crate) fn is_entry(dtype: &ArrowDataType) -> bool
     ensures { result ≡ is_struct_of_two (kind_of dtype.now) }
 {
     match dtype {

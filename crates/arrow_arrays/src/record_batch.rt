@@ -5,6 +5,7 @@ ghost use Rattle.arrow_arrays.specs.PartsOf.{all_parts_of};
 ghost use Rattle.arrow_arrays.specs.Batches.{batch_fault, have_rows};
 
 use crate::array::Array;
+use crate::structs::clone_each;
 use arrow_types::ArrowSchemaRef;
 use std::alloc::{AllocError, Global};
 use std::marker::Model;
@@ -58,17 +59,6 @@ fn are_of_height(arrays: &[Array], height: usize) -> bool
         }
     }
     true
-}
-
-/// Second owners of the same arrays.
-fn clone_arrays(alloc: Global, arrays: &[Array]) -> Result<Vec<Array>, AllocError>
-    ensures { IfOk result (λ v. all_parts_of v.items ≡ all_parts_of arrays.now) }
-{
-    let mut clones = Vec::new(alloc);
-    for array in arrays {
-        clones.push(array.try_clone(alloc)?)?;
-    }
-    Ok(clones)
 }
 
 impl RecordBatchT {
@@ -188,7 +178,7 @@ impl RecordBatchT {
         Ok(RecordBatchT {
             height: self.height,
             schema: self.schema.clone()?,
-            arrays: clone_arrays(alloc, self.arrays.as_slice())?,
+            arrays: clone_each(alloc, self.arrays.as_slice())?,
         })
     }
 }

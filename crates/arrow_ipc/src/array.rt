@@ -2,7 +2,7 @@
 
 pub use arrow_arrays::{
     Array, ArrayRef, FixedSizeListArray, ListArray, ListOffsets, MapArray, StructArray, UnionArray,
-    extend_from_lengths, new_empty_array,
+    extend_from_lengths, is_carried, new_empty_array,
 };
 pub use arrow_buffers::{
     ArrayError, BinaryArray, BinaryViewArray, BinaryViewArrayGeneric, BooleanArray, ByteRows,

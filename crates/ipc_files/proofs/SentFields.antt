@@ -1,28 +1,30 @@
 -- Fields that are sent: their ids, and that a stream takes a schema of them as it is.
-use Rattle.std.proofs.Common.{◌≡◌, ℕ, zero, suc, ◌+◌, ◌^◌, ◌<◌, List, [], ◌∷◌, length, map, Option, None, Bool, true, false, ◌&&◌, refl, sym, ap, ◌∙◌, subst, arith, rules}
+use Rattle.std.proofs.Common.{◌≡◌, ℕ, zero, suc, ◌+◌, ◌^◌, ◌<◌, List, [], ◌∷◌, length, map, Option, None, Bool, true, false, ◌&&◌, ◌||◌, refl, sym, ap, ◌∙◌, subst, arith, rules}
 use Rattle.std.specs.Prelude.{ℤ, IsTrue, nat_eq, nat_lt, drop, get_or, slice_get, Some}
 use Rattle.std.specs.Rc.{rc_value}
 use Rattle.std.proofs.lemmas.Bool.{and_parts, and_from, eq-eqb}
 use Rattle.std.proofs.lemmas.Option.{slice_get-get_or, slice_get-map}
-use Rattle.arrow_spec.specs.Kinds.{Kind, Fields, none, field, decimal, decimal256, binary, utf8, fixed_size_binary, «list», fixed_size_list, struct, union, dictionary, extension, small, large, width, numbered, uses_in, uses_of}
+use Rattle.arrow_spec.specs.Kinds.{Kind, Fields, none, field, decimal, decimal256, binary, utf8, fixed_size_binary, «list», fixed_size_list, struct, union, dictionary, extension, small, large, width, same, are_same_ids, numbered, uses_in, uses_of}
 use Rattle.arrow_spec.specs.Kinds as kind
-use Rattle.arrow_spec.specs.Schema.{first_is_struct_of_two}
+use Rattle.arrow_spec.specs.Schema.{are_ids, counted_ids, first_is_struct_of_two}
 use Rattle.arrow_spec.specs.Regular.{is_no_dictionary, is_representable_kind, is_size, representable}
-use Rattle.arrow_spec.specs.WrittenSchemas.{FieldsFit, KindFits, Part, of_dictionary, of_extension, of_field}
+use Rattle.arrow_spec.specs.WrittenSchemas.{AreStated, FieldsFit, KindFits, Part, of_dictionary, of_extension, of_field}
 use Rattle.arrow_types.specs.Child.{Child}
 use Rattle.arrow_types.specs.Child as child
 use Rattle.arrow_types.specs.KindOf.{child_of, kind_of}
 use Rattle.arrow_types.specs.Schemas.{Keyed, fields_in}
+use Rattle.arrow_types.specs.UnionIds.{are_right}
 use Rattle.arrow_types.specs.declared.data_type.Field.{Field, the_lemmas}
 use Rattle.ipc_fields.specs.IpcFields.{Ids, no_fields, ids, ids_from, ids_of, fields_with, have_shapes, kind_with, tree_of, Tree}
 use Rattle.ipc_fields.specs.declared.ipc_field.IpcField.{IpcField}
+use Rattle.ipc_fields.proofs.KindSteps.{ids_equal}
 use Rattle.schema_writer.specs.Tables.{all_fit, fits_below}
 use Rattle.schema_writer.proofs.Saying.{representable_is}
 use Rattle.ipc_write_laws.proofs.PlainFields as plain
 use Rattle.arrow_arrays.specs.LeafKinds.{is_leaf_kind}
-use Rattle.ipc_read_laws.specs.Carried.{is_carried, are_carried}
+use Rattle.arrow_arrays.specs.Carried.{is_carried, are_carried}
 use Rattle.ipc_read_laws.proofs.Trees.{by_tree}
-use Rattle.transcode_laws.specs.Built.{are_sent_fields, are_unions_sent, is_sent_kind, so_far}
+use Rattle.transcode_laws.specs.Built.{are_sent_fields, is_sent_kind, so_far}
 use Rattle.transcode_laws.specs.Files.{IsSendable}
 use Rattle.transcode_laws.proofs.Schemas.{plain_sendable}
 use Rattle.transcode_laws.proofs.SentFields.{fields_carried, no_dictionaries}
@@ -51,7 +53,7 @@ mutual
   same_sent (fixed_size_list n fs) id below = ids_aside fs below
   same_sent (struct fs) id below = ids_aside fs below
   same_sent (kind.map sorted fs) id below = ids_aside fs below
-  same_sent (union mode stated types fs) id below = ap (λ b. are_unions_sent && b) (ids_aside fs below)
+  same_sent (union mode stated types fs) id below = ids_aside fs below
   same_sent (extension name metadata k) id below = same_sent k id below
   same_sent k id below = refl
 
@@ -67,7 +69,7 @@ mutual
   kind_stays (fixed_size_list n fs) id below h = ap (λ gs. fixed_size_list n gs) (fields_stay fs below h)
   kind_stays (struct fs) id below h = ap struct (fields_stay fs below h)
   kind_stays (kind.map sorted fs) id below h = ap (λ gs. kind.map sorted gs) (fields_stay fs below h)
-  kind_stays (union mode stated types fs) id below h = ap (λ gs. union mode stated types gs) (fields_stay fs below (and_parts are_unions_sent (are_sent_fields fs) h).1)
+  kind_stays (union mode stated types fs) id below h = ap (λ gs. union mode stated types gs) (fields_stay fs below h)
   kind_stays (dictionary t ordered old k) id below h = cc
   kind_stays (extension name metadata k) id below h = ap (λ l. extension name metadata l) (kind_stays k id below h)
   kind_stays k id below h = refl
@@ -93,7 +95,7 @@ mutual
   kind_has_no_uses (fixed_size_list n fs) h = no_uses fs h
   kind_has_no_uses (struct fs) h = no_uses fs h
   kind_has_no_uses (kind.map sorted fs) h = no_uses fs h
-  kind_has_no_uses (union mode stated types fs) h = no_uses fs (and_parts are_unions_sent (are_sent_fields fs) h).1
+  kind_has_no_uses (union mode stated types fs) h = no_uses fs h
   kind_has_no_uses (dictionary t ordered old k) h = cc
   kind_has_no_uses (extension name metadata k) h = kind_has_no_uses k h
   kind_has_no_uses k h = refl
@@ -113,6 +115,15 @@ no_dictionary : (k : Kind) → is_sent_kind k ≡ true → is_no_dictionary k �
 no_dictionary (dictionary t ordered old k) h = cc
 no_dictionary k h = refl
 
+-- ids that are not stated are counted
+same_itself : (types : List ℤ) → are_same_ids types types ≡ true
+same_itself [] = refl
+same_itself (x ∷ xs) = and_from (same x x) (are_same_ids xs xs) (ids_equal x x refl) (same_itself xs)
+
+stated_said : (stated : Bool) (types : List ℤ) (n : ℕ) → AreStated stated types n → (stated || are_same_ids types (counted_ids 0 n)) ≡ true
+stated_said true types n h = refl
+stated_said false types n h = ap (are_same_ids types) (sym h) ∙ same_itself types
+
 kind_said : (at : Part) (levels : ℕ) (k : Kind) → is_sent_kind k ≡ true → KindFits at levels k → is_representable_kind k ≡ true
 kind_said at levels (decimal p s) h fit = and_from (is_size p) (is_size s) (is_small p fit.0) (is_small s fit.1)
 kind_said at levels (fixed_size_binary n) h fit = is_small n fit.1
@@ -121,7 +132,7 @@ kind_said of_field levels (extension name metadata k) h fit = and_from (is_no_di
 kind_said of_dictionary levels (extension name metadata k) h fit = and_from (is_no_dictionary k) (is_representable_kind k) (no_dictionary k h) (kind_said of_extension levels k h fit.2)
 kind_said of_extension levels (extension name metadata k) h fit = absurd fit
 kind_said at levels (decimal256 p s) h fit = cc
-kind_said at levels (union mode stated types fs) h fit = cc
+kind_said at levels (union mode stated types fs) h fit = and_from (are_ids types && nat_eq (length types) (width fs) && nat_lt 0 (width fs)) (stated || are_same_ids types (counted_ids 0 (width fs))) fit.0 (stated_said stated types (width fs) fit.1)
 kind_said at levels (dictionary t ordered old k) h fit = cc
 kind_said at levels k h fit = refl
 
@@ -131,7 +142,7 @@ mutual
   below_said at levels (fixed_size_list n fs) h fit = fields_said levels fs h fit.3
   below_said at levels (struct fs) h fit = fields_said levels fs h fit
   below_said at levels (kind.map sorted fs) h fit = fields_said levels fs h fit.2
-  below_said at levels (union mode stated types fs) h fit = fields_said levels fs (and_parts are_unions_sent (are_sent_fields fs) h).1 fit.2
+  below_said at levels (union mode stated types fs) h fit = fields_said levels fs h fit.2
   below_said at levels (dictionary t ordered old k) h fit = cc
   below_said of_field levels (extension name metadata k) h fit = below_said of_extension levels k h fit.2
   below_said of_dictionary levels (extension name metadata k) h fit = below_said of_extension levels k h fit.2
@@ -183,9 +194,10 @@ carried_column = by_tree (λ k. is_column_kind k ≡ true) (λ fs. are_column_fi
   on_map = λ sorted fs w two g. and_from (nat_eq (width fs) 1 && first_is_struct_of_two fs) (are_column_fields fs) (and_from (nat_eq (width fs) 1) (first_is_struct_of_two fs) (eq-eqb (width fs) 1 w) two) g;
   on_sized = λ size fs w s g. and_from (nat_eq (width fs) 1 && nat_lt 0 size) (are_column_fields fs) (and_from (nat_eq (width fs) 1) (nat_lt 0 size) (eq-eqb (width fs) 1 w) s) g;
   on_struct = λ fs g. g;
+  on_union = λ mode stated types fs right g. and_from (are_right types (width fs)) (are_column_fields fs) right g;
   on_extension = λ name metadata k f. f;
   on_none = refl;
-  on_field = λ name nullable metadata k others f g. and_from (is_column_kind k) (are_column_fields others) f g;
+  on_field = λ name nullable metadata k others carried f g. and_from (is_column_kind k) (are_column_fields others) f g;
 })
 
 carried_columns : (s : List Keyed) → are_carried (fields_in s) ≡ true → are_column_kinds s ≡ true

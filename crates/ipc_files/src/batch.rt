@@ -71,7 +71,7 @@ pub(crate) fn read_block<S: Source>(
 ///
 /// # Errors
 ///
-/// `Unsupported(NotYet)` for chosen columns, a limit, and dictionaries, unions, floats and decimals of 256 bits below other columns;
+/// `Unsupported(NotYet)` for chosen columns, a limit, and dictionaries, floats and decimals of 256 bits below other columns;
 /// `Unsupported(Float)` and `Unsupported(Decimal256)` by the columns' kinds; `OutOfSpec` with the kind of the part of
 /// the block that is not as the format says; `Unsupported(Version)`, `Unsupported(Compression)`,
 /// `Unsupported(ViewBigEndian)`; `ReadFault`, `Memory`.

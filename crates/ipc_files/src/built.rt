@@ -1,4 +1,4 @@
-//! What of a file is built so far: files whose columns have no dictionaries, no unions, no floats and no decimals of 256 bits at any depth.
+//! What of a file is built so far: files whose columns have no dictionaries, no floats and no decimals of 256 bits at any depth.
 ghost use Rattle.std.specs.Prelude.{◌≡◌, ◌↔◌, ◌<◌, false, IsTrue, None, Some, length, map, slice_get};
 ghost use Rattle.arrow_spec.specs.Features.{feature_faults};
 ghost use Rattle.arrow_spec.specs.Readings.{IsAmong};
@@ -24,13 +24,13 @@ fn is_sent(dtype: &ArrowDataType) -> bool
         | ArrowDataType::Float32
         | ArrowDataType::Float64
         | ArrowDataType::Decimal256(_, _)
-        | ArrowDataType::Union(_)
         | ArrowDataType::Dictionary(_, _, _) => false,
         ArrowDataType::List(field) => is_field_sent(field),
         ArrowDataType::LargeList(field) => is_field_sent(field),
         ArrowDataType::FixedSizeList(field, _) => is_field_sent(field),
         ArrowDataType::Map(field, _) => is_field_sent(field),
         ArrowDataType::Struct(fields) => are_sent(fields.as_slice()),
+        ArrowDataType::Union(union) => are_sent(union.fields.as_slice()),
         ArrowDataType::Extension(extension) => is_sent(&extension.inner),
         _ => true,
     }

@@ -1,4 +1,4 @@
-//! Arrow files: what the footer says, record batches by their block, and the stream that means what a file means, for columns without children (Arrow Columnar Format, "IPC File Format").
+//! Arrow files: what the footer says, record batches by their block, and the stream that means what a file means, for columns without dictionaries (Arrow Columnar Format, "IPC File Format").
 #![tactic(auto)]
 
 mod batch;

@@ -22,7 +22,7 @@ use Rattle.std.specs.Prelude.{nat_eq}
 use Rattle.arrow_types.specs.Schemas.{Keyed}
 use Rattle.arrow_arrays.specs.Parts.{Parts}
 use Rattle.arrow_arrays.specs.Batches.{have_rows, batch_fault}
-use Rattle.ipc_read.specs.Queues.{Left, AllAt}
+use Rattle.ipc_read.specs.Queues.{Left, BatchAt}
 use Rattle.ipc_read.specs.Batches.{AreQueuesOf, MayBeRead, batch_reading}
 use Rattle.ipc_read.specs.Sources.{Told, Known, bytes_in}
 use Rattle.ipc_read.specs.declared.body.Body.{Body}
@@ -115,8 +115,8 @@ first_left : {A : Type 0} → (all rest : List A) → rest ≡ all → Left all 
 first_left all rest h = record { is = h; within = omega arith }
 
 -- the queues of a batch's tables are all of them
-pub all_at_first : (is_little : Bool) (version : MetadataVersion) (tables : BatchHeader) (bytes : List ℕ) (ns : List FieldNode) (bs : List IpcBuffer) (vs : List ℤ) → AreQueuesOf tables ns bs vs → AllAt (record_batch_of (order_by is_little) version tables bytes) first_place ns bs vs
-all_at_first is_little version tables bytes ns bs vs q = record { nodes = first_left tables.nodes ns q.nodes; buffers = first_left tables.buffers bs q.buffers; views = first_left tables.variadic vs q.variadic }
+pub all_at_first : (is_little : Bool) (version : MetadataVersion) (tables : BatchHeader) (bytes : List ℕ) (ns : List FieldNode) (bs : List IpcBuffer) (vs : List ℤ) → AreQueuesOf tables ns bs vs → BatchAt version (record_batch_of (order_by is_little) version tables bytes) first_place ns bs vs
+all_at_first is_little version tables bytes ns bs vs q = record { version = refl; all = record { nodes = first_left tables.nodes ns q.nodes; buffers = first_left tables.buffers bs q.buffers; views = first_left tables.variadic vs q.variadic } }
 
 pub known_some : (content : Option (List ℕ)) (body : Body) (is_little : Bool) (version : MetadataVersion) (tables : BatchHeader) (b : List ℕ) → content ≡ Some b → Known content body is_little (record_batch_of (order_by is_little) version tables (bytes_in body b))
 known_some content body is_little version tables b h = record { told = told_some content body b h; order = refl }

@@ -25,8 +25,12 @@ use Rattle.arrow_buffers.specs.Layouts.{binary_size}
 use Rattle.arrow_arrays.specs.LeafKinds.{is_leaf_kind, is_leaf_layout}
 use Rattle.ipc_read.specs.Skips.{is_plain_kind, is_plain_layout}
 use Rattle.ipc_read.specs.Batches.{unread_feature, is_column_kind, is_column_layout, are_column_fields, are_column_kinds, are_carried_kinds}
-use Rattle.ipc_read_laws.specs.Carried.{is_carried, are_carried}
+use Rattle.arrow_arrays.specs.Carried.{is_carried, are_carried}
 use Rattle.ipc_read.specs.CountedArrays.{is_any_counted, counted_kind}
+use Rattle.ipc_read.specs.Unions.{is_any_union, union_as}
+use Rattle.arrow_spec.specs.declared.types.UnionMode.{UnionMode}
+use Rattle.arrow_types.specs.UnionIds.{are_right}
+use Rattle.arrow_arrays.specs.Heads.{ids_in}
 use Rattle.ipc_read.proofs.Refusals.{refuses_left, none_of_both}
 use Rattle.ipc_read.proofs.Places.{kind_of_child}
 use Rattle.ipc_read.proofs.Nested.{wrapped, of_lists, left_child, drop_all}
@@ -157,6 +161,7 @@ mutual
       let a = and_parts (nat_eq (width fs) 1 && first_is_struct_of_two fs) (are_column_fields fs) h in and_from (nat_eq (width fs) 1 && first_is_struct_of_two fs) (are_carried fs) a.0 (columns_carried fs a.1 f)
   column_carried (fixed_size_list size fs) h f =
       let a = and_parts (nat_eq (width fs) 1 && nat_lt 0 size) (are_column_fields fs) h in and_from (nat_eq (width fs) 1 && nat_lt 0 size) (are_carried fs) a.0 (columns_carried fs a.1 f)
+  column_carried (union mode stated ids fs) h f = let a = and_parts (are_right ids (width fs)) (are_column_fields fs) h in and_from (are_right ids (width fs)) (are_carried fs) a.0 (columns_carried fs a.1 f)
   column_carried k h f = column_is_leaf k h f
 
   columns_carried : (fs : Fields) → are_column_fields fs ≡ true → floats_in fs ≡ [] → are_carried fs ≡ true
@@ -166,13 +171,14 @@ mutual
       let b = none_of_both (float_faults k) (floats_in others) f in
       and_from (is_carried k) (are_carried others) (column_carried k a.0 b.0) (columns_carried others a.1 b.1)
 
-pub column_plain : (k : Kind) → is_column_kind k ≡ true → is_any_counted k ≡ false → is_any_list k ≡ false → is_plain_kind k ≡ true
-column_plain (struct fs) h s l = cc
-column_plain (fixed_size_list size fs) h s l = cc
-column_plain («list» o fs) h s l = cc
-column_plain (map sorted fs) h s l = cc
-column_plain (extension name metadata k) h s l = column_plain k h s l
-column_plain k h s l = column_is_plain (physical_of k) (binary_size k) h
+pub column_plain : (k : Kind) → is_column_kind k ≡ true → is_any_counted k ≡ false → is_any_list k ≡ false → is_any_union k ≡ false → is_plain_kind k ≡ true
+column_plain (struct fs) h s l u = cc
+column_plain (fixed_size_list size fs) h s l u = cc
+column_plain («list» o fs) h s l u = cc
+column_plain (map sorted fs) h s l u = cc
+column_plain (union mode stated ids fs) h s l u = cc
+column_plain (extension name metadata k) h s l u = column_plain k h s l u
+column_plain k h s l u = column_is_plain (physical_of k) (binary_size k) h
 
 pub list_floats : (k : Kind) (o : Offsets) (x : Field) → as_lists k ≡ «list» o (one_field (child_of x)) → float_faults k ≡ float_faults (kind_of x.dtype)
 list_floats k o x e =
@@ -203,6 +209,12 @@ column_counted k (Some size) fs e h = (and_parts (nat_eq (width fs) 1 && nat_lt 
 pub counted_floats : (k : Kind) (s : Option ℕ) (fs : Fields) → under_extensions k ≡ counted_kind s fs → float_faults k ≡ floats_in fs
 counted_floats k None fs e = wrapped (λ k. float_faults k ≡ floats_in fs) (λ name metadata k e. e) k (struct fs) e refl
 counted_floats k (Some size) fs e = wrapped (λ k. float_faults k ≡ floats_in fs) (λ name metadata k e. e) k (fixed_size_list size fs) e refl
+
+pub column_union : (k : Kind) (mode : UnionMode) (fs : Fields) → under_extensions k ≡ union_as k mode fs → is_column_kind k ≡ true → are_column_fields fs ≡ true
+column_union k mode fs e h = (and_parts (are_right (ids_in k) (width fs)) (are_column_fields fs) (sym (column_under k ∙ ap is_column_kind e) ∙ h)).1
+
+pub union_floats : (k : Kind) (mode : UnionMode) (fs : Fields) → under_extensions k ≡ union_as k mode fs → float_faults k ≡ floats_in fs
+union_floats k mode fs e = wrapped (λ k. float_faults k ≡ floats_in fs) (λ name metadata k e. e) k (union_as k mode fs) e refl
 
 pub child_column : (cs : List Field) (i : ℕ) (x : Field) → i < length cs → x ≡ get_or cs i x → are_column_fields (fields_of cs) ≡ true → is_column_kind (kind_of x.dtype) ≡ true
 child_column [] i x h e f = absurd (omega (arith, h))

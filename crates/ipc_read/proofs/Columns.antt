@@ -17,7 +17,7 @@ use Rattle.arrow_types.specs.declared.data_type.Field.{Field}
 use Rattle.arrow_types.specs.Schemas.{Keyed, fields_in}
 use Rattle.arrow_arrays.specs.Parts.{Parts, cells_in, rows_in}
 use Rattle.arrow_arrays.specs.Batches.{have_rows}
-use Rattle.ipc_read_laws.specs.Carried.{is_carried}
+use Rattle.arrow_arrays.specs.Carried.{is_carried}
 use Rattle.ipc_read_laws.specs.Batches.{columns_read}
 use Rattle.ipc_read_laws.specs.Faults.{read_faults, stated_of, fetched_at_most}
 use Rattle.ipc_read_laws.specs.PartsRead.{parts_read}
@@ -134,17 +134,17 @@ rows_next rows (b ∷ parts) a h e = both (nat_eq (rows_in b) rows) (list_all (�
 
 -- ── what is fetched ──
 
-pub fetched_next : (m : RecordBatch) (s : List Keyed) (i rows : ℕ) (x : Keyed) → slice_get s i ≡ Some x → columns_fetched m (fields_in (drop i s)) (place_in m (fields_in s) i first_place) rows ≡ fetched_at_most m x.1.kind (place_in m (fields_in s) i first_place) rows + columns_fetched m (fields_in (drop (i + 1) s)) (place_in m (fields_in s) (i + 1) first_place) rows
+pub fetched_next : (m : RecordBatch) (s : List Keyed) (i rows : ℕ) (x : Keyed) → slice_get s i ≡ Some x → columns_fetched m (fields_in (drop i s)) (place_in m (fields_in s) i first_place) (λ p. rows) ≡ fetched_at_most m x.1.kind (place_in m (fields_in s) i first_place) rows + columns_fetched m (fields_in (drop (i + 1) s)) (place_in m (fields_in s) (i + 1) first_place) (λ p. rows)
 fetched_next m s i rows x h =
     let q = place_in m (fields_in s) i first_place in
-    ap (λ fs. columns_fetched m fs q rows) (rest_at s i x h) ∙ ap (λ z. fetched_at_most m x.1.kind q rows + columns_fetched m (fields_in (drop (i + 1) s)) z rows) (sym (next_place m s i x first_place h))
+    ap (λ fs. columns_fetched m fs q (λ p. rows)) (rest_at s i x h) ∙ ap (λ z. fetched_at_most m x.1.kind q rows + columns_fetched m (fields_in (drop (i + 1) s)) z (λ p. rows)) (sym (next_place m s i x first_place h))
 
-some_fetched : (m : RecordBatch) (n : ℕ) (fs : Fields) (c : ℕ) (p : Place) → columns_fetched m fs p (suc n) ≡ stated_of m (columns_looked_at m None fs c p)
+some_fetched : (m : RecordBatch) (n : ℕ) (fs : Fields) (c : ℕ) (p : Place) → columns_fetched m fs p (λ q. suc n) ≡ stated_of m (columns_looked_at m None fs c p)
 some_fetched m n none c p = refl
 some_fetched m n (field name nullable metadata k others) c p = ap (λ x. stated_of m (looked_at m k p) + x) (some_fetched m n others (suc c) (after m k p)) ∙ sym (stated_append m (looked_at m k p) (columns_looked_at m None others (suc c) (after m k p)))
 
 -- the buffers that are fetched are those that are looked at
-pub fetched_is : (m : RecordBatch) (fs : Fields) (rows : ℕ) → columns_fetched m fs first_place rows ≡ batch_fetched m fs rows
+pub fetched_is : (m : RecordBatch) (fs : Fields) (rows : ℕ) → columns_fetched m fs first_place (λ p. rows) ≡ batch_fetched m fs rows
 fetched_is m fs zero = columns_none m fs first_place
 fetched_is m fs (suc n) = some_fetched m n fs 0 first_place
 
@@ -165,5 +165,5 @@ field_done m s i rows parts f a h d z c e =
     let q = place_in m (fields_in s) i first_place in
     one_done m s i rows parts (h.key, child_of f) a h.at d (ap (λ k. column_faults m [] k q rows rows) h.kind ∙ z) (c ∙ ap (λ k. from_on (cell m [] k q) 0 rows) (sym h.kind)) (e ∙ ap (λ k. parts_read m k q rows) (sym h.kind))
 
-pub field_fetched : (m : RecordBatch) (s : List Keyed) (i rows : ℕ) (f : Field) → IsFieldAt s i f → columns_fetched m (fields_in (drop i s)) (place_in m (fields_in s) i first_place) rows ≡ fetched_at_most m (kind_of f.dtype) (place_in m (fields_in s) i first_place) rows + columns_fetched m (fields_in (drop (i + 1) s)) (place_in m (fields_in s) (i + 1) first_place) rows
-field_fetched m s i rows f h = fetched_next m s i rows (h.key, child_of f) h.at ∙ ap (λ k. fetched_at_most m k (place_in m (fields_in s) i first_place) rows + columns_fetched m (fields_in (drop (i + 1) s)) (place_in m (fields_in s) (i + 1) first_place) rows) h.kind
+pub field_fetched : (m : RecordBatch) (s : List Keyed) (i rows : ℕ) (f : Field) → IsFieldAt s i f → columns_fetched m (fields_in (drop i s)) (place_in m (fields_in s) i first_place) (λ p. rows) ≡ fetched_at_most m (kind_of f.dtype) (place_in m (fields_in s) i first_place) rows + columns_fetched m (fields_in (drop (i + 1) s)) (place_in m (fields_in s) (i + 1) first_place) (λ p. rows)
+field_fetched m s i rows f h = fetched_next m s i rows (h.key, child_of f) h.at ∙ ap (λ k. fetched_at_most m k (place_in m (fields_in s) i first_place) rows + columns_fetched m (fields_in (drop (i + 1) s)) (place_in m (fields_in s) (i + 1) first_place) (λ p. rows)) h.kind

@@ -4,11 +4,12 @@ use Rattle.std.specs.Prelude.{slice_get, nat_eq, nat_lt}
 use Rattle.std.proofs.lemmas.Bool.{and_parts}
 use Rattle.arrow_spec.specs.declared.error.IpcError.{IpcError}
 use Rattle.arrow_spec.specs.Readings.{IsAmong, Refuses}
-use Rattle.arrow_spec.specs.Kinds.{Kind, Fields, none, field, width, «list», map, fixed_size_list, struct, extension}
+use Rattle.arrow_spec.specs.Kinds.{Kind, Fields, none, field, width, «list», map, fixed_size_list, struct, union, extension}
+use Rattle.arrow_spec.specs.declared.types.UnionMode.TheVariants.{Dense, Sparse}
 use Rattle.arrow_spec.specs.Counts.{RecordBatch, Place, inside}
-use Rattle.arrow_spec.specs.Faults.{node_faults, validity_faults, array_faults, child_faults}
+use Rattle.arrow_spec.specs.Faults.{node_faults, validity_faults, union_faults, array_faults, child_faults}
 use Rattle.arrow_types.specs.Physical.{under_extensions}
-use Rattle.ipc_read_laws.specs.Carried.{is_carried, are_carried}
+use Rattle.arrow_arrays.specs.Carried.{is_carried, are_carried}
 use Rattle.ipc_read_laws.specs.Faults.{read_faults}
 use Rattle.ipc_read_laws.proofs.LayoutLaws.{node_refused}
 use Rattle.ipc_read.specs.CountedArrays.{counted_kind, items_faults}
@@ -23,6 +24,9 @@ node_among m (map sorted fs) p zero e c h = among_left (node_faults m p 0) _ e h
 node_among m (map sorted fs) p (suc n) e c h = among_left (node_faults m p (suc n) ++ validity_faults m p (suc n)) _ e (among_left (node_faults m p (suc n)) _ e h)
 node_among m (fixed_size_list size fs) p rows e c h = among_left (node_faults m p rows ++ validity_faults m p rows) _ e (among_left (node_faults m p rows) _ e h)
 node_among m (struct fs) p rows e c h = among_left (node_faults m p rows ++ validity_faults m p rows) _ e (among_left (node_faults m p rows) _ e h)
+node_among m (union mode stated ids fs) p zero e c h = among_left (node_faults m p 0) _ e h
+node_among m (union Sparse stated ids fs) p (suc n) e c h = among_left (node_faults m p (suc n) ++ union_faults m Sparse ids fs p (suc n)) _ e (among_left (node_faults m p (suc n)) _ e h)
+node_among m (union Dense stated ids fs) p (suc n) e c h = among_left (node_faults m p (suc n) ++ union_faults m Dense ids fs p (suc n)) _ e (among_left (node_faults m p (suc n)) _ e h)
 node_among m (extension name metadata k) p rows e c h = node_among m k p rows e c h
 node_among m k p rows e c h = node_refused m [] k p rows e c h
 

@@ -18,6 +18,7 @@ pub mod Passed
 pub mod ReaderSteps
 pub mod Nested
 pub mod CountedRows
-pub mod CarriedTypes
 pub mod ListParts
 pub mod ListReads
+pub mod UnionParts
+pub mod UnionReads

@@ -20,7 +20,7 @@ use Rattle.arrow_buffers.specs.Variable.{place_at, variable_rows}
 use Rattle.arrow_arrays.specs.Heads.{Head, Listed, suits, is_list, is_map, child_fields, head_kind, head_rows}
 use Rattle.arrow_arrays.specs.Parts.{Parts, nested, also}
 use Rattle.ipc_read_laws.specs.Faults.{read_faults, fetched_at_most, stated, stated_of}
-use Rattle.ipc_read_laws.specs.Carried.{is_carried, are_carried}
+use Rattle.arrow_arrays.specs.Carried.{is_carried, are_carried}
 use Rattle.ipc_read_laws.specs.PartsRead.{parts_read, parts_under, forest_read, listed_read, validity_read, HaveBytes}
 use Rattle.ipc_read_laws.proofs.OffsetsRead.{place-told}
 use Rattle.ipc_read.specs.Lists.{is_any_list, is_any_map, as_lists, list_head, list_faults, list_top}
@@ -31,7 +31,7 @@ use Rattle.ipc_read.proofs.Refusals.{refuses_left, refuses_right, refuses_more, 
 use Rattle.ipc_read.proofs.Places.{after_is_behind, same_place, wider_refuses, AreNatural, are_natural, none_missing, counts_between, kind_of_child}
 use Rattle.ipc_read.proofs.Counted.{lacks_in}
 use Rattle.ipc_read.proofs.Shortened.{none_taken, taken_more, taken_then}
-use Rattle.ipc_read.proofs.Nested.{of_lists, stated_append, inside_behind, counts_none, array_none, views_none, among_array}
+use Rattle.ipc_read.proofs.Nested.{of_lists, stated_append, looked_most, inside_behind, counts_none, array_none, views_none, among_array}
 
 -- ── places ──
 
@@ -235,15 +235,11 @@ pub list_parts_shortened : (k : Kind) (o : Offsets) (x : Field) (version : Metad
 list_parts_shortened k o x version ns ns' bs bs' vs vs' u a b e =
     lists_shortened k (ListOf o x) version ns ns' bs bs' vs vs' u (record { nodes = taken_more a (omega arith); buffers = taken_more b (omega arith); views = subst (λ z. Shortened vs (views (ListOf o x)) z) (sym e) (none_taken _ vs) })
 
-at_most : (m : RecordBatch) (k : Kind) (q : Place) (n : ℕ) → fetched_at_most m k q n ≤ stated_of m (looked_at m k q)
-at_most m k q zero = omega arith
-at_most m k q (suc n) = omega arith
-
 pub list_fetched : (m : RecordBatch) (k : Kind) (o : Offsets) (x : Field) (p : Place) (rows last : ℕ) → as_lists k ≡ ListOf o x → (rows ≡ 0 → last ≡ 0) → validity_fetched m p rows + bytes_where rows (stated m (p.buffer + 1)) + fetched_at_most m (kind_of x.dtype) (inside 2 p) last ≤ fetched_at_most m k p rows
 list_fetched m k o x p zero last u z = let e : last ≡ 0 = z refl in omega (arith, ap (fetched_at_most m (kind_of x.dtype) (inside 2 p)) e)
 list_fetched m k o x p (suc n) last u z =
     let below = looked_at m (child_of x).kind (inside 2 p) in
-    let few : fetched_at_most m (kind_of x.dtype) (inside 2 p) last ≤ stated_of m (looked_at m (kind_of x.dtype) (inside 2 p)) = at_most m (kind_of x.dtype) (inside 2 p) last in
+    let few : fetched_at_most m (kind_of x.dtype) (inside 2 p) last ≤ stated_of m (looked_at m (kind_of x.dtype) (inside 2 p)) = looked_most m (kind_of x.dtype) (inside 2 p) last in
     let same : stated_of m (looked_at m (kind_of x.dtype) (inside 2 p)) ≡ stated_of m below = ap (λ k. stated_of m (looked_at m k (inside 2 p))) (sym (kind_of_child x)) in
     let all : stated_of m (looked_at m (ListOf o x) p) ≡ stated_of m (validity_looked_at m p) + (stated m (p.buffer + 1) + stated_of m (below ++ [])) = stated_append m (validity_looked_at m p) ((p.buffer + 1) ∷ below ++ []) in
     let end : stated_of m (below ++ []) ≡ stated_of m below = ap (stated_of m) (append-nil below) in

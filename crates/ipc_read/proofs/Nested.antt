@@ -1,11 +1,12 @@
 -- Children that are read one after another, and structs of them.
 use Rattle.std.proofs.Common.{◌≡◌, ℕ, zero, suc, ◌+◌, ◌≤◌, ◌<◌, ◌&&◌, List, [], ◌∷◌, ◌++◌, length, drop, get_or, map, true, false, Option, Some, None, Result, Ok, Err, IfOk, IfSome, Bool, false, nat_eq, nat_lt, refl, sym, ap, ◌∙◌, arith, subst, append_assoc, append-nil, add-one, drop-cons, ℤ}
-use Rattle.std.proofs.lemmas.Bool.{and_parts, and_from}
+use Rattle.std.proofs.lemmas.Bool.{and_parts, and_from, eq-eqb}
 use Rattle.std.proofs.lemmas.List.{length-map}
 use Rattle.arrow_spec.specs.declared.error.IpcError.{IpcError}
 use Rattle.arrow_spec.specs.declared.message.FieldNode.{FieldNode}
 use Rattle.arrow_spec.specs.declared.message.IpcBuffer.{IpcBuffer}
 use Rattle.arrow_spec.specs.declared.message.MetadataVersion.{MetadataVersion}
+use Rattle.arrow_spec.specs.declared.types.UnionMode.{UnionMode}
 use Rattle.arrow_spec.specs.Laws.{AreBytes}
 use Rattle.arrow_spec.specs.Readings.{IsAmong, Refuses}
 use Rattle.arrow_spec.specs.Kinds as kind
@@ -22,40 +23,41 @@ use Rattle.arrow_types.specs.Physical.{under_extensions}
 use Rattle.arrow_types.specs.declared.data_type.Field.{Field}
 use Rattle.arrow_arrays.specs.declared.array.Array.{Array}
 use Rattle.arrow_buffers.specs.declared.error.ArrayError.{ArrayError}
-use Rattle.arrow_arrays.specs.Batches.{have_rows}
 use Rattle.arrow_arrays.specs.Heads.{head_kind, head_rows, is_struct, is_sized, list_size, suits, child_fields, are_of, are_all}
 use Rattle.arrow_arrays.specs.LeafKinds.{is_leaf_kind}
 use Rattle.arrow_arrays.specs.Parts.{Parts, nested, also, forest, kind_in, rows_in, cells_in, fault_in, fault_each, kinds_each, rows_each, either}
 use Rattle.arrow_arrays.specs.PartsOf.{parts_of, all_parts_of, forest_of}
-use Rattle.ipc_read_laws.specs.Batches.{columns_read}
-use Rattle.ipc_read_laws.specs.Carried.{is_carried, are_carried}
+use Rattle.arrow_arrays.specs.Carried.{is_carried, are_carried}
 use Rattle.arrow_spec.specs.Needed.{looked_at, looked_at_in, validity_looked_at}
 use Rattle.ipc_read_laws.specs.Faults.{read_faults, fetched_at_most, stated_of}
 use Rattle.ipc_read_laws.specs.PartsRead.{parts_read, parts_under, forest_read, counted_read, numbers_bytes, HaveBytes, AllHaveBytes}
 use Rattle.ipc_read_laws.proofs.Trees.{same_kind}
 use Rattle.ipc_read_laws.proofs.TreesCells.{cells_read, plain_bytes}
 use Rattle.ipc_read.specs.Batches.{columns_fetched}
+use Rattle.ipc_read.specs.ChildRows.{rows_of_each}
 use Rattle.ipc_read.specs.Places.{behind, IsBehind, place_faults}
-use Rattle.ipc_read.specs.Queues.{Left, AllAt, Shortened, ShortenedBy, short_of}
+use Rattle.ipc_read.specs.Queues.{Left, AllAt, BatchAt, Shortened, ShortenedBy, short_of}
 use Rattle.ipc_read.specs.Lists.{is_any_list, as_lists}
+use Rattle.ipc_read.specs.Unions.{is_any_union, union_as}
 use Rattle.ipc_read.specs.CountedArrays.{is_any_counted, counted_kind, counted_rows, counted_head}
 use Rattle.ipc_read.specs.Readers.{ShortenedByAll}
 use Rattle.ipc_read.specs.Sources.{Answers, head_faults, validity_fetched}
 use Rattle.ipc_read.proofs.Refusals.{refuses_left, refuses_right, refuses_more, refuses_by, both_none, none_of_both, among_left, among_right}
 use Rattle.ipc_read.proofs.Places.{behind_itself, behind_first, after_is_behind, fields_behind, wider_refuses, AreNatural, are_natural, none_missing, natural_then, natural_itself, counts_between, first_place_in, next_place_in, last_place_in, within_fields, field_behind, kind_of_child}
-use Rattle.ipc_read.proofs.Passed.{Opens, after_opens, buffers_dropped, only_tables, all_from_first}
+use Rattle.ipc_read.proofs.Passed.{Opens, after_opens, buffers_dropped, only_tables, all_from_first, batch_from_first}
 use Rattle.ipc_read.proofs.Shortened.{none_taken, all_taken, taken_more, taken_then}
 use Rattle.ipc_read.proofs.Counted.{lacks_in}
 
 -- ── kinds that are read ──
 
-pub carried_leaf : (k : Kind) → is_carried k ≡ true → is_any_counted k ≡ false → is_any_list k ≡ false → is_leaf_kind k ≡ true
-carried_leaf (struct fs) h s l = cc
-carried_leaf (kind.fixed_size_list size fs) h s l = cc
-carried_leaf (kind.«list» o fs) h s l = cc
-carried_leaf (kind.map sorted fs) h s l = cc
-carried_leaf (extension name metadata k) h s l = carried_leaf k h s l
-carried_leaf k h s l = h
+pub carried_leaf : (k : Kind) → is_carried k ≡ true → is_any_counted k ≡ false → is_any_list k ≡ false → is_any_union k ≡ false → is_leaf_kind k ≡ true
+carried_leaf (struct fs) h s l u = cc
+carried_leaf (kind.fixed_size_list size fs) h s l u = cc
+carried_leaf (kind.«list» o fs) h s l u = cc
+carried_leaf (kind.map sorted fs) h s l u = cc
+carried_leaf (kind.union mode stated ids fs) h s l u = cc
+carried_leaf (extension name metadata k) h s l u = carried_leaf k h s l u
+carried_leaf k h s l u = h
 
 pub carried_under : (k : Kind) → is_carried k ≡ is_carried (under_extensions k)
 carried_under (extension name metadata k) = carried_under k
@@ -153,6 +155,9 @@ list_tree k o x e =
     let all : kind_size k ≡ suc (kind_size (child_of x).kind + 0) = of_lists (λ k. kind_size k ≡ suc (kind_size (child_of x).kind + 0)) (λ name metadata k h. h) (λ sorted fs h. h) k (kind.«list» o (one_field (child_of x))) e refl in
     omega (arith, all, ap kind_size (kind_of_child x))
 
+pub union_tree : (k : Kind) (mode : UnionMode) (fs : Fields) → under_extensions k ≡ union_as k mode fs → kind_size k ≡ suc (fields_size fs)
+union_tree k mode fs e = size_under k ∙ ap kind_size e
+
 pub child_size : (cs : List Field) (i : ℕ) (x : Field) → i < length cs → x ≡ get_or cs i x → kind_size (kind_of x.dtype) ≤ fields_size (fields_of cs)
 child_size [] i x h e = absurd (omega (arith, h))
 child_size (c ∷ cs) zero x h e = let k : (child_of c).kind ≡ kind_of x.dtype = ap (λ f. (child_of f).kind) (sym e) ∙ kind_of_child x in omega (arith, ap kind_size k)
@@ -176,26 +181,30 @@ drop_all [] (suc i) h = refl
 drop_all (x ∷ xs) zero h = absurd (omega (arith, h))
 drop_all (x ∷ xs) (suc i) h = drop_all xs i (omega (arith, h))
 
--- columns of one number of rows are read as a forest is
-forest_is : (m : RecordBatch) (fs : Fields) (p : Place) (rows : ℕ) → forest (columns_read m fs p rows) ≡ forest_read m fs p (λ q. rows)
+-- children are read as a forest is
+abbrev pub trees_read : RecordBatch → Fields → Place → (Place → ℕ) → List Parts
+trees_read m none p rows = []
+trees_read m (field name nullable metadata k others) p rows = parts_read m k p (rows p) ∷ trees_read m others (after m k p) rows
+
+forest_is : (m : RecordBatch) (fs : Fields) (p : Place) (rows : Place → ℕ) → forest (trees_read m fs p rows) ≡ forest_read m fs p rows
 forest_is m none p rows = refl
-forest_is m (field name nullable metadata k others) p rows = ap (also (parts_read m k p rows)) (forest_is m others (after m k p) rows)
+forest_is m (field name nullable metadata k others) p rows = ap (also (parts_read m k p (rows p))) (forest_is m others (after m k p) rows)
 
 -- the first children were read as these parts, and nothing is wrong with them
-pub record ChildrenDone (m : RecordBatch) (cs : List Field) (i rows : ℕ) (p : Place) (ps : List Parts) : Type 0 where
+pub record ChildrenDone (m : RecordBatch) (cs : List Field) (i : ℕ) (rows : Place → ℕ) (p : Place) (ps : List Parts) : Type 0 where
   pub natural : AreNatural m p (place_in m (fields_of cs) i p)
-  pub none : child_faults m [] (fields_of cs) p (λ q. rows) ≡ child_faults m [] (fields_of (drop i cs)) (place_in m (fields_of cs) i p) (λ q. rows)
-  pub parts : columns_read m (fields_of cs) p rows ≡ ps ++ columns_read m (fields_of (drop i cs)) (place_in m (fields_of cs) i p) rows
-  pub bytes : AllHaveBytes m (fields_of (drop i cs)) (place_in m (fields_of cs) i p) (λ q. rows) → AllHaveBytes m (fields_of cs) p (λ q. rows)
+  pub none : child_faults m [] (fields_of cs) p rows ≡ child_faults m [] (fields_of (drop i cs)) (place_in m (fields_of cs) i p) rows
+  pub parts : trees_read m (fields_of cs) p rows ≡ ps ++ trees_read m (fields_of (drop i cs)) (place_in m (fields_of cs) i p) rows
+  pub bytes : AllHaveBytes m (fields_of (drop i cs)) (place_in m (fields_of cs) i p) rows → AllHaveBytes m (fields_of cs) p rows
 
-pub none_children : (m : RecordBatch) (cs : List Field) (rows : ℕ) (p : Place) → ChildrenDone m cs 0 rows p []
+pub none_children : (m : RecordBatch) (cs : List Field) (rows : Place → ℕ) (p : Place) → ChildrenDone m cs 0 rows p []
 none_children m cs rows p =
     let e = first_place_in m (fields_of cs) p in
     record {
       natural = subst (λ q. AreNatural m p q) (sym e) (natural_itself m p);
-      none = ap (λ q. child_faults m [] (fields_of cs) q (λ q. rows)) (sym e);
-      parts = ap (λ q. columns_read m (fields_of cs) q rows) (sym e);
-      bytes = subst (λ q. AllHaveBytes m (fields_of cs) q (λ q. rows) → AllHaveBytes m (fields_of cs) p (λ q. rows)) (sym e) (λ b. b);
+      none = ap (λ q. child_faults m [] (fields_of cs) q rows) (sym e);
+      parts = ap (λ q. trees_read m (fields_of cs) q rows) (sym e);
+      bytes = subst (λ q. AllHaveBytes m (fields_of cs) q rows → AllHaveBytes m (fields_of cs) p rows) (sym e) (λ b. b);
     }
 
 pub counts_none : (m : RecordBatch) (k : Kind) (p : Place) (rows : ℕ) → read_faults m k p rows ≡ [] → count_faults m k p ≡ []
@@ -211,87 +220,121 @@ unfolding count_faults
 views_none m k p rows h = (none_of_both (counts_faults m (after m k p)) _ (counts_none m k p rows h)).1
 
 -- the first of the fields that are left
-left_faults : (m : RecordBatch) (cs : List Field) (i rows : ℕ) (x : Field) (q : Place) → i < length cs → x ≡ get_or cs i x
-    → child_faults m [] (fields_of (drop i cs)) q (λ q. rows) ≡ array_faults m [] (kind_of x.dtype) q rows ++ if_sound (view_count_faults m (kind_of x.dtype) q) (child_faults m [] (fields_of (drop (i + 1) cs)) (after m (kind_of x.dtype) q) (λ q. rows))
+left_faults : (m : RecordBatch) (cs : List Field) (i : ℕ) (rows : Place → ℕ) (x : Field) (q : Place) → i < length cs → x ≡ get_or cs i x
+    → child_faults m [] (fields_of (drop i cs)) q rows ≡ array_faults m [] (kind_of x.dtype) q (rows q) ++ if_sound (view_count_faults m (kind_of x.dtype) q) (child_faults m [] (fields_of (drop (i + 1) cs)) (after m (kind_of x.dtype) q) rows)
 left_faults m cs i rows x q h e =
-    ap (λ ys. child_faults m [] (fields_of ys) q (λ q. rows)) (left_child cs i x h e)
-    ∙ ap (λ k. array_faults m [] k q rows ++ if_sound (view_count_faults m k q) (child_faults m [] (fields_of (drop (i + 1) cs)) (after m k q) (λ q. rows))) (kind_of_child x)
+    ap (λ ys. child_faults m [] (fields_of ys) q rows) (left_child cs i x h e)
+    ∙ ap (λ k. array_faults m [] k q (rows q) ++ if_sound (view_count_faults m k q) (child_faults m [] (fields_of (drop (i + 1) cs)) (after m k q) rows)) (kind_of_child x)
 
-left_parts : (m : RecordBatch) (cs : List Field) (i rows : ℕ) (x : Field) (q : Place) → i < length cs → x ≡ get_or cs i x
-    → columns_read m (fields_of (drop i cs)) q rows ≡ parts_read m (kind_of x.dtype) q rows ∷ columns_read m (fields_of (drop (i + 1) cs)) (after m (kind_of x.dtype) q) rows
+left_parts : (m : RecordBatch) (cs : List Field) (i : ℕ) (rows : Place → ℕ) (x : Field) (q : Place) → i < length cs → x ≡ get_or cs i x
+    → trees_read m (fields_of (drop i cs)) q rows ≡ parts_read m (kind_of x.dtype) q (rows q) ∷ trees_read m (fields_of (drop (i + 1) cs)) (after m (kind_of x.dtype) q) rows
 left_parts m cs i rows x q h e =
-    ap (λ ys. columns_read m (fields_of ys) q rows) (left_child cs i x h e)
-    ∙ ap (λ k. parts_read m k q rows ∷ columns_read m (fields_of (drop (i + 1) cs)) (after m k q) rows) (kind_of_child x)
+    ap (λ ys. trees_read m (fields_of ys) q rows) (left_child cs i x h e)
+    ∙ ap (λ k. parts_read m k q (rows q) ∷ trees_read m (fields_of (drop (i + 1) cs)) (after m k q) rows) (kind_of_child x)
 
-left_bytes : (m : RecordBatch) (cs : List Field) (i rows : ℕ) (x : Field) (q : Place) → i < length cs → x ≡ get_or cs i x
-    → HaveBytes m (kind_of x.dtype) q rows → AllHaveBytes m (fields_of (drop (i + 1) cs)) (after m (kind_of x.dtype) q) (λ q. rows) → AllHaveBytes m (fields_of (drop i cs)) q (λ q. rows)
+left_bytes : (m : RecordBatch) (cs : List Field) (i : ℕ) (rows : Place → ℕ) (x : Field) (q : Place) → i < length cs → x ≡ get_or cs i x
+    → HaveBytes m (kind_of x.dtype) q (rows q) → AllHaveBytes m (fields_of (drop (i + 1) cs)) (after m (kind_of x.dtype) q) rows → AllHaveBytes m (fields_of (drop i cs)) q rows
 left_bytes m cs i rows x q h e b c =
-    subst (λ ys. AllHaveBytes m (fields_of ys) q (λ q. rows)) (sym (left_child cs i x h e))
-    (subst (λ k. HaveBytes m k q rows × AllHaveBytes m (fields_of (drop (i + 1) cs)) (after m k q) (λ q. rows)) (sym (kind_of_child x)) (b, c))
+    subst (λ ys. AllHaveBytes m (fields_of ys) q rows) (sym (left_child cs i x h e))
+    (subst (λ k. HaveBytes m k q (rows q) × AllHaveBytes m (fields_of (drop (i + 1) cs)) (after m k q) rows) (sym (kind_of_child x)) (b, c))
 
-pub left_fetched : (m : RecordBatch) (cs : List Field) (i rows : ℕ) (x : Field) (p : Place) → i < length cs → x ≡ get_or cs i x
-    → columns_fetched m (fields_of (drop i cs)) (place_in m (fields_of cs) i p) rows ≡ fetched_at_most m (kind_of x.dtype) (place_in m (fields_of cs) i p) rows + columns_fetched m (fields_of (drop (i + 1) cs)) (place_in m (fields_of cs) (i + 1) p) rows
+pub left_fetched : (m : RecordBatch) (cs : List Field) (i : ℕ) (rows : Place → ℕ) (x : Field) (p : Place) → i < length cs → x ≡ get_or cs i x
+    → columns_fetched m (fields_of (drop i cs)) (place_in m (fields_of cs) i p) rows ≡ fetched_at_most m (kind_of x.dtype) (place_in m (fields_of cs) i p) (rows (place_in m (fields_of cs) i p)) + columns_fetched m (fields_of (drop (i + 1) cs)) (place_in m (fields_of cs) (i + 1) p) rows
 left_fetched m cs i rows x p h e =
     let q = place_in m (fields_of cs) i p in
     ap (λ ys. columns_fetched m (fields_of ys) q rows) (left_child cs i x h e)
-    ∙ ap (λ k. fetched_at_most m k q rows + columns_fetched m (fields_of (drop (i + 1) cs)) (after m k q) rows) (kind_of_child x)
-    ∙ ap (λ z. fetched_at_most m (kind_of x.dtype) q rows + columns_fetched m (fields_of (drop (i + 1) cs)) z rows) (sym (next_place_in m cs i x p h e))
+    ∙ ap (λ k. fetched_at_most m k q (rows q) + columns_fetched m (fields_of (drop (i + 1) cs)) (after m k q) rows) (kind_of_child x)
+    ∙ ap (λ z. fetched_at_most m (kind_of x.dtype) q (rows q) + columns_fetched m (fields_of (drop (i + 1) cs)) z rows) (sym (next_place_in m cs i x p h e))
 
--- one more was read
-pub next_child : (m : RecordBatch) (cs : List Field) (i rows : ℕ) (p : Place) (ps : List Parts) (x : Field) (a : Parts) → i < length cs → x ≡ get_or cs i x
-    → read_faults m (kind_of x.dtype) (place_in m (fields_of cs) i p) rows ≡ [] → a ≡ parts_read m (kind_of x.dtype) (place_in m (fields_of cs) i p) rows → HaveBytes m (kind_of x.dtype) (place_in m (fields_of cs) i p) rows
+-- one more was read, for so many rows
+pub next_child : (m : RecordBatch) (cs : List Field) (i n : ℕ) (rows : Place → ℕ) (p : Place) (ps : List Parts) (x : Field) (a : Parts) → i < length cs → x ≡ get_or cs i x → n ≡ rows (place_in m (fields_of cs) i p)
+    → read_faults m (kind_of x.dtype) (place_in m (fields_of cs) i p) n ≡ [] → a ≡ parts_read m (kind_of x.dtype) (place_in m (fields_of cs) i p) n → HaveBytes m (kind_of x.dtype) (place_in m (fields_of cs) i p) n
     → ChildrenDone m cs i rows p ps → ChildrenDone m cs (i + 1) rows p (ps ++ a ∷ [])
-next_child m cs i rows p ps x a h e f g b d =
+next_child m cs i n rows p ps x a h e w f g b d =
     let q = place_in m (fields_of cs) i p in
     let k = kind_of x.dtype in
-    let n = next_place_in m cs i x p h e in
-    let counts : place_faults m q (after m k q) ≡ [] = sym (counts_between m k q) ∙ counts_none m k q rows f in
-    let rest = child_faults m [] (fields_of (drop (i + 1) cs)) (after m k q) (λ q. rows) in
+    let z = next_place_in m cs i x p h e in
+    let none : read_faults m k q (rows q) ≡ [] = subst (λ c. read_faults m k q c ≡ []) w f in
+    let same : a ≡ parts_read m k q (rows q) = g ∙ ap (parts_read m k q) w in
+    let counts : place_faults m q (after m k q) ≡ [] = sym (counts_between m k q) ∙ counts_none m k q (rows q) none in
+    let rest = child_faults m [] (fields_of (drop (i + 1) cs)) (after m k q) rows in
     record {
-      natural = subst (λ r. AreNatural m p r) (sym n) (natural_then m p q (after m k q) (field_behind m cs i p (omega (arith, h))).views (after_is_behind m k q).views d.natural (are_natural m q (after m k q) counts));
-      none = d.none ∙ left_faults m cs i rows x q h e ∙ ap (λ es. es ++ if_sound (view_count_faults m k q) rest) (array_none m k q rows f) ∙ ap (λ es. if_sound es rest) (views_none m k q rows f)
-          ∙ ap (λ r. child_faults m [] (fields_of (drop (i + 1) cs)) r (λ q. rows)) (sym n);
-      parts = d.parts ∙ ap (λ ys. ps ++ ys) (left_parts m cs i rows x q h e ∙ ap (λ z. z ∷ columns_read m (fields_of (drop (i + 1) cs)) (after m k q) rows) (sym g)) ∙ sym (append_assoc ps (a ∷ []) (columns_read m (fields_of (drop (i + 1) cs)) (after m k q) rows))
-          ∙ ap (λ r. (ps ++ a ∷ []) ++ columns_read m (fields_of (drop (i + 1) cs)) r rows) (sym n);
-      bytes = λ c. d.bytes (left_bytes m cs i rows x q h e b (subst (λ r. AllHaveBytes m (fields_of (drop (i + 1) cs)) r (λ q. rows)) n c));
+      natural = subst (λ r. AreNatural m p r) (sym z) (natural_then m p q (after m k q) (field_behind m cs i p (omega (arith, h))).views (after_is_behind m k q).views d.natural (are_natural m q (after m k q) counts));
+      none = d.none ∙ left_faults m cs i rows x q h e ∙ ap (λ es. es ++ if_sound (view_count_faults m k q) rest) (array_none m k q (rows q) none) ∙ ap (λ es. if_sound es rest) (views_none m k q (rows q) none)
+          ∙ ap (λ r. child_faults m [] (fields_of (drop (i + 1) cs)) r rows) (sym z);
+      parts = d.parts ∙ ap (λ ys. ps ++ ys) (left_parts m cs i rows x q h e ∙ ap (λ y. y ∷ trees_read m (fields_of (drop (i + 1) cs)) (after m k q) rows) (sym same)) ∙ sym (append_assoc ps (a ∷ []) (trees_read m (fields_of (drop (i + 1) cs)) (after m k q) rows))
+          ∙ ap (λ r. (ps ++ a ∷ []) ++ trees_read m (fields_of (drop (i + 1) cs)) r rows) (sym z);
+      bytes = λ c. d.bytes (left_bytes m cs i rows x q h e (subst (λ c. HaveBytes m k q c) w b) (subst (λ r. AllHaveBytes m (fields_of (drop (i + 1) cs)) r rows) z c));
     }
 
 -- what refuses the next child refuses all
-pub child_refused : (m : RecordBatch) (cs : List Field) (i rows : ℕ) (p : Place) (ps : List Parts) (x : Field) (e : IpcError) → i < length cs → x ≡ get_or cs i x → ChildrenDone m cs i rows p ps
-    → Refuses e (read_faults m (kind_of x.dtype) (place_in m (fields_of cs) i p) rows) → Refuses e (place_faults m p (behind m (fields_of cs) p) ++ child_faults m [] (fields_of cs) p (λ q. rows))
+pub child_refused : (m : RecordBatch) (cs : List Field) (i n : ℕ) (rows : Place → ℕ) (p : Place) (ps : List Parts) (x : Field) (e : IpcError) → i < length cs → x ≡ get_or cs i x → n ≡ rows (place_in m (fields_of cs) i p) → ChildrenDone m cs i rows p ps
+    → Refuses e (read_faults m (kind_of x.dtype) (place_in m (fields_of cs) i p) n) → Refuses e (place_faults m p (behind m (fields_of cs) p) ++ child_faults m [] (fields_of cs) p rows)
 unfolding read_faults
-child_refused m cs i rows p ps x e h g d r =
+child_refused m cs i n rows p ps x e h g w d r =
     let q = place_in m (fields_of cs) i p in
     let k = kind_of x.dtype in
-    refuses_by (count_faults m k q) (array_faults m [] k q rows) _ e
+    refuses_by (count_faults m k q) (array_faults m [] k q (rows q)) _ e
     (λ s. refuses_left (place_faults m p (behind m (fields_of cs) p)) _ e (wider_refuses m p (behind m (fields_of cs) p) q (after m k q) e (field_behind m cs i p (omega (arith, h))) (after_is_behind m k q).views (within_fields m cs i x p h g)
     (subst (λ es. Refuses e es) (counts_between m k q) s)))
-    (λ s. refuses_right (place_faults m p (behind m (fields_of cs) p)) _ e (subst (λ es. Refuses e es) (sym (d.none ∙ left_faults m cs i rows x q h g)) (refuses_left (array_faults m [] k q rows) _ e s))) r
+    (λ s. refuses_right (place_faults m p (behind m (fields_of cs) p)) _ e (subst (λ es. Refuses e es) (sym (d.none ∙ left_faults m cs i rows x q h g)) (refuses_left (array_faults m [] k q (rows q)) _ e s)))
+    (subst (λ c. Refuses e (count_faults m k q ++ array_faults m [] k q c)) w r)
 
 -- all were read
-pub all_children : (m : RecordBatch) (cs : List Field) (i rows : ℕ) (p : Place) (ps : List Parts) (ns : List FieldNode) (bs : List IpcBuffer) (vs : List ℤ) → length cs ≤ i → i ≤ length cs → AllAt m (place_in m (fields_of cs) i p) ns bs vs → ChildrenDone m cs i rows p ps
-    → (place_faults m p (behind m (fields_of cs) p) ++ child_faults m [] (fields_of cs) p (λ q. rows) ≡ []) × (forest ps ≡ forest_read m (fields_of cs) p (λ q. rows))
+pub all_children : (m : RecordBatch) (cs : List Field) (i : ℕ) (rows : Place → ℕ) (p : Place) (ps : List Parts) (ns : List FieldNode) (bs : List IpcBuffer) (vs : List ℤ) → length cs ≤ i → i ≤ length cs → AllAt m (place_in m (fields_of cs) i p) ns bs vs → ChildrenDone m cs i rows p ps
+    → (place_faults m p (behind m (fields_of cs) p) ++ child_faults m [] (fields_of cs) p rows ≡ []) × (forest ps ≡ forest_read m (fields_of cs) p rows)
 all_children m cs i rows p ps ns bs vs h k a d =
     let l = last_place_in m cs i p h k in
     let e = drop_all cs i h in
     let q = place_in m (fields_of cs) i p in
     let places : place_faults m p (behind m (fields_of cs) p) ≡ [] = none_missing m p (behind m (fields_of cs) p) ns bs vs (subst (λ r. AllAt m r ns bs vs) l a) (subst (λ r. AreNatural m p r) l d.natural) in
-    let children : child_faults m [] (fields_of cs) p (λ q. rows) ≡ [] = d.none ∙ ap (λ ys. child_faults m [] (fields_of ys) q (λ q. rows)) e in
-    let parts : columns_read m (fields_of cs) p rows ≡ ps = d.parts ∙ ap (λ ys. ps ++ columns_read m (fields_of ys) q rows) e ∙ append-nil ps in
+    let children : child_faults m [] (fields_of cs) p rows ≡ [] = d.none ∙ ap (λ ys. child_faults m [] (fields_of ys) q rows) e in
+    let parts : trees_read m (fields_of cs) p rows ≡ ps = d.parts ∙ ap (λ ys. ps ++ trees_read m (fields_of ys) q rows) e ∙ append-nil ps in
     (both_none _ _ places children, ap forest (sym parts) ∙ forest_is m (fields_of cs) p rows)
 
-pub all_bytes : (m : RecordBatch) (cs : List Field) (i rows : ℕ) (p : Place) (ps : List Parts) → length cs ≤ i → ChildrenDone m cs i rows p ps → AllHaveBytes m (fields_of cs) p (λ q. rows)
-all_bytes m cs i rows p ps h d = d.bytes (subst (λ ys. AllHaveBytes m (fields_of ys) (place_in m (fields_of cs) i p) (λ q. rows)) (sym (drop_all cs i h)) tt)
+pub all_bytes : (m : RecordBatch) (cs : List Field) (i : ℕ) (rows : Place → ℕ) (p : Place) (ps : List Parts) → length cs ≤ i → ChildrenDone m cs i rows p ps → AllHaveBytes m (fields_of cs) p rows
+all_bytes m cs i rows p ps h d = d.bytes (subst (λ ys. AllHaveBytes m (fields_of ys) (place_in m (fields_of cs) i p) rows) (sym (drop_all cs i h)) tt)
+
+-- the first children have the rows that are said
+abbrev pub RowsDone : RecordBatch → List Field → ℕ → (Place → ℕ) → Place → List Parts → Type 0
+RowsDone m cs i rows p ps = rows_of_each m (fields_of cs) p rows ≡ rows_each (forest ps) ++ rows_of_each m (fields_of (drop i cs)) (place_in m (fields_of cs) i p) rows
+
+pub no_rows_done : (m : RecordBatch) (cs : List Field) (rows : Place → ℕ) (p : Place) → RowsDone m cs 0 rows p []
+no_rows_done m cs rows p = ap (λ q. rows_of_each m (fields_of cs) q rows) (sym (first_place_in m (fields_of cs) p))
+
+rows_more : (ps : List Parts) (a : Parts) (ns : List ℕ) → rows_each (forest ps) ++ rows_in a ∷ ns ≡ rows_each (forest (ps ++ a ∷ [])) ++ ns
+rows_more [] a ns = refl
+rows_more (x ∷ ps) a ns = ap (λ zs. rows_in x ∷ zs) (rows_more ps a ns)
+
+pub next_rows_done : (m : RecordBatch) (cs : List Field) (i n : ℕ) (rows : Place → ℕ) (p : Place) (ps : List Parts) (x : Field) (a : Parts) → i < length cs → x ≡ get_or cs i x → n ≡ rows (place_in m (fields_of cs) i p) → rows_in a ≡ n
+    → RowsDone m cs i rows p ps → RowsDone m cs (i + 1) rows p (ps ++ a ∷ [])
+next_rows_done m cs i n rows p ps x a h e w r d =
+    let q = place_in m (fields_of cs) i p in
+    let k = kind_of x.dtype in
+    let left : rows_of_each m (fields_of (drop i cs)) q rows ≡ rows q ∷ rows_of_each m (fields_of (drop (i + 1) cs)) (after m k q) rows =
+    ap (λ ys. rows_of_each m (fields_of ys) q rows) (left_child cs i x h e) ∙ ap (λ k. rows q ∷ rows_of_each m (fields_of (drop (i + 1) cs)) (after m k q) rows) (kind_of_child x) in
+    d ∙ ap (λ ns. rows_each (forest ps) ++ ns) (left ∙ ap (λ c. c ∷ rows_of_each m (fields_of (drop (i + 1) cs)) (after m k q) rows) (sym (r ∙ w)))
+    ∙ rows_more ps a _ ∙ ap (λ z. rows_each (forest (ps ++ a ∷ [])) ++ rows_of_each m (fields_of (drop (i + 1) cs)) z rows) (sym (next_place_in m cs i x p h e))
+
+pub all_rows_done : (m : RecordBatch) (cs : List Field) (i : ℕ) (rows : Place → ℕ) (p : Place) (ps : List Parts) → length cs ≤ i → RowsDone m cs i rows p ps → rows_each (forest ps) ≡ rows_of_each m (fields_of cs) p rows
+all_rows_done m cs i rows p ps h d = sym (d ∙ ap (λ ys. rows_each (forest ps) ++ rows_of_each m (fields_of ys) (place_in m (fields_of cs) i p) rows) (drop_all cs i h) ∙ append-nil (rows_each (forest ps)))
+
+-- the same rows are those of all
+pub each_same : (m : RecordBatch) (fs : Fields) (p : Place) (n : ℕ) → are_all n (rows_of_each m fs p (λ q. n)) ≡ true
+each_same m none p n = refl
+each_same m (field name nullable metadata k others) p n = and_from (nat_eq n n) _ (eq-eqb n n refl) (each_same m others (after m k p) n)
+
+-- and so they are without a batch
+pub all_same : (cs : List Field) (version : MetadataVersion) (ns : List FieldNode) (bs : List IpcBuffer) (vs : List ℤ) (n : ℕ) (held : List ℕ) → ((m : RecordBatch) (p : Place) → BatchAt version m p ns bs vs → held ≡ rows_of_each m (fields_of cs) p (λ q. n)) → are_all n held ≡ true
+all_same cs version ns bs vs n held h =
+    let m = only_tables version ns bs vs in
+    ap (are_all n) (h m first_place (batch_from_first version ns bs vs)) ∙ each_same m (fields_of cs) first_place n
 
 -- ── what is known of the arrays without the source ──
 
 pub kinds_are : (ps : List Parts) → kinds_each (forest ps) ≡ map kind_in ps
 kinds_are [] = refl
 kinds_are (x ∷ ps) = ap (λ ks. kind_in x ∷ ks) (kinds_are ps)
-
-pub rows_are : (rows : ℕ) (ps : List Parts) → are_all rows (rows_each (forest ps)) ≡ have_rows rows ps
-rows_are rows [] = refl
-rows_are rows (x ∷ ps) = ap (λ b. nat_eq (rows_in x) rows && b) (rows_are rows ps)
 
 -- arrays of the first fields' kinds
 abbrev pub KindsDone : List Field → ℕ → List Parts → Type 0
@@ -327,13 +370,13 @@ place_within m (c ∷ cs) (suc i) p h =
     subst (λ q. IsBehind (place_in m (fields_of cs) i (after m (child_of c).kind p)) q) (sym (behind_first m (child_of c) (fields_of cs) p)) (place_within m cs i (after m (child_of c).kind p) (omega (arith, h)))
 
 -- the queues stand at the place of a field
-abbrev pub StandAt : List Field → ℕ → List FieldNode → List FieldNode → List IpcBuffer → List IpcBuffer → List ℤ → List ℤ → Type 0
-StandAt cs i ns ns' bs bs' vs vs' = (m : RecordBatch) (p : Place) → AllAt m p ns bs vs → AllAt m (place_in m (fields_of cs) i p) ns' bs' vs'
+abbrev pub StandAt : MetadataVersion → List Field → ℕ → List FieldNode → List FieldNode → List IpcBuffer → List IpcBuffer → List ℤ → List ℤ → Type 0
+StandAt version cs i ns ns' bs bs' vs vs' = (m : RecordBatch) (p : Place) → BatchAt version m p ns bs vs → AllAt m (place_in m (fields_of cs) i p) ns' bs' vs'
 
-pub children_taken : (cs : List Field) (i : ℕ) (version : MetadataVersion) (ns ns' : List FieldNode) (bs bs' : List IpcBuffer) (vs vs' : List ℤ) → i ≤ length cs → StandAt cs i ns ns' bs bs' vs vs' → ShortenedByAll (fields_of cs) version ns ns' bs bs' vs vs'
+pub children_taken : (cs : List Field) (i : ℕ) (version : MetadataVersion) (ns ns' : List FieldNode) (bs bs' : List IpcBuffer) (vs vs' : List ℤ) → i ≤ length cs → StandAt version cs i ns ns' bs bs' vs vs' → ShortenedByAll (fields_of cs) version ns ns' bs bs' vs vs'
 children_taken cs i version ns ns' bs bs' vs vs' h q =
     let m = only_tables version ns bs vs in
-    let left = q m first_place (all_from_first version ns bs vs) in
+    let left = q m first_place (batch_from_first version ns bs vs) in
     let most = place_within m cs i first_place h in
     record {
       nodes = taken_more (all_taken _ ns ns' left.nodes.is) (omega (arith, most.nodes));
@@ -341,13 +384,13 @@ children_taken cs i version ns ns' bs bs' vs vs' h q =
       views = taken_more (all_taken _ vs vs' left.views.is) (omega (arith, most.views));
     }
 
-pub children_until : (cs : List Field) (i : ℕ) (x : Field) (version : MetadataVersion) (ns ns' ns'' : List FieldNode) (bs bs' bs'' : List IpcBuffer) (vs vs' vs'' : List ℤ) → i < length cs → x ≡ get_or cs i x → StandAt cs i ns ns' bs bs' vs vs'
+pub children_until : (cs : List Field) (i : ℕ) (x : Field) (version : MetadataVersion) (ns ns' ns'' : List FieldNode) (bs bs' bs'' : List IpcBuffer) (vs vs' vs'' : List ℤ) → i < length cs → x ≡ get_or cs i x → StandAt version cs i ns ns' bs bs' vs vs'
     → ShortenedBy (kind_of x.dtype) version ns' ns'' bs' bs'' vs' vs'' → ShortenedByAll (fields_of cs) version ns ns'' bs bs'' vs vs''
 children_until cs i x version ns ns' ns'' bs bs' bs'' vs vs' vs'' h g q s =
     let k = kind_of x.dtype in
     let m = only_tables version ns bs vs in
     let here = place_in m (fields_of cs) i first_place in
-    let left = q m first_place (all_from_first version ns bs vs) in
+    let left = q m first_place (batch_from_first version ns bs vs) in
     let most = within_fields m cs i x first_place h g in
     let taken : buffers version vs' k 0 ≡ buffers version vs k here.view = ap (λ z. buffers version z k 0) left.views.is ∙ buffers_dropped version vs here.view k 0 ∙ ap (buffers version vs k) (omega arith) in
     record {
@@ -365,16 +408,21 @@ counted_opens : (version : MetadataVersion) (s : Option ℕ) (fs : Fields) → O
 counted_opens version None fs = record { nodes = refl; buffers = λ vs v. refl; views = refl }
 counted_opens version (Some size) fs = record { nodes = refl; buffers = λ vs v. refl; views = refl }
 
-pub counted_shortened : (k : Kind) (s : Option ℕ) (fs : Fields) (version : MetadataVersion) (ns ns' ns'' : List FieldNode) (bs bs' bs'' : List IpcBuffer) (vs vs' vs'' : List ℤ) → under_extensions k ≡ counted_kind s fs → Shortened ns 1 ns' → Shortened bs 1 bs' → vs' ≡ vs → ShortenedByAll fs version ns' ns'' bs' bs'' vs' vs'' → ShortenedBy k version ns ns'' bs bs'' vs vs''
-counted_shortened k s fs version ns ns' ns'' bs bs' bs'' vs vs' vs'' u a b e r =
+-- a top was taken, and what was taken of its children
+pub opened_shortened : (k l : Kind) (own : ℕ) (fs : Fields) (version : MetadataVersion) (ns ns' ns'' : List FieldNode) (bs bs' bs'' : List IpcBuffer) (vs vs' vs'' : List ℤ) → under_extensions k ≡ l → Opens l version own fs → Shortened ns 1 ns' → Shortened bs own bs' → vs' ≡ vs → ShortenedByAll fs version ns' ns'' bs' bs'' vs' vs'' → ShortenedBy k version ns ns'' bs bs'' vs vs''
+opened_shortened k l own fs version ns ns' ns'' bs bs' bs'' vs vs' vs'' u o a b e r =
     let t : ShortenedByAll fs version ns' ns'' bs' bs'' vs vs'' = subst (λ z. ShortenedByAll fs version ns' ns'' bs' bs'' z vs'') e r in
-    let o = counted_opens version s fs in
-    shortened_under k (counted_kind s fs) version ns ns'' bs bs'' vs vs'' u (record { nodes = taken_then a t.nodes (omega (arith, o.nodes)); buffers = taken_then b t.buffers (omega (arith, o.buffers vs 0)); views = taken_more t.views (omega (arith, o.views)) })
+    shortened_under k l version ns ns'' bs bs'' vs vs'' u (record { nodes = taken_then a t.nodes (omega (arith, o.nodes)); buffers = taken_then b t.buffers (omega (arith, o.buffers vs 0)); views = taken_more t.views (omega (arith, o.views)) })
+
+pub top_shortened : (k l : Kind) (own : ℕ) (fs : Fields) (version : MetadataVersion) (ns ns' : List FieldNode) (bs bs' : List IpcBuffer) (vs vs' : List ℤ) → under_extensions k ≡ l → Opens l version own fs → Shortened ns 1 ns' → Shortened bs own bs' → vs' ≡ vs → ShortenedBy k version ns ns' bs bs' vs vs'
+top_shortened k l own fs version ns ns' bs bs' vs vs' u o a b e =
+    shortened_under k l version ns ns' bs bs' vs vs' u (record { nodes = taken_more a (omega (arith, o.nodes)); buffers = taken_more b (omega (arith, o.buffers vs 0)); views = subst (λ z. Shortened vs (views l) z) (sym e) (none_taken _ vs) })
+
+pub counted_shortened : (k : Kind) (s : Option ℕ) (fs : Fields) (version : MetadataVersion) (ns ns' ns'' : List FieldNode) (bs bs' bs'' : List IpcBuffer) (vs vs' vs'' : List ℤ) → under_extensions k ≡ counted_kind s fs → Shortened ns 1 ns' → Shortened bs 1 bs' → vs' ≡ vs → ShortenedByAll fs version ns' ns'' bs' bs'' vs' vs'' → ShortenedBy k version ns ns'' bs bs'' vs vs''
+counted_shortened k s fs version ns ns' ns'' bs bs' bs'' vs vs' vs'' u a b e r = opened_shortened k (counted_kind s fs) 1 fs version ns ns' ns'' bs bs' bs'' vs vs' vs'' u (counted_opens version s fs) a b e r
 
 pub head_shortened : (k : Kind) (s : Option ℕ) (fs : Fields) (version : MetadataVersion) (ns ns' : List FieldNode) (bs bs' : List IpcBuffer) (vs vs' : List ℤ) → under_extensions k ≡ counted_kind s fs → Shortened ns 1 ns' → Shortened bs 1 bs' → vs' ≡ vs → ShortenedBy k version ns ns' bs bs' vs vs'
-head_shortened k s fs version ns ns' bs bs' vs vs' u a b e =
-    let o = counted_opens version s fs in
-    shortened_under k (counted_kind s fs) version ns ns' bs bs' vs vs' u (record { nodes = taken_more a (omega (arith, o.nodes)); buffers = taken_more b (omega (arith, o.buffers vs 0)); views = subst (λ z. Shortened vs (views (counted_kind s fs)) z) (sym e) (none_taken _ vs) })
+head_shortened k s fs version ns ns' bs bs' vs vs' u a b e = top_shortened k (counted_kind s fs) 1 fs version ns ns' bs bs' vs vs' u (counted_opens version s fs) a b e
 
 pub head_behind : (m : RecordBatch) (p : Place) (ns : List FieldNode) (bs : List IpcBuffer) (vs vs' : List ℤ) → Left m.nodes (suc p.node) ns × Left m.buffers (p.buffer + 1) bs → vs' ≡ vs → Left m.variadic p.view vs → AllAt m (inside 1 p) ns bs vs'
 head_behind m p ns bs vs vs' h e v = record { nodes = h.0; buffers = h.1; views = subst (λ z. Left m.variadic p.view z) (sym e) v }
@@ -469,17 +517,18 @@ pub stated_append : (m : RecordBatch) (is js : List ℕ) → stated_of m (is ++ 
 stated_append m [] js = omega arith
 stated_append m (i ∷ is) js = omega (arith, stated_append m is js)
 
-columns_stated : (m : RecordBatch) (fs : Fields) (p : Place) (n : ℕ) → columns_fetched m fs p (suc n) ≡ stated_of m (looked_at_in m fs p)
-columns_stated m none p n = refl
-columns_stated m (field name nullable metadata k others) p n = ap (λ x. stated_of m (looked_at m k p) + x) (columns_stated m others (after m k p) n) ∙ sym (stated_append m (looked_at m k p) (looked_at_in m others (after m k p)))
-
-pub columns_none : (m : RecordBatch) (fs : Fields) (p : Place) → columns_fetched m fs p 0 ≡ 0
+pub columns_none : (m : RecordBatch) (fs : Fields) (p : Place) → columns_fetched m fs p (λ q. 0) ≡ 0
 columns_none m none p = refl
 columns_none m (field name nullable metadata k others) p = omega (arith, columns_none m others (after m k p))
 
-columns_most : (m : RecordBatch) (fs : Fields) (p : Place) (rows : ℕ) → columns_fetched m fs p rows ≤ stated_of m (looked_at_in m fs p)
-columns_most m fs p zero = omega (arith, columns_none m fs p)
-columns_most m fs p (suc n) = omega (arith, columns_stated m fs p n)
+pub looked_most : (m : RecordBatch) (k : Kind) (p : Place) (n : ℕ) → fetched_at_most m k p n ≤ stated_of m (looked_at m k p)
+looked_most m k p zero = omega arith
+looked_most m k p (suc n) = omega arith
+
+pub columns_most : (m : RecordBatch) (fs : Fields) (p : Place) (rows : Place → ℕ) → columns_fetched m fs p rows ≤ stated_of m (looked_at_in m fs p)
+columns_most m none p rows = omega arith
+columns_most m (field name nullable metadata k others) p rows =
+    omega (arith, looked_most m k p (rows p), columns_most m others (after m k p) rows, stated_append m (looked_at m k p) (looked_at_in m others (after m k p)))
 
 none_under : (s : Option ℕ) → counted_rows s 0 ≡ 0
 none_under None = refl
@@ -489,10 +538,10 @@ counted_looked : (m : RecordBatch) (s : Option ℕ) (fs : Fields) (p : Place) �
 counted_looked m None fs p = refl
 counted_looked m (Some size) fs p = refl
 
-pub counted_fetched : (m : RecordBatch) (k : Kind) (s : Option ℕ) (fs : Fields) (p : Place) (rows : ℕ) → under_extensions k ≡ counted_kind s fs → validity_fetched m p rows + columns_fetched m fs (inside 1 p) (counted_rows s rows) ≤ fetched_at_most m k p rows
-counted_fetched m k s fs p zero u = let e : columns_fetched m fs (inside 1 p) (counted_rows s 0) ≡ 0 = ap (columns_fetched m fs (inside 1 p)) (none_under s) ∙ columns_none m fs (inside 1 p) in omega (arith, e)
+pub counted_fetched : (m : RecordBatch) (k : Kind) (s : Option ℕ) (fs : Fields) (p : Place) (rows : ℕ) → under_extensions k ≡ counted_kind s fs → validity_fetched m p rows + columns_fetched m fs (inside 1 p) (λ q. counted_rows s rows) ≤ fetched_at_most m k p rows
+counted_fetched m k s fs p zero u = let e : columns_fetched m fs (inside 1 p) (λ q. counted_rows s 0) ≡ 0 = ap (λ n. columns_fetched m fs (inside 1 p) (λ q. n)) (none_under s) ∙ columns_none m fs (inside 1 p) in omega (arith, e)
 counted_fetched m k s fs p (suc n) u =
-    let most = columns_most m fs (inside 1 p) (counted_rows s (suc n)) in
+    let most = columns_most m fs (inside 1 p) (λ q. counted_rows s (suc n)) in
     let all : stated_of m (looked_at m (counted_kind s fs) p) ≡ stated_of m (validity_looked_at m p) + stated_of m (looked_at_in m fs (inside 1 p)) = ap (stated_of m) (counted_looked m s fs p) ∙ stated_append m (validity_looked_at m p) (looked_at_in m fs (inside 1 p)) in
     omega (arith, most, all, fetched_under m k (counted_kind s fs) p (suc n) u)
 

@@ -23,7 +23,7 @@ of_some : (w : Width) (x : Option ℕ) (y : ℤ) → option_map (cast_signed w) 
 of_some w None y h = cc
 of_some w (Some n) y h = cc
 
-signed_is : (m : RecordBatch) (w : Width) (i j : ℕ) → byte_len w * j + byte_len w ≤ length (buf m i) → signed_from_bytes w m.order (item_bytes m i (byte_len w) j) ≡ signed_in m w i j
+pub signed_is : (m : RecordBatch) (w : Width) (i j : ℕ) → byte_len w * j + byte_len w ≤ length (buf m i) → signed_from_bytes w m.order (item_bytes m i (byte_len w) j) ≡ signed_in m w i j
 unfolding unsigned_in
 signed_is m w i j h = sym (of_some w (num (buf m i) (byte_len w * j) w m.order) _ (signed_agrees w (buf m i) (byte_len w * j) m.order h))
 

@@ -12,7 +12,7 @@ use Rattle.arrow_spec.specs.Counts.{RecordBatch, Place, first_place, count_among
 use Rattle.arrow_spec.specs.Faults.{counts_faults, count_faults, place_in}
 use Rattle.arrow_types.specs.KindOf.{kind_of, fields_of}
 use Rattle.arrow_types.specs.declared.data_type.Field.{Field}
-use Rattle.ipc_read.specs.Queues.{At, AllAt, Shortened, ShortenedBy}
+use Rattle.ipc_read.specs.Queues.{At, AllAt, BatchAt, Shortened, ShortenedBy}
 use Rattle.ipc_read.specs.Places.{behind, IsBehind, place_faults}
 use Rattle.ipc_read.specs.Skips.{moved, IsDamage, PassesChildless, PassesColumn, PassesTop}
 use Rattle.ipc_read.specs.Sources.{Answers}
@@ -69,6 +69,9 @@ only_tables version ns bs vs = record { order = little; version = version; nodes
 
 pub all_from_first : (version : MetadataVersion) (ns : List FieldNode) (bs : List IpcBuffer) (vs : List ℤ) → AllAt (only_tables version ns bs vs) first_place ns bs vs
 all_from_first version ns bs vs = record { nodes = from_first ns; buffers = from_first bs; views = from_first vs }
+
+pub batch_from_first : (version : MetadataVersion) (ns : List FieldNode) (bs : List IpcBuffer) (vs : List ℤ) → BatchAt version (only_tables version ns bs vs) first_place ns bs vs
+batch_from_first version ns bs vs = record { version = refl; all = all_from_first version ns bs vs }
 
 -- ── children, one after another ──
 

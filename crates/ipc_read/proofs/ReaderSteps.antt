@@ -8,9 +8,11 @@ use Rattle.arrow_spec.specs.Flat.{order_by}
 use Rattle.arrow_spec.specs.Counts.{RecordBatch, Place}
 use Rattle.ipc_read.specs.declared.readers.BufferReader.{BufferReader}
 use Rattle.ipc_read.specs.declared.readers.ColumnReader.{ColumnReader}
-use Rattle.ipc_read.specs.Queues.{Left}
+use Rattle.arrow_spec.specs.Kinds.{Kind, Fields}
+use Rattle.arrow_spec.specs.declared.message.MetadataVersion.{MetadataVersion}
+use Rattle.ipc_read.specs.Queues.{Left, AllAt, BatchAt, ShortenedBy}
 use Rattle.ipc_read.specs.Sources.{Answers, Told, Known, variable_parts}
-use Rattle.ipc_read.specs.Readers.{Readable, KeepsSource, KeepsQueues, BufferTaken, HeadTaken}
+use Rattle.ipc_read.specs.Readers.{Readable, KeepsSource, KeepsQueues, BufferTaken, HeadTaken, ShortenedByAll}
 use Rattle.ipc_read.proofs.Refusals.{memory_refuses}
 use Rattle.ipc_read.proofs.Counted.{left_next}
 
@@ -36,6 +38,17 @@ keeps_then k l = record {
 
 pub queues_then : {S : Type 0} {content_of : S → Option (List ℕ)} {faults_of : S → ℕ} {references_of : S → List ℕ} {r r' r'' : ColumnReader S} → KeepsQueues content_of faults_of references_of r r' → KeepsQueues content_of faults_of references_of r' r'' → KeepsQueues content_of faults_of references_of r r''
 queues_then k l = record { nodes = l.nodes ∙ k.nodes; variadic = l.variadic ∙ k.variadic; version = l.version ∙ k.version; buffers = keeps_then k.buffers l.buffers }
+
+-- ── the version ──
+
+pub batch_on : {S : Type 0} {content_of : S → Option (List ℕ)} {faults_of : S → ℕ} {references_of : S → List ℕ} {r r' : ColumnReader S} {m : RecordBatch} {p : Place} {ns : List FieldNode} {bs : List IpcBuffer} {vs : List ℤ} → KeepsQueues content_of faults_of references_of r r' → m.version ≡ r.version → AllAt m p ns bs vs → BatchAt r'.version m p ns bs vs
+batch_on k v a = record { version = v ∙ sym k.version; all = a }
+
+pub shortened_on : {k : Kind} {v v' : MetadataVersion} {ns ns' : List FieldNode} {bs bs' : List IpcBuffer} {vs vs' : List ℤ} → v' ≡ v → ShortenedBy k v' ns ns' bs bs' vs vs' → ShortenedBy k v ns ns' bs bs' vs vs'
+shortened_on {k = k} {ns = ns} {ns' = ns'} {bs = bs} {bs' = bs'} {vs = vs} {vs' = vs'} e s = subst (λ z. ShortenedBy k z ns ns' bs bs' vs vs') e s
+
+pub all_shortened_on : {fs : Fields} {v v' : MetadataVersion} {ns ns' : List FieldNode} {bs bs' : List IpcBuffer} {vs vs' : List ℤ} → v' ≡ v → ShortenedByAll fs v' ns ns' bs bs' vs vs' → ShortenedByAll fs v ns ns' bs bs' vs vs'
+all_shortened_on {fs = fs} {ns = ns} {ns' = ns'} {bs = bs} {bs' = bs'} {vs = vs} {vs' = vs'} e s = subst (λ z. ShortenedByAll fs z ns ns' bs bs' vs vs') e s
 
 -- ── the queues ──
 

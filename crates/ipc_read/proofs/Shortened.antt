@@ -103,6 +103,9 @@ leaf_shortened_as k ns ns' ms bs bs' cs e f h = λ version vs. rw (e, f) (h vers
 pub column_shortened_as : (k : Kind) (ns ns' ms : List FieldNode) (bs bs' cs : List IpcBuffer) (vs vs' ws : List ℤ) → ns' ≡ ms → bs' ≡ cs → vs' ≡ ws → ColumnShortened k ns ms bs cs vs ws → ColumnShortened k ns ns' bs bs' vs vs'
 column_shortened_as k ns ns' ms bs bs' cs vs vs' ws e f g h = λ version. rw (e, f, g) (h version)
 
+pub tree_shortened_as : (k : Kind) (version : MetadataVersion) (ns ns' ms : List FieldNode) (bs bs' cs : List IpcBuffer) (vs vs' ws : List ℤ) → ns' ≡ ms → bs' ≡ cs → vs' ≡ ws → ShortenedBy k version ns ms bs cs vs ws → ShortenedBy k version ns ns' bs bs' vs vs'
+tree_shortened_as k version ns ns' ms bs bs' cs vs vs' ws e f g h = rw (e, f, g) h
+
 -- ── arrays that are passed over ──
 
 pub null_passes : {ns ns' : List FieldNode} {bs : List IpcBuffer} → (r : Result (Unit {0}) IpcError) → IfOk r (λ _. (m : RecordBatch) (p : Place) → NodesAt m p ns → NodesAt m (moved 1 0 0 p) ns') → ((m : RecordBatch) (p : Place) → NodesAt m p ns → Answers (λ u. u) r (counts_faults m (moved 1 0 0 p)) tt)

@@ -14,6 +14,7 @@ use Rattle.arrow_spec.specs.Files.{TableBatch, batch_of_tables, to_read, none_ne
 use Rattle.arrow_spec.specs.declared.message.FieldNode.{FieldNode}
 use Rattle.arrow_spec.specs.declared.message.IpcBuffer.{IpcBuffer}
 use Rattle.arrow_types.specs.Physical.{physical_of}
+use Rattle.arrow_types.specs.UnionIds.{are_right}
 use Rattle.arrow_types.specs.Schemas.{Keyed}
 use Rattle.arrow_types.specs.declared.physical.PhysicalType.{PhysicalType}
 use Rattle.arrow_types.specs.declared.physical.PhysicalType.TheVariants.{FixedSizeBinary, Primitive}
@@ -27,7 +28,7 @@ use Rattle.arrow_buffers.specs.Layouts.{binary_size}
 use Rattle.arrow_arrays.specs.Parts.{Parts, cells_in}
 use Rattle.arrow_arrays.specs.Batches.{Batch}
 use Rattle.ipc_read_laws.specs.Faults.{stated_of, fetched_at_most}
-use Rattle.ipc_read_laws.specs.Carried.{is_carried}
+use Rattle.arrow_arrays.specs.Carried.{is_carried}
 use Rattle.ipc_read.specs.Skips.{is_plain_layout}
 
 -- ── the columns ──
@@ -37,13 +38,14 @@ abbrev pub is_column_layout : PhysicalType → ℕ → Bool
 is_column_layout FixedSizeBinary size = nat_lt 0 size
 is_column_layout layout size = is_plain_layout layout
 
--- columns of the kind may be read or refused: the same of each kind in it; lists and maps have one child, maps a struct of two, and sizes are above 0
+-- columns of the kind may be read or refused: the same of each kind in it; lists and maps have one child, maps a struct of two, sizes are above 0, and the ids of unions are right
 abbrev mutual
   pub is_column_kind : Kind → Bool
   is_column_kind («list» o fs) = nat_eq (width fs) 1 && are_column_fields fs
   is_column_kind (kind.map sorted fs) = (nat_eq (width fs) 1 && first_is_struct_of_two fs) && are_column_fields fs
   is_column_kind (fixed_size_list size fs) = (nat_eq (width fs) 1 && nat_lt 0 size) && are_column_fields fs
   is_column_kind (struct fs) = are_column_fields fs
+  is_column_kind (kind.union mode stated ids fs) = are_right ids (width fs) && are_column_fields fs
   is_column_kind (extension name metadata k) = is_column_kind k
   is_column_kind k = is_column_layout (physical_of k) (binary_size k)
 
@@ -113,7 +115,7 @@ abbrev pub batch_fetched : RecordBatch → Fields → ℕ → ℕ
 batch_fetched m fs zero = 0
 batch_fetched m fs (suc n) = stated_of m (columns_looked_at m None fs 0 first_place)
 
--- the same of columns that stand from a place on, one after another
-abbrev pub columns_fetched : RecordBatch → Fields → Place → ℕ → ℕ
+-- the same of columns that stand from a place on, each for the rows that its place says
+abbrev pub columns_fetched : RecordBatch → Fields → Place → (Place → ℕ) → ℕ
 columns_fetched m none p rows = 0
-columns_fetched m (field name nullable metadata k others) p rows = fetched_at_most m k p rows + columns_fetched m others (after m k p) rows
+columns_fetched m (field name nullable metadata k others) p rows = fetched_at_most m k p (rows p) + columns_fetched m others (after m k p) rows

@@ -4,6 +4,8 @@ pub mod Places
 pub mod Sources
 pub mod Lists
 pub mod CountedArrays
+pub mod ChildRows
+pub mod Unions
 pub mod Readers
 pub mod Skips
 pub mod Readings

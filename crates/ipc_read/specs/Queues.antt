@@ -41,6 +41,11 @@ pub record AllAt (m : RecordBatch) (p : Place) (ns : List FieldNode) (bs : List 
   pub buffers : Left m.buffers p.buffer bs
   pub views : Left m.variadic p.view vs
 
+-- the same of a batch of a version
+pub record BatchAt (v : MetadataVersion) (m : RecordBatch) (p : Place) (ns : List FieldNode) (bs : List IpcBuffer) (vs : List ℤ) : Type 0 where
+  pub version : m.version ≡ v
+  pub all : AllAt m p ns bs vs
+
 -- a queue is shorter by its first ones, of which there are at most so many
 pub record Shortened {A : Type 0} (old : List A) (most : ℕ) (new : List A) : Type 0 where
   pub taken : ℕ

@@ -11,7 +11,7 @@ use Rattle.ipc_read_laws.specs.Faults.{read_faults, fetched_at_most}
 use Rattle.ipc_read.specs.declared.body.Body.{Body}
 use Rattle.ipc_read.specs.declared.readers.BufferReader.{BufferReader}
 use Rattle.ipc_read.specs.declared.readers.ColumnReader.{ColumnReader}
-use Rattle.ipc_read.specs.Queues.{Left, At, AllAt, Shortened, ShortenedBy}
+use Rattle.ipc_read.specs.Queues.{Left, At, AllAt, BatchAt, Shortened, ShortenedBy}
 use Rattle.ipc_read.specs.Sources.{Answers, Inside, Told, Known, BodyReadCause}
 
 -- ── a body and its source ──
@@ -88,7 +88,27 @@ LeafShortened k ns ns' bs bs' = (version : MetadataVersion) (vs : List ℤ) → 
 abbrev pub ColumnShortened : Kind → List FieldNode → List FieldNode → List IpcBuffer → List IpcBuffer → List ℤ → List ℤ → Type 0
 ColumnShortened k ns ns' bs bs' vs vs' = (version : MetadataVersion) → ShortenedBy k version ns ns' bs bs' vs vs'
 
--- and refused columns of some fields, one after another
+-- ── one column of any kind, in a batch of a version ──
+
+-- an array of a kind was taken, with its children
+abbrev pub TreeTaken : {X : Type 0} → Kind → MetadataVersion → List FieldNode → List FieldNode → List IpcBuffer → List IpcBuffer → List ℤ → List ℤ
+    → Result X IpcError → Type 0
+TreeTaken k version ns ns' bs bs' vs vs' result =
+    IfOk result (λ _. (m : RecordBatch) (p : Place) → BatchAt version m p ns bs vs → AllAt m (after m k p) ns' bs' vs')
+
+-- it gives a value or refusals
+abbrev pub TreeGiven : {X Y : Type 0} → Option (List ℕ) → Body → Bool → MetadataVersion → List FieldNode → List IpcBuffer → List ℤ → (X → Y)
+    → Result X IpcError → Kind → ℕ → (RecordBatch → Place → Y) → Type 0
+TreeGiven content body is_little_endian version ns bs vs view result k rows value =
+    (m : RecordBatch) (p : Place) → BatchAt version m p ns bs vs → Known content body is_little_endian m
+    → Answers view result (read_faults m k p rows) (value m p)
+
+-- at most the buffers that are looked at are fetched
+abbrev pub TreeFetched : Kind → MetadataVersion → List FieldNode → List IpcBuffer → List ℤ → ℕ → ℕ → ℕ → Type 0
+TreeFetched k version ns bs vs rows fetched fetched' =
+    (m : RecordBatch) (p : Place) → BatchAt version m p ns bs vs → fetched' ≤ fetched + fetched_at_most m k p rows
+
+-- also refused columns of some fields, one after another, have taken at most what they have
 pub record ShortenedByAll (fs : Fields) (version : MetadataVersion) (ns ns' : List FieldNode) (bs bs' : List IpcBuffer) (vs vs' : List ℤ) : Type 0 where
   pub nodes : Shortened ns (nodes_of fs) ns'
   pub buffers : Shortened bs (buffers_of version vs fs 0) bs'
@@ -192,6 +212,29 @@ abbrev pub ShortensColumn : {S : Type 0} → Kind → ColumnReader S → ColumnR
 ShortensColumn k r r' =
     ColumnShortened k r.nodes.now.items r'.nodes.now.items r.buffers.queue.now.items r'.buffers.queue.now.items r.variadic.now.items r'.variadic.now.items
 
-abbrev pub ShortensColumns : {S : Type 0} → Fields → ColumnReader S → ColumnReader S → Type 0
-ShortensColumns fs r r' = (version : MetadataVersion) → ShortenedByAll fs version r.nodes.now.items r'.nodes.now.items
-    r.buffers.queue.now.items r'.buffers.queue.now.items r.variadic.now.items r'.variadic.now.items
+-- the same of columns of any kind, in a batch of the reader's version
+
+abbrev pub TreeAt : {S : Type 0} → RecordBatch → Place → ColumnReader S → Type 0
+TreeAt m p r = BatchAt r.version m p r.nodes.now.items r.buffers.queue.now.items r.variadic.now.items
+
+abbrev pub TakesTree : {S X : Type 0} → Kind → ColumnReader S → ColumnReader S → Result X IpcError → Type 0
+TakesTree k r r' result = TreeTaken k r.version r.nodes.now.items r'.nodes.now.items r.buffers.queue.now.items r'.buffers.queue.now.items
+    r.variadic.now.items r'.variadic.now.items result
+
+abbrev pub GivesTree : {S X Y : Type 0} → (S → Option (List ℕ)) → ColumnReader S → (X → Y) → Result X IpcError → Kind → ℕ
+    → (RecordBatch → Place → Y) → Type 0
+GivesTree content_of r view result k rows value =
+    TreeGiven (content_of r.buffers.source.now) r.buffers.body r.buffers.is_little_endian r.version r.nodes.now.items r.buffers.queue.now.items
+    r.variadic.now.items view result k rows value
+
+abbrev pub FetchesTree : {S : Type 0} → (S → ℕ) → Kind → ColumnReader S → ColumnReader S → ℕ → Type 0
+FetchesTree fetched_of k r r' rows = TreeFetched k r.version r.nodes.now.items r.buffers.queue.now.items r.variadic.now.items rows
+    (fetched_of r.buffers.source.now) (fetched_of r'.buffers.source.now)
+
+abbrev pub ShortensTree : {S : Type 0} → Kind → ColumnReader S → ColumnReader S → Type 0
+ShortensTree k r r' = ShortenedBy k r.version r.nodes.now.items r'.nodes.now.items r.buffers.queue.now.items r'.buffers.queue.now.items
+    r.variadic.now.items r'.variadic.now.items
+
+abbrev pub ShortensTrees : {S : Type 0} → Fields → ColumnReader S → ColumnReader S → Type 0
+ShortensTrees fs r r' = ShortenedByAll fs r.version r.nodes.now.items r'.nodes.now.items r.buffers.queue.now.items r'.buffers.queue.now.items
+    r.variadic.now.items r'.variadic.now.items

@@ -11,7 +11,7 @@ ghost use Rattle.arrow_types.specs.KindOf.{kind_of};
 ghost use Rattle.arrow_types.specs.Schemas.{fields_in};
 ghost use Rattle.arrow_arrays.specs.Batches.{have_rows};
 ghost use Rattle.arrow_spec.specs.Flat.{order_by};
-ghost use Rattle.ipc_read_laws.specs.Carried.{is_carried};
+ghost use Rattle.arrow_arrays.specs.Carried.{is_carried};
 ghost use Rattle.arrow_arrays.specs.Parts.{kind_in, rows_in, cells_in};
 ghost use Rattle.arrow_arrays.specs.PartsOf.{parts_of, all_parts_of};
 ghost use Rattle.ipc_read_laws.specs.Batches.{columns_read};
@@ -20,7 +20,7 @@ ghost use Rattle.ipc_read_laws.specs.PartsRead.{parts_read};
 ghost use Rattle.ipc_schema.specs.Views.{header_of};
 ghost use Rattle.ipc_read.specs.Batches.{AreQueuesOf, table_in, are_column_kinds, are_carried_kinds, batch_reading, table_of, batch_fetched, columns_fetched};
 ghost use Rattle.arrow_spec.specs.Files.{record_batch_of};
-ghost use Rattle.ipc_read.specs.Readers.{QueuesAt, KnownTo, Readable, CanRead, KeepsQueues, FailsToReadColumn, HasReadCause, TakesColumn, FetchesColumn};
+ghost use Rattle.ipc_read.specs.Readers.{TreeAt, KnownTo, Readable, CanRead, KeepsQueues, FailsToReadColumn, HasReadCause, TakesTree, FetchesTree};
 ghost use Rattle.ipc_read.specs.Sources.{Answers, Inside, BodyReadCause, bytes_in};
 ghost use Rattle.ipc_io.specs.Outside.{SourceKept};
 
@@ -40,13 +40,13 @@ impl<'n, 'a, S: Source> ColumnReader<'n, 'a, S> {
     fn read_column(&mut self, dtype: &ArrowDataType, rows: usize) -> Result<Array, IpcError>
         requires held { is_carried (kind_of dtype.now) ≡ true }
         requires readable { CanRead S.content self.old.buffers }
-        ensures takes { TakesColumn (kind_of dtype.now) self.old self.new result }
-        ensures parts { (m : Batch) (p : Place) → QueuesAt m p self.old → KnownTo S.content self.old.buffers m → Answers (λ a. parts_of a) result (column_faults m [] (kind_of dtype.now) p rows rows) (parts_read m (kind_of dtype.now) p rows) }
-        ensures cells { (m : Batch) (p : Place) → QueuesAt m p self.old → KnownTo S.content self.old.buffers m → Answers (λ a. cells_in (parts_of a)) result (column_faults m [] (kind_of dtype.now) p rows rows) (from_on (cell m [] (kind_of dtype.now) p) 0 rows) }
+        ensures takes { TakesTree (kind_of dtype.now) self.old self.new result }
+        ensures parts { (m : Batch) (p : Place) → TreeAt m p self.old → KnownTo S.content self.old.buffers m → Answers (λ a. parts_of a) result (column_faults m [] (kind_of dtype.now) p rows rows) (parts_read m (kind_of dtype.now) p rows) }
+        ensures cells { (m : Batch) (p : Place) → TreeAt m p self.old → KnownTo S.content self.old.buffers m → Answers (λ a. cells_in (parts_of a)) result (column_faults m [] (kind_of dtype.now) p rows rows) (from_on (cell m [] (kind_of dtype.now) p) 0 rows) }
         ensures shape { IfOk result (λ a. (kind_in (parts_of a) ≡ (kind_of dtype.now)) × (rows_in (parts_of a) ≡ rows)) }
         ensures cause { FailsToReadColumn S.faults self.old self.new result }
         ensures keeps { KeepsQueues S.content S.faults S.references self.old self.new }
-        ensures fetched { FetchesColumn S.fetched (kind_of dtype.now) self.old self.new rows }
+        ensures fetched { FetchesTree S.fetched (kind_of dtype.now) self.old self.new rows }
     {
         check_node(self.nodes, rows)?;
         self.read_array(dtype, rows)
@@ -56,13 +56,13 @@ impl<'n, 'a, S: Source> ColumnReader<'n, 'a, S> {
     fn read_columns(&mut self, schema: &ArrowSchema, rows: usize) -> Result<Vec<Array>, IpcError>
         requires held { are_carried_kinds schema.now ≡ true }
         requires readable { CanRead S.content self.old.buffers }
-        ensures gives { (m : Batch) → QueuesAt m first_place self.old → KnownTo S.content self.old.buffers m → Gives (λ v. map cells_in (all_parts_of v.items)) result (columns_at m [] None (fields_in schema.now) 0 first_place rows rows) }
-        ensures parts { IfOk result (λ v. (m : Batch) → QueuesAt m first_place self.old → KnownTo S.content self.old.buffers m → all_parts_of v.items ≡ columns_read m (fields_in schema.now) first_place rows) }
+        ensures gives { (m : Batch) → TreeAt m first_place self.old → KnownTo S.content self.old.buffers m → Gives (λ v. map cells_in (all_parts_of v.items)) result (columns_at m [] None (fields_in schema.now) 0 first_place rows rows) }
+        ensures parts { IfOk result (λ v. (m : Batch) → TreeAt m first_place self.old → KnownTo S.content self.old.buffers m → all_parts_of v.items ≡ columns_read m (fields_in schema.now) first_place rows) }
         ensures shape { IfOk result (λ v. have_rows rows (all_parts_of v.items) ≡ true) }
         ensures count { IfOk result (λ v. length v.items ≡ length schema.now) }
         ensures cause { FailsToReadColumn S.faults self.old self.new result }
         ensures keeps { KeepsQueues S.content S.faults S.references self.old self.new }
-        ensures fetched { (m : Batch) → QueuesAt m first_place self.old → S.fetched self.new.buffers.source.now ≤ S.fetched self.old.buffers.source.now + columns_fetched m (fields_in schema.now) first_place rows }
+        ensures fetched { (m : Batch) → TreeAt m first_place self.old → S.fetched self.new.buffers.source.now ≤ S.fetched self.old.buffers.source.now + columns_fetched m (fields_in schema.now) first_place (λ p. rows) }
     {
         let mut arrays = Vec::new(self.buffers.alloc);
         for i in 0..schema.len() {
@@ -100,7 +100,7 @@ impl<'n, 'a, S: Source> ColumnReader<'n, 'a, S> {
 }
 
 /// Reads a record batch whose body stands in a place of the source. The lengths of all buffers together are at most
-/// `size`. In the columns' kinds stand no lists of one size, no maps, no unions and no dictionaries; the IPC schema has a field for
+/// `size`. In the columns' kinds stand no dictionaries; the IPC schema has a field for
 /// each field. The call goes as deep as the types' trees.
 ///
 /// # Errors

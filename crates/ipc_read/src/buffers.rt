@@ -163,7 +163,7 @@ fn numbers_of<T: NativeType>(
 }
 
 /// Whether a validity is read.
-fn reads_validity(rows: usize, node: FieldNode) -> bool
+pub(crate) fn reads_validity(rows: usize, node: FieldNode) -> bool
     ensures { result ≡ (nat_lt 0 rows && nat_lt 0 (magnitude node.null_count)) }
 {
     rows > 0 && magnitude(node.null_count) > 0

@@ -1,4 +1,4 @@
-//! Arrays with children (Arrow Columnar Format, "Variable-size List Layout", "Fixed-Size List Layout", "Map Layout", "Struct Layout").
+//! Arrays with children (Arrow Columnar Format, "Variable-size List Layout", "Fixed-Size List Layout", "Map Layout", "Struct Layout", "Union Layout").
 ghost use Rattle.std.specs.Prelude.{◌≡◌, ℕ, suc, ◌+◌, ◌*◌, ◌^◌, ◌≤◌, ◌++◌, [], length, slice_get, true, false, IfOk, IfErr, IfSome, IfNone, None};
 ghost use Rattle.arrow_spec.specs.Counts.{RecordBatch as Batch, Place};
 ghost use Rattle.arrow_spec.specs.Kinds.{«list»};
@@ -18,20 +18,24 @@ ghost use Rattle.arrow_arrays.specs.PartsOf.{parts_of, forest_of};
 ghost use Rattle.ipc_read_laws.specs.PartsRead.{parts_read, forest_read, HaveBytes, AllHaveBytes};
 ghost use Rattle.ipc_read.specs.Batches.{columns_fetched};
 ghost use Rattle.ipc_read.specs.Places.{behind, place_faults};
-ghost use Rattle.ipc_read.specs.Queues.{Left, Shortened};
-ghost use Rattle.ipc_read_laws.specs.Carried.{is_carried, are_carried};
+ghost use Rattle.ipc_read.specs.Queues.{Left, AllAt};
+ghost use Rattle.arrow_arrays.specs.Carried.{is_carried, are_carried};
 ghost use Rattle.ipc_read.specs.CountedArrays.{is_any_counted, counted_kind, counted_rows, counted_head, items_faults};
 ghost use Rattle.ipc_read.specs.Lists.{as_lists};
-ghost use Rattle.ipc_read.specs.Readers.{QueuesAt, KnownTo, CanRead, KeepsQueues, FailsToReadColumn, TakesColumn, GivesColumn, FetchesColumn, ShortensColumn, ShortensColumns};
+ghost use Rattle.ipc_read.specs.ChildRows.{rows_by, rows_of_each};
+ghost use Rattle.ipc_read.specs.Unions.{union_as};
+ghost use Rattle.ipc_read.specs.Readers.{TreeAt, KnownTo, CanRead, KeepsQueues, FailsToReadColumn, TakesTree, GivesTree, FetchesTree, ShortensTree, ShortensTrees};
 ghost use Rattle.ipc_read.specs.Sources.{Answers, IsRefusal};
 
+use crate::child_rows::{ChildRows, rows_of_next};
 use crate::integers::is_negative;
 use crate::lists::{list_child, make_listed};
 use crate::readers::ColumnReader;
+use crate::unions::{children_rows, make_union, union_fields};
 use arrow_arrays::{Array, FixedSizeListArray, StructArray};
 use arrow_buffers::{ArrayError, Bitmap};
 use arrow_spec::{FieldNode, IpcError, OutOfSpecKind};
-use arrow_types::{ArrowDataType, Field};
+use arrow_types::{ArrowDataType, Field, UnionMode};
 use ipc_schema::Source;
 use std::alloc::Global;
 use std::collections::VecDeque;
@@ -171,14 +175,14 @@ impl<'n, 'a, S: Source> ColumnReader<'n, 'a, S> {
     ) -> Result<Array, IpcError>
         requires held { is_carried (kind_of dtype.now) ≡ true }
         requires readable { CanRead S.content self.old.buffers }
-        ensures takes { TakesColumn (kind_of dtype.now) self.old self.new result }
-        ensures parts { GivesColumn S.content self.old (λ a. parts_of a) result (kind_of dtype.now) rows (λ m p. parts_read m (kind_of dtype.now) p rows) }
-        ensures shortened { ShortensColumn (kind_of dtype.now) self.old self.new }
+        ensures takes { TakesTree (kind_of dtype.now) self.old self.new result }
+        ensures parts { GivesTree S.content self.old (λ a. parts_of a) result (kind_of dtype.now) rows (λ m p. parts_read m (kind_of dtype.now) p rows) }
+        ensures shortened { ShortensTree (kind_of dtype.now) self.old self.new }
         ensures shape { IfOk result (λ a. (kind_in (parts_of a) ≡ (kind_of dtype.now)) × (rows_in (parts_of a) ≡ rows)) }
         ensures cause { FailsToReadColumn S.faults self.old self.new result }
         ensures keeps { KeepsQueues S.content S.faults S.references self.old self.new }
-        ensures fetched { FetchesColumn S.fetched (kind_of dtype.now) self.old self.new rows }
-        ensures cells { GivesColumn S.content self.old (λ a. cells_in (parts_of a)) result (kind_of dtype.now) rows (λ m p. from_on (cell m [] (kind_of dtype.now) p) 0 rows) }
+        ensures fetched { FetchesTree S.fetched (kind_of dtype.now) self.old self.new rows }
+        ensures cells { GivesTree S.content self.old (λ a. cells_in (parts_of a)) result (kind_of dtype.now) rows (λ m p. from_on (cell m [] (kind_of dtype.now) p) 0 rows) }
     {
         self.read_tree(dtype, rows)
     }
@@ -188,20 +192,23 @@ impl<'n, 'a, S: Source> ColumnReader<'n, 'a, S> {
     fn read_tree(&mut self, dtype: &ArrowDataType, rows: usize) -> Result<Array, IpcError>
         requires held { is_carried (kind_of dtype.now) ≡ true }
         requires readable { CanRead S.content self.old.buffers }
-        ensures takes { TakesColumn (kind_of dtype.now) self.old self.new result }
-        ensures parts { GivesColumn S.content self.old (λ a. parts_of a) result (kind_of dtype.now) rows (λ m p. parts_read m (kind_of dtype.now) p rows) }
-        ensures bytes { IfOk result (λ _. (m : Batch) (p : Place) → QueuesAt m p self.old → KnownTo S.content self.old.buffers m → HaveBytes m (kind_of dtype.now) p rows) }
-        ensures shortened { ShortensColumn (kind_of dtype.now) self.old self.new }
+        ensures takes { TakesTree (kind_of dtype.now) self.old self.new result }
+        ensures parts { GivesTree S.content self.old (λ a. parts_of a) result (kind_of dtype.now) rows (λ m p. parts_read m (kind_of dtype.now) p rows) }
+        ensures bytes { IfOk result (λ _. (m : Batch) (p : Place) → TreeAt m p self.old → KnownTo S.content self.old.buffers m → HaveBytes m (kind_of dtype.now) p rows) }
+        ensures shortened { ShortensTree (kind_of dtype.now) self.old self.new }
         ensures shape { IfOk result (λ a. (kind_in (parts_of a) ≡ (kind_of dtype.now)) × (rows_in (parts_of a) ≡ rows)) }
         ensures cause { FailsToReadColumn S.faults self.old self.new result }
         ensures keeps { KeepsQueues S.content S.faults S.references self.old self.new }
-        ensures fetched { FetchesColumn S.fetched (kind_of dtype.now) self.old self.new rows }
+        ensures fetched { FetchesTree S.fetched (kind_of dtype.now) self.old self.new rows }
     {
         match counted_fields(dtype) {
             Some((children, size)) => self.read_counted(dtype, children, size, rows),
             None => match list_child(dtype) {
                 Some((child, is_large)) => self.read_list(dtype, child, is_large, rows),
-                None => self.read_plain(dtype, rows),
+                None => match union_fields(dtype) {
+                    Some((children, mode)) => self.read_union(dtype, children, mode, rows),
+                    None => self.read_plain(dtype, rows),
+                },
             },
         }
     }
@@ -218,18 +225,18 @@ impl<'n, 'a, S: Source> ColumnReader<'n, 'a, S> {
         requires kind { under_extensions (kind_of dtype.now) ≡ counted_kind size (fields_of children.now) }
         requires held { is_carried (kind_of dtype.now) ≡ true }
         requires readable { CanRead S.content self.old.buffers }
-        ensures takes { TakesColumn (kind_of dtype.now) self.old self.new result }
-        ensures parts { GivesColumn S.content self.old (λ a. parts_of a) result (kind_of dtype.now) rows (λ m p. parts_read m (kind_of dtype.now) p rows) }
-        ensures bytes { IfOk result (λ _. (m : Batch) (p : Place) → QueuesAt m p self.old → KnownTo S.content self.old.buffers m → HaveBytes m (kind_of dtype.now) p rows) }
-        ensures shortened { ShortensColumn (kind_of dtype.now) self.old self.new }
+        ensures takes { TakesTree (kind_of dtype.now) self.old self.new result }
+        ensures parts { GivesTree S.content self.old (λ a. parts_of a) result (kind_of dtype.now) rows (λ m p. parts_read m (kind_of dtype.now) p rows) }
+        ensures bytes { IfOk result (λ _. (m : Batch) (p : Place) → TreeAt m p self.old → KnownTo S.content self.old.buffers m → HaveBytes m (kind_of dtype.now) p rows) }
+        ensures shortened { ShortensTree (kind_of dtype.now) self.old self.new }
         ensures shape { IfOk result (λ a. (kind_in (parts_of a) ≡ (kind_of dtype.now)) × (rows_in (parts_of a) ≡ rows)) }
         ensures cause { FailsToReadColumn S.faults self.old self.new result }
         ensures keeps { KeepsQueues S.content S.faults S.references self.old self.new }
-        ensures fetched { FetchesColumn S.fetched (kind_of dtype.now) self.old self.new rows }
+        ensures fetched { FetchesTree S.fetched (kind_of dtype.now) self.old self.new rows }
     {
         let validity = self.read_head(rows)?;
         let under = rows_under(self.nodes, size, rows)?;
-        let values = self.read_children(children, under)?;
+        let values = self.read_children(children, ChildRows::Same(under))?;
         make_counted(self.buffers.alloc, dtype, size, rows, values, validity)
     }
 
@@ -245,41 +252,69 @@ impl<'n, 'a, S: Source> ColumnReader<'n, 'a, S> {
         requires kind { as_lists (kind_of dtype.now) ≡ «list» (offsets_by is_large) (one_field (child_of child.now)) }
         requires held { is_carried (kind_of dtype.now) ≡ true }
         requires readable { CanRead S.content self.old.buffers }
-        ensures takes { TakesColumn (kind_of dtype.now) self.old self.new result }
-        ensures parts { GivesColumn S.content self.old (λ a. parts_of a) result (kind_of dtype.now) rows (λ m p. parts_read m (kind_of dtype.now) p rows) }
-        ensures bytes { IfOk result (λ _. (m : Batch) (p : Place) → QueuesAt m p self.old → KnownTo S.content self.old.buffers m → HaveBytes m (kind_of dtype.now) p rows) }
-        ensures shortened { ShortensColumn (kind_of dtype.now) self.old self.new }
+        ensures takes { TakesTree (kind_of dtype.now) self.old self.new result }
+        ensures parts { GivesTree S.content self.old (λ a. parts_of a) result (kind_of dtype.now) rows (λ m p. parts_read m (kind_of dtype.now) p rows) }
+        ensures bytes { IfOk result (λ _. (m : Batch) (p : Place) → TreeAt m p self.old → KnownTo S.content self.old.buffers m → HaveBytes m (kind_of dtype.now) p rows) }
+        ensures shortened { ShortensTree (kind_of dtype.now) self.old self.new }
         ensures shape { IfOk result (λ a. (kind_in (parts_of a) ≡ (kind_of dtype.now)) × (rows_in (parts_of a) ≡ rows)) }
         ensures cause { FailsToReadColumn S.faults self.old self.new result }
         ensures keeps { KeepsQueues S.content S.faults S.references self.old self.new }
-        ensures fetched { FetchesColumn S.fetched (kind_of dtype.now) self.old self.new rows }
+        ensures fetched { FetchesTree S.fetched (kind_of dtype.now) self.old self.new rows }
     {
         let parts = self.read_list_parts(is_large, rows)?;
         let values = self.read_tree(&child.dtype, parts.last)?;
         make_listed(self.buffers.alloc, dtype, parts, values)
     }
 
-    /// Arrays of so many rows, one after another.
+    /// An array of unions: a node, before V5 a validity, types, offsets where they are dense, and the children.
     #[cycle(read)]
-    fn read_children(&mut self, children: &[Field], rows: usize) -> Result<Vec<Array>, IpcError>
+    fn read_union(
+        &mut self,
+        dtype: &ArrowDataType,
+        children: &[Field],
+        mode: UnionMode,
+        rows: usize,
+    ) -> Result<Array, IpcError>
+        requires kind { under_extensions (kind_of dtype.now) ≡ union_as (kind_of dtype.now) mode (fields_of children.now) }
+        requires held { is_carried (kind_of dtype.now) ≡ true }
+        requires readable { CanRead S.content self.old.buffers }
+        ensures takes { TakesTree (kind_of dtype.now) self.old self.new result }
+        ensures parts { GivesTree S.content self.old (λ a. parts_of a) result (kind_of dtype.now) rows (λ m p. parts_read m (kind_of dtype.now) p rows) }
+        ensures bytes { IfOk result (λ _. (m : Batch) (p : Place) → TreeAt m p self.old → KnownTo S.content self.old.buffers m → HaveBytes m (kind_of dtype.now) p rows) }
+        ensures shortened { ShortensTree (kind_of dtype.now) self.old self.new }
+        ensures shape { IfOk result (λ a. (kind_in (parts_of a) ≡ (kind_of dtype.now)) × (rows_in (parts_of a) ≡ rows)) }
+        ensures cause { FailsToReadColumn S.faults self.old self.new result }
+        ensures keeps { KeepsQueues S.content S.faults S.references self.old self.new }
+        ensures fetched { FetchesTree S.fetched (kind_of dtype.now) self.old self.new rows }
+    {
+        let parts = self.read_union_parts(mode, rows)?;
+        let under = children_rows(mode, rows);
+        let fields = self.read_children(children, under)?;
+        make_union(self.buffers.alloc, dtype, parts, fields)
+    }
+
+    /// Arrays one after another, each of the rows that are said.
+    #[cycle(read)]
+    fn read_children(&mut self, children: &[Field], rows: ChildRows) -> Result<Vec<Array>, IpcError>
         requires held { are_carried (fields_of children.now) ≡ true }
         requires readable { CanRead S.content self.old.buffers }
-        ensures takes { IfOk result (λ _. (m : Batch) (p : Place) → QueuesAt m p self.old → QueuesAt m (behind m (fields_of children.now) p) self.new) }
-        ensures parts { (m : Batch) (p : Place) → QueuesAt m p self.old → KnownTo S.content self.old.buffers m → Answers (λ v. forest_of v.items) result (place_faults m p (behind m (fields_of children.now) p) ++ child_faults m [] (fields_of children.now) p (λ q. rows)) (forest_read m (fields_of children.now) p (λ q. rows)) }
-        ensures bytes { IfOk result (λ _. (m : Batch) (p : Place) → QueuesAt m p self.old → KnownTo S.content self.old.buffers m → AllHaveBytes m (fields_of children.now) p (λ q. rows)) }
-        ensures shortened { ShortensColumns (fields_of children.now) self.old self.new }
+        ensures takes { IfOk result (λ _. (m : Batch) (p : Place) → TreeAt m p self.old → AllAt m (behind m (fields_of children.now) p) self.new.nodes.now.items self.new.buffers.queue.now.items self.new.variadic.now.items) }
+        ensures parts { (m : Batch) (p : Place) → TreeAt m p self.old → KnownTo S.content self.old.buffers m → Answers (λ v. forest_of v.items) result (place_faults m p (behind m (fields_of children.now) p) ++ child_faults m [] (fields_of children.now) p (rows_by rows m)) (forest_read m (fields_of children.now) p (rows_by rows m)) }
+        ensures bytes { IfOk result (λ _. (m : Batch) (p : Place) → TreeAt m p self.old → KnownTo S.content self.old.buffers m → AllHaveBytes m (fields_of children.now) p (rows_by rows m)) }
+        ensures shortened { ShortensTrees (fields_of children.now) self.old self.new }
         ensures kinds { IfOk result (λ v. are_of (fields_of children.now) (kinds_each (forest_of v.items)) ≡ true) }
-        ensures all { IfOk result (λ v. are_all rows (rows_each (forest_of v.items)) ≡ true) }
+        ensures rows { IfOk result (λ v. (m : Batch) (p : Place) → TreeAt m p self.old → rows_each (forest_of v.items) ≡ rows_of_each m (fields_of children.now) p (rows_by rows m)) }
         ensures sound { IfOk result (λ v. fault_each (forest_of v.items) ≡ None) }
         ensures cause { FailsToReadColumn S.faults self.old self.new result }
         ensures keeps { KeepsQueues S.content S.faults S.references self.old self.new }
-        ensures fetched { (m : Batch) (p : Place) → QueuesAt m p self.old → S.fetched self.new.buffers.source.now ≤ S.fetched self.old.buffers.source.now + columns_fetched m (fields_of children.now) p rows }
+        ensures fetched { (m : Batch) (p : Place) → TreeAt m p self.old → S.fetched self.new.buffers.source.now ≤ S.fetched self.old.buffers.source.now + columns_fetched m (fields_of children.now) p (rows_by rows m) }
     {
         let mut arrays = Vec::new(self.buffers.alloc);
         for child in children {
-            let array = self.read_tree(&child.dtype, rows)?;
+            let asked = rows_of_next(self.nodes, rows);
+            let array = self.read_tree(&child.dtype, asked)?;
             let held = array.len();
-            prove!(held == rows);
+            prove!(held == asked);
             arrays.push(array)?;
         }
         Ok(arrays)

@@ -4,7 +4,7 @@
 mod batch;
 mod body;
 mod buffers;
-mod carried;
+mod child_rows;
 mod children;
 mod counts;
 mod integers;
@@ -16,13 +16,13 @@ mod reading;
 mod rows;
 mod skips;
 mod tables;
+mod unions;
 mod variable;
 mod views;
 
 pub use batch::read_record_batch;
 pub use body::Body;
 pub use buffers::{read_bitmap, read_buffer, read_bytes, read_validity};
-pub use carried::is_carried;
 pub use integers::magnitude;
 pub use leaf::{read_boolean, read_fixed_size_binary, read_null, read_primitive};
 pub use reading::{Dictionaries, read};

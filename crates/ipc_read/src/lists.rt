@@ -1,7 +1,6 @@
 //! Offsets of lists and of maps (Arrow Columnar Format, "Variable-size List Layout", "Map Layout").
 ghost use Rattle.std.specs.Prelude.{◌≡◌, ℕ, suc, ◌+◌, ◌^◌, ◌<◌, ◌≤◌, ◌++◌, ◌∷◌, [], pos, length, map, true, false, Option, List, ℤ, Bool, IfOk, IfErr, IfSome, IfNone};
-ghost use Rattle.arrow_spec.specs.Counts.{RecordBatch as Batch, Place, magnitude};
-ghost use Rattle.arrow_spec.specs.Arrays.{node_of};
+ghost use Rattle.arrow_spec.specs.Counts.{RecordBatch as Batch, Place};
 ghost use Rattle.arrow_spec.specs.Faults.{offsets_buffer_faults};
 ghost use Rattle.arrow_spec.specs.Kinds.{«list», small};
 ghost use Rattle.arrow_spec.specs.declared.error.IpcError.TheVariants.{Memory};
@@ -21,15 +20,14 @@ ghost use Rattle.ipc_read.specs.Queues.{Left, short_of, Shortened};
 ghost use Rattle.ipc_read.specs.Readers.{LeafAt, KnownTo, CanRead, KeepsSource, KeepsQueues, FailsToRead, FailsToReadColumn, TakesBuffer, ShortensBuffers, GivesNumbers, FetchesBuffer};
 ghost use Rattle.ipc_read.specs.Sources.{Answers, offsets_of_rows, faults_where, bytes_where, validity_fetched};
 
-use crate::integers::magnitude;
+use crate::child_rows::next_rows;
 use crate::readers::{BufferReader, ColumnReader};
 use arrow_arrays::{Array, ListArray, ListOffsets, MapArray};
 use arrow_buffers::{ArrayError, Bitmap, Buffer, place_of, rise_within};
-use arrow_spec::{FieldNode, IpcError, OutOfSpecKind};
+use arrow_spec::{IpcError, OutOfSpecKind};
 use arrow_types::{ArrowDataType, Field, Offset};
 use ipc_schema::Source;
 use std::alloc::Global;
-use std::collections::VecDeque;
 
 /// The parts of an array of lists or of maps but for its child, as they were read, and where the last list ends.
 #[derive(Drop)]
@@ -50,16 +48,6 @@ pub(crate) fn list_child(dtype: &ArrowDataType) -> Option<(&Field, bool)>
         ArrowDataType::Map(child, _) => Some((child, false)),
         ArrowDataType::Extension(extension) => list_child(&extension.inner),
         _ => None,
-    }
-}
-
-/// The rows of the next node; 0 where there is none, or where it has a negative number.
-fn next_rows(nodes: &VecDeque<FieldNode>) -> usize
-    ensures { (m : Batch) (i : ℕ) → Left m.nodes i nodes.now.items → result ≡ magnitude (node_of m i).length }
-{
-    match nodes.front() {
-        Some(node) => magnitude(node.length) as usize,
-        None => 0,
     }
 }
 

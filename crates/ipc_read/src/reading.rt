@@ -11,9 +11,10 @@ ghost use Rattle.ipc_read_laws.specs.PartsRead.{plain_read, parts_read, numbers_
 ghost use Rattle.arrow_spec.specs.Laws.{AreBytes};
 ghost use Rattle.arrow_spec.specs.Arrays.{from_on};
 ghost use Rattle.arrow_spec.specs.ArrayCells.{cell};
-ghost use Rattle.ipc_read_laws.specs.Carried.{is_carried};
+ghost use Rattle.arrow_arrays.specs.Carried.{is_carried};
 ghost use Rattle.ipc_read.specs.Readings.{is_of_values, is_of_views};
-ghost use Rattle.ipc_read.specs.Readers.{LeafAt, QueuesAt, KnownTo, Readable, HasReadCause, ColumnTaken, ColumnGiven, ColumnFetched, ColumnShortened, CanRead, KeepsQueues, FailsToReadColumn, TakesLeaf, GivesLeaf, FetchesLeaf, ShortensLeaf, TakesColumn, GivesColumn, FetchesColumn, ShortensColumn};
+ghost use Rattle.ipc_read.specs.Queues.{ShortenedBy};
+ghost use Rattle.ipc_read.specs.Readers.{LeafAt, QueuesAt, KnownTo, Readable, HasReadCause, TreeTaken, TreeGiven, TreeFetched, CanRead, KeepsQueues, FailsToReadColumn, TakesLeaf, GivesLeaf, FetchesLeaf, ShortensLeaf, TakesColumn, GivesColumn, FetchesColumn, ShortensColumn};
 ghost use Rattle.ipc_io.specs.Outside.{SourceKept};
 
 use crate::Body;
@@ -208,11 +209,11 @@ impl<'n, 'a, S: Source> ColumnReader<'n, 'a, S> {
 }
 
 /// The next array, as far as its first rows go, with its children. The type is one of those that `is_carried` tells:
-/// in it stand no unions, no dictionaries, no floats and no decimals of 256 bits, and no size is 0. The call goes as deep as the type's tree.
+/// in it stand no dictionaries, no floats and no decimals of 256 bits, and no size is 0. The call goes as deep as the type's tree.
 ///
 /// # Errors
 ///
-/// `Unsupported(ViewBigEndian)` for views in big-endian order; `OutOfSpec` where the node, a buffer or a view count is
+/// `Unsupported(ViewBigEndian)` for views in big-endian order, `Unsupported(UnionNulls)` for unions before V5 that have nulls of their own; `OutOfSpec` where the node, a buffer or a view count is
 /// missing or damaged; `ReadFault`, `Memory`.
 pub fn read<S: Source>(
     alloc: Global,
@@ -231,14 +232,14 @@ pub fn read<S: Source>(
 ) -> Result<Array, IpcError>
     requires held { is_carried (kind_of field.now.dtype) ≡ true }
     requires readable { Readable (S.content source.old) body }
-    ensures queues { ColumnTaken (kind_of field.now.dtype) nodes.old.items nodes.new.items buffers.old.items buffers.new.items variadic.old.items variadic.new.items result }
-    ensures parts { ColumnGiven (S.content source.old) body is_little_endian nodes.old.items buffers.old.items variadic.old.items (λ a. parts_of a) result (kind_of field.now.dtype) rows (λ m p. parts_read m (kind_of field.now.dtype) p rows) }
-    ensures shortened { ColumnShortened (kind_of field.now.dtype) nodes.old.items nodes.new.items buffers.old.items buffers.new.items variadic.old.items variadic.new.items }
+    ensures queues { TreeTaken (kind_of field.now.dtype) version nodes.old.items nodes.new.items buffers.old.items buffers.new.items variadic.old.items variadic.new.items result }
+    ensures parts { TreeGiven (S.content source.old) body is_little_endian version nodes.old.items buffers.old.items variadic.old.items (λ a. parts_of a) result (kind_of field.now.dtype) rows (λ m p. parts_read m (kind_of field.now.dtype) p rows) }
+    ensures shortened { ShortenedBy (kind_of field.now.dtype) version nodes.old.items nodes.new.items buffers.old.items buffers.new.items variadic.old.items variadic.new.items }
     ensures shape { IfOk result (λ a. (kind_in (parts_of a) ≡ (kind_of field.now.dtype)) × (rows_in (parts_of a) ≡ rows)) }
     ensures cause { HasReadCause (S.faults source.old) (S.faults source.new) result }
     ensures kept { SourceKept S.content S.faults S.references source.old source.new }
-    ensures fetched { ColumnFetched (kind_of field.now.dtype) nodes.old.items buffers.old.items variadic.old.items rows (S.fetched source.old) (S.fetched source.new) }
-    ensures cells { ColumnGiven (S.content source.old) body is_little_endian nodes.old.items buffers.old.items variadic.old.items (λ a. cells_in (parts_of a)) result (kind_of field.now.dtype) rows (λ m p. from_on (cell m [] (kind_of field.now.dtype) p) 0 rows) }
+    ensures fetched { TreeFetched (kind_of field.now.dtype) version nodes.old.items buffers.old.items variadic.old.items rows (S.fetched source.old) (S.fetched source.new) }
+    ensures cells { TreeGiven (S.content source.old) body is_little_endian version nodes.old.items buffers.old.items variadic.old.items (λ a. cells_in (parts_of a)) result (kind_of field.now.dtype) rows (λ m p. from_on (cell m [] (kind_of field.now.dtype) p) 0 rows) }
 {
     let mut reader = ColumnReader {
         nodes,

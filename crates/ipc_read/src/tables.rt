@@ -21,6 +21,7 @@ ghost use Rattle.ipc_read.specs.Sources.{Answers, IsRefusal};
 use crate::children::counted_fields;
 use crate::integers::{is_negative, magnitude};
 use crate::lists::list_child;
+use crate::unions::union_fields;
 use arrow_spec::{Feature, FieldNode, IpcBuffer, IpcError, OutOfSpecKind};
 use arrow_types::{ArrowDataType, ArrowSchema, Field, PhysicalType, PrimitiveType};
 use ipc_schema::BatchHeader;
@@ -117,7 +118,7 @@ fn unread_numbers(primitive: PrimitiveType) -> Option<Feature>
     }
 }
 
-/// Floats and decimals of 256 bits are not read, nor lists, maps and structs of them.
+/// Floats and decimals of 256 bits are not read, nor lists, maps, structs and unions of them.
 #[cycle(check)]
 fn check_kind(dtype: &ArrowDataType) -> Result<(), IpcError>
     requires column { is_column_kind (kind_of dtype.now) ≡ true }
@@ -128,7 +129,10 @@ fn check_kind(dtype: &ArrowDataType) -> Result<(), IpcError>
         Some((children, _)) => check_children(children),
         None => match list_child(dtype) {
             Some((child, _)) => check_kind(&child.dtype),
-            None => check_plain(dtype),
+            None => match union_fields(dtype) {
+                Some((children, _)) => check_children(children),
+                None => check_plain(dtype),
+            },
         },
     }
 }

@@ -12,7 +12,7 @@ pub mod WrittenLaws
 pub mod LayoutLaws
 pub mod Labels
 pub mod Trees
+pub mod Unions
 pub mod TreesSound
 pub mod TreesCells
-pub mod SparseUnions
 pub mod TreesWritten

@@ -1,5 +1,5 @@
 -- The cells of the parts that are read are those of the record batch.
-use Rattle.std.proofs.Common.{◌≡◌, ℕ, zero, suc, ◌+◌, ◌-◌, ◌*◌, ◌≤◌, ◌<◌, List, [], ◌∷◌, Bool, true, refl, sym, ap, ◌∙◌, arith, subst}
+use Rattle.std.proofs.Common.{◌≡◌, ℕ, zero, suc, ◌+◌, ◌-◌, ◌*◌, ◌≤◌, ◌<◌, List, [], Bool, true, refl, sym, ap, ◌∙◌, arith, subst}
 use Rattle.std.proofs.Math.Nat.{mul-le-mul_left}
 use Rattle.arrow_spec.specs.Kinds as kind
 use Rattle.arrow_spec.specs.Kinds.{Kind, Fields, Metadata, Offsets, small, large, width, none, field}
@@ -18,20 +18,16 @@ use Rattle.arrow_buffers.proofs.Parts.{part-from_on}
 use Rattle.arrow_arrays.specs.Heads.{sized, structured, list_size, first_of, row_items, across, head_cells}
 use Rattle.arrow_arrays.specs.LeafKinds.{is_leaf_kind}
 use Rattle.arrow_arrays.specs.Parts.{cells_in, cells_each}
-use Rattle.ipc_read_laws.specs.Carried.{is_carried}
+use Rattle.arrow_arrays.specs.Carried.{is_carried}
 use Rattle.ipc_read_laws.specs.PartsRead.{parts_under, forest_read, listed_read, counted_read, validity_read, numbers_bytes, HaveBytes, AllHaveBytes}
 use Rattle.ipc_read_laws.specs.Laws.{CellsAreRead}
 use Rattle.ipc_read_laws.proofs.Buffers.{get-told}
 use Rattle.ipc_read_laws.proofs.OffsetsRead.{offsets_told, rows-told, place-told}
 use Rattle.ipc_read_laws.proofs.CellLaws.{masked_same, cells_under}
 use Rattle.ipc_read_laws.proofs.Labels.{Label, label_itself, label_like, label_size}
-use Rattle.ipc_read_laws.proofs.Trees.{by_tree}
+use Rattle.ipc_read_laws.proofs.Trees.{by_tree, cells_told}
+use Rattle.ipc_read_laws.proofs.Unions.{child_rows, children_at, union_under, union_bytes, union_children, union_cells}
 use Rattle.ipc_read_laws.proofs.TreesSound.{plain_under, list_children, map_is_list}
-
--- the cells of children that stand from a place on
-abbrev pub cells_told : RecordBatch → Dictionaries → Fields → Place → (Place → ℕ) → List (List Cell)
-cells_told m d none p rows = []
-cells_told m d (field name nullable metadata k others) p rows = from_on (cell m d k p) 0 (rows p) ∷ cells_told m d others (after m k p) rows
 
 first_told : (m : RecordBatch) (d : Dictionaries) (fs : Fields) (q : Place) (n : ℕ) → width fs ≡ 1 → first_of (cells_told m d fs q (λ q. n)) ≡ from_on (λ j. cell_in m d fs 0 q j) 0 n
 first_told m d none q n w = cc
@@ -120,8 +116,8 @@ leaf_cells k is l e m d p rows b h =
     ap cells_in (sym (plain_under l m k p rows is))
     ∙ cells_under m d k l p rows is (label_like l k e) (subst (λ (x : Type 0). x) (sym (plain_bytes m k p rows is)) b) h
 
-field_cells : (name : List ℕ) (nullable : Bool) (metadata : Metadata) (k : Kind) (others : Fields) → KindCells k → FieldsCells others → FieldsCells (field name nullable metadata k others)
-field_cells name nullable metadata k others f g m d p rows b h =
+field_cells : (name : List ℕ) (nullable : Bool) (metadata : Metadata) (k : Kind) (others : Fields) → is_carried k ≡ true → KindCells k → FieldsCells others → FieldsCells (field name nullable metadata k others)
+field_cells name nullable metadata k others carried f g m d p rows b h =
     let x = f k (label_itself k) m d p (rows p) b.0 (none_first _ _ h) in
     let y = g m d (after m k p) rows b.1 (sound_second (view_count_faults m k p) _ (none_second (array_faults m d k p (rows p)) _ h)) in
     rw (x, y) refl
@@ -135,6 +131,9 @@ tree_cells = by_tree KindCells FieldsCells (record {
       list_cells m d l small fs p rows _ w (g m d (inside 2 p) (λ q. offset_read m small p rows) b (list_children m d small fs p rows k)) k;
   on_sized = λ size fs w s g l e m d p rows b h. sized_cells m d l size fs p rows _ (label_size l (kind.fixed_size_list size fs) e) w (g m d (inside 1 p) (λ q. size * rows) b (none_second _ _ h));
   on_struct = λ fs g l e m d p rows b h. struct_cells m d l fs p rows _ (g m d (inside 1 p) (λ q. rows) b (none_second _ _ h));
+  on_union = λ mode stated ids fs right g l e m d p rows b h.
+      ap cells_in (sym (union_under l m mode stated ids fs p rows))
+      ∙ union_cells m d l mode stated ids fs p rows _ e right h (g m d (children_at m mode p) (λ q. child_rows m mode rows q) (union_bytes m mode stated ids fs p rows b) (union_children m d mode stated ids fs p rows h));
   on_extension = λ name metadata k f l e m d p rows b h. f l (record { under = e.under }) m d p rows b h;
   on_none = λ m d p rows b h. refl;
   on_field = field_cells;

@@ -1,5 +1,5 @@
 -- The parts of an array that is not refused are sound, of its kind and of the rows that were asked for.
-use Rattle.std.proofs.Common.{◌≡◌, ℕ, zero, suc, ◌+◌, ◌*◌, ◌&&◌, List, [], length, Bool, true, false, Option, None, nat_eq, nat_lt, not, refl, sym, ap, ◌∙◌, arith, subst}
+use Rattle.std.proofs.Common.{◌≡◌, ℕ, zero, suc, ◌+◌, ◌*◌, List, [], length, Bool, true, false, nat_eq, nat_lt, not, refl, sym, ap, ◌∙◌, arith, subst}
 use Rattle.std.proofs.lemmas.Bool.{and_from, eq-eqb, le-ltb, or_parts, or_from}
 use Rattle.arrow_spec.specs.Kinds as kind
 use Rattle.arrow_spec.specs.Kinds.{Kind, Fields, Metadata, Offsets, small, large, width, none, field}
@@ -10,35 +10,21 @@ use Rattle.arrow_spec.specs.Sent.{offset_read}
 use Rattle.arrow_spec.proofs.Fewer.{cause-none, none_first, none_second, sound_second}
 use Rattle.arrow_types.specs.KindCode.{kind_eq}
 use Rattle.arrow_types.specs.Physical.{physical_of}
-use Rattle.arrow_buffers.specs.declared.error.ArrayError.{ArrayError}
 use Rattle.arrow_buffers.specs.Rows.{has_rows}
 use Rattle.arrow_buffers.specs.Variable.{are_offsets, variable_rows}
-use Rattle.arrow_arrays.specs.Heads.{Head, listed, mapped, sized, structured, head_kind, head_fault, is_list, is_map, is_sized, is_struct, list_size, are_of, child_fields, are_all, first_or_0}
+use Rattle.arrow_arrays.specs.Heads.{listed, mapped, sized, structured, head_fault, is_list, is_map, is_sized, is_struct, list_size, child_fields, are_all, first_or_0}
 use Rattle.arrow_arrays.specs.LeafKinds.{is_leaf_kind}
-use Rattle.arrow_arrays.specs.Parts.{Parts, Forest, nested, kind_in, rows_in, fault_in, kinds_each, rows_each, fault_each, either}
+use Rattle.arrow_arrays.specs.Parts.{Forest, nested, kinds_each, rows_each}
 use Rattle.arrow_arrays.proofs.HeadSliced.{sound_head}
-use Rattle.ipc_read_laws.specs.Carried.{is_carried}
+use Rattle.arrow_arrays.specs.Carried.{is_carried}
 use Rattle.ipc_read_laws.specs.PartsRead.{parts_in, parts_under, forest_read, listed_read, counted_read}
 use Rattle.ipc_read_laws.specs.Laws.{PartsAreSound}
 use Rattle.ipc_read_laws.proofs.Validities.{has_rows-read}
 use Rattle.ipc_read_laws.proofs.OffsetsRead.{offsets_told, offsets_bad, offsets-bad, rows-told}
 use Rattle.ipc_read_laws.proofs.SoundLaws.{sound_under, kind_under, rows_under}
 use Rattle.ipc_read_laws.proofs.Labels.{Label, label_itself, label_like, label_fields, label_size, label_list, label_map, label_sized, label_struct}
-use Rattle.ipc_read_laws.proofs.Trees.{TreeCases, by_tree, by_fields, rows_told, told_all, told_length, told_first, same_kind}
-
--- sound parts of a kind and of so many rows, and sound children under fields
-pub record SoundAs (l : Kind) (rows : ℕ) (x : Parts) : Type 0 where
-  pub kind_is : kind_in x ≡ l
-  pub rows_are : rows_in x ≡ rows
-  pub none : fault_in x ≡ None
-
-pub record ForestSound (fs : Fields) (ns : List ℕ) (cs : Forest) : Type 0 where
-  pub kinds : are_of fs (kinds_each cs) ≡ true
-  pub rows : rows_each cs ≡ ns
-  pub none : fault_each cs ≡ None
-
-pub both_none : (e f : Option ArrayError) → e ≡ None → f ≡ None → either e f ≡ None
-both_none e f h k = rw h k
+use Rattle.ipc_read_laws.proofs.Trees.{TreeCases, by_tree, by_fields, rows_told, told_all, told_length, told_first, SoundAs, ForestSound, both_none, suited, same_kind}
+use Rattle.ipc_read_laws.proofs.Unions.{child_rows, children_at, union_under, union_children, union_sound}
 
 -- ── lists and maps ──
 
@@ -75,9 +61,6 @@ list_itself small fs = refl
 list_itself large fs = refl
 
 -- lists, or maps, over sound children are sound
-pub list_head : (h : Head) (suits : Bool) (l : Kind) (fs : Fields) (ks : List Kind) → head_kind h ≡ l → suits ≡ true → child_fields l ≡ fs → are_of fs ks ≡ true → (suits && are_of (child_fields (head_kind h)) ks) ≡ true
-list_head h suits l fs ks e s f a = and_from suits _ s (ap (λ k. are_of (child_fields k) ks) e ∙ ap (λ g. are_of g ks) f ∙ a)
-
 first_rows : (m : RecordBatch) (fs : Fields) (q : Place) (n : ℕ) (cs : Forest) → width fs ≡ 1 → rows_each cs ≡ rows_told m fs q (λ q. n) → (nat_eq (length (rows_each cs)) 1 ≡ true) × (first_or_0 (rows_each cs) ≡ n)
 first_rows m fs q n cs w r = (ap (λ ns. nat_eq (length ns) 1) r ∙ eq-eqb _ 1 (told_length m fs q (λ q. n) ∙ w), ap first_or_0 r ∙ told_first m fs q n w)
 
@@ -91,7 +74,7 @@ list_sound m l o fs p rows cs s f w c a =
       kind_is = list_kind m l o p rows;
       rows_are = list_rows m l o p rows;
       none = both_none (head_fault h (kinds_each cs) (rows_each cs)) _ (sound_head h (kinds_each cs) (rows_each cs) (record {
-        suits = list_head h _ l fs (kinds_each cs) (list_kind m l o p rows) suit f c.kinds;
+        suits = suited h _ l fs (kinds_each cs) (list_kind m l o p rows) suit f c.kinds;
         valid = list_valid m l o p rows;
         rows = r.0;
         offsets = ap (are_offsets (listed_read m l o p rows).offsets) r.1 ∙ a;
@@ -109,7 +92,7 @@ map_sound m l fs p rows cs s f w c a =
       kind_is = list_kind m l small p rows;
       rows_are = list_rows m l small p rows;
       none = both_none (head_fault h (kinds_each cs) (rows_each cs)) _ (sound_head h (kinds_each cs) (rows_each cs) (record {
-        suits = list_head h _ l fs (kinds_each cs) (list_kind m l small p rows) suit f c.kinds;
+        suits = suited h _ l fs (kinds_each cs) (list_kind m l small p rows) suit f c.kinds;
         valid = list_valid m l small p rows;
         rows = r.0;
         offsets = ap (are_offsets (listed_read m l small p rows).offsets) r.1 ∙ a;
@@ -126,7 +109,7 @@ sized_sound m l size fs p rows cs s z f c =
       kind_is = refl;
       rows_are = refl;
       none = both_none (head_fault h (kinds_each cs) (rows_each cs)) _ (sound_head h (kinds_each cs) (rows_each cs) (record {
-        suits = list_head h _ l fs (kinds_each cs) refl s f c.kinds;
+        suits = suited h _ l fs (kinds_each cs) refl s f c.kinds;
         valid = has_rows-read m p rows;
         rows = ap (λ n. are_all (n * rows) (rows_each cs)) z ∙ ap (are_all (size * rows)) c.rows ∙ told_all m fs (inside 1 p) (size * rows);
         offsets = refl;
@@ -141,7 +124,7 @@ struct_sound m l fs p rows cs s f c =
       kind_is = refl;
       rows_are = refl;
       none = both_none (head_fault h (kinds_each cs) (rows_each cs)) _ (sound_head h (kinds_each cs) (rows_each cs) (record {
-        suits = list_head h _ l fs (kinds_each cs) refl s f c.kinds;
+        suits = suited h _ l fs (kinds_each cs) refl s f c.kinds;
         valid = has_rows-read m p rows;
         rows = ap (are_all rows) c.rows ∙ told_all m fs (inside 1 p) rows;
         offsets = refl;
@@ -188,8 +171,8 @@ plain_under l m (kind.union mode stated ids fs) p rows h = cc
 plain_under l m (kind.extension name metadata k) p rows h = plain_under l m k p rows h
 plain_under l m k p rows h = refl
 
-field_sound : (name : List ℕ) (nullable : Bool) (metadata : Metadata) (k : Kind) (others : Fields) → KindSound k → FieldsSound others → FieldsSound (field name nullable metadata k others)
-field_sound name nullable metadata k others f g m d p rows h =
+field_sound : (name : List ℕ) (nullable : Bool) (metadata : Metadata) (k : Kind) (others : Fields) → is_carried k ≡ true → KindSound k → FieldsSound others → FieldsSound (field name nullable metadata k others)
+field_sound name nullable metadata k others carried f g m d p rows h =
     let a = f k (label_itself k) m d p (rows p) (none_first _ _ h) in
     let b = g m d (after m k p) rows (sound_second (view_count_faults m k p) _ (none_second (array_faults m d k p (rows p)) _ h)) in
     record {
@@ -207,6 +190,9 @@ sound_cases = record {
       map_sound m l fs p rows _ (label_map small l (kind.map sorted fs) e ∙ two) (label_fields l (kind.map sorted fs) e) w (g m d (inside 2 p) (λ q. offset_read m small p rows) (list_children m d small fs p rows k)) (list_rises m d l small fs p rows k);
   on_sized = λ size fs w s g l e m d p rows h. sized_sound m l size fs p rows _ (label_sized l (kind.fixed_size_list size fs) e ∙ sized_itself size fs s) (label_size l (kind.fixed_size_list size fs) e) (label_fields l (kind.fixed_size_list size fs) e) (g m d (inside 1 p) (λ q. size * rows) (none_second _ _ h));
   on_struct = λ fs g l e m d p rows h. struct_sound m l fs p rows _ (label_struct l (kind.struct fs) e) (label_fields l (kind.struct fs) e) (g m d (inside 1 p) (λ q. rows) (none_second _ _ h));
+  on_union = λ mode stated ids fs right g l e m d p rows h.
+      subst (SoundAs l rows) (union_under l m mode stated ids fs p rows)
+      (union_sound m d l mode stated ids fs p rows _ e right h (g m d (children_at m mode p) (λ q. child_rows m mode rows q) (union_children m d mode stated ids fs p rows h)));
   on_extension = λ name metadata k f l e m d p rows h. f l (record { under = e.under }) m d p rows h;
   on_none = λ m d p rows h. record { kinds = refl; rows = refl; none = refl };
   on_field = field_sound;
@@ -219,7 +205,7 @@ sound_cases = record {
 pub tree_sound : (k : Kind) → is_carried k ≡ true → KindSound k
 tree_sound = by_tree KindSound FieldsSound sound_cases
 
-pub forest_sound : (fs : Fields) → Rattle.ipc_read_laws.specs.Carried.are_carried fs ≡ true → FieldsSound fs
+pub forest_sound : (fs : Fields) → Rattle.arrow_arrays.specs.Carried.are_carried fs ≡ true → FieldsSound fs
 forest_sound = by_fields KindSound FieldsSound sound_cases
 
 pub parts_sound : PartsAreSound

@@ -11,15 +11,17 @@ use Rattle.std.proofs.lemmas.List.Sums.{sum_by-cons}
 use Rattle.arrow_spec.specs.declared.types.IntegerType.{IntegerType}
 use Rattle.arrow_spec.specs.declared.types.IntegerType.TheVariants.{Int8}
 use Rattle.arrow_spec.specs.declared.types.IntervalUnit.TheVariants.{YearMonth}
+use Rattle.arrow_spec.specs.declared.types.UnionMode.{UnionMode}
 use Rattle.arrow_spec.specs.declared.types.UnionMode.TheVariants.{Dense, Sparse}
 use Rattle.arrow_spec.specs.Kinds as kind
-use Rattle.arrow_spec.specs.Kinds.{Kind, Fields, Metadata, Offsets, small, large, half, single, double, none, field}
+use Rattle.arrow_spec.specs.Kinds.{Kind, Fields, Metadata, Offsets, small, large, half, single, double, width, none, field}
 use Rattle.arrow_spec.specs.Counts.{RecordBatch, Place, Written, magnitude, after, inside, union_buffers}
 use Rattle.arrow_spec.specs.Arrays.{Dictionaries, node_of, buf, bit, has_nulls, valid, signed_in, offset, offset_width, integer_width, from_on}
 use Rattle.arrow_spec.specs.Faults.{array_faults, child_faults, offsets_faults, node_faults, view_count_faults, view_parts_faults, views_faults, view_text_faults}
-use Rattle.arrow_spec.specs.Sent.{own, with_views, also_written, validity_length, null_count, views_written, offset_read, written_part, parts_written, written}
+use Rattle.arrow_spec.specs.Sent.{own, with_views, also_written, validity_length, null_count, views_written, offset_read, dense_rows, written_part, parts_written, written}
 use Rattle.arrow_spec.proofs.Fewer.{none_first, none_second, sound_first, sound_second, offset-fewer}
 use Rattle.arrow_types.specs.Physical.{primitive_size, physical_of}
+use Rattle.arrow_types.specs.UnionIds.{are_right}
 use Rattle.arrow_types.specs.declared.physical.PhysicalType.TheVariants as physical
 use Rattle.arrow_types.specs.declared.physical.PrimitiveType.{PrimitiveType}
 use Rattle.arrow_buffers.specs.Rows.{part, null_rows, has_rows}
@@ -31,11 +33,11 @@ use Rattle.arrow_buffers.proofs.Parts.{length-part, length-from_on, part-from_on
 use Rattle.arrow_buffers.proofs.Rising.{some_offset}
 use Rattle.arrow_arrays.specs.LeafParts.{number_size, leaf_part_of}
 use Rattle.arrow_arrays.specs.LeafKinds.{is_leaf_kind}
-use Rattle.arrow_arrays.specs.Heads.{Head, Listed, run, Reaches, listed_part, tagged_rows, listed, mapped, sized, structured, tagged, head_rows, head_part, first_or_0}
+use Rattle.arrow_arrays.specs.Heads.{Head, Listed, Cut, whole, run, Reaches, listed_part, tagged_rows, listed, mapped, sized, structured, tagged, head_rows, head_part, first_or_0}
 use Rattle.arrow_arrays.specs.Parts.{Parts, Forest, leaf, nested, fault_in, rows_in, kinds_each, rows_each}
 use Rattle.arrow_arrays.proofs.HeadSliced.{Sound, place_at-part}
 use Rattle.arrow_arrays.proofs.Sliced.{top_sound}
-use Rattle.ipc_read_laws.specs.Carried.{is_carried}
+use Rattle.arrow_arrays.specs.Carried.{is_carried}
 use Rattle.ipc_read_laws.specs.PartsRead.{parts_in, parts_under, parts_read, forest_read, bits_read, bytes_of_rows, validity_read, variable_read, views_read, listed_read, number_read, item_bytes}
 use Rattle.ipc_read_laws.specs.WrittenParts.{bits_length, validity_bytes, offset_bytes, width_bytes, variable_lengths, leaf_written_in, head_written, held_by, written_on, written_each, written_in}
 use Rattle.ipc_read_laws.specs.Laws.{WrittenAsSent}
@@ -47,6 +49,7 @@ use Rattle.ipc_read_laws.proofs.Sound.{views_held, buffers_held}
 use Rattle.ipc_read_laws.proofs.Labels.{Label, label_itself, label_like, label_size}
 use Rattle.ipc_read_laws.proofs.Trees.{TreeCases, by_tree, rows_told}
 use Rattle.ipc_read_laws.proofs.WrittenLaws.{written_read}
+use Rattle.ipc_read_laws.proofs.Unions.{children_at, union_children, union_top}
 use Rattle.ipc_read_laws.proofs.TreesSound.{plain_under, list_children, map_is_list, tree_sound}
 
 -- ── the validity of some rows ──
@@ -309,9 +312,18 @@ abbrev KindWritten : Kind → Type 0
 KindWritten k = (l : Kind) → Label l k → (m : RecordBatch) (d : Dictionaries) (p : Place) (read : ℕ) → array_faults m d k p read ≡ [] → (from n : ℕ) → from + n ≤ read
     → written_part m k p read from n ≡ written_on from n (parts_under l m k p read)
 
+-- from which row on a child is written, and how many of its rows
+abbrev first_row : Cut → ℕ
+first_row whole = 0
+first_row (run from n) = from
+
+abbrev cut_rows : Cut → ℕ → ℕ
+cut_rows whole rows = rows
+cut_rows (run from n) rows = n
+
 abbrev FieldsWritten : Fields → Type 0
-FieldsWritten fs = (m : RecordBatch) (d : Dictionaries) (p : Place) (read : Place → ℕ) → child_faults m d fs p read ≡ [] → (from n : ℕ) → Reaches (run from n) (rows_told m fs p read)
-    → parts_written m fs p read from (λ q. n) ≡ written_each (run from n) (forest_read m fs p read)
+FieldsWritten fs = (m : RecordBatch) (d : Dictionaries) (p : Place) (read : Place → ℕ) → child_faults m d fs p read ≡ [] → (c : Cut) → Reaches c (rows_told m fs p read)
+    → parts_written m fs p read (first_row c) (λ q. cut_rows c (read q)) ≡ written_each c (forest_read m fs p read)
 
 reaches_all : (m : RecordBatch) (fs : Fields) (p : Place) (read from n : ℕ) → from + n ≤ read → Reaches (run from n) (rows_told m fs p (λ q. read))
 reaches_all m none p read from n h = tt
@@ -347,7 +359,7 @@ list_below m d l o fs p zero zero zero h fine below =
     let a : offset m o i (0 + 0) - offset m o i 0 ≡ 0 = none_between _ _ (ap (offset m o i) (omega arith)) in
     ap (λ k. parts_written m fs (inside 2 p) (λ q. 0) (offset m o i 0) (λ q. k)) a
     ∙ parts_of_none m fs (inside 2 p) (λ q. 0) (offset m o i 0) 0
-    ∙ below m d (inside 2 p) (λ q. 0) (list_children m d o fs p 0 fine) 0 0 (reaches_all m fs (inside 2 p) 0 0 0 h)
+    ∙ below m d (inside 2 p) (λ q. 0) (list_children m d o fs p 0 fine) (run 0 0) (reaches_all m fs (inside 2 p) 0 0 0 h)
 list_below m d l o fs p zero zero (suc n) h fine below = absurd (omega (arith, h))
 list_below m d l o fs p zero (suc from) n h fine below = absurd (omega (arith, h))
 list_below m d l o fs p (suc r) from n h fine below =
@@ -357,7 +369,7 @@ list_below m d l o fs p (suc r) from n h fine below =
     let first : offset m o i from ≤ offset m o i (suc r) = offset-fewer m o i (suc r) from most (omega (arith, h)) well in
     let last : offset m o i (from + n) ≤ offset m o i (suc r) = offset-fewer m o i (suc r) (from + n) most h well in
     let reach : offset m o i from + (offset m o i (from + n) - offset m o i from) ≤ offset m o i (suc r) = omega (arith, first, last) in
-    below m d (inside 2 p) (λ q. offset m o i (suc r)) (list_children m d o fs p (suc r) fine) (offset m o i from) (offset m o i (from + n) - offset m o i from) (reaches_all m fs (inside 2 p) (offset m o i (suc r)) _ _ reach)
+    below m d (inside 2 p) (λ q. offset m o i (suc r)) (list_children m d o fs p (suc r) fine) (run (offset m o i from) (offset m o i (from + n) - offset m o i from)) (reaches_all m fs (inside 2 p) (offset m o i (suc r)) _ _ reach)
     ∙ runs_same _ _ _ _ _ (place-told m o i (suc r) from (omega (arith, h))) (place-told m o i (suc r) (from + n) (omega (arith, h)))
 
 -- ── by the kind ──
@@ -365,10 +377,27 @@ list_below m d l o fs p (suc r) from n h fine below =
 leaf_cases : (k : Kind) → is_leaf_kind k ≡ true → KindWritten k
 leaf_cases k is l e m d p read fine from n h = part_of_leaf m d p read from n h k is is l (label_like l k e) fine ∙ ap (written_on from n) (plain_under l m k p read is)
 
-field_cases : (name : List ℕ) (nullable : Bool) (metadata : Metadata) (k : Kind) (others : Fields) → KindWritten k → FieldsWritten others → FieldsWritten (field name nullable metadata k others)
-field_cases name nullable metadata k others f g m d p read fine from n reach =
+-- unions: a sparse one holds the same rows of each child, a dense one each child whole
+union_cases : (mode : UnionMode) (stated : Bool) (ids : List ℤ) (fs : Fields) → are_right ids (width fs) ≡ true → FieldsWritten fs → KindWritten (kind.union mode stated ids fs)
+union_cases Sparse stated ids fs right g l e m d p read fine from n h =
+    both _ _ _ _ (union_top m l Sparse p read from n h)
+    (g m d (children_at m Sparse p) (λ q. read) (union_children m d Sparse stated ids fs p read fine) (run from n) (reaches_all m fs (children_at m Sparse p) read from n h))
+union_cases Dense stated ids fs right g l e m d p read fine from n h =
+    both _ _ _ _ (union_top m l Dense p read from n h)
+    (g m d (children_at m Dense p) (λ q. dense_rows m q read) (union_children m d Dense stated ids fs p read fine) whole tt)
+
+none_cases : FieldsWritten none
+none_cases m d p read fine whole reach = refl
+none_cases m d p read fine (run from n) reach = refl
+
+field_cases : (name : List ℕ) (nullable : Bool) (metadata : Metadata) (k : Kind) (others : Fields) → is_carried k ≡ true → KindWritten k → FieldsWritten others → FieldsWritten (field name nullable metadata k others)
+field_cases name nullable metadata k others carried f g m d p read fine whole reach =
+    let s = tree_sound k carried k (label_itself k) m d p (read p) (none_first _ _ fine) in
+    both _ _ _ _ (f k (label_itself k) m d p (read p) (none_first _ _ fine) 0 (read p) (omega arith) ∙ ap (λ n. written_on 0 n (parts_read m k p (read p))) (sym s.rows_are))
+    (g m d (after m k p) read (sound_second (view_count_faults m k p) _ (none_second (array_faults m d k p (read p)) _ fine)) whole tt)
+field_cases name nullable metadata k others carried f g m d p read fine (run from n) reach =
     both _ _ _ _ (f k (label_itself k) m d p (read p) (none_first _ _ fine) from n reach.0)
-    (g m d (after m k p) read (sound_second (view_count_faults m k p) _ (none_second (array_faults m d k p (read p)) _ fine)) from n reach.1)
+    (g m d (after m k p) read (sound_second (view_count_faults m k p) _ (none_second (array_faults m d k p (read p)) _ fine)) (run from n) reach.1)
 
 written_cases : TreeCases KindWritten FieldsWritten
 written_cases = record {
@@ -379,12 +408,13 @@ written_cases = record {
       both _ _ _ _ (list_top m l small p read from n h) (list_below m d l small fs p read from n h (sym (map_is_list m d sorted fs p read) ∙ fine) g);
   on_sized = λ size fs w s g l e m d p read fine from n h.
       both _ _ _ _ (own_part m p read from n n [] [] [] [] h refl refl refl)
-      (g m d (inside 1 p) (λ q. size * read) (none_second _ _ fine) (size * from) (size * n) (reaches_all m fs (inside 1 p) (size * read) _ _ (room size read from n h))
+      (g m d (inside 1 p) (λ q. size * read) (none_second _ _ fine) (run (size * from) (size * n)) (reaches_all m fs (inside 1 p) (size * read) _ _ (room size read from n h))
       ∙ ap (λ z. written_each (run (z * from) (z * n)) (forest_read m fs (inside 1 p) (λ q. size * read))) (sym (label_size l (kind.fixed_size_list size fs) e)));
   on_struct = λ fs g l e m d p read fine from n h.
-      both _ _ _ _ (own_part m p read from n n [] [] [] [] h refl refl refl) (g m d (inside 1 p) (λ q. read) (none_second _ _ fine) from n (reaches_all m fs (inside 1 p) read from n h));
+      both _ _ _ _ (own_part m p read from n n [] [] [] [] h refl refl refl) (g m d (inside 1 p) (λ q. read) (none_second _ _ fine) (run from n) (reaches_all m fs (inside 1 p) read from n h));
+  on_union = union_cases;
   on_extension = λ name metadata k f l e m d p read fine from n h. f l (record { under = e.under }) m d p read fine from n h;
-  on_none = λ m d p read fine from n reach. refl;
+  on_none = none_cases;
   on_field = field_cases;
 }
 

@@ -10,7 +10,7 @@ use Rattle.arrow_spec.specs.Faults.{array_faults}
 use Rattle.arrow_spec.specs.Sent.{written}
 use Rattle.arrow_arrays.specs.Parts.{kind_in, rows_in, cells_in, fault_in}
 use Rattle.arrow_arrays.specs.LeafKinds.{is_leaf_kind}
-use Rattle.ipc_read_laws.specs.Carried.{is_carried}
+use Rattle.arrow_arrays.specs.Carried.{is_carried}
 use Rattle.ipc_read_laws.specs.PartsRead.{plain_read, parts_read, HaveBytes}
 use Rattle.ipc_read_laws.specs.LeftFaults.{IsLeft}
 use Rattle.ipc_read_laws.specs.LayoutFaults.{buffers_faults, layout_faults}

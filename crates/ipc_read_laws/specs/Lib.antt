@@ -1,4 +1,3 @@
-pub mod Carried
 pub mod PartsRead
 pub mod Faults
 pub mod Batches

@@ -1,10 +1,10 @@
 //! Worked columns over memory, read and passed over.
-use arrow_arrays::Array;
+use arrow_arrays::{Array, is_carried};
 use arrow_buffers::PrimitiveArray;
 use arrow_spec::{FieldNode, IpcBuffer, IpcError, MetadataVersion, OutOfSpecKind};
 use arrow_types::{ArrowDataType, Field};
 use ipc_fields::IpcField;
-use ipc_read::{Body, is_carried, read, read_null, read_primitive, skip, skip_binview};
+use ipc_read::{Body, read, read_null, read_primitive, skip, skip_binview};
 use ipc_schema::{MemorySource, Source};
 use std::alloc::{AllocError, Global};
 use std::collections::{BTreeMap, VecDeque};
@@ -65,6 +65,18 @@ pub(crate) fn next(
     dtype: ArrowDataType,
     rows: usize,
 ) -> Result<Array, IpcError> {
+    next_of(alloc, queues, source, dtype, rows, MetadataVersion::V5)
+}
+
+/// The same in a message of a version.
+pub(crate) fn next_of(
+    alloc: Global,
+    queues: &mut Queues,
+    source: &mut MemorySource,
+    dtype: ArrowDataType,
+    rows: usize,
+    version: MetadataVersion,
+) -> Result<Array, IpcError> {
     if source.size()? < 50 || !is_carried(&dtype) {
         return Err(IpcError::State);
     }
@@ -85,7 +97,7 @@ pub(crate) fn next(
         body,
         true,
         rows,
-        MetadataVersion::V5,
+        version,
         &mut Vec::new(alloc),
     )
 }

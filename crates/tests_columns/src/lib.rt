@@ -14,8 +14,12 @@ mod messages;
 #[cfg(test)]
 mod nested;
 #[cfg(test)]
+mod nests;
+#[cfg(test)]
 mod round_trips;
 #[cfg(test)]
 mod steps;
+#[cfg(test)]
+mod unions;
 #[cfg(test)]
 mod values;

@@ -1,9 +1,8 @@
 //! Worked columns with children over memory: maps, and lists of one size.
 use crate::columns::{Queues, buffers, next, nodes, source};
-use arrow_arrays::Array;
+use arrow_arrays::{Array, is_carried};
 use arrow_spec::{IpcError, OutOfSpecKind};
 use arrow_types::{ArrowDataType, Field};
-use ipc_read::is_carried;
 use std::alloc::{AllocError, Global};
 use std::collections::VecDeque;
 use std::test::Fail;

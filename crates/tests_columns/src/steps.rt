@@ -9,11 +9,11 @@ ghost use Rattle.ipc_write_arrays.specs.Pieces.{pieces_in};
 ghost use Rattle.ipc_write_arrays.specs.Outputs.{MayHaveOrder};
 ghost use Rattle.ipc_write.specs.Compaction.{top};
 
-use arrow_arrays::{Array, RecordBatch};
+use arrow_arrays::{Array, RecordBatch, is_carried};
 use arrow_spec::{FieldNode, IpcBuffer, IpcError, MetadataVersion};
 use arrow_types::{ArrowDataType, ArrowSchema, Field};
 use ipc_fields::IpcField;
-use ipc_read::{Body, Dictionaries, is_carried, read};
+use ipc_read::{Body, Dictionaries, read};
 use ipc_schema::{MemorySource, Source, read_record_message};
 use ipc_write::{EncodedData, WriteOptions, encode_record_batch};
 use ipc_write_arrays::write;

@@ -1,9 +1,7 @@
 //! Parts, copies and equality of arrays and of batches.
-ghost use Rattle.std.specs.Prelude.{◌≡◌, true};
-ghost use Rattle.arrow_types.specs.KindOf.{kind_of};
-ghost use Rattle.arrow_arrays.specs.LeafKinds.{is_leaf_kind};
-
-use arrow_arrays::{Array, BatchError, RecordBatch, extend_from_lengths, new_empty_array};
+use arrow_arrays::{
+    Array, BatchError, RecordBatch, extend_from_lengths, is_carried, new_empty_array,
+};
 use arrow_buffers::{ArrayError, Bitmap, Buffer, PrimitiveArray};
 use arrow_types::{ArrowDataType, ArrowSchema, Field, TimeUnit};
 use std::alloc::{AllocError, Global};
@@ -105,10 +103,12 @@ fn a_batch_lends_and_gives_its_parts(rt: HostRuntime) -> Result<(), Fail> {
     Ok(())
 }
 
-/// Whether the empty array of a kind has no rows and that kind.
-fn is_empty(alloc: Global, dtype: ArrowDataType) -> Result<bool, AllocError>
-    requires { is_leaf_kind (kind_of dtype) ≡ true }
-{
+/// Whether arrays of a type are read, and the empty array of it has no rows and that type.
+pub(crate) fn is_empty(alloc: Global, dtype: ArrowDataType) -> Result<bool, AllocError> {
+    if !is_carried(&dtype) {
+        drop(dtype);
+        return Ok(false);
+    }
     let asked = dtype.try_clone(alloc)?;
     let array = new_empty_array(alloc, dtype)?;
     let is_empty = array.len() == 0 && *array.dtype() == asked;

@@ -1,4 +1,5 @@
 //! Arrays with children: lists, lists of one size, maps, structs and unions.
+use crate::batches::is_empty;
 use arrow_arrays::{
     Array, FixedSizeListArray, ListArray, ListOffsets, MapArray, StructArray, UnionArray,
 };
@@ -146,6 +147,16 @@ fn lists_of_one_size_have_all_their_items(rt: HostRuntime) -> Result<(), Fail> {
     let alloc = rt.alloc();
     assert!(rt; rows_and_nulls(pairs(alloc, 2, &[1, 2, 3, 4]))? == (2, 0));
     assert!(rt; rows_and_nulls(pairs(alloc, 2, &[1, 2, 3])) == Err(ArrayError::Length));
+    Ok(())
+}
+
+#[test]
+fn arrays_with_children_without_rows(rt: HostRuntime) -> Result<(), Fail> {
+    let alloc = rt.alloc();
+    assert!(rt; is_empty(alloc, list_type(alloc)?)?);
+    assert!(rt; is_empty(alloc, map_type(alloc)?)?);
+    assert!(rt; is_empty(alloc, struct_type(alloc)?)?);
+    assert!(rt; is_empty(alloc, union_type(alloc)?)?);
     Ok(())
 }
 

@@ -24,7 +24,7 @@ use Rattle.arrow_arrays.specs.Batches.{Batch}
 use Rattle.ipc_write_laws.specs.Streams.{AreOf, AreSent, WrittenBatch, table_batch, written_of}
 use Rattle.ipc_write_laws.proofs.SentBatches.{batch_sent, columns_sent}
 use Rattle.ipc_read_laws.specs.Batches.{columns_read}
-use Rattle.ipc_read_laws.specs.Carried.{is_carried, are_carried}
+use Rattle.arrow_arrays.specs.Carried.{is_carried, are_carried}
 use Rattle.ipc_read_laws.specs.PartsRead.{parts_read}
 use Rattle.ipc_read_laws.proofs.TreesSound.{parts_sound}
 use Rattle.ipc_write.specs.Compaction.{compacted, views_need_compaction, top}

@@ -9,9 +9,10 @@ use Rattle.arrow_spec.specs.Kinds.{Kind, Fields, none, field, integer, float, in
 use Rattle.arrow_spec.specs.Features.{chosen_floats, float_faults, floats_in}
 use Rattle.arrow_spec.specs.Schema.{first_is_struct_of_two}
 use Rattle.arrow_spec.specs.WrittenSchemas.{Part, of_field, of_dictionary, of_extension, KindFits}
+use Rattle.arrow_types.specs.UnionIds.{are_right}
 use Rattle.arrow_arrays.specs.LeafKinds.{is_leaf_kind}
-use Rattle.ipc_read_laws.specs.Carried.{is_carried, are_carried}
-use Rattle.transcode_laws.specs.Built.{are_unions_sent, is_sent_kind, are_sent_fields}
+use Rattle.arrow_arrays.specs.Carried.{is_carried, are_carried}
+use Rattle.transcode_laws.specs.Built.{is_sent_kind, are_sent_fields}
 use Rattle.transcode_laws.specs.ColumnLaws.{FittingFieldsAreCarried}
 
 -- ── floats ──
@@ -24,7 +25,7 @@ mutual
   kind_no_floats (fixed_size_list size fs) h = fields_no_floats fs h
   kind_no_floats (struct fs) h = fields_no_floats fs h
   kind_no_floats (map sorted fs) h = fields_no_floats fs h
-  kind_no_floats (union mode stated ids fs) h = fields_no_floats fs (and_parts are_unions_sent (are_sent_fields fs) h).1
+  kind_no_floats (union mode stated ids fs) h = fields_no_floats fs h
   kind_no_floats (dictionary t ordered id k) h = cc
   kind_no_floats (extension name metadata k) h = kind_no_floats k h
   kind_no_floats k h = refl
@@ -49,7 +50,7 @@ mutual
   kind_no_dictionaries (fixed_size_list size fs) h = no_dictionaries fs h
   kind_no_dictionaries (struct fs) h = no_dictionaries fs h
   kind_no_dictionaries (map sorted fs) h = no_dictionaries fs h
-  kind_no_dictionaries (union mode stated ids fs) h = no_dictionaries fs (and_parts are_unions_sent (are_sent_fields fs) h).1
+  kind_no_dictionaries (union mode stated ids fs) h = no_dictionaries fs h
   kind_no_dictionaries (dictionary t ordered id k) h = cc
   kind_no_dictionaries (extension name metadata k) h = kind_no_dictionaries k h
   kind_no_dictionaries k h = refl
@@ -81,7 +82,7 @@ mutual
   kind_carried at levels (struct fs) h fit = fields_carried levels fs h fit
   kind_carried at levels (map sorted fs) h fit =
       and_from (nat_eq (width fs) 1 && first_is_struct_of_two fs) (are_carried fs) (and_from (nat_eq (width fs) 1) (first_is_struct_of_two fs) (eq-eqb (width fs) 1 fit.0) fit.1) (fields_carried levels fs h fit.2)
-  kind_carried at levels (union mode stated ids fs) h fit = cc
+  kind_carried at levels (union mode stated ids fs) h fit = and_from (are_right ids (width fs)) (are_carried fs) fit.0 (fields_carried levels fs h fit.2)
   kind_carried at levels (float t) h fit = cc
   kind_carried at levels (decimal256 precision scale) h fit = cc
   kind_carried at levels (dictionary t ordered id k) h fit = cc

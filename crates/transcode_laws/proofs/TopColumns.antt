@@ -22,7 +22,7 @@ use Rattle.arrow_arrays.specs.LeafKinds.{is_leaf_kind, is_leaf_layout}
 use Rattle.arrow_arrays.specs.LeafParts.{binary_views, text_views, leaf_fault_in}
 use Rattle.arrow_arrays.specs.Parts.{Parts, leaf, nested, fault_in}
 use Rattle.ipc_write_laws.specs.Streams.{written_of}
-use Rattle.ipc_read_laws.specs.Carried.{is_carried}
+use Rattle.arrow_arrays.specs.Carried.{is_carried}
 use Rattle.ipc_read_laws.specs.LayoutFaults.{contents_of}
 use Rattle.ipc_read_laws.specs.PartsRead.{parts_in, parts_read, validity_read, views_read}
 use Rattle.ipc_read_laws.specs.WrittenParts.{validity_bytes, written_in}

@@ -3,11 +3,7 @@ use Rattle.std.specs.Prelude.{Bool, true, false, ◌&&◌}
 use Rattle.arrow_spec.specs.Kinds.{Kind, Fields, none, field, float, decimal256, «list», fixed_size_list, struct, map, union, dictionary, extension}
 use Rattle.arrow_spec.specs.Built.{Built}
 
--- whether unions are sent
-abbrev pub are_unions_sent : Bool
-are_unions_sent = false
-
--- no dictionary, no float and no decimal of 256 bits stands in a kind at any depth, and no union unless these are sent
+-- no dictionary, no float and no decimal of 256 bits stands in a kind at any depth
 abbrev mutual
   pub is_sent_kind : Kind → Bool
   is_sent_kind (float t) = false
@@ -16,7 +12,7 @@ abbrev mutual
   is_sent_kind (fixed_size_list size fs) = are_sent_fields fs
   is_sent_kind (struct fs) = are_sent_fields fs
   is_sent_kind (map sorted fs) = are_sent_fields fs
-  is_sent_kind (union mode stated ids fs) = are_unions_sent && are_sent_fields fs
+  is_sent_kind (union mode stated ids fs) = are_sent_fields fs
   is_sent_kind (dictionary t ordered id k) = false
   is_sent_kind (extension name metadata k) = is_sent_kind k
   is_sent_kind k = true

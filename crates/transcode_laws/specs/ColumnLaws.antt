@@ -18,7 +18,7 @@ use Rattle.arrow_arrays.specs.Batches.{Batch}
 use Rattle.ipc_write_laws.specs.Columns.{Means}
 use Rattle.ipc_write_laws.specs.Streams.{MayBeWritten, table_batch, written_batch, written_of}
 use Rattle.ipc_read_laws.specs.Batches.{columns_read}
-use Rattle.ipc_read_laws.specs.Carried.{is_carried, are_carried}
+use Rattle.arrow_arrays.specs.Carried.{is_carried, are_carried}
 use Rattle.ipc_read_laws.specs.PartsRead.{parts_read}
 use Rattle.ipc_read_laws.specs.WrittenParts.{leaf_lengths_in, written_in}
 use Rattle.ipc_write_arrays.specs.Pieces.{column_in, leaf_pieces}

@@ -1,6 +1,6 @@
 -- Which worked files are read so far, and what refuses the others.
 use Rattle.std.proofs.Common.{◌≡◌, ℕ, List, [], ◌∷◌, Some, None, refl, true}
-use Rattle.std.specs.Prelude.{codes}
+use Rattle.std.specs.Prelude.{pos, codes}
 use Rattle.arrow_spec.specs.declared.error.IpcError.{IpcError}
 use Rattle.arrow_spec.specs.declared.error.IpcError.TheVariants.{Unsupported}
 use Rattle.arrow_spec.specs.declared.error.Feature.TheVariants.{Float, NotYet}
@@ -14,9 +14,9 @@ use Rattle.arrow_spec.specs.Framing.{message_bytes}
 use Rattle.arrow_spec.specs.Files.{file_reading, «all», to_send, Request}
 use Rattle.worked_definitions.proofs.Vectors.{int32_file}
 use Rattle.worked_definitions.proofs.WorkedFiles.{three_columns_file, inner_first_file, list_offsets_file, sparse_union_file, extension_file}
-use Rattle.worked_definitions.proofs.MoreFiles.{big_endian_file, float_file, views_file}
+use Rattle.worked_definitions.proofs.MoreFiles.{big_endian_file, dense_union_file, float_file, views_file}
 use Rattle.worked_definitions.proofs.Int32Table.{computed, int32_table}
-use Rattle.worked_definitions.proofs.Rows.{batches, int, option_fields}
+use Rattle.worked_definitions.proofs.Rows.{batches, int, txt, option_fields}
 use Rattle.worked_definitions.proofs.Damage.{int32_file_with}
 use Rattle.worked_definitions.proofs.CustomRows.{broken, file_with, one, two}
 use Rattle.worked_definitions.proofs.PairRows.{pairs_file, pairs_table}
@@ -62,6 +62,14 @@ pub lists : batches (file_table list_offsets_file «all») ≡ ((cells.«list» 
 unfolding computed file_table
 lists = refl
 
+pub sparse_unions : batches (file_table sparse_union_file «all») ≡ ((cells.tagged (pos 5) (int 1) ∷ cells.tagged (pos 7) (txt 121) ∷ []) ∷ []) ∷ []
+unfolding computed file_table
+sparse_unions = refl
+
+pub dense_unions : batches (file_table dense_union_file «all») ≡ ((cells.tagged (pos 5) (int 1) ∷ cells.tagged (pos 7) (txt 120) ∷ cells.tagged (pos 5) (int 2) ∷ []) ∷ []) ∷ []
+unfolding computed file_table
+dense_unions = refl
+
 -- numbers in big-endian order
 pub big_endian : file_table big_endian_file «all» ≡ Some int32_table
 unfolding computed file_table
@@ -77,10 +85,6 @@ floats = refl
 pub dictionary : why inner_first_file «all» ≡ Unsupported NotYet ∷ []
 unfolding computed
 dictionary = refl
-
-pub union : why sparse_union_file «all» ≡ Unsupported NotYet ∷ []
-unfolding computed
-union = refl
 
 pub columns : why int32_file (record { columns = Some []; limit = None }) ≡ Unsupported NotYet ∷ []
 unfolding computed

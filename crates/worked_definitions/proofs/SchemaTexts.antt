@@ -19,8 +19,6 @@ use Rattle.arrow_spec.specs.Flat.{little, big}
 use Rattle.arrow_spec.specs.Kinds as kind
 use Rattle.arrow_spec.specs.Kinds.{Kind, Fields, none, field, small, large}
 use Rattle.arrow_spec.specs.SchemaText.{quoted, type_text, schema_text, schema_text_of}
-use Rattle.arrow_spec.specs.Words.{command_of, of_schema, of_stream}
-use Rattle.arrow_spec.specs.Files.{«all»}
 
 -- ── worked files ──
 
@@ -239,20 +237,3 @@ nested = refl
 pub no_fields : schema_text (record { order = little; fields = none; metadata = [] }) ≡ codes "little\n"
 unfolding schema_text
 no_fields = refl
-
--- ── words ──
-
-pub schema_word : command_of (codes "schema" ∷ []) ≡ Some (of_schema (record { name = None }))
-schema_word = refl
-
-pub stream_word : command_of (codes "stream" ∷ []) ≡ Some (of_stream (record { request = «all»; raw = false; name = None }))
-stream_word = refl
-
-pub no_word : command_of [] ≡ None
-no_word = refl
-
-pub other_word : command_of (codes "schemas" ∷ []) ≡ None
-other_word = refl
-
-pub named : command_of (codes "schema" ∷ codes "a.arrow" ∷ []) ≡ None
-named = refl

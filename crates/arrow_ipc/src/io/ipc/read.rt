@@ -6,9 +6,9 @@ pub use ipc_files::{
     read_file_metadata,
 };
 pub use ipc_read::{
-    Body, is_carried, read, read_binary, read_binview, read_boolean, read_fixed_size_binary,
-    read_null, read_primitive, read_record_batch, read_utf8, skip, skip_binary, skip_binview,
-    skip_boolean, skip_fixed_size_binary, skip_null, skip_primitive, skip_utf8,
+    Body, read, read_binary, read_binview, read_boolean, read_fixed_size_binary, read_null,
+    read_primitive, read_record_batch, read_utf8, skip, skip_binary, skip_binview, skip_boolean,
+    skip_fixed_size_binary, skip_null, skip_primitive, skip_utf8,
 };
 pub use ipc_schema::{
     BatchHeader, Message, MessageHeader, RecordMessage, deserialize_schema, message_prefix,

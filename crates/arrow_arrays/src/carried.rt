@@ -1,24 +1,14 @@
 //! Which types arrays are read of (Arrow Columnar Format, "Physical Memory Layout").
 ghost use Rattle.std.specs.Prelude.{◌≡◌, nat_lt};
-ghost use Rattle.arrow_spec.specs.Schema.{is_struct_of_two};
 ghost use Rattle.arrow_types.specs.KindOf.{kind_of, fields_of};
 ghost use Rattle.arrow_types.specs.Physical.{primitive_size};
+ghost use Rattle.arrow_buffers.specs.Layouts.{binary_size};
 ghost use Rattle.arrow_arrays.specs.LeafKinds.{is_leaf_kind, is_leaf_layout};
-ghost use Rattle.ipc_read_laws.specs.Carried.{is_carried, are_carried};
+ghost use Rattle.arrow_arrays.specs.Carried.{is_carried, are_carried};
 
-use crate::makes::binary_size;
+use crate::map::is_entry;
+use arrow_types::union_ids::has_right_ids;
 use arrow_types::{ArrowDataType, Field, PhysicalType, PrimitiveType};
-
-/// Whether a type is of structs of two fields, extensions looked through.
-fn is_entry(dtype: &ArrowDataType) -> bool
-    ensures { result ≡ is_struct_of_two (kind_of dtype.now) }
-{
-    match dtype {
-        ArrowDataType::Struct(fields) => fields.len() == 2,
-        ArrowDataType::Extension(extension) => is_entry(&extension.inner),
-        _ => false,
-    }
-}
 
 /// Whether numbers are read: floats and decimals of 256 bits are not.
 fn are_read(primitive: PrimitiveType) -> bool
@@ -52,6 +42,17 @@ fn is_leaf_layout(layout: PhysicalType, size: usize) -> bool
     }
 }
 
+/// The size of byte strings of one size; 0 for other types.
+fn binary_size(dtype: &ArrowDataType) -> usize
+    ensures { result ≡ binary_size (kind_of dtype.now) }
+{
+    match dtype {
+        ArrowDataType::FixedSizeBinary(size) => *size,
+        ArrowDataType::Extension(extension) => binary_size(&extension.inner),
+        _ => 0,
+    }
+}
+
 /// The same of a type.
 fn is_leaf(dtype: &ArrowDataType) -> bool
     ensures { result ≡ is_leaf_kind (kind_of dtype.now) }
@@ -59,8 +60,8 @@ fn is_leaf(dtype: &ArrowDataType) -> bool
     is_leaf_layout(dtype.to_physical_type(), binary_size(dtype))
 }
 
-/// Whether arrays of a type are read: in it stand no unions, no dictionaries, no floats and no decimals of 256 bits, no
-/// size is 0, and maps are of structs of two. The call goes as deep as the type's tree.
+/// Whether arrays of a type are read: in it stand no dictionaries, no floats and no decimals of 256 bits, no size is
+/// 0, maps are of structs of two, and unions have right ids. The call goes as deep as the type's tree.
 #[cycle(carried)]
 pub fn is_carried(dtype: &ArrowDataType) -> bool
     ensures { result ≡ is_carried (kind_of dtype.now) }
@@ -71,6 +72,9 @@ pub fn is_carried(dtype: &ArrowDataType) -> bool
         ArrowDataType::Map(field, _) => is_entry(&field.dtype) && is_carried(&field.dtype),
         ArrowDataType::FixedSizeList(field, size) => *size > 0 && is_carried(&field.dtype),
         ArrowDataType::Struct(fields) => are_carried(fields.as_slice()),
+        ArrowDataType::Union(union) => {
+            has_right_ids(&union.ids, union.fields.len()) && are_carried(union.fields.as_slice())
+        }
         ArrowDataType::Extension(extension) => is_carried(&extension.inner),
         _ => is_leaf(dtype),
     }

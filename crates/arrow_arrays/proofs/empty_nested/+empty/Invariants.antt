@@ -1,0 +1,13 @@
+use Rattle.std.proofs.Common.{◌+◌, ◌*◌}
+use Rattle.arrow_types.specs.KindOf.{kind_of, fields_of}
+use Rattle.arrow_arrays.proofs.EmptyTops.{kind_size, fields_size, FirstEmpty}
+use Rattle.arrow_arrays.proofs.empty_nested.+empty.Given as goal
+
+abbrev pub decreases-new_empty_array : goal.decreases-new_empty_array
+decreases-new_empty_array l = 2 * kind_size (kind_of l.dtype)
+
+abbrev pub decreases-empty_children : goal.decreases-empty_children
+decreases-empty_children l = 2 * fields_size (fields_of l.fields.now) + 1
+
+abbrev pub invariant-empty_children-loop-field : goal.invariant-empty_children-loop-field
+invariant-empty_children-loop-field l = FirstEmpty l.fields l.field-index l.children.items
