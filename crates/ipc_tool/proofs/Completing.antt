@@ -1,19 +1,19 @@
 -- Where the source means a table, or says a schema, and no device failed, few refusals are left.
-use Rattle.std.proofs.Common.{◌≡◌, ℕ, ◌<◌, ◌^◌, ◌⊎◌, inl, inr, List, length, Option, None, Some, IfSome, IsSome, IsSomeAnd, IsNone, option_map, subst, ap, ◌∙◌, refl, arith, length-append}
+use Rattle.std.proofs.Common.{◌≡◌, ℕ, Bool, ◌<◌, ◌^◌, ◌⊎◌, inl, inr, List, length, Option, None, Some, IfSome, IsSome, IsSomeAnd, IsNone, option_map, subst, ap, ◌∙◌, refl, arith, length-append}
 use Rattle.std.specs.Prelude.{IsOk}
 use Rattle.std.specs.Io.KnownBytes.{Consumes}
 use Rattle.arrow_spec.specs.declared.error.IpcError.TheVariants as errors
 use Rattle.arrow_spec.specs.Files.{«all»}
 use Rattle.transcode_laws.specs.Meaning.{file_table}
 use Rattle.arrow_spec.specs.SchemaText.{schema_text_of}
-use Rattle.arrow_spec.specs.Words.{SchemaAsked, bytes_of_hex, StreamAsked, Held, source_of}
+use Rattle.arrow_spec.specs.Words.{Command, SchemaAsked, bytes_of_hex, StreamAsked, Held, source_of}
 use Rattle.ipc_io.specs.Outside.{Stands}
 use Rattle.ipc_tool.specs.declared.refusal.Refusal.{Refusal}
 use Rattle.ipc_tool.specs.declared.refusal.Refusal.TheVariants.{Ipc, Words, NotHex, InputTooLong, NoName}
 use Rattle.ipc_tool.specs.Refusal.{number_of}
-use Rattle.ipc_tool.specs.Request.{whole_input, schema_of_input}
+use Rattle.ipc_tool.specs.Request.{stream_asked, schema_asked}
 use Rattle.ipc_tool.specs.Input.{TakesTooMany, IsNoHex, HexCause}
-use Rattle.ipc_tool.specs.Run.{Outside, MayBe, NoneFailed, HasMeaning, HasText, IsLeft, IsComplete, IsTold}
+use Rattle.ipc_tool.specs.Run.{Outside, MayBe, NoneFailed, HasMeaning, HasText, IsMissing, IsOfOpening, name_in, IsLeft, IsComplete, IsTold}
 use Rattle.ipc_files.proofs.Refusing.{stood}
 
 -- the source's bytes are told, and P holds of them
@@ -59,10 +59,10 @@ hex_left P (Ipc errors.TooLarge) rest rest' faults faults' c h f = absurd c
 hex_left P Words rest rest' faults faults' c h f = absurd c
 hex_left P NoName rest rest' faults faults' c h f = absurd c
 
-pub read_left : (e : Refusal) (old new : Outside) → HexCause e old.rest new.rest old.input_faults new.input_faults → IsComplete e whole_input old new
-read_left e old new c = λ h f. inl (hex_left (λ b. IsSome (file_table b «all»)) e old.rest new.rest old.input_faults new.input_faults c h f.input)
+pub read_left : (e : Refusal) (raw : Bool) (old new : Outside) → HexCause e old.rest new.rest old.input_faults new.input_faults → IsComplete e (stream_asked raw None) old new
+read_left e raw old new c = λ h f. inl (hex_left (λ b. IsSome (file_table b «all»)) e old.rest new.rest old.input_faults new.input_faults c h f.input)
 
-pub schema_left : (e : Refusal) (old new : Outside) → HexCause e old.rest new.rest old.input_faults new.input_faults → IsTold e schema_of_input old new
+pub schema_left : (e : Refusal) (old new : Outside) → HexCause e old.rest new.rest old.input_faults new.input_faults → IsTold e (schema_asked None) old new
 schema_left e old new c = λ h f. hex_left (λ b. IsOk (schema_text_of b)) e old.rest new.rest old.input_faults new.input_faults c h f.input
 
 -- the statuses that are left
@@ -80,3 +80,13 @@ completes (Some s) e old new n is c = λ h f. left e s old n is (c h f)
 pub tells : (o : Option SchemaAsked) (e : Refusal) (old new : Outside) (n : ℕ) → n ≡ number_of e → IfSome o (λ s. IsTold e s old new) → IfSome o (λ s. HasText s old → NoneFailed old new → (n ≡ 0) ⊎ (n ≡ 13))
 tells None e old new n is c = tt
 tells (Some s) e old new n is c = λ h f. inr (is ∙ ap number_of (c h f))
+
+-- the statuses of what was not opened
+pub misses : (o : Option Command) (e : Refusal) (held : Option Held) (n : ℕ) → n ≡ number_of e → IfSome o (λ c. IsMissing (name_in c) held → IsOfOpening e) → IfSome o (λ c. IsMissing (name_in c) held → (n ≡ 17) ⊎ (n ≡ 11) ⊎ (n ≡ 13))
+misses None e held n is h = tt
+misses (Some c) e held n is h = λ m. of_opening (h m)
+  where
+    of_opening : IsOfOpening e → (n ≡ 17) ⊎ (n ≡ 11) ⊎ (n ≡ 13)
+    of_opening (inl x) = inl (is ∙ ap number_of x)
+    of_opening (inr (inl x)) = inr (inl (is ∙ ap number_of x))
+    of_opening (inr (inr x)) = inr (inr (is ∙ ap number_of x))

@@ -1,5 +1,5 @@
 -- A line that was noted, or failed.
-use Rattle.std.proofs.Common.{ℕ, ◌⊎◌, List, [], Option, Result, Ok, Err, inl, inr, arith, append-nil, subst}
+use Rattle.std.proofs.Common.{ℕ, ◌⊎◌, List, [], Option, Result, Ok, Err, inl, inr, append-nil, subst}
 use Rattle.ipc_io.specs.Outside.{AppendsPrefix, PutsFront, PutsHaveCause, Stands, Rose}
 use Rattle.ipc_io.proofs.Known.{AppendsPrefix-front}
 use Rattle.ipc_tool.specs.declared.refusal.Refusal.{Refusal}

@@ -6,7 +6,7 @@ use Rattle.arrow_spec.specs.declared.error.IpcError.TheVariants.{Memory}
 use Rattle.ipc_words.specs.declared.words_error.WordsError.{WordsError}
 use Rattle.ipc_words.specs.declared.words_error.WordsError.TheVariants as words_error
 use Rattle.ipc_tool.specs.Refusal.{number_of, words_refusal}
-use Rattle.ipc_tool.specs.Request.{WordsCause, built_command, command_in, command_of, is_built, schema_of_input, whole_input}
+use Rattle.ipc_tool.specs.Request.{WordsCause, built_command, command_in, command_of, is_built, schema_asked, stream_asked}
 use Rattle.ipc_tool.specs.declared.refusal.Refusal.{Refusal}
 use Rattle.ipc_tool.specs.declared.refusal.Refusal.TheVariants.{Ipc}
 
@@ -40,23 +40,18 @@ of_built : (words : List (List ℕ)) (r : Request) → asked_of words ≡ Some r
 unfolding command_of
 of_built words r h b = ap (option_and_then built_command) h ∙ at_built r true b
 
+-- of a stream, all columns and no limit
 whole_stream : (columns : Option (List ℕ)) (limit : Option ℕ) (raw : Bool) (name : Option (List ℕ)) → is_built (stream (record { columns = columns; limit = limit; raw = raw; name = name })) ≡ true
-    → command_in (stream (record { columns = columns; limit = limit; raw = raw; name = name })) ≡ of_stream whole_input
-whole_stream None None false None h = refl
+    → command_in (stream (record { columns = columns; limit = limit; raw = raw; name = name })) ≡ of_stream (stream_asked raw name)
+whole_stream None None raw name h = refl
 whole_stream (Some xs) limit raw name h = cc
 whole_stream None (Some n) raw name h = cc
-whole_stream None None true name h = cc
-whole_stream None None false (Some name) h = cc
 
-pub is_stream : (words : List (List ℕ)) (s : Stream) → asked_of words ≡ Some (stream s) → is_built (stream s) ≡ true → command_of words ≡ Some (of_stream whole_input)
+pub is_stream : (words : List (List ℕ)) (s : Stream) → asked_of words ≡ Some (stream s) → is_built (stream s) ≡ true → command_of words ≡ Some (of_stream (stream_asked s.raw s.name))
 is_stream words s h b = of_built words (stream s) h b ∙ ap Some (whole_stream s.columns s.limit s.raw s.name b)
 
-whole_schema : (name : Option (List ℕ)) → is_built (schema name) ≡ true → command_in (schema name) ≡ of_schema schema_of_input
-whole_schema None h = refl
-whole_schema (Some name) h = cc
-
-pub is_schema : (words : List (List ℕ)) (name : Option (List ℕ)) → asked_of words ≡ Some (schema name) → is_built (schema name) ≡ true → command_of words ≡ Some (of_schema schema_of_input)
-is_schema words name h b = of_built words (schema name) h b ∙ ap Some (whole_schema name b)
+pub is_schema : (words : List (List ℕ)) (name : Option (List ℕ)) → asked_of words ≡ Some (schema name) → is_built (schema name) ≡ true → command_of words ≡ Some (of_schema (schema_asked name))
+is_schema words name h b = of_built words (schema name) h b
 
 -- words that were not read
 pub words_refused : (words : List (List ℕ)) (e : WordsError) → (e ≡ words_error.NoRequest → asked_of words ≡ None) → (words_refusal e ≡ Ipc Memory) ⊎ ((command_of words ≡ None) × WordsCause (words_refusal e) words)

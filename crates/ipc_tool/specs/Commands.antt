@@ -1,10 +1,12 @@
 -- The commands that are built.
+use Rattle.std.specs.Prelude.{option_map}
 use Rattle.arrow_spec.specs.Words.{Command as Asked, of_schema, of_stream}
-use Rattle.ipc_tool.specs.Request.{schema_of_input, whole_input}
+use Rattle.ipc_words.specs.Views.{text}
+use Rattle.ipc_tool.specs.Request.{schema_asked, stream_asked}
 use Rattle.ipc_tool.specs.declared.request.Command.{Command}
 use Rattle.ipc_tool.specs.declared.request.Command.TheVariants as command
 
 -- what each asks for
 abbrev pub asked_command : Command → Asked
-asked_command command.Stream = of_stream whole_input
-asked_command command.Schema = of_schema schema_of_input
+asked_command (command.Stream raw name) = of_stream (stream_asked raw (option_map text name))
+asked_command (command.Schema name) = of_schema (schema_asked (option_map text name))

@@ -4,6 +4,8 @@ use Rattle.arrow_spec.specs.declared.error.IpcError.{IpcError}
 use Rattle.arrow_spec.specs.declared.error.IpcError.TheVariants as errors
 use Rattle.arrow_spec.specs.Names.{error_name}
 use Rattle.ipc_io.specs.declared.outside.PutError.{PutError}
+use Rattle.ipc_io.specs.declared.outside.ShelfError.{ShelfError}
+use Rattle.ipc_io.specs.declared.outside.ShelfError.TheVariants as shelf
 use Rattle.ipc_io.specs.Faults.{put_error}
 use Rattle.ipc_words.specs.declared.words_error.WordsError.{WordsError}
 use Rattle.ipc_words.specs.declared.words_error.WordsError.TheVariants as words_error
@@ -41,6 +43,11 @@ name_of NoName = codes "NoName"
 
 abbrev pub put_refusal : PutError → Refusal
 put_refusal error = Ipc (put_error error)
+
+abbrev pub shelf_refusal : ShelfError → Refusal
+shelf_refusal shelf.Failed = Ipc errors.ReadFault
+shelf_refusal shelf.Memory = Ipc errors.Memory
+shelf_refusal shelf.Unknown = NoName
 
 abbrev pub words_refusal : WordsError → Refusal
 words_refusal words_error.NoRequest = Words

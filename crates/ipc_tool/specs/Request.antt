@@ -1,5 +1,5 @@
 -- What words ask for, of what is built, and why other words are refused.
-use Rattle.std.specs.Prelude.{◌≡◌, ◌⊎◌, ◌&&◌, ℕ, Bool, false, not, is_none, List, Option, Some, None, IsSome, IsNone, if◌then◌else◌, option_and_then}
+use Rattle.std.specs.Prelude.{◌≡◌, ◌⊎◌, ◌&&◌, ℕ, Bool, true, is_none, List, Option, Some, None, IsSome, IsNone, if◌then◌else◌, option_and_then}
 use Rattle.arrow_spec.specs.declared.error.IpcError.TheVariants as errors
 use Rattle.arrow_spec.specs.declared.error.Feature.TheVariants.{NotYet}
 use Rattle.arrow_spec.specs.Files.{«all»}
@@ -8,18 +8,18 @@ use Rattle.ipc_words.specs.Requests.{Request, request_of as asked_of, schema, st
 use Rattle.ipc_tool.specs.declared.refusal.Refusal.{Refusal}
 use Rattle.ipc_tool.specs.declared.refusal.Refusal.TheVariants.{Ipc, Words}
 
--- a whole file from the input, as hex text
-abbrev pub whole_input : StreamAsked
-whole_input = record { request = «all»; raw = false; name = None }
+-- a whole file, as bytes or as hex text, from the shelf or from the input
+abbrev pub stream_asked : Bool → Option (List ℕ) → StreamAsked
+stream_asked raw name = record { request = «all»; raw = raw; name = name }
 
--- the schema of a whole file from the input
-abbrev pub schema_of_input : SchemaAsked
-schema_of_input = record { name = None }
+-- the schema of a file
+abbrev pub schema_asked : Option (List ℕ) → SchemaAsked
+schema_asked name = record { name = name }
 
--- built are the stream of the whole input, as hex text, and the schema of the input
+-- built are the stream of a whole file, and the schema of a file
 abbrev pub is_built : Request → Bool
-is_built (stream s) = is_none s.columns && is_none s.limit && not s.raw && is_none s.name
-is_built (schema name) = is_none name
+is_built (stream s) = is_none s.columns && is_none s.limit
+is_built (schema name) = true
 
 -- the command of a request
 abbrev pub command_in : Request → Command

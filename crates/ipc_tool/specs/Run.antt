@@ -1,18 +1,18 @@
 -- What a run adds to its output, and when it is refused.
-use Rattle.std.specs.Prelude.{◌≡◌, ◌⊎◌, ℕ, Bool, true, false, List, ⊤, Option, Some, None, IfSome, IsSome, IsNone, IsSomeAnd, MatchOption, option_map, IsOk}
+use Rattle.std.specs.Prelude.{◌≡◌, ◌⊎◌, ℕ, Bool, List, ⊤, Option, Some, None, IfSome, IsSome, IsNone, IsSomeAnd, MatchOption, IsOk}
 use Rattle.std.specs.Io.KnownBytes.{Appends, Keeps}
 use Rattle.arrow_spec.specs.declared.error.IpcError.{IpcError}
 use Rattle.arrow_spec.specs.declared.error.IpcError.TheVariants as errors
 use Rattle.transcode_laws.specs.Meaning.{file_table, may}
-use Rattle.arrow_spec.specs.Words.{SchemaAsked, Command, of_stream, of_schema, shown, StreamAsked, Held, source_of}
+use Rattle.arrow_spec.specs.Files.{Request}
+use Rattle.arrow_spec.specs.Words.{SchemaAsked, Command, of_stream, of_schema, StreamAsked, Held, source_of}
 use Rattle.arrow_spec.specs.SchemaText.{schema_text_of}
 use Rattle.ipc_io.specs.Outside.{Rose, Stands, Lacks, AppendsPrefix}
 use Rattle.ipc_tool.specs.Refusal.{number_of, line_of}
 use Rattle.ipc_tool.specs.Request.{WordsCause, command_of}
 use Rattle.ipc_tool.specs.SchemaPuts.{AddsText, AddsTextFront, may_print}
-use Rattle.ipc_files.specs.declared.encoding.Encoding.{Encoding}
-use Rattle.ipc_files.specs.declared.encoding.Encoding.TheVariants.{Bytes, HexText}
-use Rattle.ipc_files.specs.Transcode.{text_of, AddsStream, AddsPiece, AddsFrontOrNone}
+use Rattle.ipc_tool.specs.StreamPuts.{AddsStreamPart, shown_as}
+use Rattle.ipc_files.specs.Transcode.{AddsStream}
 use Rattle.ipc_tool.specs.Input.{TakesTooMany, IsNoHex}
 use Rattle.ipc_tool.specs.declared.refusal.Refusal.{Refusal}
 use Rattle.ipc_tool.specs.declared.refusal.Refusal.TheVariants.{Ipc, Words, NotHex, InputTooLong, NoName}
@@ -48,6 +48,17 @@ beside_shelf rest input_faults written output_faults input output = record {
   output_faults = output_faults output;
 }
 
+-- the same where there is no input
+abbrev pub beside_input : {H W : Type 0} → (H → Option Held) → (H → ℕ) → (W → Option (List ℕ)) → (W → ℕ) → H → W → Outside
+beside_input held shelf_faults written output_faults shelf output = record {
+  held = held shelf;
+  shelf_faults = shelf_faults shelf;
+  rest = None;
+  input_faults = 0;
+  written = written output;
+  output_faults = output_faults output;
+}
+
 abbrev pub source_in : Option (List ℕ) → Outside → Option (Option (List ℕ))
 source_in name old = source_of name old.held old.rest
 
@@ -61,32 +72,28 @@ abbrev pub name_in : Command → Option (List ℕ)
 name_in (of_stream s) = s.name
 name_in (of_schema s) = s.name
 
+-- what is told of the shelf lacks the name of a request's source
+abbrev pub IsMissing : Option (List ℕ) → Option Held → Type 0
+IsMissing name held = IsSomeAnd name (λ n. IsSomeAnd held (λ h. h n ≡ None))
+
+-- why nothing was opened
+abbrev pub IsOfOpening : Refusal → Type 0
+IsOfOpening e = (e ≡ NoName) ⊎ (e ≡ Ipc errors.ReadFault) ⊎ (e ≡ Ipc errors.Memory)
+
 -- ── a stream ──
-
--- the encoding of a stream
-abbrev pub encoding_of : Bool → Encoding
-encoding_of true = Bytes
-encoding_of false = HexText
-
-abbrev pub shown_in : StreamAsked → List ℕ → List ℕ
-shown_in s x = shown x s.raw
 
 -- The output has one whole stream more, shown as asked, that means what the source means.
 abbrev pub IsWhole : StreamAsked → Outside → Outside → Type 0
-IsWhole s old new = IfSome (source_in s.name old) (λ bytes. IsSomeAnd bytes (λ b. AddsStream b s.request (shown_in s) old.written new.written))
+IsWhole s old new = IfSome (source_in s.name old) (λ bytes. IsSomeAnd bytes (λ b. AddsStream b s.request (shown_as s.raw) old.written new.written))
 
--- what a request that was refused added, of known bytes: nothing or a front; after a failed put a part of a stream; for want of memory maybe all but the line
--- feed
-abbrev pub AddsBefore : Refusal → StreamAsked → List ℕ → Option (List ℕ) → Option (List ℕ) → Type 0
-AddsBefore (Ipc errors.WriteFault) s b old new = AddsPiece b s.request (shown_in s) (text_of (encoding_of s.raw)) old new
-AddsBefore (Ipc errors.Memory) s b old new =
-    AddsFrontOrNone errors.Memory b s.request (text_of (encoding_of s.raw)) old new ⊎ AddsStream b s.request (text_of (encoding_of s.raw)) old new
-AddsBefore (Ipc e) s b old new = AddsFrontOrNone e b s.request (text_of (encoding_of s.raw)) old new
-AddsBefore _ s b old new = Keeps old new
+-- what a request that was refused added, of known bytes: what the stream that was refused did, and nothing before a file was read
+abbrev pub AddsBefore : Refusal → List ℕ → Request → Bool → Option (List ℕ) → Option (List ℕ) → Type 0
+AddsBefore (Ipc e) b r raw old new = AddsStreamPart e b r raw old new
+AddsBefore _ b r raw old new = Keeps old new
 
 abbrev pub AddsPartOf : Refusal → StreamAsked → Outside → Outside → Type 0
 AddsPartOf e s old new =
-    IfSome (source_in s.name old) (λ bytes. MatchOption bytes (Keeps old.written new.written) (λ b. AddsBefore e s b old.written new.written))
+    IfSome (source_in s.name old) (λ bytes. MatchOption bytes (Keeps old.written new.written) (λ b. AddsBefore e b s.request s.raw old.written new.written))
 
 -- the source's bytes may be refused so
 abbrev pub MayBe : IpcError → StreamAsked → Outside → Type 0

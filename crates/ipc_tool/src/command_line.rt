@@ -1,16 +1,18 @@
-//! A run over the words of a process, an input and two outputs, and the texts of help and of the version.
+//! A run over the words of a process, a shelf, an input and two outputs, and the texts of help and of the version.
 ghost use Rattle.std.specs.Prelude.{◌≡◌, ◌⊎◌, ◌≤◌, IfOk, IfErr, ℕ, map, string_bytes};
 ghost use Rattle.arrow_spec.specs.declared.error.IpcError.TheVariants.{Memory};
 ghost use Rattle.ipc_words.specs.Views.{texts};
-ghost use Rattle.ipc_tool.specs.CommandLine.{IsAnswer, IsNotedAs, IsShown, IsStatus, RanBeside, noted_of, seen_of};
+ghost use Rattle.ipc_tool.specs.CommandLine.{IsAnswer, IsNotedAs, IsShown, IsStatus, Ran, noted_of};
+ghost use Rattle.ipc_tool.specs.Run.{outside_of};
 ghost use Rattle.ipc_tool.specs.declared.refusal.Refusal.TheVariants.{Ipc, Words};
 
 use crate::adapters::{InputFeed, OutputSink};
+use crate::folder::FolderShelf;
 use crate::note::note_refusal;
 use crate::program::run;
 use crate::refusal::Refusal;
 use arrow_spec::IpcError;
-use ipc_schema::{Feed, MemoryShelf, Sink};
+use ipc_schema::{Feed, Shelf, Sink};
 use ipc_words::help_text;
 use std::alloc::{AllocError, Global};
 use std::env;
@@ -49,35 +51,36 @@ fn show<W: Sink, N: Sink>(text: &str, output: &mut W, notes: &mut N) -> u8
     }
 }
 
-// A run over a shelf on which nothing stands.
-fn run_alone<I: Feed, W: Sink, N: Sink>(
+// A run, with all that is said of it in one fact.
+fn run_words<H: Shelf, I: Feed, W: Sink, N: Sink>(
     alloc: Global,
     words: &[&str],
+    shelf: &mut H,
     input: &mut I,
     output: &mut W,
     notes: &mut N,
 ) -> u8
-    ensures { RanBeside result (texts words.now)
-        (seen_of I.rest I.faults W.written W.faults input.old output.old)
-        (seen_of I.rest I.faults W.written W.faults input.new output.new)
+    ensures { Ran result (texts words.now)
+        (outside_of H.held H.faults I.rest I.faults W.written W.faults shelf.old input.old output.old)
+        (outside_of H.held H.faults I.rest I.faults W.written W.faults shelf.new input.new output.new)
         (noted_of N.written N.faults N.wants notes.old)
         (noted_of N.written N.faults N.wants notes.new) }
 {
-    let mut shelf = MemoryShelf::new(alloc, Vec::new(alloc), Vec::new(alloc));
-    run(alloc, words, &mut shelf, input, output, notes)
+    run(alloc, words, shelf, input, output, notes)
 }
 
-/// Answers what the words ask for: puts the text of help or of the version, where that is asked for, and else runs, over a shelf on which nothing stands. Then the input is read to its end, and the status is that of `run`.
-pub fn answer<I: Feed, W: Sink, N: Sink>(
+/// Answers what the words ask for: puts the text of help or of the version, where that is asked for, and else runs. Then the status is that of `run`.
+pub fn answer<H: Shelf, I: Feed, W: Sink, N: Sink>(
     alloc: Global,
     words: &[String],
+    shelf: &mut H,
     input: &mut I,
     output: &mut W,
     notes: &mut N,
 ) -> u8
     ensures { IsAnswer result (map string_bytes words.now)
-        (seen_of I.rest I.faults W.written W.faults input.old output.old)
-        (seen_of I.rest I.faults W.written W.faults input.new output.new)
+        (outside_of H.held H.faults I.rest I.faults W.written W.faults shelf.old input.old output.old)
+        (outside_of H.held H.faults I.rest I.faults W.written W.faults shelf.new input.new output.new)
         (noted_of N.written N.faults N.wants notes.old)
         (noted_of N.written N.faults N.wants notes.new) }
 {
@@ -87,7 +90,7 @@ pub fn answer<I: Feed, W: Sink, N: Sink>(
     };
     match help_text(alloc, &asked) {
         Ok(Some(text)) => show(&text, output, notes),
-        Ok(None) => run_alone(alloc, &asked, input, output, notes),
+        Ok(None) => run_words(alloc, &asked, shelf, input, output, notes),
         Err(error) => refuse(Refusal::from(error), notes),
     }
 }
@@ -110,7 +113,7 @@ fn words(rt: &HostRuntime) -> Result<Vec<String>, Refusal>
     Ok(all)
 }
 
-/// The status of the process: that of the words behind its name over the standard streams.
+/// The status of the process: that of the words behind its name over the current folder and the standard streams.
 pub fn status_of_process(rt: &HostRuntime) -> u8
     ensures { IsStatus result }
 {
@@ -119,6 +122,7 @@ pub fn status_of_process(rt: &HostRuntime) -> u8
         Ok(words) => answer(
             rt.alloc(),
             &words,
+            &mut FolderShelf::new(rt),
             &mut InputFeed::new(rt.stdin()),
             &mut OutputSink::new(rt.stdout()),
             &mut notes,

@@ -3,15 +3,18 @@
 
 mod adapters;
 mod command_line;
+mod folder;
 mod input;
 mod note;
 mod program;
 mod refusal;
 mod request;
 mod schema_output;
+mod stream_output;
 
 pub use adapters::{InputFeed, OutputSink};
 pub use command_line::{answer, status_of_process};
+pub use folder::{FileSource, FolderShelf};
 pub use ipc_files::{Summary, transcode};
 pub use note::note_refusal;
 pub use program::run;

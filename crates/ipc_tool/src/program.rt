@@ -1,13 +1,13 @@
 //! A run from words to status.
-ghost use Rattle.std.specs.Prelude.{◌≡◌, ◌⊎◌, ◌<◌, ◌≤◌, IsNone, IsSome, IsSomeAnd, MatchOption, Some, None, OnOk, IfErr, IfSome};
+ghost use Rattle.std.specs.Prelude.{◌≡◌, ◌⊎◌, ◌<◌, ◌≤◌, IsNone, IsSome, IsSomeAnd, IsErrAnd, MatchOption, Some, None, OnOk, IfErr, IfSome};
 ghost use Rattle.std.specs.Io.KnownBytes.{Keeps, IsAtEnd};
 ghost use Rattle.ipc_io.specs.Outside.{Rose, Lacks};
 ghost use Rattle.ipc_tool.specs.Refusal.{number_of};
 ghost use Rattle.ipc_words.specs.Requests.{request_of as asked_of};
 ghost use Rattle.ipc_words.specs.Views.{texts};
-ghost use Rattle.ipc_tool.specs.Request.{whole_input, schema_of_input, command_of, request_of, schema_request_of, WordsCause};
+ghost use Rattle.ipc_tool.specs.Request.{stream_asked, schema_asked, command_of, request_of, schema_request_of, WordsCause};
 ghost use Rattle.ipc_tool.specs.Input.{TakesTooMany, IsNoHex};
-ghost use Rattle.ipc_tool.specs.Run.{HasMeaning, HasText, IsRefused, IsWhole, IsText, AddsPartOf, AddsTextOf, RequestCause, SchemaCause, CommandAdds, CommandCause, NoneFailed, IsNoted, MayBe, IsComplete, IsTold, SourceFailed, name_in, outside_of, beside_shelf};
+ghost use Rattle.ipc_tool.specs.Run.{HasMeaning, HasText, IsRefused, IsWhole, IsText, AddsPartOf, AddsTextOf, RequestCause, SchemaCause, CommandAdds, CommandCause, NoneFailed, IsNoted, MayBe, IsComplete, IsTold, SourceFailed, IsMissing, IsOfOpening, name_in, outside_of, beside_shelf, beside_input};
 ghost use Rattle.ipc_tool.specs.declared.refusal.Refusal.{Refusal};
 ghost use Rattle.arrow_spec.specs.declared.error.IpcError.TheVariants.{TooLarge};
 
@@ -16,7 +16,7 @@ use crate::note::note_refusal;
 use crate::refusal::Refusal;
 use crate::request::{Command, read_command};
 use crate::schema_output::write_schema;
-use ipc_files::{Encoding, transcode_as};
+use crate::stream_output::write_stream;
 use ipc_schema::{Failed, Feed, Got, Shelf, Sink, Source};
 use std::alloc::Global;
 
@@ -53,35 +53,61 @@ fn stream_from_input<I: Feed, W: Sink>(
     alloc: Global,
     input: &mut I,
     output: &mut W,
+    raw: bool,
 ) -> Result<(), Refusal>
-    ensures whole { OnOk result (IsWhole whole_input
+    ensures whole { OnOk result (IsWhole (stream_asked raw None)
         (beside_shelf I.rest I.faults W.written W.faults input.old output.old)
         (beside_shelf I.rest I.faults W.written W.faults input.new output.new)) }
-    ensures part { IfErr result (λ e. AddsPartOf e whole_input
+    ensures part { IfErr result (λ e. AddsPartOf e (stream_asked raw None)
         (beside_shelf I.rest I.faults W.written W.faults input.old output.old)
         (beside_shelf I.rest I.faults W.written W.faults input.new output.new)) }
-    ensures cause { IfErr result (λ e. RequestCause e whole_input
+    ensures cause { IfErr result (λ e. RequestCause e (stream_asked raw None)
         (beside_shelf I.rest I.faults W.written W.faults input.old output.old)
         (beside_shelf I.rest I.faults W.written W.faults input.new output.new)) }
-    ensures complete { IfErr result (λ e. IsComplete e whole_input
+    ensures complete { IfErr result (λ e. IsComplete e (stream_asked raw None)
         (beside_shelf I.rest I.faults W.written W.faults input.old output.old)
         (beside_shelf I.rest I.faults W.written W.faults input.new output.new)) }
     ensures at_end { OnOk result (IsAtEnd (I.rest input.new)) }
     ensures reads { I.faults input.old ≤ I.faults input.new }
+    ensures not_read { IfErr result (λ e. number_of e ≡ 11 → Keeps (W.written output.old) (W.written output.new)) }
     ensures writes { W.faults output.old ≤ W.faults output.new }
     ensures untouched { IfErr result (λ e. 14 ≤ number_of e → Keeps (W.written output.old) (W.written output.new)) }
-    ensures not_read { IfErr result (λ e. number_of e ≡ 11 → Keeps (W.written output.old) (W.written output.new)) }
 {
     let bytes = read_hex(alloc, input)?;
-    transcode_as(
-        alloc,
-        &mut Bytes { bytes },
-        output,
-        None,
-        None,
-        Encoding::HexText,
-    )?;
-    output.put(b"\n")?;
+    write_stream(alloc, &mut Bytes { bytes }, output, raw)?;
+    Ok(())
+}
+
+// A stream of what stands under a name.
+fn stream_from_shelf<H: Shelf, W: Sink>(
+    alloc: Global,
+    shelf: &mut H,
+    name: &str,
+    output: &mut W,
+    raw: bool,
+) -> Result<(), Refusal>
+    ensures whole { OnOk result (IsWhole (stream_asked raw (Some name.now))
+        (beside_input H.held H.faults W.written W.faults shelf.old output.old)
+        (beside_input H.held H.faults W.written W.faults shelf.new output.new)) }
+    ensures part { IfErr result (λ e. AddsPartOf e (stream_asked raw (Some name.now))
+        (beside_input H.held H.faults W.written W.faults shelf.old output.old)
+        (beside_input H.held H.faults W.written W.faults shelf.new output.new)) }
+    ensures cause { IfErr result (λ e. RequestCause e (stream_asked raw (Some name.now))
+        (beside_input H.held H.faults W.written W.faults shelf.old output.old)
+        (beside_input H.held H.faults W.written W.faults shelf.new output.new)) }
+    ensures complete { IfErr result (λ e. IsComplete e (stream_asked raw (Some name.now))
+        (beside_input H.held H.faults W.written W.faults shelf.old output.old)
+        (beside_input H.held H.faults W.written W.faults shelf.new output.new)) }
+    ensures missing { IsMissing (Some name.now) (H.held shelf.old) → IsErrAnd result IsOfOpening }
+    ensures held { H.held shelf.new ≡ H.held shelf.old }
+    ensures reads { H.faults shelf.old ≤ H.faults shelf.new }
+    ensures writes { W.faults output.old ≤ W.faults output.new }
+    ensures untouched { IfErr result (λ e. 14 ≤ number_of e → Keeps (W.written output.old) (W.written output.new)) }
+{
+    let mut file = shelf.open_file(name)?;
+    let done = write_stream(alloc, &mut file, output, raw);
+    shelf.close_file(file);
+    done?;
     Ok(())
 }
 
@@ -91,27 +117,60 @@ fn schema_from_input<I: Feed, W: Sink>(
     input: &mut I,
     output: &mut W,
 ) -> Result<(), Refusal>
-    ensures text { OnOk result (IsText schema_of_input
+    ensures text { OnOk result (IsText (schema_asked None)
         (beside_shelf I.rest I.faults W.written W.faults input.old output.old)
         (beside_shelf I.rest I.faults W.written W.faults input.new output.new)) }
-    ensures part { IfErr result (λ e. AddsTextOf e schema_of_input
+    ensures part { IfErr result (λ e. AddsTextOf e (schema_asked None)
         (beside_shelf I.rest I.faults W.written W.faults input.old output.old)
         (beside_shelf I.rest I.faults W.written W.faults input.new output.new)) }
-    ensures cause { IfErr result (λ e. SchemaCause e schema_of_input
+    ensures cause { IfErr result (λ e. SchemaCause e (schema_asked None)
         (beside_shelf I.rest I.faults W.written W.faults input.old output.old)
         (beside_shelf I.rest I.faults W.written W.faults input.new output.new)) }
-    ensures told { IfErr result (λ e. IsTold e schema_of_input
+    ensures told { IfErr result (λ e. IsTold e (schema_asked None)
         (beside_shelf I.rest I.faults W.written W.faults input.old output.old)
         (beside_shelf I.rest I.faults W.written W.faults input.new output.new)) }
     ensures few { IfErr result (λ e. (number_of e ≤ 4) ⊎ (11 ≤ number_of e)) }
     ensures at_end { OnOk result (IsAtEnd (I.rest input.new)) }
     ensures reads { I.faults input.old ≤ I.faults input.new }
+    ensures not_read { IfErr result (λ e. number_of e ≡ 11 → Keeps (W.written output.old) (W.written output.new)) }
     ensures writes { W.faults output.old ≤ W.faults output.new }
     ensures untouched { IfErr result (λ e. 14 ≤ number_of e → Keeps (W.written output.old) (W.written output.new)) }
-    ensures not_read { IfErr result (λ e. number_of e ≡ 11 → Keeps (W.written output.old) (W.written output.new)) }
 {
     let bytes = read_hex(alloc, input)?;
     write_schema(alloc, &mut Bytes { bytes }, output)?;
+    Ok(())
+}
+
+// The text of the schema of what stands under a name.
+fn schema_from_shelf<H: Shelf, W: Sink>(
+    alloc: Global,
+    shelf: &mut H,
+    name: &str,
+    output: &mut W,
+) -> Result<(), Refusal>
+    ensures text { OnOk result (IsText (schema_asked (Some name.now))
+        (beside_input H.held H.faults W.written W.faults shelf.old output.old)
+        (beside_input H.held H.faults W.written W.faults shelf.new output.new)) }
+    ensures part { IfErr result (λ e. AddsTextOf e (schema_asked (Some name.now))
+        (beside_input H.held H.faults W.written W.faults shelf.old output.old)
+        (beside_input H.held H.faults W.written W.faults shelf.new output.new)) }
+    ensures cause { IfErr result (λ e. SchemaCause e (schema_asked (Some name.now))
+        (beside_input H.held H.faults W.written W.faults shelf.old output.old)
+        (beside_input H.held H.faults W.written W.faults shelf.new output.new)) }
+    ensures told { IfErr result (λ e. IsTold e (schema_asked (Some name.now))
+        (beside_input H.held H.faults W.written W.faults shelf.old output.old)
+        (beside_input H.held H.faults W.written W.faults shelf.new output.new)) }
+    ensures few { IfErr result (λ e. (number_of e ≤ 4) ⊎ (11 ≤ number_of e)) }
+    ensures missing { IsMissing (Some name.now) (H.held shelf.old) → IsErrAnd result IsOfOpening }
+    ensures held { H.held shelf.new ≡ H.held shelf.old }
+    ensures reads { H.faults shelf.old ≤ H.faults shelf.new }
+    ensures writes { W.faults output.old ≤ W.faults output.new }
+    ensures untouched { IfErr result (λ e. 14 ≤ number_of e → Keeps (W.written output.old) (W.written output.new)) }
+{
+    let mut file = shelf.open_file(name)?;
+    let done = write_schema(alloc, &mut file, output);
+    shelf.close_file(file);
+    done?;
     Ok(())
 }
 
@@ -143,25 +202,34 @@ fn work<H: Shelf, I: Feed, W: Sink>(
         (outside_of H.held H.faults I.rest I.faults W.written W.faults shelf.old input.old output.old)
         (outside_of H.held H.faults I.rest I.faults W.written W.faults shelf.new input.new output.new))) }
     ensures few { IfErr result (λ e. IfSome (schema_request_of (texts words.now)) (λ s. (number_of e ≤ 4) ⊎ (11 ≤ number_of e))) }
-    ensures at_end { OnOk result (IsAtEnd (I.rest input.new)) }
-    ensures unread { IsNone (command_of (texts words.now)) → input.new ≡ input.old }
-    ensures shelf { shelf.new ≡ shelf.old }
+    ensures missing { IfSome (command_of (texts words.now)) (λ c. IsMissing (name_in c) (H.held shelf.old) → IsErrAnd result IsOfOpening) }
+    ensures at_end { OnOk result (IfSome (command_of (texts words.now)) (λ c. IsNone (name_in c) → IsAtEnd (I.rest input.new))) }
+    ensures unread { MatchOption (command_of (texts words.now)) (input.new ≡ input.old) (λ c. IsSome (name_in c) → input.new ≡ input.old) }
+    ensures unopened { MatchOption (command_of (texts words.now)) (shelf.new ≡ shelf.old) (λ c. IsNone (name_in c) → shelf.new ≡ shelf.old) }
+    ensures held { H.held shelf.new ≡ H.held shelf.old }
+    ensures shelf_reads { H.faults shelf.old ≤ H.faults shelf.new }
     ensures input_reads { I.faults input.old ≤ I.faults input.new }
     ensures writes { W.faults output.old ≤ W.faults output.new }
     ensures untouched { IfErr result (λ e. 14 ≤ number_of e → Keeps (W.written output.old) (W.written output.new)) }
-    ensures not_read { IfErr result (λ e. number_of e ≡ 11 → Keeps (W.written output.old) (W.written output.new)) }
+    ensures not_read { IfErr result (λ e. number_of e ≡ 11 → IfSome (command_of (texts words.now)) (λ c. IsNone (name_in c) → Keeps (W.written output.old) (W.written output.new))) }
 {
     match read_command(alloc, words)? {
-        Command::Stream => stream_from_input(alloc, input, output),
-        Command::Schema => schema_from_input(alloc, input, output),
+        Command::Stream { raw, name: None } => stream_from_input(alloc, input, output, raw),
+        Command::Stream {
+            raw,
+            name: Some(name),
+        } => stream_from_shelf(alloc, shelf, name, output, raw),
+        Command::Schema { name: None } => schema_from_input(alloc, input, output),
+        Command::Schema { name: Some(name) } => schema_from_shelf(alloc, shelf, name, output),
     }
 }
 
 /// Answers what the words ask for.
 ///
-/// Both commands read hex text from the input to its end, which stands for the bytes of a file. `stream` adds to the output the hex text of one stream that means what the file means, and a line feed.
+/// The file is what stands on the shelf under NAME, which is opened, and closed before the answer. Without NAME, or with `-`, it is what the input's hex text stands for, which is read to its end.
+/// `stream` adds to the output one stream that means what the file means: its bytes with `--raw`, and else their hex text and a line feed.
 /// `schema` adds the text of the schema that the file's footer says, for columns of all types and in either byte order, as it is and in one put.
-/// Columns, a limit, `--raw` and a NAME other than `-` are not built: they are refused before anything is read. Words that ask for help or the version are no request here.
+/// Columns and a limit are not built: they are refused before anything is read or opened. Words that ask for help or the version are no request here.
 /// The status is 0 then, and else that of a refusal, of which one line is noted: `refused`, the status, the name. What the notes answer changes nothing.
 pub fn run<H: Shelf, I: Feed, W: Sink, N: Sink>(
     alloc: Global,
@@ -179,7 +247,7 @@ pub fn run<H: Shelf, I: Feed, W: Sink, N: Sink>(
     ensures text { result ≡ 0 → IfSome (schema_request_of (texts words.now)) (λ s. IsText s
         (outside_of H.held H.faults I.rest I.faults W.written W.faults shelf.old input.old output.old)
         (outside_of H.held H.faults I.rest I.faults W.written W.faults shelf.new input.new output.new)) }
-    ensures at_end { result ≡ 0 → IsAtEnd (I.rest input.new) }
+    ensures at_end { result ≡ 0 → IfSome (command_of (texts words.now)) (λ c. IsNone (name_in c) → IsAtEnd (I.rest input.new)) }
     ensures quiet { result ≡ 0 → notes.new ≡ notes.old }
 
     // Else there is one refusal that has its cause and left a part at most, and its line was noted.
@@ -208,15 +276,17 @@ pub fn run<H: Shelf, I: Feed, W: Sink, N: Sink>(
     ensures words { result ≡ 14 → IsNone (asked_of (texts words.now)) }
     ensures no_request { IsNone (asked_of (texts words.now)) → (result ≡ 14) ⊎ (result ≡ 13) }
     ensures later_words { IsSome (asked_of (texts words.now)) → IsNone (command_of (texts words.now)) → (result ≡ 2) ⊎ (result ≡ 13) }
-    ensures not_hex { result ≡ 15 → IsNoHex (I.rest input.old) (I.rest input.new) }
-    ensures too_long { result ≡ 16 → TakesTooMany (I.rest input.old) (I.rest input.new) }
+    ensures not_hex { result ≡ 15 → IsSomeAnd (command_of (texts words.now)) (λ c. IsNone (name_in c) × IsNoHex (I.rest input.old) (I.rest input.new)) }
+    ensures too_long { result ≡ 16 → IsSomeAnd (command_of (texts words.now)) (λ c. IsNone (name_in c) × TakesTooMany (I.rest input.old) (I.rest input.new)) }
     ensures no_name { result ≡ 17 → IsSomeAnd (command_of (texts words.now)) (λ c. IsSomeAnd (name_in c) (Lacks (H.held shelf.old))) }
+    ensures missing { IfSome (command_of (texts words.now)) (λ c. IsMissing (name_in c) (H.held shelf.old) → (result ≡ 17) ⊎ (result ≡ 11) ⊎ (result ≡ 13)) }
 
-    // What was refused before a file was read added nothing, and words that are no request, or one that is not built, are refused before the input is read.
+    // What was refused before a file was read added nothing. Words that are no request, or one that is not built, are refused before the input is read or a name opened; with a name the input is not read, and without one nothing is opened.
     ensures untouched { 14 ≤ result → Keeps (W.written output.old) (W.written output.new) }
     ensures not_read { result ≡ 11 → IfSome (command_of (texts words.now)) (λ c. IsNone (name_in c) → Keeps (W.written output.old) (W.written output.new)) }
-    ensures unread { IsNone (command_of (texts words.now)) → input.new ≡ input.old }
-    ensures shelf { shelf.new ≡ shelf.old }
+    ensures unread { MatchOption (command_of (texts words.now)) (input.new ≡ input.old) (λ c. IsSome (name_in c) → input.new ≡ input.old) }
+    ensures unopened { MatchOption (command_of (texts words.now)) (shelf.new ≡ shelf.old) (λ c. IsNone (name_in c) → shelf.new ≡ shelf.old) }
+    ensures held { H.held shelf.new ≡ H.held shelf.old }
 {
     match work(alloc, words, shelf, input, output) {
         Ok(()) => 0,

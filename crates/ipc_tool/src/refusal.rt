@@ -1,11 +1,11 @@
 //! Why a run is refused.
 ghost use Rattle.std.specs.Prelude.{◌≡◌};
 ghost use Rattle.arrow_spec.specs.declared.error.IpcError.TheVariants.{ReadFault, Memory};
-ghost use Rattle.ipc_tool.specs.Refusal.{error_status, number_of, name_of, put_refusal, words_refusal};
+ghost use Rattle.ipc_tool.specs.Refusal.{error_status, number_of, name_of, put_refusal, shelf_refusal, words_refusal};
 ghost use Rattle.ipc_tool.specs.declared.refusal.Refusal.TheVariants.{Ipc};
 
 use arrow_spec::IpcError;
-use ipc_schema::{Failed, PutError};
+use ipc_schema::{Failed, PutError, ShelfError};
 use ipc_words::WordsError;
 use std::alloc::{AllocError, AllocFailed};
 use thiserror::Error;
@@ -95,6 +95,18 @@ impl From<PutError> for Refusal {
 
     fn from(error: PutError) -> Self {
         Refusal::Ipc(IpcError::from(error))
+    }
+}
+
+impl From<ShelfError> for Refusal {
+    ghost from_gives = { λ error e. e ≡ shelf_refusal error };
+
+    fn from(error: ShelfError) -> Self {
+        match error {
+            ShelfError::Failed => Refusal::Ipc(IpcError::ReadFault),
+            ShelfError::Memory => Refusal::Ipc(IpcError::Memory),
+            ShelfError::Unknown => Refusal::NoName,
+        }
     }
 }
 

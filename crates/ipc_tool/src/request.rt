@@ -11,41 +11,39 @@ use arrow_spec::{Feature, IpcError};
 use ipc_words::{Request, read_words};
 use std::alloc::Global;
 
-/// What words ask for, of the file whose hex text is the input.
-#[derive(Clone, Copy, Debug, PartialEq, Eq)]
-pub enum Command {
-    /// Its table as a stream.
-    Stream,
+/// What words ask for, of the file under a name, or of that whose hex text is the input.
+#[derive(Clone, Copy)]
+pub enum Command<'a> {
+    /// Its table as a stream: as bytes where it is raw, and else as hex text.
+    Stream { raw: bool, name: Option<&'a str> },
     /// The text of its schema.
-    Schema,
+    Schema { name: Option<&'a str> },
 }
 
-// Whether what is asked for is built: no columns, no limit, hex text, and the input.
+// Whether what is asked for is built: no columns and no limit.
 fn is_built(request: &Request<'_>) -> bool
     ensures { result ≡ is_built_request (request_view request.now) }
 {
     match request {
-        Request::Stream(stream) => {
-            stream.columns.is_none()
-                && stream.limit.is_none()
-                && !stream.raw
-                && stream.name.is_none()
-        }
-        Request::Schema(name) => name.is_none(),
+        Request::Stream(stream) => stream.columns.is_none() && stream.limit.is_none(),
+        Request::Schema(_) => true,
     }
 }
 
-/// The command that the words ask for: `stream` or `schema`, of the whole input.
-pub fn read_command(alloc: Global, words: &[&str]) -> Result<Command, Refusal>
-    ensures request { IfOk result (λ c. command_of (texts words.now) ≡ Some (asked_command c)) }
-    ensures cause { IfErr result (λ e. (e ≡ Ipc Memory) ⊎ ((command_of (texts words.now) ≡ None) × WordsCause e (texts words.now))) }
+/// The command that the words ask for: `stream` or `schema`, of a whole file.
+pub fn read_command<'a>(alloc: Global, words: &'a [&'a str]) -> Result<Command<'a>, Refusal>
+    ensures request { IfOk result (λ c. command_of (texts words.entry.now) ≡ Some (asked_command c)) }
+    ensures cause { IfErr result (λ e. (e ≡ Ipc Memory) ⊎ ((command_of (texts words.entry.now) ≡ None) × WordsCause e (texts words.entry.now))) }
 {
     let request = read_words(alloc, words)?;
     if !is_built(&request) {
         return Err(Refusal::Ipc(IpcError::Unsupported(Feature::NotYet)));
     }
     match request {
-        Request::Stream(_) => Ok(Command::Stream),
-        Request::Schema(_) => Ok(Command::Schema),
+        Request::Stream(stream) => Ok(Command::Stream {
+            raw: stream.raw,
+            name: stream.name,
+        }),
+        Request::Schema(name) => Ok(Command::Schema { name }),
     }
 }

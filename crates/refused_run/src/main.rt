@@ -1,4 +1,4 @@
-//! The program on a name, which is not built yet: a refusal, with its status and nothing on standard output.
+//! The program on a name under which nothing stands: a refusal, with its status and nothing on standard output.
 #![tactic(auto)]
 
 ghost use Rattle.std.specs.Process.{exit_status};

@@ -6,11 +6,15 @@ mod adapters;
 #[cfg(test)]
 mod files;
 #[cfg(test)]
+mod folders;
+#[cfg(test)]
 mod kinds;
 #[cfg(test)]
 mod large;
 #[cfg(test)]
 mod large_parts;
+#[cfg(test)]
+mod names;
 #[cfg(test)]
 mod refusal_texts;
 #[cfg(test)]

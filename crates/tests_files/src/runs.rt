@@ -140,7 +140,7 @@ const CASES: &[Case] = &[
     },
     Case {
         title: "a word that is not built yet, before the input",
-        words: &["stream", "--raw"],
+        words: &["stream", "--raw", "--limit", "1", "x"],
         failing_pulls: &[0],
         status: 2,
         notes: b"refused 2 NotYet\n",
@@ -199,14 +199,6 @@ const OF_SCHEMAS: &[Case] = &[
         text: &[Part::SchemaText],
         added: 26,
         ..WHOLE
-    },
-    Case {
-        title: "a name that is not built yet, before the input",
-        words: &["schema", "x"],
-        failing_pulls: &[0],
-        status: 2,
-        notes: b"refused 2 NotYet\n",
-        ..REFUSED
     },
     Case {
         title: "no schema without a footer",

@@ -1,5 +1,5 @@
 //! Words as a user types them, and the texts that they ask for.
-use ipc_schema::{MemoryFeed, MemorySink};
+use ipc_schema::{MemoryFeed, MemoryShelf, MemorySink};
 use ipc_tool::answer;
 use ipc_words::{Request, read_words};
 use std::alloc::Global;
@@ -27,7 +27,15 @@ fn put_for(alloc: Global, word: &str) -> Result<MemorySink, Fail> {
     let mut input = MemoryFeed::new(Vec::new(alloc), 100, Vec::new(alloc));
     let mut output = MemorySink::new(alloc, None, Vec::new(alloc));
     let mut notes = MemorySink::new(alloc, Some(0), Vec::new(alloc));
-    let status = answer(alloc, &words, &mut input, &mut output, &mut notes);
+    let mut shelf = MemoryShelf::new(alloc, Vec::new(alloc), Vec::new(alloc));
+    let status = answer(
+        alloc,
+        &words,
+        &mut shelf,
+        &mut input,
+        &mut output,
+        &mut notes,
+    );
     if status == 0 {
         Ok(output)
     } else {

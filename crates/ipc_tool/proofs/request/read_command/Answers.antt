@@ -13,8 +13,8 @@ returns-then-not-is_built-clause-cause c = inr (not_built (texts c.args.words.no
 
 pub returns-in-Stream-clause-request : goal.returns-in-Stream-clause-request
 returns-in-Stream-clause-request c =
-    is_stream (texts c.args.words.now) (stream_view c.in-Stream.field-0) (c.in_ok-request.ensures.asked ∙ ap (λ r. Some (request_view r)) c.in-Stream.is) (ap (λ r. is_built (request_view r)) (sym c.in-Stream.is) ∙ sym c.is_built.ensures ∙ c.if-not-is_built.false)
+    is_stream (texts c.args.words.now) (stream_view c.in-Stream.stream) (c.in_ok-request.ensures.asked ∙ ap (λ r. Some (request_view r)) c.in-Stream.is) (ap (λ r. is_built (request_view r)) (sym c.in-Stream.is) ∙ sym c.is_built.ensures ∙ c.if-not-is_built.false)
 
-pub returns-clause-request : goal.returns-clause-request
-returns-clause-request c =
+pub returns-in-Schema-clause-request : goal.returns-in-Schema-clause-request
+returns-in-Schema-clause-request c =
     is_schema (texts c.args.words.now) _ (c.in_ok-request.ensures.asked ∙ ap (λ r. Some (request_view r)) c.in-Schema.is) (ap (λ r. is_built (request_view r)) (sym c.in-Schema.is) ∙ sym c.is_built.ensures ∙ c.if-not-is_built.false)
