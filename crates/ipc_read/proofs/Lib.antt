@@ -22,3 +22,4 @@ pub mod ListParts
 pub mod ListReads
 pub mod UnionParts
 pub mod UnionReads
+pub mod Tops

@@ -44,7 +44,7 @@ use Rattle.ipc_read.specs.Readers.{ShortenedByAll}
 use Rattle.ipc_read.specs.Sources.{Answers, head_faults, validity_fetched}
 use Rattle.ipc_read.proofs.Refusals.{refuses_left, refuses_right, refuses_more, refuses_by, both_none, none_of_both, among_left, among_right}
 use Rattle.ipc_read.proofs.Places.{behind_itself, behind_first, after_is_behind, fields_behind, wider_refuses, AreNatural, are_natural, none_missing, natural_then, natural_itself, counts_between, first_place_in, next_place_in, last_place_in, within_fields, field_behind, kind_of_child}
-use Rattle.ipc_read.proofs.Passed.{Opens, after_opens, buffers_dropped, only_tables, all_from_first, batch_from_first}
+use Rattle.ipc_read.proofs.Passed.{Opens, after_opens, buffers_dropped, only_tables, batch_from_first}
 use Rattle.ipc_read.proofs.Shortened.{none_taken, all_taken, taken_more, taken_then}
 use Rattle.ipc_read.proofs.Counted.{lacks_in}
 

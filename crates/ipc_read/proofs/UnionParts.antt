@@ -1,10 +1,10 @@
 -- The types and the offsets of unions that were read, and what is wrong with them.
-use Rattle.std.proofs.Common.{◌≡◌, ◌⊎◌, inl, inr, ℕ, zero, suc, ◌+◌, ◌*◌, ◌≤◌, ◌<◌, List, [], ◌∷◌, ◌++◌, length, Option, Some, None, Bool, true, false, ◌&&◌, ℤ, Result, Ok, Err, if◌then◌else◌, refl, sym, ap, ◌∙◌, arith, subst}
+use Rattle.std.proofs.Common.{◌≡◌, inl, ℕ, zero, suc, ◌+◌, ◌*◌, ◌≤◌, List, [], ◌∷◌, ◌++◌, length, Option, Some, Bool, true, false, ◌&&◌, ℤ, Result, Ok, Err, if◌then◌else◌, refl, sym, ap, ◌∙◌, arith, subst}
 use Rattle.std.specs.Prelude.{nat_le, nat_lt, slice_get}
-use Rattle.std.specs.Int.{Width, w8, w32, byte_len}
+use Rattle.std.specs.Int.{Width, byte_len}
 use Rattle.std.proofs.lemmas.Bool.{lt-ltb, le-ltb}
 use Rattle.arrow_spec.specs.declared.error.IpcError.{IpcError}
-use Rattle.arrow_spec.specs.declared.error.IpcError.TheVariants.{OutOfSpec, Unsupported, Memory}
+use Rattle.arrow_spec.specs.declared.error.IpcError.TheVariants.{OutOfSpec, Unsupported}
 use Rattle.arrow_spec.specs.declared.error.OutOfSpecKind.TheVariants as out
 use Rattle.arrow_spec.specs.declared.error.Feature.TheVariants.{UnionNulls}
 use Rattle.arrow_spec.specs.declared.message.FieldNode.{FieldNode}
@@ -23,8 +23,8 @@ use Rattle.ipc_read_laws.specs.Faults.{stated}
 use Rattle.ipc_read_laws.proofs.Buffers.{numbers_held}
 use Rattle.ipc_read.specs.Queues.{Left, short_of}
 use Rattle.ipc_read.specs.Sources.{Answers, faults_where, bytes_where}
-use Rattle.ipc_read.specs.Unions.{union_validities, is_dense, union_places, union_validity_faults, rows_faults, places_faults, union_parts_faults, UnionTop, union_top, types_in, places_in, places_stated, union_top_read, union_fetched}
-use Rattle.ipc_read.proofs.Refusals.{among_right, refuses_left, refuses_right, refuses_more, both_none, none_of_both}
+use Rattle.ipc_read.specs.Unions.{union_validities, union_places, union_validity_faults, rows_faults, places_faults, union_parts_faults, union_top, places_stated, union_fetched}
+use Rattle.ipc_read.proofs.Refusals.{among_right, refuses_left, refuses_right, both_none, none_of_both}
 use Rattle.ipc_read.proofs.Counted.{left_next}
 use Rattle.ipc_read.proofs.OffsetReads.{signed_is}
 use Rattle.ipc_read.proofs.Parts.{item_fits, nulls_of}

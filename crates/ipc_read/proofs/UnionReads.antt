@@ -1,6 +1,6 @@
 -- Arrays of unions over children that were read.
 use Rattle.std.proofs.lemmas.Bool.{and_parts, and_from, eq-eqb, eqb-true}
-use Rattle.std.proofs.Common.{◌≡◌, ◌⊎◌, inl, inr, ℕ, zero, suc, ◌+◌, ◌≤◌, ◌<◌, List, [], ◌∷◌, ◌++◌, length, Option, Some, None, IfSome, IfOk, IfErr, Result, Ok, Err, Bool, true, false, ◌&&◌, ◌||◌, nat_eq, ℤ, pos, refl, sym, ap, ◌∙◌, arith, subst}
+use Rattle.std.proofs.Common.{◌≡◌, ◌⊎◌, inl, inr, ℕ, zero, suc, ◌+◌, ◌≤◌, ◌<◌, List, [], ◌++◌, length, Option, Some, None, IfSome, IfOk, IfErr, Result, Ok, Err, Bool, true, false, ◌&&◌, ◌||◌, nat_eq, ℤ, pos, refl, sym, ap, ◌∙◌, arith, subst}
 use Rattle.std.specs.Prelude.{nat_le, nat_lt, not, slice_index_or}
 use Rattle.std.specs.Int.{w8, w32}
 use Rattle.arrow_spec.specs.declared.error.IpcError.{IpcError}
@@ -13,7 +13,7 @@ use Rattle.arrow_spec.specs.declared.message.MetadataVersion.{MetadataVersion}
 use Rattle.arrow_spec.specs.declared.types.UnionMode.{UnionMode}
 use Rattle.arrow_spec.specs.declared.types.UnionMode.TheVariants.{Dense, Sparse}
 use Rattle.arrow_spec.specs.Readings.{IsAmong, Refuses}
-use Rattle.arrow_spec.specs.Kinds.{Kind, Fields, none, field, width, union, extension}
+use Rattle.arrow_spec.specs.Kinds.{Kind, Fields, none, field, width, union}
 use Rattle.arrow_spec.specs.Schema.{are_ids}
 use Rattle.arrow_spec.specs.Counts.{RecordBatch, Place, magnitude, is_negative, after, inside, union_buffers}
 use Rattle.arrow_spec.specs.Arrays.{node_of, from_on, signed_in, has_nulls, types_buffer, id_place}
@@ -24,7 +24,7 @@ use Rattle.arrow_types.specs.Physical.{under_extensions}
 use Rattle.arrow_types.specs.UnionIds.{are_right}
 use Rattle.arrow_types.specs.declared.data_type.Field.{Field}
 use Rattle.arrow_buffers.proofs.Parts.{length-from_on}
-use Rattle.arrow_arrays.specs.Heads.{Tagged, tagged, is_mode, is_union, is_bad_place, has_offsets, tagged_rows, are_all, fits_places, have_ids, ids_in, number_at, child_fields}
+use Rattle.arrow_arrays.specs.Heads.{tagged, is_mode, is_union, is_bad_place, has_offsets, tagged_rows, are_all, fits_places, have_ids, ids_in, number_at, child_fields}
 use Rattle.arrow_arrays.specs.Parts.{Forest, nested}
 use Rattle.arrow_arrays.specs.PartsOf.{parts_of}
 use Rattle.arrow_arrays.specs.declared.array.Array.{Array}
@@ -33,16 +33,15 @@ use Rattle.arrow_arrays.specs.Carried.{is_carried, are_carried}
 use Rattle.ipc_read_laws.specs.Faults.{read_faults, fetched_at_most, stated_of}
 use Rattle.ipc_read_laws.specs.PartsRead.{parts_read, parts_under, forest_read, HaveBytes, AllHaveBytes}
 use Rattle.ipc_read_laws.proofs.Buffers.{get-told, some_row-same}
-use Rattle.ipc_read.specs.declared.child_rows.ChildRows.TheVariants.{Same, Stated}
 use Rattle.ipc_read.specs.Batches.{columns_fetched}
 use Rattle.ipc_read.specs.ChildRows.{rows_by, rows_of_each}
-use Rattle.ipc_read.specs.Places.{behind, IsBehind, place_faults}
+use Rattle.ipc_read.specs.Places.{behind, place_faults}
 use Rattle.ipc_read.specs.Queues.{Left, AllAt, BatchAt, Shortened, ShortenedBy, short_of}
 use Rattle.ipc_read.specs.Readers.{ShortenedByAll}
 use Rattle.ipc_read.specs.Sources.{Answers, faults_where}
-use Rattle.ipc_read.specs.Unions.{stated_in, union_as, is_dense, union_validity_faults, rows_faults, places_faults, union_parts_faults, UnionTop, union_top, tagged_by, types_in, places_in, union_top_read, union_fetched, children_rows}
+use Rattle.ipc_read.specs.Unions.{stated_in, union_as, is_dense, union_validity_faults, rows_faults, places_faults, union_parts_faults, UnionTop, tagged_by, types_in, places_in, union_top_read, union_fetched, children_rows}
 use Rattle.ipc_read.proofs.UnionParts.{top_end, top_many}
-use Rattle.ipc_read.proofs.Refusals.{memory_refuses, refuses_left, refuses_right, refuses_more, refuses_by, both_none, none_of_both, no_cause, among_left, among_right, among_split, among_sound, among_cause}
+use Rattle.ipc_read.proofs.Refusals.{memory_refuses, refuses_left, refuses_more, refuses_by, both_none, none_of_both, no_cause, among_left, among_right, among_split, among_sound, among_cause}
 use Rattle.ipc_read.proofs.Places.{behind_itself, fields_behind, wider_refuses, are_natural, none_missing, counts_between}
 use Rattle.ipc_read.proofs.Passed.{Opens, after_opens}
 use Rattle.ipc_read.proofs.Counted.{lacks_in}

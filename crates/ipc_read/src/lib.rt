@@ -11,9 +11,11 @@ mod integers;
 mod leaf;
 mod lists;
 mod makes;
+mod read_children;
 mod readers;
 mod reading;
 mod rows;
+mod skip_children;
 mod skips;
 mod tables;
 mod unions;
@@ -25,7 +27,9 @@ pub use body::Body;
 pub use buffers::{read_bitmap, read_buffer, read_bytes, read_validity};
 pub use integers::magnitude;
 pub use leaf::{read_boolean, read_fixed_size_binary, read_null, read_primitive};
+pub use read_children::{read_fixed_size_list, read_list, read_map, read_struct, read_union};
 pub use reading::{Dictionaries, read};
+pub use skip_children::{skip_fixed_size_list, skip_list, skip_map, skip_struct, skip_union};
 pub use skips::{
     skip, skip_binary, skip_binview, skip_boolean, skip_fixed_size_binary, skip_null,
     skip_primitive, skip_utf8,

@@ -208,6 +208,45 @@ impl<'n, 'a, S: Source> ColumnReader<'n, 'a, S> {
     }
 }
 
+/// The next array, as far as its first rows go, with its children.
+pub(crate) fn read_next<S: Source>(
+    alloc: Global,
+    nodes: &mut VecDeque<FieldNode>,
+    variadic: &mut VecDeque<i64>,
+    dtype: &ArrowDataType,
+    buffers: &mut VecDeque<IpcBuffer>,
+    source: &mut S,
+    body: Body,
+    is_little_endian: bool,
+    rows: usize,
+    version: MetadataVersion,
+) -> Result<Array, IpcError>
+    requires held { is_carried (kind_of dtype.now) ≡ true }
+    requires readable { Readable (S.content source.old) body }
+    ensures queues { TreeTaken (kind_of dtype.now) version nodes.old.items nodes.new.items buffers.old.items buffers.new.items variadic.old.items variadic.new.items result }
+    ensures parts { TreeGiven (S.content source.old) body is_little_endian version nodes.old.items buffers.old.items variadic.old.items (λ a. parts_of a) result (kind_of dtype.now) rows (λ m p. parts_read m (kind_of dtype.now) p rows) }
+    ensures shortened { ShortenedBy (kind_of dtype.now) version nodes.old.items nodes.new.items buffers.old.items buffers.new.items variadic.old.items variadic.new.items }
+    ensures shape { IfOk result (λ a. (kind_in (parts_of a) ≡ (kind_of dtype.now)) × (rows_in (parts_of a) ≡ rows)) }
+    ensures cause { HasReadCause (S.faults source.old) (S.faults source.new) result }
+    ensures kept { SourceKept S.content S.faults S.references source.old source.new }
+    ensures fetched { TreeFetched (kind_of dtype.now) version nodes.old.items buffers.old.items variadic.old.items rows (S.fetched source.old) (S.fetched source.new) }
+    ensures cells { TreeGiven (S.content source.old) body is_little_endian version nodes.old.items buffers.old.items variadic.old.items (λ a. cells_in (parts_of a)) result (kind_of dtype.now) rows (λ m p. from_on (cell m [] (kind_of dtype.now) p) 0 rows) }
+{
+    let mut reader = ColumnReader {
+        nodes,
+        variadic,
+        buffers: BufferReader {
+            alloc,
+            queue: buffers,
+            source,
+            body,
+            is_little_endian,
+        },
+        version,
+    };
+    reader.read_array(dtype, rows)
+}
+
 /// The next array, as far as its first rows go, with its children. The type is one of those that `is_carried` tells:
 /// in it stand no dictionaries, no floats and no decimals of 256 bits, and no size is 0. The call goes as deep as the type's tree.
 ///
@@ -241,17 +280,16 @@ pub fn read<S: Source>(
     ensures fetched { TreeFetched (kind_of field.now.dtype) version nodes.old.items buffers.old.items variadic.old.items rows (S.fetched source.old) (S.fetched source.new) }
     ensures cells { TreeGiven (S.content source.old) body is_little_endian version nodes.old.items buffers.old.items variadic.old.items (λ a. cells_in (parts_of a)) result (kind_of field.now.dtype) rows (λ m p. from_on (cell m [] (kind_of field.now.dtype) p) 0 rows) }
 {
-    let mut reader = ColumnReader {
+    read_next(
+        alloc,
         nodes,
         variadic,
-        buffers: BufferReader {
-            alloc,
-            queue: buffers,
-            source,
-            body,
-            is_little_endian,
-        },
+        &field.dtype,
+        buffers,
+        source,
+        body,
+        is_little_endian,
+        rows,
         version,
-    };
-    reader.read_array(&field.dtype, rows)
+    )
 }

@@ -1,5 +1,6 @@
 //! Each kind with children, alone and over each other one, written and read back.
 use crate::arrays::{add, int8};
+use crate::kinds::goes_by_kind;
 use crate::round_trips::goes_round;
 use arrow_arrays::{
     Array, FixedSizeListArray, ListArray, ListOffsets, MapArray, StructArray, UnionArray,
@@ -183,6 +184,22 @@ fn is_read_back(rt: &impl Abort, alloc: Global, array: Array) -> Result<(), Fail
     let answer = goes_round(rt, alloc, "a kind with children", &array);
     drop(array);
     answer
+}
+
+/// The array goes through the calls of its kind, and is not needed behind them.
+fn is_read_by_kind(rt: &impl Abort, alloc: Global, array: Array) -> Result<(), Fail> {
+    let answer = goes_by_kind(rt, alloc, &array);
+    drop(array);
+    answer
+}
+
+#[test]
+fn each_kind_by_its_own_calls(rt: HostRuntime) -> Result<(), Fail> {
+    let alloc = rt.alloc();
+    for nest in NESTS {
+        is_read_by_kind(&rt, alloc, over(alloc, nest, int8(alloc)?)?)?;
+    }
+    Ok(())
 }
 
 #[test]

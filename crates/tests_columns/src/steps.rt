@@ -98,13 +98,13 @@ fn queue_of<T: Copy>(alloc: Global, items: &[T]) -> Result<VecDeque<T>, AllocErr
 
 /// What was written, but the body.
 #[derive(Drop)]
-struct Queues {
-    nodes: VecDeque<FieldNode>,
-    buffers: VecDeque<IpcBuffer>,
-    views: VecDeque<i64>,
+pub(crate) struct Queues {
+    pub(crate) nodes: VecDeque<FieldNode>,
+    pub(crate) buffers: VecDeque<IpcBuffer>,
+    pub(crate) views: VecDeque<i64>,
 }
 
-fn queues_of(alloc: Global, written: &Written) -> Result<Queues, AllocError> {
+pub(crate) fn queues_of(alloc: Global, written: &Written) -> Result<Queues, AllocError> {
     Ok(Queues {
         nodes: queue_of(alloc, &written.nodes)?,
         buffers: queue_of(alloc, &written.buffers)?,

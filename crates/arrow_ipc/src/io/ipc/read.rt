@@ -6,9 +6,11 @@ pub use ipc_files::{
     read_file_metadata,
 };
 pub use ipc_read::{
-    Body, read, read_binary, read_binview, read_boolean, read_fixed_size_binary, read_null,
-    read_primitive, read_record_batch, read_utf8, skip, skip_binary, skip_binview, skip_boolean,
-    skip_fixed_size_binary, skip_null, skip_primitive, skip_utf8,
+    Body, read, read_binary, read_binview, read_boolean, read_fixed_size_binary,
+    read_fixed_size_list, read_list, read_map, read_null, read_primitive, read_record_batch,
+    read_struct, read_union, read_utf8, skip, skip_binary, skip_binview, skip_boolean,
+    skip_fixed_size_binary, skip_fixed_size_list, skip_list, skip_map, skip_null, skip_primitive,
+    skip_struct, skip_union, skip_utf8,
 };
 pub use ipc_schema::{
     BatchHeader, Message, MessageHeader, RecordMessage, deserialize_schema, message_prefix,

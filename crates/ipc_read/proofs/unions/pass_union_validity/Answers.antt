@@ -2,7 +2,7 @@ use Rattle.std.proofs.Common.{◌≡◌, sym, refl, ◌∙◌, arith, subst, tru
 use Rattle.arrow_spec.specs.Counts.{has_union_validity}
 use Rattle.arrow_spec.specs.Readings.{Refuses}
 use Rattle.ipc_read.specs.Queues.{Left}
-use Rattle.ipc_read.proofs.Refusals.{err_from, refuses_left, refuses_right, both_none}
+use Rattle.ipc_read.proofs.Refusals.{err_from, refuses_left, both_none}
 use Rattle.ipc_read.proofs.Shortened.{taken_more}
 use Rattle.ipc_read.proofs.UnionParts.{with_validity, without_validity, no_validity_faults, validity_faults_are, nulls_none, nulls_refused, one_validity}
 use Rattle.ipc_read.proofs.unions.pass_union_validity.Goals as goal

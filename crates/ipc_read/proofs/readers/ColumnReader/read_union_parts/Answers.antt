@@ -1,4 +1,4 @@
-use Rattle.std.proofs.Common.{◌≡◌, suc, ◌+◌, arith, ◌∙◌}
+use Rattle.std.proofs.Common.{suc, arith}
 use Rattle.arrow_spec.specs.Arrays.{types_buffer}
 use Rattle.ipc_read.proofs.Refusals.{err_from, refuses_left}
 use Rattle.ipc_read.proofs.ReaderSteps.{known_on}
