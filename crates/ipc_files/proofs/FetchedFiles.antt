@@ -89,18 +89,18 @@ counted (pos m) n h = cc
 counted (negsuc m) n h = cc
 
 pub block_whole : (content : Option (List ℕ)) (meta : Meta) (order : Bool) (fs : Fields) (block : FileBlock) (m : RecordMessage) (f mid f' : ℕ) → order_by order ≡ meta.schema.order → fs ≡ meta.schema.fields
-    → MessageFetched content block f mid → IfSome content (λ b. block_record b block ≡ Ok m) → ((bytes : List ℕ) → f' ≤ mid + buffers_fetched (record_batch_of (order_by order) m.version m.tables bytes) fs (magnitude m.tables.length)) → BlockFetched content meta block f f'
+    → MessageFetched content block f mid → IfSome content (λ b. block_record b block ≡ Ok m) → ((bytes : List ℕ) → f' ≤ mid + buffers_fetched (record_batch_of (order_by order) m.version m.tables bytes) None fs (magnitude m.tables.length)) → BlockFetched content meta block f f'
 block_whole None meta order fs block m f mid f' o e h is more = tt
 block_whole (Some b) meta order fs block m f mid f' o e h is more = λ x read.
     let p = batch_parts b (all_asked meta.schema.order meta.schema.fields (length b)) block x read in
     let same : m ≡ p.message = cc in
     let rows : magnitude m.tables.length ≡ p.rows = ap (λ (y : RecordMessage). magnitude y.tables.length) same ∙ counted p.message.tables.length p.rows p.count in
     let body = block_body b block in
-    let moved : buffers_fetched (record_batch_of (order_by order) m.version m.tables body) fs (magnitude m.tables.length) ≡ buffers_fetched (record_batch_of meta.schema.order p.message.version p.message.tables body) meta.schema.fields p.rows
-    = ap (λ (w : Order). buffers_fetched (record_batch_of w m.version m.tables body) fs (magnitude m.tables.length)) o
-    ∙ ap (λ (gs : Fields). buffers_fetched (record_batch_of meta.schema.order m.version m.tables body) gs (magnitude m.tables.length)) e
-    ∙ ap (λ (n : ℕ). buffers_fetched (record_batch_of meta.schema.order m.version m.tables body) meta.schema.fields n) rows
-    ∙ ap (λ (y : RecordMessage). buffers_fetched (record_batch_of meta.schema.order y.version y.tables body) meta.schema.fields p.rows) same in
+    let moved : buffers_fetched (record_batch_of (order_by order) m.version m.tables body) None fs (magnitude m.tables.length) ≡ buffers_fetched (record_batch_of meta.schema.order p.message.version p.message.tables body) None meta.schema.fields p.rows
+    = ap (λ (w : Order). buffers_fetched (record_batch_of w m.version m.tables body) None fs (magnitude m.tables.length)) o
+    ∙ ap (λ (gs : Fields). buffers_fetched (record_batch_of meta.schema.order m.version m.tables body) None gs (magnitude m.tables.length)) e
+    ∙ ap (λ (n : ℕ). buffers_fetched (record_batch_of meta.schema.order m.version m.tables body) None meta.schema.fields n) rows
+    ∙ ap (λ (y : RecordMessage). buffers_fetched (record_batch_of meta.schema.order y.version y.tables body) None meta.schema.fields p.rows) same in
     let cost = block_fetched b meta block p.message p.rows p.is p.count in
     omega (arith, h p.message p.is, more body, moved, cost)
 

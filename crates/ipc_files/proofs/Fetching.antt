@@ -28,7 +28,7 @@ stated_ranges m body (i ∷ is) =
     omega (arith, rest, sum_by-cons (λ (y : Range). y.length) (record { place = body + magnitude (Rattle.arrow_spec.specs.Arrays.range_of m i).offset; length = magnitude (Rattle.arrow_spec.specs.Arrays.range_of m i).length }) (ranges m body is))
 
 -- so are those of a batch of so many rows
-stated_rows : (m : RecordBatch) (body : ℕ) (fs : Fields) (rows : ℕ) → lengths (for_rows rows (ranges m body (columns_looked_at m None fs 0 first_place))) ≡ buffers_fetched m fs rows
+stated_rows : (m : RecordBatch) (body : ℕ) (fs : Fields) (rows : ℕ) → lengths (for_rows rows (ranges m body (columns_looked_at m None fs 0 first_place))) ≡ buffers_fetched m None fs rows
 stated_rows m body fs zero = refl
 stated_rows m body fs (suc n) = stated_ranges m body (columns_looked_at m None fs 0 first_place)
 
@@ -38,7 +38,7 @@ answer_or d (Err es) = d
 
 -- what is fetched of a block whose message was read
 pub block_fetched : (b : List ℕ) (meta : Meta) (block : FileBlock) (m : RecordMessage) (rows : ℕ) → block_record b block ≡ Ok m → natural m.tables.length ≡ Ok rows
-    → block_cost b meta block ≡ message_cost b block + buffers_fetched (record_batch_of meta.schema.order m.version m.tables (block_body b block)) meta.schema.fields rows
+    → block_cost b meta block ≡ message_cost b block + buffers_fetched (record_batch_of meta.schema.order m.version m.tables (block_body b block)) None meta.schema.fields rows
 unfolding block_record plain_message record_message batch_fetched block_message
 block_fetched b meta block m rows is count =
     let range = went (only_if _ _) _ m is in
@@ -59,10 +59,10 @@ block_fetched b meta block m rows is count =
     ∙ on _ _ _ tables.first ∙ on _ _ _ version.first ∙ on (message_range b block) _ front (on _ _ _ prefix.first) ∙ on (natural tables.got.length) _ rows (ap (λ (x : RecordMessage). natural x.tables.length) same ∙ count) in
     let cost : block_cost b meta block ≡ lengths (front ∷ buffers) = ap (λ r. lengths (or_nothing (option_map (λ x. x.0) (meaning r)))) e in
     let message_is : message_cost b block ≡ prefix.got.0 + prefix.got.1 = ap both_of prefix.first in
-    let rest : lengths buffers ≡ buffers_fetched source meta.schema.fields rows = stated_rows source (block.offset + block.metadata) meta.schema.fields rows in
+    let rest : lengths buffers ≡ buffers_fetched source None meta.schema.fields rows = stated_rows source (block.offset + block.metadata) meta.schema.fields rows in
     let sum = sum_by-cons (λ (y : Range). y.length) front buffers in
-    let source_is : buffers_fetched source meta.schema.fields rows ≡ buffers_fetched (record_batch_of meta.schema.order m.version m.tables (block_body b block)) meta.schema.fields rows
-    = ap (λ (x : RecordMessage). buffers_fetched (record_batch_of meta.schema.order x.version x.tables (block_body b block)) meta.schema.fields rows) same in
+    let source_is : buffers_fetched source None meta.schema.fields rows ≡ buffers_fetched (record_batch_of meta.schema.order m.version m.tables (block_body b block)) None meta.schema.fields rows
+    = ap (λ (x : RecordMessage). buffers_fetched (record_batch_of meta.schema.order x.version x.tables (block_body b block)) None meta.schema.fields rows) same in
     omega (arith, cost, message_is, rest, sum, source_is)
 
 -- ── a prefix ──

@@ -25,7 +25,8 @@ use Rattle.transcode_laws.proofs.Batches.{block_is_sent}
 use Rattle.transcode_laws.proofs.Refusals.{none_refuses}
 use Rattle.transcode_laws.proofs.SentFields.{no_floats}
 use Rattle.ipc_write.specs.Batches.{written_batch_of}
-use Rattle.ipc_read.specs.Batches.{batch_reading, table_of}
+use Rattle.ipc_read.specs.Batches.{batch_reading, chosen_read, table_of}
+use Rattle.ipc_read.proofs.Columns.{all_read}
 use Rattle.ipc_files.specs.FileBlocks.{block_record}
 use Rattle.ipc_files.specs.Blocks.{BlockRead, ReadsBlock}
 use Rattle.ipc_files.proofs.BlockMessages.{batch_by_record, refused_first}
@@ -63,14 +64,14 @@ refused_sent e b o fs block = by_record (block_record b block) refl
     by_record (Ok m) is h = tables_refuse e b o fs block m is (subst (λ r. Refuses e (refusals r)) (batch_by_record to_read b (all_asked o fs (length b)) block None ∙ on (block_record b block) _ m is) h)
 
 -- where all kinds are sent none of them is refused
-sent_reading : (order : Bool) (fs : Fields) (most : ℕ) (v : MetadataVersion) (tables : BatchHeader) (body : List ℕ) → are_sent_fields fs ≡ true → batch_reading order fs most v tables body ≡ batch_of_tables to_read (all_asked (order_by order) fs most) v [] tables body None
+sent_reading : (order : Bool) (fs : Fields) (most : ℕ) (v : MetadataVersion) (tables : BatchHeader) (body : List ℕ) → are_sent_fields fs ≡ true → batch_reading None None order fs most v tables body ≡ batch_of_tables to_read (all_asked (order_by order) fs most) v [] tables body None
 unfolding bind
 sent_reading order fs most v tables body sent = rw (no_floats fs 0 sent) refl
 
 pub block_read : (b : List ℕ) (order : Bool) (fs : Fields) (block : FileBlock) (m : RecordMessage) (result : Result Batch IpcError) → are_sent_fields fs ≡ true → block_record b block ≡ Ok m → HeaderFits m.tables
-    → Gives table_of result (batch_reading order fs (length b) m.version m.tables (block_body b block)) → IfOk result (λ x. x.arrays ≡ columns_read (record_batch_of (order_by order) m.version m.tables (block_body b block)) fs first_place x.height) → ReadsBlock b (order_by order) fs block result
+    → Gives table_of result (batch_reading None None order fs (length b) m.version m.tables (block_body b block)) → IfOk result (λ x. x.arrays ≡ chosen_read (record_batch_of (order_by order) m.version m.tables (block_body b block)) None fs 0 first_place x.height) → ReadsBlock b (order_by order) fs block result
 block_read b order fs block m (Ok x) sent is fits gives parts = record {
-  read = record { message = m; is = is; fits = fits; read = sym (sent_reading order fs (length b) m.version m.tables (block_body b block) sent) ∙ gives; columns = parts };
+  read = record { message = m; is = is; fits = fits; read = sym (sent_reading order fs (length b) m.version m.tables (block_body b block) sent) ∙ gives; columns = parts ∙ all_read (record_batch_of (order_by order) m.version m.tables (block_body b block)) fs 0 first_place x.height };
   refused = tt;
 }
 block_read b order fs block m (Err e) sent is fits gives parts = record {

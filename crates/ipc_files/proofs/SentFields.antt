@@ -200,17 +200,17 @@ carried_column = by_tree (λ k. is_column_kind k ≡ true) (λ fs. are_column_fi
   on_field = λ name nullable metadata k others carried f g. and_from (is_column_kind k) (are_column_fields others) f g;
 })
 
-carried_columns : (s : List Keyed) → are_carried (fields_in s) ≡ true → are_column_kinds s ≡ true
-carried_columns [] h = refl
-carried_columns (p ∷ ps) h =
+carried_columns : (c : ℕ) (s : List Keyed) → are_carried (fields_in s) ≡ true → are_column_kinds None c s ≡ true
+carried_columns c [] h = refl
+carried_columns c (p ∷ ps) h =
     let both = and_parts (is_carried p.1.kind) (are_carried (fields_in ps)) h in
-    and_from (is_column_kind p.1.kind) (are_column_kinds ps) (carried_column p.1.kind both.0) (carried_columns ps both.1)
+    and_from (is_column_kind p.1.kind) (are_column_kinds None (suc c) ps) (carried_column p.1.kind both.0) (carried_columns (suc c) ps both.1)
 
 -- columns of each field of a schema that was read may be read
-pub columns_fit : (s : List Keyed) (below : Ids) → FieldsFit 64 (fields_with (fields_in s) below) → are_sent_fields (fields_in s) ≡ true → are_column_kinds s ≡ true
-columns_fit s below fit sent = carried_columns s (fields_carried 64 (fields_in s) sent (subst (λ fs. FieldsFit 64 fs) (fields_stay (fields_in s) below sent) fit))
+pub columns_fit : (s : List Keyed) (below : Ids) → FieldsFit 64 (fields_with (fields_in s) below) → are_sent_fields (fields_in s) ≡ true → are_column_kinds None 0 s ≡ true
+columns_fit s below fit sent = carried_columns 0 s (fields_carried 64 (fields_in s) sent (subst (λ fs. FieldsFit 64 fs) (fields_stay (fields_in s) below sent) fit))
 
-pub columns_readable : (file : FileMetadata) → IsBuilt (meta_view file) → IsReadable file → are_column_kinds (rc_value file.schema) ≡ true
+pub columns_readable : (file : FileMetadata) → IsBuilt (meta_view file) → IsReadable file → are_column_kinds None 0 (rc_value file.schema) ≡ true
 columns_readable file h r = r.columns (sent_schema file h)
 
 -- ── its IPC fields ──

@@ -1,5 +1,5 @@
 -- The blocks of a file that are read and sent, as the calls have them.
-use Rattle.std.proofs.Common.{◌≡◌, ℕ, List, [], map, length, Option, Some, None, Result, Ok, Err, IfOk, IfErr, IfSome, refl, subst, true, false, Bool, if◌then◌else◌}
+use Rattle.std.proofs.Common.{◌≡◌, ◌∙◌, ℕ, List, [], map, length, Option, Some, None, Result, Ok, Err, IfOk, IfErr, IfSome, refl, subst, true, false, Bool, if◌then◌else◌}
 use Rattle.std.specs.Io.KnownBytes.{Appends, Keeps}
 use Rattle.std.specs.List.{AllByRecursion}
 use Rattle.arrow_spec.specs.declared.error.IpcError.{IpcError}
@@ -22,7 +22,10 @@ use Rattle.ipc_io.specs.Outside.{IsSize}
 use Rattle.ipc_schema.specs.Views.{message_of}
 use Rattle.ipc_schema.specs.declared.message.RecordMessage.{RecordMessage as MessageRead}
 use Rattle.ipc_write.specs.Batches.{written_batch_of}
-use Rattle.ipc_read.specs.Batches.{batch_reading, table_of}
+use Rattle.ipc_read.specs.Batches.{batch_reading, chosen_read, table_of}
+use Rattle.ipc_read.specs.Projection.{chosen}
+use Rattle.arrow_types.specs.Schemas.{Keyed}
+use Rattle.ipc_read.proofs.Chosen.{all_chosen}
 use Rattle.ipc_read.specs.Sources.{bytes_in}
 use Rattle.ipc_read.specs.declared.body.Body.{Body}
 use Rattle.ipc_files.specs.FileBlocks.{BlockIn, block_record}
@@ -76,10 +79,10 @@ given_in None block m h = tt
 given_in (Some b) block m h = h
 
 abbrev GivesAt : Option (List ℕ) → Bool → Fields → ℕ → RecordMessage → Body → Result Batch IpcError → Type 0
-GivesAt content order fs size m body result = IfSome content (λ b. Gives table_of result (batch_reading order fs size m.version m.tables (bytes_in body b)))
+GivesAt content order fs size m body result = IfSome content (λ b. Gives table_of result (batch_reading None None order fs size m.version m.tables (bytes_in body b)))
 
 abbrev PartsAt : Option (List ℕ) → Bool → Fields → RecordMessage → Body → Result Batch IpcError → Type 0
-PartsAt content order fs m body result = IfOk result (λ x. IfSome content (λ b. x.arrays ≡ columns_read (record_batch_of (order_by order) m.version m.tables (bytes_in body b)) fs first_place x.height))
+PartsAt content order fs m body result = IfOk result (λ x. IfSome content (λ b. x.arrays ≡ chosen_read (record_batch_of (order_by order) m.version m.tables (bytes_in body b)) None fs 0 first_place x.height))
 
 pub block_answer : (content content' : Option (List ℕ)) (order : Bool) (o : Order) (fs read : Fields) (size : ℕ) (block : FileBlock) (m : RecordMessage) (body : Body) (result : Result Batch IpcError)
     → are_sent_fields fs ≡ true → order_by order ≡ o → read ≡ fs → content' ≡ content → body ≡ body_place block → IsSize content size → IfSome content (λ b. block_record b block ≡ Ok m) → HeaderFits m.tables
@@ -94,6 +97,11 @@ block_answer (Some b) content' order o fs read size block m body result sent fir
     let p2 : PartsAt content' order fs m (body_place block) result = subst (λ p. PartsAt content' order fs m p result) place p1 in
     let p3 : PartsAt (Some b) order fs m (body_place block) result = subst (λ w. PartsAt w order fs m (body_place block) result) kept p2 in
     subst (λ w. ReadsBlock b w fs block result) first (block_read b order fs block m result sent is fits g4 p3)
+
+-- all columns have the whole schema
+pub whole_schema : (result : Result Batch IpcError) (s : List Keyed) → IfOk result (λ x. x.schema ≡ chosen None 0 s) → IfOk result (λ x. x.schema ≡ s)
+whole_schema (Ok x) s h = h ∙ all_chosen 0 s
+whole_schema (Err e) s h = tt
 
 -- ── a block that is sent ──
 

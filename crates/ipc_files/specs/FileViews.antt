@@ -1,5 +1,5 @@
 -- What the values of a file that is read stand for.
-use Rattle.std.specs.Prelude.{◌≡◌, ℕ, ◌^◌, ◌<◌, List, [], Ok, map, true, ⊤}
+use Rattle.std.specs.Prelude.{◌≡◌, ℕ, ◌^◌, ◌<◌, List, [], None, Ok, map, true, ⊤}
 use Rattle.std.specs.Rc.{rc_value}
 use Rattle.arrow_spec.specs.declared.error.IpcError.{IpcError}
 use Rattle.arrow_spec.specs.declared.error.IpcError.TheVariants.{OutOfSpec, Unsupported, TooMany, TooDeep, ReadFault, Memory}
@@ -33,7 +33,7 @@ IsBuilt meta = so_far.chosen meta.schema.order meta.schema.fields ≡ true
 -- have one child, and a map's is a struct of two fields), and the file's size is below 2^63
 pub record IsReadable (m : FileMetadata) : Type 0 where
   pub shapes : have_shapes (fields_in (rc_value m.schema)) (ids_of m.ipc_schema.fields.items) ≡ true
-  pub columns : are_sent_fields (fields_in (rc_value m.schema)) ≡ true → are_column_kinds (rc_value m.schema) ≡ true
+  pub columns : are_sent_fields (fields_in (rc_value m.schema)) ≡ true → are_column_kinds None 0 (rc_value m.schema) ≡ true
   pub most : m.size < 2 ^ 63
 
 -- metadata that was read of bytes: its schema may be written too

@@ -1,5 +1,5 @@
 -- The tables of a record batch: when it is refused before its columns are read, and what it means with them.
-use Rattle.std.proofs.Common.{◌≡◌, ℕ, List, [], ◌∷◌, Option, Some, None, Result, Ok, Err, Bool, true, false, refl, sym, ap, ◌∙◌, subst, inl, ℤ, pos, negsuc, arith}
+use Rattle.std.proofs.Common.{◌≡◌, ℕ, suc, List, [], ◌∷◌, Option, Some, None, Result, Ok, Err, Bool, true, false, refl, sym, ap, ◌∙◌, subst, inl, ℤ, pos, negsuc, arith}
 use Rattle.std.specs.Prelude.{length, nat_le, IfSome}
 use Rattle.std.proofs.lemmas.Bool.{le-leb}
 use Rattle.arrow_spec.specs.declared.error.IpcError.{IpcError}
@@ -11,11 +11,12 @@ use Rattle.arrow_spec.specs.Readings.{bind, Reading, IsAmong, Refuses, Gives, re
 use Rattle.arrow_spec.specs.Messages.{BatchHeader}
 use Rattle.arrow_spec.specs.Flat.{Order, order_by}
 use Rattle.arrow_spec.specs.Cells.{Cell}
-use Rattle.arrow_spec.specs.Kinds.{Fields}
-use Rattle.arrow_spec.specs.Counts.{first_place, is_negative, magnitude}
-use Rattle.arrow_spec.specs.Columns.{columns_at}
+use Rattle.arrow_spec.specs.Kinds.{Fields, none, field, width}
+use Rattle.arrow_spec.specs.Arrays.{Dictionaries}
+use Rattle.arrow_spec.specs.Counts.{RecordBatch, Place, after, first_place, is_negative, magnitude}
+use Rattle.arrow_spec.specs.Columns.{columns_at, is_chosen, chosen_faults, chosen_cells}
 use Rattle.arrow_spec.specs.Features.{chosen_floats}
-use Rattle.arrow_spec.specs.Files.{batch_of_tables, to_read, none_negative, lengths_sum, all_asked, record_batch_of}
+use Rattle.arrow_spec.specs.Files.{batch_of_tables, to_read, none_negative, lengths_sum, record_batch_of, share, as_asked}
 use Rattle.arrow_spec.specs.declared.message.FieldNode.{FieldNode}
 use Rattle.arrow_spec.specs.declared.message.IpcBuffer.{IpcBuffer}
 use Rattle.std.specs.Prelude.{nat_eq}
@@ -23,7 +24,9 @@ use Rattle.arrow_types.specs.Schemas.{Keyed}
 use Rattle.arrow_arrays.specs.Parts.{Parts}
 use Rattle.arrow_arrays.specs.Batches.{have_rows, batch_fault}
 use Rattle.ipc_read.specs.Queues.{Left, BatchAt}
-use Rattle.ipc_read.specs.Batches.{AreQueuesOf, MayBeRead, batch_reading}
+use Rattle.ipc_read.specs.Batches.{AreQueuesOf, MayBeRead, batch_reading, columns_asked}
+use Rattle.ipc_read.specs.Projection.{are_rising, are_columns, chosen}
+use Rattle.ipc_read.proofs.Chosen.{asked_are_chosen}
 use Rattle.ipc_read.specs.Sources.{Told, Known, bytes_in}
 use Rattle.ipc_read.specs.declared.body.Body.{Body}
 use Rattle.ipc_read.proofs.Refusals.{refuses_none}
@@ -36,22 +39,22 @@ pub is_natural : (z : ℤ) → is_negative z ≡ false → z ≡ pos (magnitude 
 is_natural (pos n) h = refl
 is_natural (negsuc n) h = cc
 
-pub refuses_compressed : (order : Order) (fs : Fields) (most : ℕ) (version : MetadataVersion) (tables : BatchHeader) (bytes : List ℕ) → tables.compressed ≡ true → IsAmong (refusals (batch_of_tables to_read (all_asked order fs most) version [] tables bytes None)) (Unsupported features.Compression)
+pub refuses_compressed : (columns : Option (List ℕ)) (limit : Option ℕ) (order : Order) (fs : Fields) (most : ℕ) (version : MetadataVersion) (tables : BatchHeader) (bytes : List ℕ) → tables.compressed ≡ true → IsAmong (refusals (batch_of_tables to_read (columns_asked columns order fs most) version [] tables bytes limit)) (Unsupported features.Compression)
 unfolding batch_of_tables bind
-refuses_compressed order fs most version tables bytes h = rw h (inl refl)
+refuses_compressed columns limit order fs most version tables bytes h = rw h (inl refl)
 
-pub refuses_length : (order : Order) (fs : Fields) (most : ℕ) (version : MetadataVersion) (tables : BatchHeader) (bytes : List ℕ) → tables.compressed ≡ false → is_negative tables.length ≡ true → IsAmong (refusals (batch_of_tables to_read (all_asked order fs most) version [] tables bytes None)) (OutOfSpec kinds.UnexpectedNegativeInteger)
+pub refuses_length : (columns : Option (List ℕ)) (limit : Option ℕ) (order : Order) (fs : Fields) (most : ℕ) (version : MetadataVersion) (tables : BatchHeader) (bytes : List ℕ) → tables.compressed ≡ false → is_negative tables.length ≡ true → IsAmong (refusals (batch_of_tables to_read (columns_asked columns order fs most) version [] tables bytes limit)) (OutOfSpec kinds.UnexpectedNegativeInteger)
 unfolding batch_of_tables bind
-refuses_length order fs most version tables bytes h k = rw (h, natural_negative tables.length k) (inl refl)
+refuses_length columns limit order fs most version tables bytes h k = rw (h, natural_negative tables.length k) (inl refl)
 
-pub refuses_buffer : (order : Order) (fs : Fields) (most : ℕ) (version : MetadataVersion) (tables : BatchHeader) (bytes : List ℕ) → tables.compressed ≡ false → is_negative tables.length ≡ false → none_negative tables.buffers ≡ false → IsAmong (refusals (batch_of_tables to_read (all_asked order fs most) version [] tables bytes None)) (OutOfSpec kinds.UnexpectedNegativeInteger)
+pub refuses_buffer : (columns : Option (List ℕ)) (limit : Option ℕ) (order : Order) (fs : Fields) (most : ℕ) (version : MetadataVersion) (tables : BatchHeader) (bytes : List ℕ) → tables.compressed ≡ false → is_negative tables.length ≡ false → none_negative tables.buffers ≡ false → IsAmong (refusals (batch_of_tables to_read (columns_asked columns order fs most) version [] tables bytes limit)) (OutOfSpec kinds.UnexpectedNegativeInteger)
 unfolding batch_of_tables bind
-refuses_buffer order fs most version tables bytes h k n = rw (h, is_natural tables.length k, n) (inl refl)
+refuses_buffer columns limit order fs most version tables bytes h k n = rw (h, is_natural tables.length k, n) (inl refl)
 
-pub refuses_sum : (order : Order) (fs : Fields) (most : ℕ) (version : MetadataVersion) (tables : BatchHeader) (bytes : List ℕ) → tables.compressed ≡ false → is_negative tables.length ≡ false → none_negative tables.buffers ≡ true → nat_le (lengths_sum tables.buffers) most ≡ false
-    → IsAmong (refusals (batch_of_tables to_read (all_asked order fs most) version [] tables bytes None)) (OutOfSpec (kinds.InvalidBuffersLength (lengths_sum tables.buffers) most))
+pub refuses_sum : (columns : Option (List ℕ)) (limit : Option ℕ) (order : Order) (fs : Fields) (most : ℕ) (version : MetadataVersion) (tables : BatchHeader) (bytes : List ℕ) → tables.compressed ≡ false → is_negative tables.length ≡ false → none_negative tables.buffers ≡ true → nat_le (lengths_sum tables.buffers) most ≡ false
+    → IsAmong (refusals (batch_of_tables to_read (columns_asked columns order fs most) version [] tables bytes limit)) (OutOfSpec (kinds.InvalidBuffersLength (lengths_sum tables.buffers) most))
 unfolding batch_of_tables bind
-refuses_sum order fs most version tables bytes h k n s = rw (h, is_natural tables.length k, n, s) (inl refl)
+refuses_sum columns limit order fs most version tables bytes h k n s = rw (h, is_natural tables.length k, n, s) (inl refl)
 
 -- ── parts of a meaning ──
 
@@ -70,28 +73,67 @@ pub place_none : {A : Type 0} → (es : List IpcError) (f : Unit {0} → Reading
 unfolding bind
 place_none es f h = rw h refl
 
+-- what is made of a value refuses nothing
+refused_of : {A B : Type 0} → (r : Reading A) (f : A → B) (e : IpcError) → Refuses e (refusals (r >>= λ x. Ok (f x))) → Refuses e (refusals r)
+unfolding bind
+refused_of (Ok x) f e h = h
+refused_of (Err es) f e h = h
+
 -- where the tables let them be read, what refuses the columns refuses the batch
-pub batch_refused : (is_little : Bool) (fs : Fields) (most rows : ℕ) (version : MetadataVersion) (tables : BatchHeader) (bytes : List ℕ) (e : IpcError) → MayBeRead tables most rows → Refuses e (refusals (columns_at (record_batch_of (order_by is_little) version tables bytes) [] None fs 0 first_place rows rows))
-    → Refuses e (refusals (batch_of_tables to_read (all_asked (order_by is_little) fs most) version [] tables bytes None))
+pub batch_refused : (columns : Option (List ℕ)) (limit : Option ℕ) (is_little : Bool) (fs : Fields) (most rows few : ℕ) (version : MetadataVersion) (tables : BatchHeader) (bytes : List ℕ) (e : IpcError) → few ≡ share limit rows → MayBeRead tables most rows
+    → Refuses e (refusals (columns_at (record_batch_of (order_by is_little) version tables bytes) [] columns fs 0 first_place rows few >>= λ all. Ok (chosen columns 0 all)))
+    → Refuses e (refusals (batch_of_tables to_read (columns_asked columns (order_by is_little) fs most) version [] tables bytes limit))
 unfolding batch_of_tables bind
-batch_refused is_little fs most rows version tables bytes e h k =
-    let few : nat_le (lengths_sum tables.buffers) most ≡ true = le-leb _ _ h.few in
-    rw (h.plain, h.count, h.natural, few) (refused_first (columns_at (record_batch_of (order_by is_little) version tables bytes) [] None fs 0 first_place rows rows) _ e k)
+batch_refused columns limit is_little fs most rows few version tables bytes e n h k =
+    let in_few : nat_le (lengths_sum tables.buffers) most ≡ true = le-leb _ _ h.few in
+    let m = record_batch_of (order_by is_little) version tables bytes in
+    let r = refused_of (columns_at m [] columns fs 0 first_place rows few) (chosen columns 0) e k in
+    rw (h.plain, h.count, h.natural, in_few) (refused_first (columns_at m [] columns fs 0 first_place rows (share limit rows)) _ e (subst (λ q. Refuses e (refusals (columns_at m [] columns fs 0 first_place rows q))) n r))
+
+-- a meaning of columns, of which these are chosen
+record IsMeant (asked : Option (List ℕ)) (r : Reading (List (List Cell))) (cs : List (List Cell)) : Type 0 where
+  all : List (List Cell)
+  is : r ≡ Ok all
+  chosen_are : chosen asked 0 all ≡ cs
+
+-- there is a column for each field
+columns_count : (m : RecordBatch) (d : Dictionaries) (asked : Option (List ℕ)) (fs : Fields) (c : ℕ) (p : Place) (rows few : ℕ) (all : List (List Cell)) → columns_at m d asked fs c p rows few ≡ Ok all → length all ≡ width fs
+unfolding columns_at bind
+columns_count m d asked none c p rows few all h = let e : [] ≡ all = cc in ap length (sym e)
+columns_count m d asked (field name nullable metadata k others) c p rows few all h =
+    by (free_of (chosen_faults (is_chosen asked c) m d k p rows few)) (columns_at m d asked others (suc c) (after m k p) rows few) (λ rest e. columns_count m d asked others (suc c) (after m k p) rows few rest e) h
+  where
+    by : (first : Reading (Unit {0})) (r : Reading (List (List Cell))) → ((rest : List (List Cell)) → r ≡ Ok rest → length rest ≡ width others) → (first >>= λ fits. r >>= λ rest. Ok (chosen_cells (is_chosen asked c) m d k p few ∷ rest)) ≡ Ok all → length all ≡ suc (width others)
+    by (Ok u) (Ok rest) f h = let e : chosen_cells (is_chosen asked c) m d k p few ∷ rest ≡ all = cc in ap length (sym e) ∙ ap suc (f rest refl)
+    by (Ok u) (Err es) f h = cc
+    by (Err es) r f h = cc
+
+-- what is chosen of the columns of a meaning
+of_chosen : (asked : Option (List ℕ)) (r : Reading (List (List Cell))) (cs : List (List Cell)) → (r >>= λ all. Ok (chosen asked 0 all)) ≡ Ok cs → IsMeant asked r cs
+unfolding bind
+of_chosen asked (Ok all) cs h = record { all = all; is = refl; chosen_are = cc }
+of_chosen asked (Err es) cs h = cc
 
 -- and they mean the batch
-pub batch_well : (is_little : Bool) (fs : Fields) (most rows : ℕ) (version : MetadataVersion) (tables : BatchHeader) (bytes : List ℕ) (cs : List (List Cell)) → MayBeRead tables most rows → columns_at (record_batch_of (order_by is_little) version tables bytes) [] None fs 0 first_place rows rows ≡ Ok cs
-    → batch_of_tables to_read (all_asked (order_by is_little) fs most) version [] tables bytes None ≡ Ok (record { rows = rows; columns = cs; custom = [] })
+pub batch_well : (columns : Option (List ℕ)) (limit : Option ℕ) (is_little : Bool) (fs : Fields) (most rows few : ℕ) (version : MetadataVersion) (tables : BatchHeader) (bytes : List ℕ) (cs : List (List Cell)) → few ≡ share limit rows → are_rising columns ≡ true → are_columns columns (width fs) ≡ true → MayBeRead tables most rows
+    → (columns_at (record_batch_of (order_by is_little) version tables bytes) [] columns fs 0 first_place rows few >>= λ all. Ok (chosen columns 0 all)) ≡ Ok cs
+    → batch_of_tables to_read (columns_asked columns (order_by is_little) fs most) version [] tables bytes limit ≡ Ok (record { rows = few; columns = cs; custom = [] })
 unfolding batch_of_tables bind
-batch_well is_little fs most rows version tables bytes cs h columns =
-    let few : nat_le (lengths_sum tables.buffers) most ≡ true = le-leb _ _ h.few in
-    rw (h.plain, h.count, h.natural, few, columns) refl
+batch_well columns limit is_little fs most rows few version tables bytes cs e rise range h meant =
+    let in_few : nat_le (lengths_sum tables.buffers) most ≡ true = le-leb _ _ h.few in
+    let m = record_batch_of (order_by is_little) version tables bytes in
+    let x = of_chosen columns (columns_at m [] columns fs 0 first_place rows few) cs meant in
+    let n : length x.all ≡ width fs = columns_count m [] columns fs 0 first_place rows few x.all x.is in
+    let same : as_asked columns x.all ≡ cs = asked_are_chosen columns x.all rise (ap (are_columns columns) n ∙ range) ∙ x.chosen_are in
+    let is : columns_at m [] columns fs 0 first_place rows (share limit rows) ≡ Ok x.all = ap (columns_at m [] columns fs 0 first_place rows) (sym e) ∙ x.is in
+    rw (h.plain, h.count, h.natural, in_few, is, same, e) refl
 
 -- the kinds that are looked at first
-pub reading_refused : (is_little : Bool) (fs : Fields) (most : ℕ) (version : MetadataVersion) (tables : BatchHeader) (bytes : List ℕ) (e : IpcError) → Refuses e (chosen_floats None fs 0) → Refuses e (refusals (batch_reading is_little fs most version tables bytes))
-reading_refused is_little fs most version tables bytes e h = refused_first (free_of (chosen_floats None fs 0)) _ e (refused_place _ e h)
+pub reading_refused : (columns : Option (List ℕ)) (limit : Option ℕ) (is_little : Bool) (fs : Fields) (most : ℕ) (version : MetadataVersion) (tables : BatchHeader) (bytes : List ℕ) (e : IpcError) → Refuses e (chosen_floats columns fs 0) → Refuses e (refusals (batch_reading columns limit is_little fs most version tables bytes))
+reading_refused columns limit is_little fs most version tables bytes e h = refused_first (free_of (chosen_floats columns fs 0)) _ e (refused_place _ e h)
 
-pub reading_is : (is_little : Bool) (fs : Fields) (most : ℕ) (version : MetadataVersion) (tables : BatchHeader) (bytes : List ℕ) → chosen_floats None fs 0 ≡ [] → batch_reading is_little fs most version tables bytes ≡ batch_of_tables to_read (all_asked (order_by is_little) fs most) version [] tables bytes None
-reading_is is_little fs most version tables bytes h = place_none (chosen_floats None fs 0) _ h
+pub reading_is : (columns : Option (List ℕ)) (limit : Option ℕ) (is_little : Bool) (fs : Fields) (most : ℕ) (version : MetadataVersion) (tables : BatchHeader) (bytes : List ℕ) → chosen_floats columns fs 0 ≡ [] → batch_reading columns limit is_little fs most version tables bytes ≡ batch_of_tables to_read (columns_asked columns (order_by is_little) fs most) version [] tables bytes limit
+reading_is columns limit is_little fs most version tables bytes h = place_none (chosen_floats columns fs 0) _ h
 
 -- ── what is told ──
 

@@ -1,6 +1,7 @@
 -- The kinds of columns: what of them is not read, and that the others are those of arrays.
 use Rattle.std.proofs.Common.{◌≡◌, ℕ, suc, ◌+◌, ◌≤◌, List, [], ◌∷◌, ◌++◌, ◌<◌, length, drop, get_or, Option, Some, None, Bool, true, false, refl, sym, ap, ◌∙◌, arith, subst, zero, inl}
-use Rattle.std.specs.Prelude.{slice_get, nat_eq, nat_lt, ◌&&◌}
+use Rattle.std.specs.Prelude.{slice_get, nat_eq, nat_lt, ◌&&◌, ◌||◌, not, if◌then◌else◌}
+use Rattle.arrow_spec.specs.Columns.{is_chosen}
 use Rattle.std.proofs.Common.{append-nil}
 use Rattle.arrow_types.specs.Child.{one_field}
 use Rattle.ipc_read.specs.Lists.{is_any_list, as_lists}
@@ -256,20 +257,51 @@ pub both_second : (a b : Bool) → (a && b) ≡ true → b ≡ true
 both_second true b h = h
 both_second false b h = cc
 
-pub columns_next : (s : List Keyed) (i : ℕ) (x : Keyed) → slice_get s i ≡ Some x → are_column_kinds (drop i s) ≡ true → (is_column_kind x.1.kind ≡ true) × (are_column_kinds (drop (i + 1) s) ≡ true)
-columns_next s i x h c = let e = sym (ap are_column_kinds (drop_at s i x h)) ∙ c in (both_first _ _ e, both_second (is_column_kind x.1.kind) _ e)
+pub columns_next : (asked : Option (List ℕ)) (s : List Keyed) (i : ℕ) (x : Keyed) → slice_get s i ≡ Some x → are_column_kinds asked i (drop i s) ≡ true → ((not (is_chosen asked i) || is_column_kind x.1.kind) ≡ true) × (are_column_kinds asked (i + 1) (drop (i + 1) s) ≡ true)
+columns_next asked s i x h c =
+    let n : suc i ≡ i + 1 = omega arith in
+    let e = sym (ap (are_column_kinds asked i) (drop_at s i x h)) ∙ c in
+    (both_first _ _ e, ap (λ j. are_column_kinds asked j (drop (i + 1) s)) (sym n) ∙ both_second (not (is_chosen asked i) || is_column_kind x.1.kind) _ e)
 
-pub held_next : (s : List Keyed) (i : ℕ) (x : Keyed) → slice_get s i ≡ Some x → is_carried x.1.kind ≡ true → are_carried_kinds (drop i s) ≡ are_carried_kinds (drop (i + 1) s)
-held_next s i x h f = ap are_carried_kinds (drop_at s i x h) ∙ ap (λ b. b && are_carried_kinds (drop (i + 1) s)) f
+pub held_next : (asked : Option (List ℕ)) (s : List Keyed) (i : ℕ) (x : Keyed) → slice_get s i ≡ Some x → (not (is_chosen asked i) || is_carried x.1.kind) ≡ true → are_carried_kinds asked i (drop i s) ≡ are_carried_kinds asked (i + 1) (drop (i + 1) s)
+held_next asked s i x h f =
+    let n : suc i ≡ i + 1 = omega arith in
+    ap (are_carried_kinds asked i) (drop_at s i x h) ∙ ap (λ b. b && are_carried_kinds asked (suc i) (drop (i + 1) s)) f ∙ ap (λ j. are_carried_kinds asked j (drop (i + 1) s)) n
 
-pub floats_next : (s : List Keyed) (i : ℕ) (x : Keyed) → slice_get s i ≡ Some x → float_faults x.1.kind ≡ [] → chosen_floats None (fields_in (drop i s)) i ≡ chosen_floats None (fields_in (drop (i + 1) s)) (i + 1)
-floats_next s i x h f = let n : suc i ≡ i + 1 = omega arith in ap (λ t. chosen_floats None (fields_in t) i) (drop_at s i x h) ∙ ap (λ es. es ++ chosen_floats None (fields_in (drop (i + 1) s)) (suc i)) f ∙ ap (λ j. chosen_floats None (fields_in (drop (i + 1) s)) j) n
+pub floats_next : (asked : Option (List ℕ)) (s : List Keyed) (i : ℕ) (x : Keyed) → slice_get s i ≡ Some x → (if is_chosen asked i then float_faults x.1.kind else []) ≡ [] → chosen_floats asked (fields_in (drop i s)) i ≡ chosen_floats asked (fields_in (drop (i + 1) s)) (i + 1)
+floats_next asked s i x h f = let n : suc i ≡ i + 1 = omega arith in ap (λ t. chosen_floats asked (fields_in t) i) (drop_at s i x h) ∙ ap (λ es. es ++ chosen_floats asked (fields_in (drop (i + 1) s)) (suc i)) f ∙ ap (λ j. chosen_floats asked (fields_in (drop (i + 1) s)) j) n
 
-pub floats_refused : (s : List Keyed) (i : ℕ) (x : Keyed) (e : IpcError) → slice_get s i ≡ Some x → Refuses e (float_faults x.1.kind) → Refuses e (chosen_floats None (fields_in (drop i s)) i)
-floats_refused s i x e h r = subst (λ t. Refuses e (chosen_floats None (fields_in t) i)) (sym (drop_at s i x h)) (refuses_left (float_faults x.1.kind) _ e r)
+pub floats_refused : (asked : Option (List ℕ)) (s : List Keyed) (i : ℕ) (x : Keyed) (e : IpcError) → slice_get s i ≡ Some x → is_chosen asked i ≡ true → Refuses e (float_faults x.1.kind) → Refuses e (chosen_floats asked (fields_in (drop i s)) i)
+floats_refused asked s i x e h is r = subst (λ t. Refuses e (chosen_floats asked (fields_in t) i)) (sym (drop_at s i x h)) (rw is (refuses_left (float_faults x.1.kind) _ e r))
 
-pub floats_end : (s : List Keyed) (i : ℕ) → length s ≤ i → chosen_floats None (fields_in (drop i s)) i ≡ []
-floats_end s i h = ap (λ t. chosen_floats None (fields_in t) i) (drop_all s i h)
+-- a column that is not asked for
+pub columns_behind : (asked : Option (List ℕ)) (s : List Keyed) (i : ℕ) → are_column_kinds asked i (drop i s) ≡ true → are_column_kinds asked (i + 1) (drop (i + 1) s) ≡ true
+columns_behind asked s i h = by (slice_get s i) refl
+  where
+    by : (o : Option Keyed) → slice_get s i ≡ o → are_column_kinds asked (i + 1) (drop (i + 1) s) ≡ true
+    by (Some x) e = (columns_next asked s i x e h).1
+    by None e = let n = none_at s i e in ap (are_column_kinds asked (i + 1)) (drop_all s (i + 1) (omega (arith, n)))
 
-pub held_end : (s : List Keyed) (i : ℕ) → length s ≤ i → are_carried_kinds (drop i s) ≡ true
-held_end s i h = ap are_carried_kinds (drop_all s i h)
+-- the kind of a column that is asked for
+pub chosen_kind : (asked : Option (List ℕ)) (i : ℕ) (k : Kind) → is_chosen asked i ≡ true → (not (is_chosen asked i) || is_column_kind k) ≡ true → is_column_kind k ≡ true
+chosen_kind asked i k is h = sym (ap (λ b. not b || is_column_kind k) is) ∙ h
+
+pub floats_passed : (asked : Option (List ℕ)) (s : List Keyed) (i : ℕ) → is_chosen asked i ≡ false → chosen_floats asked (fields_in (drop i s)) i ≡ chosen_floats asked (fields_in (drop (i + 1) s)) (i + 1)
+floats_passed asked s i h = by (slice_get s i) refl
+  where
+    by : (o : Option Keyed) → slice_get s i ≡ o → chosen_floats asked (fields_in (drop i s)) i ≡ chosen_floats asked (fields_in (drop (i + 1) s)) (i + 1)
+    by (Some x) e = floats_next asked s i x e (rw h refl)
+    by None e = let n = none_at s i e in ap (λ t. chosen_floats asked (fields_in t) i) (drop_all s i n) ∙ ap (λ t. chosen_floats asked (fields_in t) (i + 1)) (sym (drop_all s (i + 1) (omega (arith, n))))
+
+pub held_passed : (asked : Option (List ℕ)) (s : List Keyed) (i : ℕ) → is_chosen asked i ≡ false → are_carried_kinds asked i (drop i s) ≡ are_carried_kinds asked (i + 1) (drop (i + 1) s)
+held_passed asked s i h = by (slice_get s i) refl
+  where
+    by : (o : Option Keyed) → slice_get s i ≡ o → are_carried_kinds asked i (drop i s) ≡ are_carried_kinds asked (i + 1) (drop (i + 1) s)
+    by (Some x) e = held_next asked s i x e (rw h refl)
+    by None e = let n = none_at s i e in ap (are_carried_kinds asked i) (drop_all s i n) ∙ ap (are_carried_kinds asked (i + 1)) (sym (drop_all s (i + 1) (omega (arith, n))))
+
+pub floats_end : (asked : Option (List ℕ)) (s : List Keyed) (i : ℕ) → length s ≤ i → chosen_floats asked (fields_in (drop i s)) i ≡ []
+floats_end asked s i h = ap (λ t. chosen_floats asked (fields_in t) i) (drop_all s i h)
+
+pub held_end : (asked : Option (List ℕ)) (s : List Keyed) (i : ℕ) → length s ≤ i → are_carried_kinds asked i (drop i s) ≡ true
+held_end asked s i h = ap (are_carried_kinds asked i) (drop_all s i h)

@@ -12,6 +12,7 @@ pub mod DataReads
 pub mod ViewArrays
 pub mod BatchTables
 pub mod ColumnKinds
+pub mod Chosen
 pub mod Columns
 pub mod Shortened
 pub mod Passed

@@ -1,7 +1,9 @@
 -- Record batches that are read from a source: what they mean, and how many bytes are fetched for them.
-use Rattle.std.specs.Prelude.{◌≡◌, ℕ, zero, suc, ◌+◌, ◌≤◌, List, [], ◌∷◌, map, Bool, true, false, Option, Some, None, nat_eq, nat_lt, ◌&&◌, ℤ, pos, slice_get}
+use Rattle.std.specs.Prelude.{◌≡◌, ℕ, zero, suc, ◌+◌, ◌≤◌, List, [], ◌∷◌, map, Bool, true, false, Option, Some, None, Ok, nat_eq, nat_lt, ◌&&◌, ◌||◌, not, if◌then◌else◌, ℤ, pos, slice_get}
 use Rattle.arrow_spec.specs.Readings.{Reading, free_of, ◌>>=◌}
-use Rattle.arrow_spec.specs.Flat.{order_by}
+use Rattle.arrow_spec.specs.Flat.{Order, order_by}
+use Rattle.arrow_spec.specs.Columns.{is_chosen, columns_at}
+use Rattle.arrow_spec.specs.Cells.{Cell}
 use Rattle.arrow_spec.specs.Kinds.{Kind, Fields, none, field, width, «list», struct, fixed_size_list, extension}
 use Rattle.arrow_spec.specs.Kinds as kind
 use Rattle.arrow_spec.specs.Schema.{first_is_struct_of_two}
@@ -10,7 +12,7 @@ use Rattle.arrow_spec.specs.declared.message.MetadataVersion.{MetadataVersion}
 use Rattle.arrow_spec.specs.Counts.{RecordBatch, Place, first_place, after}
 use Rattle.arrow_spec.specs.Features.{chosen_floats}
 use Rattle.arrow_spec.specs.Needed.{columns_looked_at}
-use Rattle.arrow_spec.specs.Files.{TableBatch, batch_of_tables, to_read, none_negative, lengths_sum, all_asked}
+use Rattle.arrow_spec.specs.Files.{TableBatch, batch_of_tables, to_read, none_negative, lengths_sum, Asked}
 use Rattle.arrow_spec.specs.declared.message.FieldNode.{FieldNode}
 use Rattle.arrow_spec.specs.declared.message.IpcBuffer.{IpcBuffer}
 use Rattle.arrow_types.specs.Physical.{physical_of}
@@ -27,9 +29,11 @@ use Rattle.arrow_spec.specs.declared.error.Feature.TheVariants as features
 use Rattle.arrow_buffers.specs.Layouts.{binary_size}
 use Rattle.arrow_arrays.specs.Parts.{Parts, cells_in}
 use Rattle.arrow_arrays.specs.Batches.{Batch}
+use Rattle.ipc_read_laws.specs.PartsRead.{parts_read}
 use Rattle.ipc_read_laws.specs.Faults.{stated_of, fetched_at_most}
 use Rattle.arrow_arrays.specs.Carried.{is_carried}
 use Rattle.ipc_read.specs.Skips.{is_plain_layout}
+use Rattle.ipc_read.specs.Projection.{kept, chosen}
 
 -- ── the columns ──
 
@@ -53,15 +57,15 @@ abbrev mutual
   are_column_fields none = true
   are_column_fields (field name nullable metadata k others) = is_column_kind k && are_column_fields others
 
--- the same of each field
-abbrev pub are_column_kinds : List Keyed → Bool
-are_column_kinds [] = true
-are_column_kinds (p ∷ ps) = is_column_kind p.1.kind && are_column_kinds ps
+-- the same of each field that is asked for, the first having number c
+abbrev pub are_column_kinds : Option (List ℕ) → ℕ → List Keyed → Bool
+are_column_kinds asked c [] = true
+are_column_kinds asked c (p ∷ ps) = (not (is_chosen asked c) || is_column_kind p.1.kind) && are_column_kinds asked (suc c) ps
 
--- each field's kind is one that is read
-abbrev pub are_carried_kinds : List Keyed → Bool
-are_carried_kinds [] = true
-are_carried_kinds (p ∷ ps) = is_carried p.1.kind && are_carried_kinds ps
+-- the kind of each field that is asked for is one that is read, the first field having number c
+abbrev pub are_carried_kinds : Option (List ℕ) → ℕ → List Keyed → Bool
+are_carried_kinds asked c [] = true
+are_carried_kinds asked c (p ∷ ps) = (not (is_chosen asked c) || is_carried p.1.kind) && are_carried_kinds asked (suc c) ps
 
 -- what of numbers, and of a layout, is not read
 abbrev pub unread_number : PrimitiveType → Option Feature
@@ -83,10 +87,18 @@ pub record IsFieldAt (s : List Keyed) (i : ℕ) (f : Field) : Type 0 where
 
 -- ── the batch ──
 
--- what a batch means, whose kinds are looked at first
-abbrev pub batch_reading : Bool → Fields → ℕ → MetadataVersion → BatchHeader → List ℕ → Reading TableBatch
-batch_reading is_little_endian fs most version tables body =
-    free_of (chosen_floats None fs 0) >>= λ readable. batch_of_tables to_read (all_asked (order_by is_little_endian) fs most) version [] tables body None
+-- the cells of the columns that are asked for, each as far as its first few rows go
+abbrev pub cells_asked : RecordBatch → Option (List ℕ) → Fields → ℕ → ℕ → Reading (List (List Cell))
+cells_asked m asked fs rows few = columns_at m [] asked fs 0 first_place rows few >>= λ all. Ok (chosen asked 0 all)
+
+-- some columns of some fields, where no dictionary is held
+abbrev pub columns_asked : Option (List ℕ) → Order → Fields → ℕ → Asked
+columns_asked columns order fs most = record { order = order; fields = fs; columns = columns; dictionaries = []; most = most }
+
+-- what the columns asked for of a batch mean, as far as its first rows go, where a limit is set; their kinds are looked at first
+abbrev pub batch_reading : Option (List ℕ) → Option ℕ → Bool → Fields → ℕ → MetadataVersion → BatchHeader → List ℕ → Reading TableBatch
+batch_reading columns limit is_little_endian fs most version tables body =
+    free_of (chosen_floats columns fs 0) >>= λ readable. batch_of_tables to_read (columns_asked columns (order_by is_little_endian) fs most) version [] tables body limit
 
 -- the batch as a table has it
 abbrev pub table_in : ℕ → List Parts → TableBatch
@@ -108,12 +120,24 @@ pub record MayBeRead (tables : BatchHeader) (most rows : ℕ) : Type 0 where
   pub natural : none_negative tables.buffers ≡ true
   pub few : lengths_sum tables.buffers ≤ most
 
+-- the parts of the columns that are asked for, which stand from a place on, the first having number c
+abbrev pub chosen_read : RecordBatch → Option (List ℕ) → Fields → ℕ → Place → ℕ → List Parts
+chosen_read m asked none c p rows = []
+chosen_read m asked (field name nullable metadata k others) c p rows =
+    kept (is_chosen asked c) (parts_read m k p rows) (chosen_read m asked others (suc c) (after m k p) rows)
+
 -- ── what is fetched ──
 
 -- the stated lengths of the buffers that are looked at, where there are rows
-abbrev pub batch_fetched : RecordBatch → Fields → ℕ → ℕ
-batch_fetched m fs zero = 0
-batch_fetched m fs (suc n) = stated_of m (columns_looked_at m None fs 0 first_place)
+abbrev pub batch_fetched : RecordBatch → Option (List ℕ) → Fields → ℕ → ℕ
+batch_fetched m asked fs zero = 0
+batch_fetched m asked fs (suc n) = stated_of m (columns_looked_at m asked fs 0 first_place)
+
+-- the same of the columns that are asked for, the first having number c
+abbrev pub chosen_fetched : RecordBatch → Option (List ℕ) → Fields → ℕ → Place → ℕ → ℕ
+chosen_fetched m asked none c p rows = 0
+chosen_fetched m asked (field name nullable metadata k others) c p rows =
+    (if is_chosen asked c then fetched_at_most m k p rows else 0) + chosen_fetched m asked others (suc c) (after m k p) rows
 
 -- the same of columns that stand from a place on, each for the rows that its place says
 abbrev pub columns_fetched : RecordBatch → Fields → Place → (Place → ℕ) → ℕ

@@ -9,4 +9,5 @@ pub mod Unions
 pub mod Readers
 pub mod Skips
 pub mod Readings
+pub mod Projection
 pub mod Batches

@@ -11,6 +11,7 @@ mod integers;
 mod leaf;
 mod lists;
 mod makes;
+mod projection;
 mod read_children;
 mod readers;
 mod reading;

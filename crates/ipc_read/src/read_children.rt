@@ -89,7 +89,8 @@ fn into_union(array: Array) -> UnionArray
     }
 }
 
-/// The next array of lists, as far as its first rows go, with its children: of a type that `is_carried` tells. It goes as deep as the type's tree.
+/// The next array of lists, as far as its first rows go, with its children. The type, extensions looked through, is one
+/// of lists between offsets of either width, and one that `is_carried` tells. The call goes as deep as the type's tree.
 ///
 /// # Errors
 ///
@@ -137,7 +138,8 @@ pub fn read_list<S: Source>(
     Ok(into_list(array))
 }
 
-/// The next array of lists of one size, as far as its first rows go, with its children: of a type that `is_carried` tells. It goes as deep as the type's tree.
+/// The next array of lists of one size, as far as its first rows go, with its children. The type, extensions looked through, is one
+/// of lists of one size, and one that `is_carried` tells. The call goes as deep as the type's tree.
 ///
 /// # Errors
 ///
@@ -185,7 +187,8 @@ pub fn read_fixed_size_list<S: Source>(
     Ok(into_fixed_size_list(array))
 }
 
-/// The next array of structs, as far as its first rows go, with its children: of a type that `is_carried` tells. It goes as deep as the type's tree.
+/// The next array of structs, as far as its first rows go, with its children. The type, extensions looked through, is one
+/// of structs, and one that `is_carried` tells. The call goes as deep as the type's tree.
 ///
 /// # Errors
 ///
@@ -233,7 +236,8 @@ pub fn read_struct<S: Source>(
     Ok(into_struct(array))
 }
 
-/// The next array of maps, as far as its first rows go, with its children: of a type that `is_carried` tells. It goes as deep as the type's tree.
+/// The next array of maps, as far as its first rows go, with its children. The type, extensions looked through, is one
+/// of maps, and one that `is_carried` tells. The call goes as deep as the type's tree.
 ///
 /// # Errors
 ///
@@ -281,7 +285,8 @@ pub fn read_map<S: Source>(
     Ok(into_map(array))
 }
 
-/// The next array of unions, as far as its first rows go, with its children: of a type that `is_carried` tells. It goes as deep as the type's tree.
+/// The next array of unions, as far as its first rows go, with its children. The type, extensions looked through, is one
+/// of unions, and one that `is_carried` tells. The call goes as deep as the type's tree.
 ///
 /// # Errors
 ///

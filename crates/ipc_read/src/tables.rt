@@ -1,5 +1,5 @@
 //! The tables of a record batch, before its body is looked at (Arrow Columnar Format, Message.fbs, RecordBatch).
-ghost use Rattle.std.specs.Prelude.{◌≡◌, ◌*◌, ◌^◌, ◌<◌, ℕ, List, [], length, IfOk, IfErr, None, not, true, slice_get};
+ghost use Rattle.std.specs.Prelude.{◌≡◌, ◌*◌, ◌^◌, ◌<◌, ℕ, List, Option, [], length, IfOk, IfErr, None, not, true, slice_get};
 ghost use Rattle.arrow_spec.specs.Readings.{Refuses, refusals};
 ghost use Rattle.arrow_spec.specs.Flat.{Order};
 ghost use Rattle.arrow_spec.specs.Kinds.{Fields};
@@ -8,12 +8,13 @@ ghost use Rattle.arrow_spec.specs.declared.error.IpcError.TheVariants.{Memory};
 ghost use Rattle.arrow_spec.specs.Counts.{RecordBatch as Batch};
 ghost use Rattle.arrow_spec.specs.Faults.{top_node_faults};
 ghost use Rattle.arrow_spec.specs.Features.{float_faults, floats_in, chosen_floats};
-ghost use Rattle.arrow_spec.specs.Files.{none_negative, lengths_sum, batch_of_tables, to_read, all_asked};
+ghost use Rattle.arrow_spec.specs.Files.{none_negative, lengths_sum, batch_of_tables, to_read};
 ghost use Rattle.arrow_types.specs.KindOf.{kind_of, fields_of};
 ghost use Rattle.arrow_types.specs.Physical.{physical_of};
 ghost use Rattle.arrow_types.specs.Schemas.{fields_in};
 ghost use Rattle.ipc_schema.specs.Views.{header_of};
-ghost use Rattle.ipc_read.specs.Batches.{AreQueuesOf, MayBeRead, IsFieldAt, is_column_kind, are_column_fields, are_column_kinds, are_carried_kinds, unread_feature, unread_number};
+ghost use Rattle.ipc_read.specs.Batches.{AreQueuesOf, MayBeRead, columns_asked, IsFieldAt, is_column_kind, are_column_fields, are_column_kinds, are_carried_kinds, unread_feature, unread_number};
+ghost use Rattle.ipc_read.specs.Projection.{columns_of, are_rising};
 ghost use Rattle.ipc_read.specs.Queues.{Left};
 ghost use Rattle.ipc_read.specs.Skips.{IsDamage, is_plain_kind};
 ghost use Rattle.ipc_read.specs.Sources.{Answers, IsRefusal};
@@ -21,6 +22,7 @@ ghost use Rattle.ipc_read.specs.Sources.{Answers, IsRefusal};
 use crate::children::counted_fields;
 use crate::integers::{is_negative, magnitude};
 use crate::lists::list_child;
+use crate::projection::is_chosen;
 use crate::unions::union_fields;
 use arrow_spec::{Feature, FieldNode, IpcBuffer, IpcError, OutOfSpecKind};
 use arrow_types::{ArrowDataType, ArrowSchema, Field, PhysicalType, PrimitiveType};
@@ -53,7 +55,7 @@ fn lengths_sum(buffers: &[IpcBuffer]) -> u128
 /// The rows of a batch, of which the buffers' lengths are together at most `most`.
 pub(crate) fn row_count(header: &BatchHeader, most: u64) -> Result<usize, IpcError>
     ensures rows { IfOk result (MayBeRead (header_of header.now) most) }
-    ensures err { IfErr result (λ e. (order : Order) (fs : Fields) (version : MetadataVersion) (bytes : List ℕ) → Refuses e (refusals (batch_of_tables to_read (all_asked order fs most) version [] (header_of header.now) bytes None))) }
+    ensures err { IfErr result (λ e. (columns : Option (List ℕ)) (limit : Option ℕ) (order : Order) (fs : Fields) (version : MetadataVersion) (bytes : List ℕ) → Refuses e (refusals (batch_of_tables to_read (columns_asked columns order fs most) version [] (header_of header.now) bytes limit))) }
     ensures cause { IfErr result IsRefusal }
     ensures small { IfOk result (λ n. n < 2 ^ 63) }
 {
@@ -173,16 +175,22 @@ pub(crate) fn field_at(schema: &ArrowSchema, i: usize) -> &Field
     }
 }
 
-/// The same of each column.
-pub(crate) fn check_kinds(schema: &ArrowSchema) -> Result<(), IpcError>
-    requires columns { are_column_kinds schema.now ≡ true }
-    ensures exact { Answers (λ u. u) result (chosen_floats None (fields_in schema.now) 0) tt }
-    ensures held { IfOk result (λ _. are_carried_kinds schema.now ≡ true) }
+/// The same of each column that is asked for.
+pub(crate) fn check_kinds(
+    schema: &ArrowSchema,
+    projection: Option<&[usize]>,
+) -> Result<(), IpcError>
+    requires columns { are_column_kinds (columns_of projection) 0 schema.now ≡ true }
+    requires rising { are_rising (columns_of projection) ≡ true }
+    ensures exact { Answers (λ u. u) result (chosen_floats (columns_of projection.entry) (fields_in schema.now) 0) tt }
+    ensures held { IfOk result (λ _. are_carried_kinds (columns_of projection.entry) 0 schema.now ≡ true) }
     ensures cause { IfErr result IsRefusal }
 {
     for i in 0..schema.len() {
-        let field = field_at(schema, i);
-        check_kind(&field.dtype)?;
+        if is_chosen(projection, i) {
+            let field = field_at(schema, i);
+            check_kind(&field.dtype)?;
+        }
     }
     Ok(())
 }

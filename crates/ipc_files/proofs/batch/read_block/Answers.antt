@@ -6,7 +6,7 @@ use Rattle.ipc_files.specs.FileViews.{meta_view}
 use Rattle.ipc_schema.specs.Views.{message_of}
 use Rattle.ipc_files.proofs.Errors.{is_err}
 use Rattle.ipc_files.proofs.SentFields.{columns_readable, field_count, let_in, same_fields}
-use Rattle.ipc_files.proofs.SentFiles.{block_answer, given_in, message_err, refused_in, same_order}
+use Rattle.ipc_files.proofs.SentFiles.{whole_schema, block_answer, given_in, message_err, refused_in, same_order}
 use Rattle.ipc_files.proofs.FetchedFiles.{block_front, block_whole}
 use Rattle.ipc_files.proofs.batch.read_block.Goals as goal
 
@@ -36,3 +36,6 @@ returns-clause-fetched g c =
     let file = c.args.file.now in
     block_whole (g.S.Source.content c.args.source.now) (meta_view file) file.ipc_schema.is_little_endian (fields_in (rc_value file.schema)) (file_block c.args.block.now) (message_of c.in_ok-message.message) _ _ _
     (same_order file) (sym (same_fields file c.requires.built)) c.in_ok-message.ensures.fetched (given_in _ _ _ c.in_ok-message.ensures.message) c.read_record_batch.ensures.fetched
+
+pub returns-clause-schema : goal.returns-clause-schema
+returns-clause-schema g c = whole_schema c.read_record_batch.result (rc_value c.args.file.now.schema) c.read_record_batch.ensures.schema
