@@ -1,9 +1,10 @@
 """Random files of columns with children, in either byte order and of metadata versions V4 and V5, with their streams, as cases for
-`rt try --cases FOLDER -- stream`: python3 fuzz_nested.py FOLDER COUNT SEED [unions]."""
+`rt try --cases FOLDER -- stream WORDS`: python3 fuzz_nested.py FOLDER COUNT SEED [--unions] WORDS, where WORDS may be
+`--columns LIST` and `--limit N`."""
+import argparse
 import os
 import random
 import struct
-import sys
 
 import arrow
 import schemas
@@ -60,17 +61,24 @@ def footer_table(fields, order, blocks, version):
     return Table(Value(2, version), schemas.schema_table(fields, {}, order), Structs([]), Structs(blocks))
 
 
-def case(r, unions):
+def case(r, asked):
     order = r.choice(["little", "little", "big"])
     version = r.choice([4, 4, 3])
-    kinds = [top_kind(r, unions, order) for _ in range(r.choice([1, 1, 2, 3]))]
+    columns = None if asked.columns is None else [int(n) for n in asked.columns.split(",") if n]
+    fewest = max(columns or [0]) + 1
+    kinds = [top_kind(r, asked.unions, order) for _ in range(fewest + r.choice([0, 0, 1, 2]))]
     fields = [schemas.field(f"c{i}", schema_kind(k)) for i, k in enumerate(kinds)]
-    file_batches, stream = [], [arrow.message(1, schemas.schema_table(fields, {}), 0)]
-    for _ in range(r.choice([0, 1, 1, 2])):
+    chosen = range(len(kinds)) if columns is None else columns
+    table = schemas.schema_table([fields[c] for c in chosen], {})
+    file_batches, stream = [], [arrow.message(1, table, 0)]
+    left = asked.limit
+    for _ in range(r.choice([0, 1, 1, 2, 3])):
         rows = r.choice([0, 1, 2, 3, 9])
         arrays = [random_array(r, k, rows) for k in kinds]
         file_batches.append(held_batch(r, rows, [c for a in arrays for c in a.held(r, order, version)], version))
-        stream += arrow.batch(rows, [c for a in arrays for c in a.sent(rows, 0, rows)])
+        read = rows if left is None else min(rows, left)
+        stream += arrow.batch(read, [c for i in chosen for c in arrays[i].sent(read, 0, read)])
+        left = None if left is None else left - read
     return file_of(fields, order, file_batches, version), b"".join(stream + [arrow.END])
 
 
@@ -83,15 +91,21 @@ def top_kind(r, unions, order):
 
 
 def main():
-    folder, count, seed = sys.argv[1], int(sys.argv[2]), int(sys.argv[3])
-    unions = sys.argv[4:] == ["unions"]
-    os.makedirs(folder, exist_ok=True)
-    for i in range(count):
-        r = random.Random(seed * 100000 + i)
-        file, stream = case(r, unions)
-        with open(os.path.join(folder, f"case{i:04}"), "w") as out:
+    words = argparse.ArgumentParser()
+    words.add_argument("folder")
+    words.add_argument("count", type=int)
+    words.add_argument("seed", type=int)
+    words.add_argument("--unions", action="store_true")
+    words.add_argument("--columns")
+    words.add_argument("--limit", type=int)
+    asked = words.parse_args()
+    os.makedirs(asked.folder, exist_ok=True)
+    for i in range(asked.count):
+        r = random.Random(asked.seed * 100000 + i)
+        file, stream = case(r, asked)
+        with open(os.path.join(asked.folder, f"case{i:04}"), "w") as out:
             out.write(file.hex())
-        with open(os.path.join(folder, f"case{i:04}.stdout"), "w") as out:
+        with open(os.path.join(asked.folder, f"case{i:04}.stdout"), "w") as out:
             out.write(stream.hex() + "\n")
 
 

@@ -1,5 +1,5 @@
 -- The law of projection and limit: what the whole file means gives what it means under a request.
-use Rattle.std.proofs.Common.{◌≡◌, ℕ, zero, suc, ◌+◌, ◌<◌, ◌≤◌, List, [], ◌∷◌, length, take, Option, Some, None, Bool, true, false, Ok, refl, sym, ◌∙◌, ap, arith, not, ◌&&◌, cond}
+use Rattle.std.proofs.Common.{◌≡◌, ℕ, zero, suc, ◌+◌, ◌<◌, ◌≤◌, List, [], ◌∷◌, length, take, Option, Some, None, Bool, true, false, Ok, refl, sym, ◌∙◌, ap, arith, not, ◌&&◌, cond, subst}
 use Rattle.std.specs.Prelude.{map, slice_get, nat_lt, nat_eq}
 use Rattle.std.specs.List.{AllByRecursion, IsDistinct}
 use Rattle.std.proofs.lemmas.Bool.{lt-ltb, or_left, or_from, not_from_false, and_from}
@@ -18,10 +18,11 @@ use Rattle.arrow_spec.specs.ArrayCells.{cell}
 use Rattle.arrow_spec.specs.Faults.{column_faults}
 use Rattle.arrow_spec.specs.Columns.{chosen_faults, chosen_cells, columns_at, is_chosen, stands_in}
 use Rattle.arrow_spec.specs.Features.{float_faults, chosen_floats, feature_faults}
-use Rattle.arrow_spec.specs.Files.{Request, «all», FileBlock, TableBatch, ArrowTable, Asked, to_read, share, what_is_left, column_or_none, as_asked, wrong_columns, columns_right, with_field_at, fields_asked, fields_as_asked, batch_of_tables, batch_of, batches_of, dictionaries_of, dictionaries_read, dictionaries_sent, file_reading, project, cut, cut_batches}
+use Rattle.arrow_spec.specs.Files.{Request, «all», FileBlock, Meta, TableBatch, ArrowTable, Asked, to_read, share, what_is_left, column_or_none, as_asked, wrong_columns, columns_right, custom_of, meta_of, with_field_at, fields_asked, fields_as_asked, batch_of_tables, batch_of, batches_of, dictionaries_of, dictionaries_read, dictionaries_sent, file_reading, project, cut, cut_batches}
 use Rattle.file_laws.specs.Laws.{AreAskedColumns, ProjectsAndCuts}
 use Rattle.arrow_spec.proofs.FeatureFaults.{features-floats, features-none}
 use Rattle.arrow_spec.proofs.Projection.{then, went, on, place-ok, ok-place, no_dictionaries_sent, no_size, nothing, some_meaning}
+use Rattle.arrow_spec.proofs.ReadPairs.{same_read}
 use Rattle.arrow_spec.proofs.Fewer.{none_first, none_second, none_both, array_faults-fewer}
 
 -- ── columns ──
@@ -201,28 +202,35 @@ bare-fields_as_asked (Some cs) fs = bare-fields_asked fs cs
 
 -- ── the file ──
 
-file-cut : (b : List ℕ) (r : Request) (t : ArrowTable) → AreAskedColumns r.columns (width t.fields) → file_reading everything to_read b «all» None ≡ Ok t → file_reading everything to_read b r None ≡ Ok (cut (project t r.columns) r.limit)
+-- where the columns asked for are right in the whole file, under a request it means the cut of the projection of what it means whole
+pub file-cut : (b : List ℕ) (r : Request) (t : ArrowTable) → ((meta : Meta) → meta_of b ≡ Ok meta → width t.fields ≡ width meta.schema.fields → columns_right r.columns (width meta.schema.fields) ≡ Ok tt) → file_reading everything to_read b «all» None ≡ Ok t
+    → file_reading everything to_read b r None ≡ Ok (cut (project t r.columns) r.limit)
 unfolding file_reading
-file-cut b r t columns h =
-    then _ _ _ t _ h λ known h'. then _ _ _ t _ h' λ meta h2. then _ _ _ t _ h2 λ custom h''.
-    let right = went (columns_right None (width meta.schema.fields)) _ t h'' in
-    let floats = went (free_of (feature_faults None meta.schema.fields true)) _ t right.rest in
-    let no_floats : chosen_floats None meta.schema.fields 0 ≡ [] = features-floats None meta.schema.fields true (place-ok _ floats.first) in
+file-cut b r t are_right h =
+    let known = went nothing _ t h in
+    let meta = went (meta_of b) _ t known.rest in
+    let schema = meta.got.schema in
+    let custom = went (custom_of true b) _ t meta.rest in
+    let right = went (columns_right None (width schema.fields)) _ t custom.rest in
+    let floats = went (free_of (feature_faults None schema.fields true)) _ t right.rest in
+    let no_floats : chosen_floats None schema.fields 0 ≡ [] = features-floats None schema.fields true (place-ok _ floats.first) in
     let size = went nothing _ t floats.rest in
     let known' = went nothing _ t size.rest in
-    let read = went (dictionaries_of b meta [] (dictionaries_read meta.blocks meta.dictionaries)) _ t known'.rest in
-    let whole = went (batches_of true to_read b (asked_of meta.schema.order meta.schema.fields read.got (length b) None) true meta.blocks None) _ t read.rest in
-    let e : record { metadata = meta.schema.metadata; custom = custom; fields = bare meta.schema.fields; batches = whole.got } ≡ t = cc (whole.rest) in
-    let count : width t.fields ≡ width meta.schema.fields = ap (λ y. width y.fields) (sym e) ∙ width-bare meta.schema.fields in
-    let columns' : AreAskedColumns r.columns (width meta.schema.fields) = rw count at columns in
-    on _ _ tt (columns-right r.columns (width meta.schema.fields) columns')
-    ∙ on _ _ tt (ok-place _ (features-none r.columns meta.schema.fields (chosen_floats-fewer r.columns meta.schema.fields 0 no_floats)))
+    let read = went (dictionaries_of b meta.got [] (dictionaries_read meta.got.blocks meta.got.dictionaries)) _ t known'.rest in
+    let whole = went (batches_of true to_read b (asked_of schema.order schema.fields read.got (length b) None) true meta.got.blocks None) _ t read.rest in
+    let e : record { metadata = schema.metadata; custom = custom.got; fields = bare schema.fields; batches = whole.got } ≡ t = same_read _ t whole.rest in
+    let count : width t.fields ≡ width schema.fields = ap (λ y. width y.fields) (sym e) ∙ width-bare schema.fields in
+    on _ _ tt refl
+    ∙ on _ _ meta.got meta.first
+    ∙ on _ _ custom.got custom.first
+    ∙ on _ _ tt (are_right meta.got meta.first count)
+    ∙ on _ _ tt (ok-place _ (features-none r.columns schema.fields (chosen_floats-fewer r.columns schema.fields 0 no_floats)))
     ∙ on _ _ tt refl
     ∙ on _ _ tt refl
     ∙ on _ _ read.got read.first
-    ∙ on _ _ _ (batches-cut b meta.schema.order meta.schema.fields read.got (length b) r.columns true meta.blocks r.limit whole.got whole.first)
-    ∙ ap (λ fs. Ok (record { metadata = meta.schema.metadata; custom = custom; fields = fs; batches = cut_batches (projected r.columns whole.got) r.limit })) (bare-fields_as_asked r.columns meta.schema.fields)
+    ∙ on _ _ _ (batches-cut b schema.order schema.fields read.got (length b) r.columns true meta.got.blocks r.limit whole.got whole.first)
+    ∙ ap (λ fs. Ok (record { metadata = schema.metadata; custom = custom.got; fields = fs; batches = cut_batches (projected r.columns whole.got) r.limit })) (bare-fields_as_asked r.columns schema.fields)
     ∙ ap (λ y. Ok (cut (project y r.columns) r.limit)) e
 
 pub projects_and_cuts : ProjectsAndCuts
-projects_and_cuts b t r h columns = ap meaning (file-cut b r t columns (some_meaning _ t h))
+projects_and_cuts b t r h columns = ap meaning (file-cut b r t (λ meta is count. columns-right r.columns (width meta.schema.fields) (subst (λ n. AreAskedColumns r.columns n) count columns)) (some_meaning _ t h))

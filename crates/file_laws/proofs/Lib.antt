@@ -1,4 +1,4 @@
-mod Cuts
+pub mod Cuts
 mod SameBuffers
 mod SameParts
 pub mod NeededParts

@@ -75,7 +75,7 @@ unfolding bind
 bind_ok x f = refl
 
 -- what is read behind pairs that are not carried is read of none
-same_behind : {A B : Type 0} (r : Reading A) (f g : A → Reading B) → ((x : A) → r ≡ Ok x → f x ≡ g x) → bind r f ≡ bind r g
+pub same_behind : {A B : Type 0} (r : Reading A) (f g : A → Reading B) → ((x : A) → r ≡ Ok x → f x ≡ g x) → bind r f ≡ bind r g
 unfolding bind
 same_behind (Ok x) f g h = h x refl
 same_behind (Err es) f g h = refl

@@ -4,7 +4,7 @@ use Rattle.std.proofs.lemmas.List.{drop-take}
 use Rattle.arrow_spec.specs.declared.error.IpcError.{IpcError}
 use Rattle.arrow_spec.specs.declared.error.IpcError.TheVariants.{OutOfSpec, Memory, ReadFault}
 use Rattle.arrow_spec.specs.declared.error.OutOfSpecKind.TheVariants as kinds
-use Rattle.arrow_spec.specs.Readings.{Gives, Reading, Refuses, refusals}
+use Rattle.arrow_spec.specs.Readings.{Reading, Refuses, refusals}
 use Rattle.arrow_spec.specs.Messages.{prefix_of, is_mark}
 use Rattle.ipc_schema.specs.Prefixes.{length_in}
 use Rattle.ipc_fields.specs.Causes.{Decodes}

@@ -1,20 +1,19 @@
 -- How many bytes are fetched of a file that means a table.
-use Rattle.std.proofs.Common.{◌≡◌, ℕ, zero, suc, ◌+◌, ◌≤◌, List, [], ◌∷◌, ◌++◌, length, take, drop, Option, Some, None, Result, Ok, Err, refl, sym, ◌∙◌, ap, arith, subst, true, false, Bool, if◌then◌else◌}
-use Rattle.std.specs.Prelude.{sum_by, slice_get, option_map}
+use Rattle.std.proofs.Common.{◌≡◌, ℕ, zero, suc, ◌+◌, ◌≤◌, List, [], ◌∷◌, take, drop, Option, Some, None, Ok, Err, refl, sym, ◌∙◌, ap, arith, true, false, Bool, if◌then◌else◌}
+use Rattle.std.specs.Prelude.{option_map}
 use Rattle.std.specs.Int.{w32}
 use Rattle.std.proofs.lemmas.List.Sums.{sum_by-cons}
-use Rattle.arrow_spec.specs.declared.error.IpcError.{IpcError}
-use Rattle.arrow_spec.specs.Readings.{Reading, bind, ◌>>=◌, meaning, natural, only_if, as_kind}
-use Rattle.arrow_spec.specs.Flat.{little, signed_at, unsigned_at}
+use Rattle.arrow_spec.specs.Readings.{Reading, meaning, natural, only_if, as_kind}
+use Rattle.arrow_spec.specs.Flat.{signed_at, unsigned_at}
 use Rattle.arrow_spec.specs.Kinds.{Fields}
 use Rattle.arrow_spec.specs.Counts.{RecordBatch, first_place, magnitude}
 use Rattle.arrow_spec.specs.Messages.{RecordMessage, batch_at, is_mark, message_of, message_pairs, prefix_of, record_message, version_of}
-use Rattle.arrow_spec.specs.Files.{FileBlock, Meta, «all», all_asked, batch_of, batch_of_tables, block_body, block_message, record_batch_of, share, to_read}
+use Rattle.arrow_spec.specs.Files.{FileBlock, Meta, Request, block_body, block_message, record_batch_of, share}
 use Rattle.arrow_spec.specs.Needed.{Range, columns_looked_at, lengths, message_range, or_nothing, ranges}
-use Rattle.arrow_spec.proofs.Projection.{Went, on, went}
+use Rattle.arrow_spec.proofs.Projection.{on, went}
 use Rattle.file_laws.specs.Fetched.{batch_fetched, for_rows}
 use Rattle.transcode_laws.specs.Built.{so_far}
-use Rattle.ipc_read_laws.specs.Faults.{stated, stated_of}
+use Rattle.ipc_read_laws.specs.Faults.{stated_of}
 use Rattle.ipc_read.specs.Batches.{batch_fetched as buffers_fetched}
 use Rattle.ipc_files.specs.FileBlocks.{Fetched, Lies, block_metadata, block_record, plain_message}
 use Rattle.ipc_files.specs.Fetching.{FrontFetched, block_cost, both_of, message_cost}
@@ -28,19 +27,24 @@ stated_ranges m body (i ∷ is) =
     omega (arith, rest, sum_by-cons (λ (y : Range). y.length) (record { place = body + magnitude (Rattle.arrow_spec.specs.Arrays.range_of m i).offset; length = magnitude (Rattle.arrow_spec.specs.Arrays.range_of m i).length }) (ranges m body is))
 
 -- so are those of a batch of so many rows
-stated_rows : (m : RecordBatch) (body : ℕ) (fs : Fields) (rows : ℕ) → lengths (for_rows rows (ranges m body (columns_looked_at m None fs 0 first_place))) ≡ buffers_fetched m None fs rows
-stated_rows m body fs zero = refl
-stated_rows m body fs (suc n) = stated_ranges m body (columns_looked_at m None fs 0 first_place)
+stated_rows : (m : RecordBatch) (body : ℕ) (asked : Option (List ℕ)) (fs : Fields) (rows : ℕ) → lengths (for_rows rows (ranges m body (columns_looked_at m asked fs 0 first_place))) ≡ buffers_fetched m asked fs rows
+stated_rows m body asked fs zero = refl
+stated_rows m body asked fs (suc n) = stated_ranges m body (columns_looked_at m asked fs 0 first_place)
 
 abbrev pub answer_or : {A : Type 0} → A → Reading A → A
 answer_or d (Ok x) = x
 answer_or d (Err es) = d
 
--- what is fetched of a block whose message was read
-pub block_fetched : (b : List ℕ) (meta : Meta) (block : FileBlock) (m : RecordMessage) (rows : ℕ) → block_record b block ≡ Ok m → natural m.tables.length ≡ Ok rows
-    → block_cost b meta block ≡ message_cost b block + buffers_fetched (record_batch_of meta.schema.order m.version m.tables (block_body b block)) None meta.schema.fields rows
+-- what is fetched of a block under a request: its message, and the buffers of the rows that are left
+pub record IsFetched (b : List ℕ) (meta : Meta) (r : Request) (block : FileBlock) (left : Option ℕ) (m : RecordMessage) (rows : ℕ) : Type 0 where
+  pub parts : List Range
+  pub is : batch_fetched b meta r block left ≡ Ok (parts, share left rows)
+  pub cost : block_cost b meta r block left ≡ message_cost b block + buffers_fetched (record_batch_of meta.schema.order m.version m.tables (block_body b block)) r.columns meta.schema.fields (share left rows)
+
+-- of a block whose message was read
+pub block_fetched : (b : List ℕ) (meta : Meta) (r : Request) (block : FileBlock) (left : Option ℕ) (m : RecordMessage) (rows : ℕ) → block_record b block ≡ Ok m → natural m.tables.length ≡ Ok rows → IsFetched b meta r block left m rows
 unfolding block_record plain_message record_message batch_fetched block_message
-block_fetched b meta block m rows is count =
+block_fetched b meta r block left m rows is count =
     let range = went (only_if _ _) _ m is in
     let prefix = went (prefix_of (block_metadata b block)) _ m range.rest in
     let bytes = take prefix.got.1 (drop (block.offset + prefix.got.0) b) in
@@ -53,17 +57,22 @@ block_fetched b meta block m rows is count =
     let same : read ≡ m = ap (answer_or read) version.rest ∙ ap (answer_or read) pairs.rest in
     let source = record_batch_of meta.schema.order version.got tables.got (block_body b block) in
     let front : Range = record { place = block.offset; length = prefix.got.0 + prefix.got.1 } in
-    let buffers = for_rows rows (ranges source (block.offset + block.metadata) (columns_looked_at source None meta.schema.fields 0 first_place)) in
-    let e : batch_fetched b meta «all» block None ≡ Ok (front ∷ buffers, rows)
+    let buffers = for_rows (share left rows) (ranges source (block.offset + block.metadata) (columns_looked_at source r.columns meta.schema.fields 0 first_place)) in
+    let e : batch_fetched b meta r block left ≡ Ok (front ∷ buffers, share left rows)
     = on (block_message b block 3) _ (bytes, message.got) (on _ _ _ range.first ∙ on _ _ _ prefix.first ∙ on _ _ _ message.first)
     ∙ on _ _ _ tables.first ∙ on _ _ _ version.first ∙ on (message_range b block) _ front (on _ _ _ prefix.first) ∙ on (natural tables.got.length) _ rows (ap (λ (x : RecordMessage). natural x.tables.length) same ∙ count) in
-    let cost : block_cost b meta block ≡ lengths (front ∷ buffers) = ap (λ r. lengths (or_nothing (option_map (λ x. x.0) (meaning r)))) e in
+    let cost : block_cost b meta r block left ≡ lengths (front ∷ buffers) = ap (λ r. lengths (or_nothing (option_map (λ x. x.0) (meaning r)))) e in
     let message_is : message_cost b block ≡ prefix.got.0 + prefix.got.1 = ap both_of prefix.first in
-    let rest : lengths buffers ≡ buffers_fetched source None meta.schema.fields rows = stated_rows source (block.offset + block.metadata) meta.schema.fields rows in
+    let rest : lengths buffers ≡ buffers_fetched source r.columns meta.schema.fields (share left rows) = stated_rows source (block.offset + block.metadata) r.columns meta.schema.fields (share left rows) in
     let sum = sum_by-cons (λ (y : Range). y.length) front buffers in
-    let source_is : buffers_fetched source None meta.schema.fields rows ≡ buffers_fetched (record_batch_of meta.schema.order m.version m.tables (block_body b block)) None meta.schema.fields rows
-    = ap (λ (x : RecordMessage). buffers_fetched (record_batch_of meta.schema.order x.version x.tables (block_body b block)) None meta.schema.fields rows) same in
-    omega (arith, cost, message_is, rest, sum, source_is)
+    let source_is : buffers_fetched source r.columns meta.schema.fields (share left rows) ≡ buffers_fetched (record_batch_of meta.schema.order m.version m.tables (block_body b block)) r.columns meta.schema.fields (share left rows)
+    = ap (λ (x : RecordMessage). buffers_fetched (record_batch_of meta.schema.order x.version x.tables (block_body b block)) r.columns meta.schema.fields (share left rows)) same in
+    record { parts = front ∷ buffers; is = e; cost = omega (arith, cost, message_is, rest, sum, source_is) }
+
+-- only the columns of a request count
+pub same_request : (b : List ℕ) (meta : Meta) (columns : Option (List ℕ)) (limit other : Option ℕ) (block : FileBlock) (left : Option ℕ) → batch_fetched b meta (record { columns = columns; limit = limit }) block left ≡ batch_fetched b meta (record { columns = columns; limit = other }) block left
+unfolding batch_fetched
+same_request b meta columns limit other block left = refl
 
 -- ── a prefix ──
 

@@ -1,12 +1,12 @@
 -- The footer of a file that is fetched, and what it says.
 use Rattle.std.proofs.Common.{◌≡◌, inl, ℕ, ◌-◌, ◌<◌, ◌≤◌, List, length, take, drop, Option, Some, None, Result, Ok, Err, refl, sym, ◌∙◌, ap, arith, subst, length-drop}
-use Rattle.std.specs.Prelude.{IfErr, IfSome}
+use Rattle.std.specs.Prelude.{IfSome}
 use Rattle.std.proofs.lemmas.List.{take_all}
 use Rattle.arrow_spec.specs.declared.error.IpcError.{IpcError}
 use Rattle.arrow_spec.specs.declared.error.IpcError.TheVariants.{OutOfSpec}
 use Rattle.arrow_spec.specs.declared.error.OutOfSpecKind.TheVariants as kinds
 use Rattle.arrow_spec.specs.Readings.{Gives, Reading, Refuses, refusals}
-use Rattle.arrow_spec.specs.Files.{«all», Meta, custom_of, file_reading, footer_of, meta_in, meta_of, to_send}
+use Rattle.arrow_spec.specs.Files.{Meta, Request, custom_of, file_reading, footer_of, meta_in, meta_of, to_send}
 use Rattle.arrow_spec.specs.Messages.{footer_pairs}
 use Rattle.transcode_laws.specs.Built.{so_far}
 use Rattle.transcode_laws.proofs.Refusals.{custom_refuses, meta_refuses}
@@ -89,24 +89,24 @@ meta_said (Some b) view x meta r h g = subst (λ q. Gives meta r q) (of_footer b
 -- ── a file that is to be sent ──
 
 abbrev RefusesToSend : IpcError → List ℕ → Type 0
-RefusesToSend e b = Refuses e (refusals (file_reading so_far to_send b «all» None))
+RefusesToSend e b = (r : Request) → Refuses e (refusals (file_reading so_far to_send b r None))
 
 -- its footer was not fetched
 pub footer_not_fetched : {X : Type 0} (content : Option (List ℕ)) (view : X → List ℕ) (e : IpcError) → GivesIn content view (Err e) footer_of → IfSome content (λ b. RefusesToSend e b)
 footer_not_fetched None view e h = tt
-footer_not_fetched (Some b) view e h = meta_refuses so_far e b (not_fetched b e h)
+footer_not_fetched (Some b) view e h = λ r. meta_refuses so_far e b r refl (not_fetched b e h)
 
 -- it says nothing that is a footer
 pub footer_not_read : {X Y : Type 0} (content : Option (List ℕ)) (view : X → List ℕ) (x : X) (meta : Y → Meta) (e : IpcError) → GivesIn content view (Ok x) footer_of → Decodes meta (Err e) (meta_in (view x)) → IfSome content (λ b. RefusesToSend e b)
 footer_not_read None view x meta e h g = tt
-footer_not_read (Some b) view x meta e h g = meta_refuses so_far e b (subst (λ q. Refuses e (refusals q)) (of_footer b view x h) (refuses e (refusals (meta_in (view x))) g))
+footer_not_read (Some b) view x meta e h g = λ r. meta_refuses so_far e b r refl (subst (λ q. Refuses e (refusals q)) (of_footer b view x h) (refuses e (refusals (meta_in (view x))) g))
 
 -- it has pairs, or what stands there is damaged
 pub pairs_not_carried : {X Y : Type 0} (content : Option (List ℕ)) (view : X → List ℕ) (x : X) (text : List ℕ) (meta : Y → Meta) (y : Y) (e : IpcError) → GivesIn content view (Ok x) footer_of → Decodes meta (Ok y) (meta_in (view x)) → text ≡ view x → Decodes no_map (Err e) (footer_pairs so_far.custom text) → IfSome content (λ b. RefusesToSend e b)
 pairs_not_carried None view x text meta y e h g t p = tt
 pairs_not_carried (Some b) view x text meta y e h g t p =
     let read : meta_of b ≡ Ok (meta y) = sym (of_footer b view x h) ∙ g in
-    custom_refuses so_far e b (meta y) read (subst (λ q. Refuses e (refusals q)) (ap (λ f. footer_pairs so_far.custom f) t ∙ pairs_of_footer b view x h) (refuses e (refusals (footer_pairs so_far.custom text)) p))
+    λ r. custom_refuses so_far e b r (meta y) refl read (subst (λ q. Refuses e (refusals q)) (ap (λ f. footer_pairs so_far.custom f) t ∙ pairs_of_footer b view x h) (refuses e (refusals (footer_pairs so_far.custom text)) p))
 
 -- it says so, and has no pairs
 pub plain_said : {X Y : Type 0} (content : Option (List ℕ)) (view : X → List ℕ) (x : X) (text : List ℕ) (meta : Y → Meta) (y : Y) → GivesIn content view (Ok x) footer_of → Decodes meta (Ok y) (meta_in (view x)) → text ≡ view x → Decodes no_map (Ok tt) (footer_pairs so_far.custom text) → IfSome content (λ b. FileSays b (meta y))

@@ -14,8 +14,11 @@ pub mod BlockSteps
 pub mod StreamSteps
 pub mod Asking
 pub mod FileFooters
-pub mod SentColumns
 pub mod MissingFeatures
 pub mod Fetching
 pub mod FetchedFiles
 pub mod ReadBatches
+pub mod AskedFields
+pub mod Counted
+pub mod Picked
+pub mod Selected

@@ -18,7 +18,7 @@ use Rattle.transcode_laws.specs.Files.{HeaderFits}
 use Rattle.transcode_laws.proofs.Headers as headers
 use Rattle.ipc_files.specs.FileViews.{meta_view, WasRead}
 use Rattle.ipc_files.specs.declared.metadata.FileMetadata.{FileMetadata}
-use Rattle.ipc_files.proofs.SentFields.{columns_fit}
+use Rattle.ipc_files.proofs.Counted.{columns_fit}
 
 -- a block's message
 pub header_fits : (bytes : List ℕ) (r : Result RecordMessage IpcError) → AreBytes bytes → Decodes message_of r (record_message bytes) → IfOk r (λ m. HeaderFits (message_of m).tables)
@@ -49,7 +49,7 @@ was_read m footer may same schema ipc shapes most =
       may = is;
       readable = record {
         shapes = rw (schema, ipc) shapes;
-        columns = λ sent. columns_fit (rc_value m.schema) (ids_of m.ipc_schema.fields.items) is.fit sent;
+        columns = columns_fit (rc_value m.schema) (ids_of m.ipc_schema.fields.items) is.fit;
         most = most;
       };
     }

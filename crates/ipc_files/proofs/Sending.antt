@@ -1,5 +1,5 @@
 -- A stream that is put piece by piece: what a piece that could not be put leaves.
-use Rattle.std.proofs.Common.{◌≡◌, ℕ, List, [], ◌∷◌, ◌++◌, ◌⊎◌, inl, inr, Bool, true, false, Option, Err, refl, ap, sym, subst, ◌/◌, ◌%◌, slice_index}
+use Rattle.std.proofs.Common.{◌≡◌, ℕ, List, [], ◌∷◌, ◌++◌, ◌⊎◌, inl, inr, Option, Err, refl, ap, sym, subst, ◌/◌, ◌%◌, slice_index}
 use Rattle.std.specs.Io.KnownBytes.{Appends, Keeps}
 use Rattle.std.proofs.KnownBytes.{Appends-trans, Appends-kept, Keeps-trans}
 use Rattle.hex.specs.Hex.{encode_with, lower_digits}

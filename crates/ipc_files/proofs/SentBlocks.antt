@@ -1,99 +1,160 @@
 -- A block that is read, and sent.
-use Rattle.std.proofs.Common.{◌≡◌, inl, ℕ, List, [], map, length, None, Result, Ok, Err, IfOk, refl, sym, ap, ◌∙◌, subst, true, false, Bool}
+use Rattle.std.proofs.Common.{◌≡◌, inl, ℕ, List, [], map, length, Option, Some, Result, Ok, Err, IfOk, refl, sym, ap, ◌∙◌, subst, true, false, Bool}
 use Rattle.std.specs.List.{AllByRecursion}
 use Rattle.arrow_spec.specs.declared.error.IpcError.{IpcError}
 use Rattle.arrow_spec.specs.declared.error.IpcError.TheVariants as errors
 use Rattle.arrow_spec.specs.declared.message.MetadataVersion.{MetadataVersion}
 use Rattle.arrow_spec.specs.Readings.{Gives, Reading, Refuses, bind, ◌>>=◌, refusals}
-use Rattle.arrow_spec.specs.Flat.{Order, little, order_by}
+use Rattle.arrow_spec.specs.Columns.{stands_in}
+use Rattle.arrow_spec.specs.Flat.{little, order_by}
 use Rattle.arrow_spec.specs.Counts.{first_place}
-use Rattle.arrow_spec.specs.Kinds.{Fields}
+use Rattle.arrow_spec.specs.Features.{chosen_floats}
+use Rattle.arrow_spec.specs.Kinds.{Fields, width}
 use Rattle.arrow_spec.specs.Messages.{BatchHeader, RecordMessage}
-use Rattle.arrow_spec.specs.Files.{FileBlock, Purpose, TableBatch, batch_of, batch_of_tables, block_body, if_sent, to_read, to_send, all_asked, record_batch_of}
+use Rattle.arrow_spec.specs.Files.{Asked, FileBlock, Purpose, TableBatch, batch_of, batch_of_tables, block_body, columns_right, if_sent, record_batch_of, to_read, to_send}
 use Rattle.arrow_spec.specs.Sent.{may_be_sent}
 use Rattle.arrow_spec.specs.WrittenSchemas.{FieldsFit}
-use Rattle.arrow_spec.proofs.Projection.{on}
-use Rattle.arrow_spec.proofs.SentMessages.{tables_refused}
+use Rattle.arrow_spec.proofs.Projection.{on, went}
 use Rattle.arrow_arrays.specs.Batches.{Batch}
-use Rattle.arrow_arrays.specs.Parts.{cells_in}
+use Rattle.arrow_arrays.specs.Parts.{Parts, cells_in}
 use Rattle.ipc_read_laws.specs.Batches.{columns_read}
 use Rattle.ipc_write_laws.specs.Columns.{Means}
-use Rattle.ipc_write_laws.specs.Streams.{written_batch}
+use Rattle.ipc_write_laws.specs.Streams.{MayBeWritten, table_batch, written_batch}
 use Rattle.transcode_laws.specs.Built.{are_sent_fields, so_far}
-use Rattle.transcode_laws.specs.Files.{HeaderFits, IsSentBatch}
-use Rattle.transcode_laws.proofs.Batches.{block_is_sent}
+use Rattle.transcode_laws.specs.Files.{ArePicked, AreAsked, HeaderFits, IsSentBatch, asked_fields, with_columns}
+use Rattle.transcode_laws.proofs.Batches.{block_is_sent, tables_refused}
+use Rattle.transcode_laws.proofs.ReadBatches.{read_batch_sendable, read_batch_sent}
 use Rattle.transcode_laws.proofs.Refusals.{none_refuses}
-use Rattle.transcode_laws.proofs.SentFields.{no_floats}
+use Rattle.transcode_laws.proofs.RisingBatches.{rising_asked, rising_refuses}
+use Rattle.transcode_laws.proofs.SentFields.{fields_carried}
 use Rattle.ipc_write.specs.Batches.{written_batch_of}
-use Rattle.ipc_read.specs.Batches.{batch_reading, chosen_read, table_of}
-use Rattle.ipc_read.proofs.Columns.{all_read}
+use Rattle.ipc_read.specs.Batches.{batch_reading, chosen_read, columns_asked, table_of}
 use Rattle.ipc_files.specs.FileBlocks.{block_record}
 use Rattle.ipc_files.specs.Blocks.{BlockRead, ReadsBlock}
 use Rattle.ipc_files.proofs.BlockMessages.{batch_by_record, refused_first}
-use Rattle.ipc_files.proofs.SentColumns.{read_is_sent, read_may_be_written, same_table}
+use Rattle.ipc_files.proofs.Counted.{AreAlike, same_read, same_tables, with_fields}
+use Rattle.ipc_files.proofs.Picked.{as_many}
 
--- fields that are sent, and that fit their tables
-pub record AreSent (fs : Fields) : Type 0 where
-  pub sent : are_sent_fields fs ≡ true
-  pub fit : FieldsFit 64 fs
+-- fields that are asked for are sent, and fit their tables; no dictionary is held
+pub record AreSent (a : Asked) : Type 0 where
+  pub sent : are_sent_fields (asked_fields a) ≡ true
+  pub fit : FieldsFit 64 (asked_fields a)
+  pub right : columns_right a.columns (width a.fields) ≡ Ok tt
+  pub none : a.dictionaries ≡ []
 
 -- ── a block that is read ──
 
 -- a block whose message is refused
-pub message_refused : (purpose : Purpose) (e : IpcError) (b : List ℕ) (o : Order) (fs : Fields) (block : FileBlock) → Refuses e (refusals (block_record b block)) → Refuses e (refusals (batch_of so_far.custom purpose b (all_asked o fs (length b)) block None))
-message_refused purpose e b o fs block h = rw (batch_by_record purpose b (all_asked o fs (length b)) block None) (refused_first e (block_record b block) _ h)
-
--- a block whose tables are refused
-tables_refuse : (e : IpcError) (b : List ℕ) (o : Order) (fs : Fields) (block : FileBlock) (m : RecordMessage) → block_record b block ≡ Ok m → Refuses e (refusals (batch_of_tables to_read (all_asked o fs (length b)) m.version [] m.tables (block_body b block) None)) → Refuses e (refusals (batch_of so_far.custom to_send b (all_asked o fs (length b)) block None))
-tables_refuse e b o fs block m is h = rw (batch_by_record to_send b (all_asked o fs (length b)) block None, on (block_record b block) _ m is) (by_reading (batch_of_tables to_read (all_asked o fs (length b)) m.version [] m.tables (block_body b block) None) refl h)
-  where
-    by_reading : (r : Reading TableBatch) → batch_of_tables to_read (all_asked o fs (length b)) m.version [] m.tables (block_body b block) None ≡ r → Refuses e (refusals r) → Refuses e (refusals (batch_of_tables to_send (all_asked o fs (length b)) m.version [] m.tables (block_body b block) None))
-    by_reading (Err es) e1 k = rw (tables_refused (all_asked o fs (length b)) m.version [] m.tables (block_body b block) es e1) k
-    by_reading (Ok x) e1 k = none_refuses e (refusals (batch_of_tables to_send (all_asked o fs (length b)) m.version [] m.tables (block_body b block) None)) k
+pub message_refused : (purpose : Purpose) (e : IpcError) (b : List ℕ) (a : Asked) (block : FileBlock) (left : Option ℕ) → Refuses e (refusals (block_record b block)) → Refuses e (refusals (batch_of so_far.custom purpose b a block left))
+message_refused purpose e b a block left h = rw (batch_by_record purpose b a block left) (refused_first e (block_record b block) _ h)
 
 unless_read : {A B : Type 0} (r : Reading A) (k : A → Reading B) (es : List IpcError) → r ≡ Err es → (r >>= k) ≡ Err es
 unfolding bind
 unless_read r k es is = rw is refl
 
--- a block that is refused where it is read is refused so where it is sent
-pub refused_sent : (e : IpcError) (b : List ℕ) (o : Order) (fs : Fields) (block : FileBlock) → Refuses e (refusals (batch_of so_far.custom to_read b (all_asked o fs (length b)) block None)) → Refuses e (refusals (batch_of so_far.custom to_send b (all_asked o fs (length b)) block None))
-refused_sent e b o fs block = by_record (block_record b block) refl
+-- what a block's message refuses, or its tables do
+block_refuses : (purpose other : Purpose) (e : IpcError) (b : List ℕ) (a c : Asked) (block : FileBlock) (left : Option ℕ)
+    → ((m : RecordMessage) → Refuses e (refusals (batch_of_tables purpose a m.version [] m.tables (block_body b block) left)) → Refuses e (refusals (batch_of_tables other c m.version [] m.tables (block_body b block) left)))
+    → Refuses e (refusals (batch_of so_far.custom purpose b a block left)) → Refuses e (refusals (batch_of so_far.custom other b c block left))
+block_refuses purpose other e b a c block left tables = by_record (block_record b block) refl
   where
-    by_record : (r : Reading RecordMessage) → block_record b block ≡ r → Refuses e (refusals (batch_of so_far.custom to_read b (all_asked o fs (length b)) block None)) → Refuses e (refusals (batch_of so_far.custom to_send b (all_asked o fs (length b)) block None))
-    by_record (Err es) is h = message_refused to_send e b o fs block (rw is (subst (λ r. Refuses e (refusals r)) (batch_by_record to_read b (all_asked o fs (length b)) block None ∙ unless_read (block_record b block) _ es is) h))
-    by_record (Ok m) is h = tables_refuse e b o fs block m is (subst (λ r. Refuses e (refusals r)) (batch_by_record to_read b (all_asked o fs (length b)) block None ∙ on (block_record b block) _ m is) h)
+    by_record : (r : Reading RecordMessage) → block_record b block ≡ r → Refuses e (refusals (batch_of so_far.custom purpose b a block left)) → Refuses e (refusals (batch_of so_far.custom other b c block left))
+    by_record (Err es) is h = message_refused other e b c block left (rw is (subst (λ r. Refuses e (refusals r)) (batch_by_record purpose b a block left ∙ unless_read (block_record b block) _ es is) h))
+    by_record (Ok m) is h =
+        rw (batch_by_record other b c block left, on (block_record b block) _ m is) (tables m (subst (λ r. Refuses e (refusals r)) (batch_by_record purpose b a block left ∙ on (block_record b block) _ m is) h))
 
--- where all kinds are sent none of them is refused
-sent_reading : (order : Bool) (fs : Fields) (most : ℕ) (v : MetadataVersion) (tables : BatchHeader) (body : List ℕ) → are_sent_fields fs ≡ true → batch_reading None None order fs most v tables body ≡ batch_of_tables to_read (all_asked (order_by order) fs most) v [] tables body None
+-- what refuses one reading refuses another that is refused so
+follows : {A B : Type 0} (e : IpcError) (r : Reading A) (s : Reading B) → ((es : List IpcError) → r ≡ Err es → s ≡ Err es) → Refuses e (refusals r) → Refuses e (refusals s)
+follows e (Ok x) s k h = none_refuses e (refusals s) h
+follows e (Err es) s k h = rw (k es refl) h
+
+-- a block that is refused where it is read is refused so where it is sent
+pub refused_sent : (e : IpcError) (b : List ℕ) (a : Asked) (block : FileBlock) (left : Option ℕ) → Refuses e (refusals (batch_of so_far.custom to_read b a block left)) → Refuses e (refusals (batch_of so_far.custom to_send b a block left))
+refused_sent e b a block left = block_refuses to_read to_send e b a a block left (λ m. follows e _ _ (λ es is. tables_refused a m.version [] m.tables (block_body b block) left es is))
+
+-- where no kind is refused the tables are read
+pub reading_sent : (columns : Option (List ℕ)) (left : Option ℕ) (order : Bool) (fs : Fields) (most : ℕ) (v : MetadataVersion) (tables : BatchHeader) (body : List ℕ) → chosen_floats columns fs 0 ≡ []
+    → batch_reading columns left order fs most v tables body ≡ batch_of_tables to_read (columns_asked columns (order_by order) fs most) v [] tables body left
 unfolding bind
-sent_reading order fs most v tables body sent = rw (no_floats fs 0 sent) refl
+reading_sent columns left order fs most v tables body none = rw none refl
 
-pub block_read : (b : List ℕ) (order : Bool) (fs : Fields) (block : FileBlock) (m : RecordMessage) (result : Result Batch IpcError) → are_sent_fields fs ≡ true → block_record b block ≡ Ok m → HeaderFits m.tables
-    → Gives table_of result (batch_reading None None order fs (length b) m.version m.tables (block_body b block)) → IfOk result (λ x. x.arrays ≡ chosen_read (record_batch_of (order_by order) m.version m.tables (block_body b block)) None fs 0 first_place x.height) → ReadsBlock b (order_by order) fs block result
-block_read b order fs block m (Ok x) sent is fits gives parts = record {
-  read = record { message = m; is = is; fits = fits; read = sym (sent_reading order fs (length b) m.version m.tables (block_body b block) sent) ∙ gives; columns = parts ∙ all_read (record_batch_of (order_by order) m.version m.tables (block_body b block)) fs 0 first_place x.height };
-  refused = tt;
-}
-block_read b order fs block m (Err e) sent is fits gives parts = record {
+pub block_read : (b : List ℕ) (a : Asked) (left : Option ℕ) (fs : Fields) (block : FileBlock) (m : RecordMessage) (result : Result Batch IpcError) → a.dictionaries ≡ [] → AreAlike a.columns 0 a.fields fs → block_record b block ≡ Ok m → HeaderFits m.tables
+    → Gives table_of result (batch_of_tables to_read (with_fields fs a) m.version [] m.tables (block_body b block) left)
+    → IfOk result (λ x. x.arrays ≡ chosen_read (record_batch_of a.order m.version m.tables (block_body b block)) a.columns fs 0 first_place x.height)
+    → ((rows : ℕ) → AreAsked (columns_read (record_batch_of a.order m.version m.tables (block_body b block)) a.fields first_place rows) a.columns (chosen_read (record_batch_of a.order m.version m.tables (block_body b block)) a.columns a.fields 0 first_place rows))
+    → ReadsBlock b a block left result
+block_read b a left fs block m (Ok x) none alike is fits gives parts picked =
+    let source = record_batch_of a.order m.version m.tables (block_body b block) in
+    let same : x.arrays ≡ chosen_read source a.columns a.fields 0 first_place x.height = parts ∙ sym (same_read source a.columns 0 a.fields fs first_place x.height alike) in
+    record {
+      read = record { message = m; is = is; fits = fits; read = same_tables a fs m.version m.tables (block_body b block) left none alike ∙ gives; columns = subst (λ xs. AreAsked (columns_read source a.fields first_place x.height) a.columns xs) (sym same) (picked x.height) };
+      refused = tt;
+    }
+block_read b a left fs block m (Err e) none alike is fits gives parts picked = record {
   read = tt;
-  refused = rw (batch_by_record to_read b (all_asked (order_by order) fs (length b)) block None, on (block_record b block) _ m is) (subst (λ r. Refuses e (refusals r)) (sent_reading order fs (length b) m.version m.tables (block_body b block) sent) gives);
+  refused = rw (batch_by_record to_read b a block left, on (block_record b block) _ m is) (subst (λ r. Refuses e (refusals r)) (sym (same_tables a fs m.version m.tables (block_body b block) left none alike)) gives);
 }
+
+-- ── the columns in the order asked ──
+
+-- a block that was read of columns by rising numbers, and its batch in the order asked
+pub block_ordered : (b : List ℕ) (a : Asked) (rising cs : List ℕ) (block : FileBlock) (left : Option ℕ) (x y : Batch) → ((c : ℕ) → stands_in rising c ≡ stands_in cs c) → columns_right (Some cs) (width a.fields) ≡ Ok tt → y.height ≡ x.height
+    → ((all : List Parts) → length all ≡ width a.fields → ArePicked all rising x.arrays → ArePicked all cs y.arrays) → BlockRead b (with_columns (Some rising) a) block left x → BlockRead b (with_columns (Some cs) a) block left y
+block_ordered b a rising cs block left x y same right rows order r =
+    let all : ℕ → List Parts = λ n. columns_read (record_batch_of a.order r.message.version r.message.tables (block_body b block)) a.fields first_place n in
+    let given : ArePicked (all x.height) cs y.arrays = order (all x.height) (as_many (record_batch_of a.order r.message.version r.message.tables (block_body b block)) a.fields first_place x.height) r.columns in
+    let table : ℕ → TableBatch = λ n. record { rows = n; columns = map cells_in y.arrays; custom = [] } in
+    record {
+      message = r.message;
+      is = r.is;
+      fits = r.fits;
+      read = rising_asked a rising cs r.message.version r.message.tables (block_body b block) left x.height x.arrays y.arrays same right r.read r.columns given ∙ ap (λ n. Ok (table n)) (sym rows);
+      columns = subst (λ n. ArePicked (all n) cs y.arrays) (sym rows) given;
+    }
+
+-- a block that is refused by rising numbers
+pub refused_ordered : (e : IpcError) (b : List ℕ) (a : Asked) (rising cs : List ℕ) (block : FileBlock) (left : Option ℕ) → ((c : ℕ) → stands_in rising c ≡ stands_in cs c)
+    → Refuses e (refusals (batch_of so_far.custom to_read b (with_columns (Some rising) a) block left)) → Refuses e (refusals (batch_of so_far.custom to_read b (with_columns (Some cs) a) block left))
+refused_ordered e b a rising cs block left same =
+    block_refuses to_read to_read e b (with_columns (Some rising) a) (with_columns (Some cs) a) block left (λ m. follows e _ _ (λ es is. rising_refuses a rising cs m.version m.tables (block_body b block) left es same is))
+
+-- a block that is read of the columns asked for is read by rising numbers
+pub rising_read : (b : List ℕ) (a : Asked) (rising cs : List ℕ) (block : FileBlock) (left : Option ℕ) (x : TableBatch) → ((c : ℕ) → stands_in rising c ≡ stands_in cs c) → batch_of so_far.custom to_read b (with_columns (Some cs) a) block left ≡ Ok x
+    → (y : TableBatch) × (batch_of so_far.custom to_read b (with_columns (Some rising) a) block left ≡ Ok y)
+unfolding bind
+rising_read b a rising cs block left x same is =
+    let message = went (block_record b block) _ x (sym (batch_by_record to_read b (with_columns (Some cs) a) block left) ∙ is) in
+    let m = message.got in
+    let y = by_tables m (batch_of_tables to_read (with_columns (Some rising) a) m.version [] m.tables (block_body b block) left) refl message.rest in
+    (y.0, batch_by_record to_read b (with_columns (Some rising) a) block left ∙ on (block_record b block) _ m message.first ∙ y.1)
+  where
+    by_tables : (m : RecordMessage) (w : Reading TableBatch) → batch_of_tables to_read (with_columns (Some rising) a) m.version [] m.tables (block_body b block) left ≡ w → batch_of_tables to_read (with_columns (Some cs) a) m.version [] m.tables (block_body b block) left ≡ Ok x
+        → (y : TableBatch) × (batch_of_tables to_read (with_columns (Some rising) a) m.version [] m.tables (block_body b block) left ≡ Ok y)
+    by_tables m (Ok y) found read = (y, found)
+    by_tables m (Err es) found read = let refused = rising_refuses a rising cs m.version m.tables (block_body b block) left es same found in cc
 
 -- ── a block that is sent ──
 
--- it is sent where its message may be
-block_sent : (b : List ℕ) (o : Order) (fs : Fields) (block : FileBlock) (x : Batch) → AreSent fs → BlockRead b o fs block x → batch_of so_far.custom to_send b (all_asked o fs (length b)) block None ≡ (if_sent to_send (may_be_sent (written_batch (written_batch_of x))) >>= λ size. Ok (table_of x))
-block_sent b o fs block x are r = batch_by_record to_send b (all_asked o fs (length b)) block None ∙ on (block_record b block) _ r.message r.is ∙ read_is_sent o fs (length b) r.message.version r.message.tables (block_body b block) x are.sent are.fit r.read r.columns
+-- the batch as it is written has the rows and the cells that were read
+pub same_table : (x : Batch) → map (λ c. c.cells) (written_batch_of x).columns ≡ map cells_in x.arrays → table_batch (written_batch_of x) ≡ table_of x
+same_table x cells = let table : List (List Rattle.arrow_spec.specs.Cells.Cell) → TableBatch = λ cs. record { rows = x.height; columns = cs; custom = [] } in ap table cells
 
-pub sent_batch : (b : List ℕ) (o : Order) (fs : Fields) (block : FileBlock) (x : Batch) → AreSent fs → BlockRead b o fs block x → may_be_sent (written_batch (written_batch_of x)) ≡ true
-    → AllByRecursion (λ c. Means little [] x.height c) (written_batch_of x).columns → map (λ c. c.cells) (written_batch_of x).columns ≡ map cells_in x.arrays → IsSentBatch so_far b o fs block (written_batch_of x)
-sent_batch b o fs block x are r size means cells =
+-- it is sent where its message may be
+block_sent : (b : List ℕ) (a : Asked) (block : FileBlock) (left : Option ℕ) (x : Batch) → AreSent a → BlockRead b a block left x → batch_of so_far.custom to_send b a block left ≡ (if_sent to_send (may_be_sent (written_batch (written_batch_of x))) >>= λ size. Ok (table_of x))
+block_sent b a block left x are r =
+    batch_by_record to_send b a block left ∙ on (block_record b block) _ r.message r.is
+    ∙ read_batch_sent a r.message.version r.message.tables (block_body b block) left x are.none (fields_carried 64 (asked_fields a) are.sent are.fit) are.right r.read r.columns
+
+pub sent_batch : (b : List ℕ) (a : Asked) (block : FileBlock) (left : Option ℕ) (x : Batch) → AreSent a → BlockRead b a block left x → may_be_sent (written_batch (written_batch_of x)) ≡ true
+    → AllByRecursion (λ c. Means little [] x.height c) (written_batch_of x).columns → map (λ c. c.cells) (written_batch_of x).columns ≡ map cells_in x.arrays → IsSentBatch so_far b a block left (written_batch_of x)
+sent_batch b a block left x are r size means cells =
     let table = same_table x cells in
-    let read = batch_by_record to_read b (all_asked o fs (length b)) block None ∙ on (block_record b block) _ r.message r.is ∙ r.read in
-    block_is_sent so_far b o fs block (written_batch_of x) (read ∙ ap Ok (sym table)) (block_sent b o fs block x are r ∙ ap (λ t. if_sent to_send (may_be_sent (written_batch (written_batch_of x))) >>= λ size. Ok t) (sym table))
-    (read_may_be_written o fs (length b) r.message.version r.message.tables (block_body b block) x r.fits are.sent are.fit r.read r.columns means cells size)
+    let read = batch_by_record to_read b a block left ∙ on (block_record b block) _ r.message r.is ∙ r.read in
+    let all = read_batch_sendable a r.message.version r.message.tables (block_body b block) left x r.fits are.none (fields_carried 64 (asked_fields a) are.sent are.fit) are.right r.read r.columns means cells in
+    let fit : MayBeWritten (asked_fields a) (written_batch_of x) = all.2 size in
+    block_is_sent so_far b a block left (written_batch_of x) (read ∙ ap Ok (sym table)) (block_sent b a block left x are r ∙ ap (λ t. if_sent to_send (may_be_sent (written_batch (written_batch_of x))) >>= λ size. Ok t) (sym table)) fit
 
 -- and refused where it may not
-pub block_too_large : (b : List ℕ) (o : Order) (fs : Fields) (block : FileBlock) (x : Batch) → AreSent fs → BlockRead b o fs block x → may_be_sent (written_batch (written_batch_of x)) ≡ false → Refuses errors.TooLarge (refusals (batch_of so_far.custom to_send b (all_asked o fs (length b)) block None))
+pub block_too_large : (b : List ℕ) (a : Asked) (block : FileBlock) (left : Option ℕ) (x : Batch) → AreSent a → BlockRead b a block left x → may_be_sent (written_batch (written_batch_of x)) ≡ false → Refuses errors.TooLarge (refusals (batch_of so_far.custom to_send b a block left))
 unfolding bind
-block_too_large b o fs block x are r size = rw (block_sent b o fs block x are r, size) (inl refl)
+block_too_large b a block left x are r size = rw (block_sent b a block left x are r, size) (inl refl)

@@ -1,11 +1,13 @@
 -- Fields that are sent: their ids, and that a stream takes a schema of them as it is.
-use Rattle.std.proofs.Common.{◌≡◌, ℕ, zero, suc, ◌+◌, ◌^◌, ◌<◌, List, [], ◌∷◌, length, map, Option, None, Bool, true, false, ◌&&◌, ◌||◌, refl, sym, ap, ◌∙◌, subst, arith, rules}
-use Rattle.std.specs.Prelude.{ℤ, IsTrue, nat_eq, nat_lt, drop, get_or, slice_get, Some}
+use Rattle.std.proofs.Common.{◌≡◌, ℕ, zero, suc, ◌+◌, ◌^◌, ◌<◌, List, [], ◌∷◌, length, map, Option, None, Ok, Bool, true, false, ◌&&◌, ◌||◌, refl, sym, ap, ◌∙◌, arith, rules}
+use Rattle.std.specs.Prelude.{ℤ, nat_eq, nat_lt, drop, get_or, slice_get, Some}
 use Rattle.std.specs.Rc.{rc_value}
 use Rattle.std.proofs.lemmas.Bool.{and_parts, and_from, eq-eqb}
 use Rattle.std.proofs.lemmas.Option.{slice_get-get_or, slice_get-map}
 use Rattle.arrow_spec.specs.Kinds.{Kind, Fields, none, field, decimal, decimal256, binary, utf8, fixed_size_binary, «list», fixed_size_list, struct, union, dictionary, extension, small, large, width, same, are_same_ids, numbered, uses_in, uses_of}
 use Rattle.arrow_spec.specs.Kinds as kind
+use Rattle.arrow_spec.specs.Features.{chosen_floats}
+use Rattle.arrow_spec.specs.Files.{columns_right}
 use Rattle.arrow_spec.specs.Schema.{are_ids, counted_ids, first_is_struct_of_two}
 use Rattle.arrow_spec.specs.Regular.{is_no_dictionary, is_representable_kind, is_size, representable}
 use Rattle.arrow_spec.specs.WrittenSchemas.{AreStated, FieldsFit, KindFits, Part, of_dictionary, of_extension, of_field}
@@ -15,40 +17,35 @@ use Rattle.arrow_types.specs.KindOf.{child_of, kind_of}
 use Rattle.arrow_types.specs.Schemas.{Keyed, fields_in}
 use Rattle.arrow_types.specs.UnionIds.{are_right}
 use Rattle.arrow_types.specs.declared.data_type.Field.{Field, the_lemmas}
-use Rattle.ipc_fields.specs.IpcFields.{Ids, no_fields, ids, ids_from, ids_of, fields_with, have_shapes, kind_with, tree_of, Tree}
+use Rattle.ipc_fields.specs.IpcFields.{Ids, no_fields, ids, ids_from, fields_with, have_shapes, kind_with, tree_of, Tree}
 use Rattle.ipc_fields.specs.declared.ipc_field.IpcField.{IpcField}
 use Rattle.ipc_fields.proofs.KindSteps.{ids_equal}
 use Rattle.schema_writer.specs.Tables.{all_fit, fits_below}
 use Rattle.schema_writer.proofs.Saying.{representable_is}
 use Rattle.ipc_write_laws.proofs.PlainFields as plain
 use Rattle.arrow_arrays.specs.LeafKinds.{is_leaf_kind}
-use Rattle.arrow_arrays.specs.Carried.{is_carried, are_carried}
+use Rattle.arrow_arrays.specs.Carried.{is_carried}
 use Rattle.ipc_read_laws.proofs.Trees.{by_tree}
 use Rattle.transcode_laws.specs.Built.{are_sent_fields, is_sent_kind, so_far}
-use Rattle.transcode_laws.specs.Files.{IsSendable}
-use Rattle.transcode_laws.proofs.Schemas.{plain_sendable}
-use Rattle.transcode_laws.proofs.SentFields.{fields_carried, no_dictionaries}
-use Rattle.transcode_laws.proofs.SoFar.{IsLetThrough, let_through}
-use Rattle.ipc_read.specs.Batches.{are_column_fields, are_column_kinds, is_column_kind}
+use Rattle.transcode_laws.specs.Files.{IsSendable, asked_schema}
+use Rattle.transcode_laws.proofs.AskedSchemas.{asked_sendable}
+use Rattle.transcode_laws.proofs.SentFields.{no_dictionaries}
+use Rattle.ipc_read.specs.Batches.{are_column_fields, is_column_kind}
 use Rattle.ipc_files.specs.FileViews.{meta_view, IsBuilt, IsReadable, WasRead}
 use Rattle.ipc_files.specs.declared.metadata.FileMetadata.{FileMetadata}
 
 -- ── what is sent of a file ──
 
--- what is let through of a file whose columns are built
-abbrev pub let_in : (file : FileMetadata) → IsBuilt (meta_view file) → IsLetThrough (meta_view file).schema.fields
-let_in file h = let_through (meta_view file).schema.order (meta_view file).schema.fields h
-
-pub sendable : (file : FileMetadata) → IsBuilt (meta_view file) → WasRead file → IsSendable so_far (meta_view file).schema
-sendable file h w =
-    let is = let_in file h in
-    plain_sendable so_far (meta_view file).schema h is.readable is.no_dictionaries w.may
+-- a stream takes the schema of the columns that are asked for as it is, and none of their kinds is refused
+pub sendable : (file : FileMetadata) (columns : Option (List ℕ)) → columns_right columns (width (meta_view file).schema.fields) ≡ Ok tt → IsBuilt (meta_view file) columns → WasRead file
+    → IsSendable so_far (asked_schema (meta_view file).schema columns) × (chosen_floats columns (meta_view file).schema.fields 0 ≡ [])
+sendable file columns right h w = asked_sendable (meta_view file).schema columns w.may right h
 
 -- ── ids ──
 
 -- ids change nothing in whether kinds are sent
 mutual
-  same_sent : (k : Kind) (id : Option ℤ) (below : Ids) → is_sent_kind (kind_with k id below) ≡ is_sent_kind k
+  pub same_sent : (k : Kind) (id : Option ℤ) (below : Ids) → is_sent_kind (kind_with k id below) ≡ is_sent_kind k
   same_sent («list» o fs) id below = ids_aside fs below
   same_sent (fixed_size_list n fs) id below = ids_aside fs below
   same_sent (struct fs) id below = ids_aside fs below
@@ -64,7 +61,7 @@ mutual
 
 -- and nothing in fields that are sent
 mutual
-  kind_stays : (k : Kind) (id : Option ℤ) (below : Ids) → is_sent_kind k ≡ true → kind_with k id below ≡ k
+  pub kind_stays : (k : Kind) (id : Option ℤ) (below : Ids) → is_sent_kind k ≡ true → kind_with k id below ≡ k
   kind_stays («list» o fs) id below h = ap (λ gs. «list» o gs) (fields_stay fs below h)
   kind_stays (fixed_size_list n fs) id below h = ap (λ gs. fixed_size_list n gs) (fields_stay fs below h)
   kind_stays (struct fs) id below h = ap struct (fields_stay fs below h)
@@ -160,19 +157,6 @@ mutual
 pub can_be_said : (levels : ℕ) (fs : Fields) → are_sent_fields fs ≡ true → FieldsFit levels fs → representable fs ≡ true
 can_be_said levels fs h fit = representable_is fs ∙ fields_said levels fs h fit
 
--- ── the schema of a file ──
-
-pub sent_schema : (file : FileMetadata) → IsBuilt (meta_view file) → are_sent_fields (fields_in (rc_value file.schema)) ≡ true
-sent_schema file h = sym (ids_aside (fields_in (rc_value file.schema)) (ids_of file.ipc_schema.fields.items)) ∙ (let_in file h).sent
-
--- the fields of a file are those of its schema
-pub same_fields : (file : FileMetadata) → IsBuilt (meta_view file) → (meta_view file).schema.fields ≡ fields_in (rc_value file.schema)
-same_fields file h = fields_stay (fields_in (rc_value file.schema)) (ids_of file.ipc_schema.fields.items) (sent_schema file h)
-
--- they fit
-pub fit : (file : FileMetadata) → IsBuilt (meta_view file) → WasRead file → FieldsFit 64 (fields_in (rc_value file.schema))
-fit file h w = subst (λ fs. FieldsFit 64 fs) (same_fields file h) w.may.fit
-
 -- ── the kinds of its columns ──
 
 leaf_column : (k : Kind) → is_leaf_kind k ≡ true → is_column_kind k ≡ true
@@ -187,7 +171,7 @@ leaf_column (extension name metadata k) h = leaf_column k h
 leaf_column k h = cc
 
 -- a kind that arrays are read of may be a column's
-carried_column : (k : Kind) → is_carried k ≡ true → is_column_kind k ≡ true
+pub carried_column : (k : Kind) → is_carried k ≡ true → is_column_kind k ≡ true
 carried_column = by_tree (λ k. is_column_kind k ≡ true) (λ fs. are_column_fields fs ≡ true) (record {
   on_leaf = leaf_column;
   on_list = λ o fs w g. and_from (nat_eq (width fs) 1) (are_column_fields fs) (eq-eqb (width fs) 1 w) g;
@@ -199,19 +183,6 @@ carried_column = by_tree (λ k. is_column_kind k ≡ true) (λ fs. are_column_fi
   on_none = refl;
   on_field = λ name nullable metadata k others carried f g. and_from (is_column_kind k) (are_column_fields others) f g;
 })
-
-carried_columns : (c : ℕ) (s : List Keyed) → are_carried (fields_in s) ≡ true → are_column_kinds None c s ≡ true
-carried_columns c [] h = refl
-carried_columns c (p ∷ ps) h =
-    let both = and_parts (is_carried p.1.kind) (are_carried (fields_in ps)) h in
-    and_from (is_column_kind p.1.kind) (are_column_kinds None (suc c) ps) (carried_column p.1.kind both.0) (carried_columns (suc c) ps both.1)
-
--- columns of each field of a schema that was read may be read
-pub columns_fit : (s : List Keyed) (below : Ids) → FieldsFit 64 (fields_with (fields_in s) below) → are_sent_fields (fields_in s) ≡ true → are_column_kinds None 0 s ≡ true
-columns_fit s below fit sent = carried_columns 0 s (fields_carried 64 (fields_in s) sent (subst (λ fs. FieldsFit 64 fs) (fields_stay (fields_in s) below sent) fit))
-
-pub columns_readable : (file : FileMetadata) → IsBuilt (meta_view file) → IsReadable file → are_column_kinds None 0 (rc_value file.schema) ≡ true
-columns_readable file h r = r.columns (sent_schema file h)
 
 -- ── its IPC fields ──
 
@@ -233,6 +204,9 @@ field_count file w = sym (as_many_trees file.ipc_schema.fields.items) ∙ as_man
 
 pub kind_of_field : (f : Field) → (child_of f).kind ≡ kind_of f.dtype
 kind_of_field f = search (rules, the_lemmas)
+
+abbrev pub child_in : Keyed → Child
+child_in p = p.1
 
 -- the field at a place
 pub field_item : (fs : List Field) (i : ℕ) (x : Field) → i < length fs → x ≡ get_or fs i x → slice_get (map child_of fs) i ≡ Some (child_of x)
@@ -257,15 +231,3 @@ one_more all left rest c h k is = h ∙ k ∙ ap (λ x. x && rest) is
 pub only_sent : (b : Bool) → (b && true) ≡ b
 only_sent true = refl
 only_sent false = refl
-
--- as it is asked of a file that was read
-pub built_as_read : (file : FileMetadata) (are : Bool) → are ≡ are_sent_fields (fields_in (rc_value file.schema)) → (IsTrue are → IsBuilt (meta_view file)) × (IsBuilt (meta_view file) → IsTrue are)
-built_as_read file are h =
-    let same : are_sent_fields (meta_view file).schema.fields ≡ are = ids_aside (fields_in (rc_value file.schema)) (ids_of file.ipc_schema.fields.items) ∙ sym h in
-    (λ t. same ∙ is_true are t, λ c. true_is are (sym same ∙ c))
-  where
-    is_true : (x : Bool) → IsTrue x → x ≡ true
-    is_true x t = cc
-
-    true_is : (x : Bool) → x ≡ true → IsTrue x
-    true_is x h = cc

@@ -1,5 +1,5 @@
 -- Messages in their frames, and the message of a schema as it is written: whether it may be sent, and its bytes.
-use Rattle.std.proofs.Common.{Bool, ◌≡◌, inl, inr, IfOk, IfErr, OnOk, ◌⊎◌, ℕ, ◌^◌, ◌-◌, ◌<◌, ◌≤◌, List, [], length, Result, Ok, Err, true, false, refl, sym, ap, subst, ◌∙◌, arith}
+use Rattle.std.proofs.Common.{Bool, ◌≡◌, inl, inr, IfOk, IfErr, OnOk, ◌⊎◌, ℕ, ◌^◌, ◌<◌, ◌≤◌, List, [], length, Option, Result, Ok, Err, true, false, refl, sym, ap, subst, ◌∙◌, arith}
 use Rattle.std.specs.Prelude.{nat_le}
 use Rattle.std.specs.Rc.{rc_value}
 use Rattle.std.specs.declared.alloc.Global.{Global}
@@ -9,7 +9,8 @@ use Rattle.arrow_spec.specs.declared.error.IpcError.{IpcError}
 use Rattle.arrow_spec.specs.declared.error.IpcError.TheVariants as errors
 use Rattle.arrow_spec.specs.Flat.{little}
 use Rattle.arrow_spec.specs.Framing.{message_bytes, padded_size}
-use Rattle.arrow_spec.specs.Kinds.{Fields, Metadata, numbered, uses_in}
+use Rattle.arrow_spec.specs.Files.{columns_right, fields_as_asked}
+use Rattle.arrow_spec.specs.Kinds.{Fields, Metadata, numbered, uses_in, width}
 use Rattle.arrow_spec.specs.Layout.{layout, size, up_to}
 use Rattle.arrow_spec.specs.Readings.{Gives, Reading, bind, unless}
 use Rattle.arrow_spec.specs.Regular.{representable}
@@ -17,14 +18,16 @@ use Rattle.arrow_spec.specs.Sent.{SentMessage, may_be_sent, schema_message, stre
 use Rattle.arrow_spec.specs.WrittenSchemas.{FieldsFit}
 use Rattle.arrow_spec.proofs.NextMessages.{length-layout}
 use Rattle.arrow_types.specs.Schemas.{Keyed, fields_in}
-use Rattle.ipc_fields.specs.IpcFields.{Ids, fields_with, have_shapes}
+use Rattle.ipc_fields.specs.IpcFields.{Ids, fields_with, have_shapes, ids_of}
 use Rattle.schema_writer.specs.Serialized.{IsOfMessage, serialized, written}
 use Rattle.transcode_laws.specs.Built.{are_sent_fields}
+use Rattle.transcode_laws.specs.Files.{AreAsked}
 use Rattle.ipc_write.specs.Outcomes.{message_frame}
 use Rattle.ipc_files.specs.FileViews.{meta_view, IsBuilt, WasRead}
 use Rattle.ipc_files.specs.Written.{Writes, WritesSchema}
 use Rattle.ipc_files.specs.declared.metadata.FileMetadata.{FileMetadata}
-use Rattle.ipc_files.proofs.SentFields.{can_be_said, fields_stay, fit, sent_schema, no_uses, numbers_aside, same_fields}
+use Rattle.ipc_files.proofs.AskedFields.{asked_aside, asked_schema_fields, asked_stay}
+use Rattle.ipc_files.proofs.SentFields.{can_be_said, fields_stay, no_uses, numbers_aside, sendable}
 use Rattle.ipc_write.proofs.Written.{framed_whole}
 
 -- ── what may be sent ──
@@ -119,41 +122,55 @@ schema_refused r fs own pairs e expected sent fit shape is g k =
     let h = subst (Gives (λ (w : Vec ℕ Global). w.items) (Err e)) (sent_written fs own pairs sent fit shape) g in
     subst (λ q. Writes q m expected) (sym is) (test_refused m e (nat_le (size m.node) 2147483647) expected refl h k)
 
--- ── the message of a file's schema ──
+-- ── the message of the columns of a file ──
 
--- what of the schema is given to be written: the file's fields and pairs
-record IsOfFile (file : FileMetadata) (s : List Keyed) (pairs : Metadata) : Type 0 where
-  fields : fields_in s ≡ (meta_view file).schema.fields
+-- what of the schema is given to be written: the fields that are asked for, and the file's pairs
+record IsOfFile (file : FileMetadata) (columns : Option (List ℕ)) (s : List Keyed) (pairs : Metadata) : Type 0 where
+  fields : fields_in s ≡ fields_as_asked columns (meta_view file).schema.fields
   pairs_are : pairs ≡ (meta_view file).schema.metadata
   sent : are_sent_fields (fields_in s) ≡ true
   fit : FieldsFit 64 (fields_in s)
 
-of_file : (file : FileMetadata) (s : List Keyed) (pairs : Metadata) → IsBuilt (meta_view file) → WasRead file → s ≡ rc_value file.schema → pairs ≡ (meta_view file).schema.metadata → IsOfFile file s pairs
-of_file file s pairs built read is same = record {
-  fields = ap fields_in is ∙ sym (same_fields file built);
-  pairs_are = same;
-  sent = ap (λ x. are_sent_fields (fields_in x)) is ∙ sent_schema file built;
-  fit = subst (λ x. FieldsFit 64 (fields_in x)) (sym is) (fit file built read);
-}
+-- what is asked for of a file, and may be sent
+pub record MayBeSent (file : FileMetadata) (columns : Option (List ℕ)) (s : List Keyed) (pairs : Metadata) : Type 0 where
+  pub built : IsBuilt (meta_view file) columns
+  pub read : WasRead file
+  pub right : columns_right columns (width (meta_view file).schema.fields) ≡ Ok tt
+  pub asked : AreAsked (rc_value file.schema) columns s
+  pub pairs_are : pairs ≡ (meta_view file).schema.metadata
 
-as_of_file : (file : FileMetadata) (s : List Keyed) (pairs : Metadata) (r : Result (Vec ℕ Global) IpcError) → IsOfFile file s pairs → WritesSchema r (fields_in s) pairs → WritesSchema r (meta_view file).schema.fields (meta_view file).schema.metadata
-as_of_file file s pairs r of w = subst (λ fs. WritesSchema r fs (meta_view file).schema.metadata) of.fields (subst (λ ps. WritesSchema r (fields_in s) ps) of.pairs_are w)
+of_file : (file : FileMetadata) (columns : Option (List ℕ)) (s : List Keyed) (pairs : Metadata) → MayBeSent file columns s pairs → IsOfFile file columns s pairs
+of_file file columns s pairs may =
+    let below = ids_of file.ipc_schema.fields.items in
+    let all = fields_in (rc_value file.schema) in
+    let sent : are_sent_fields (fields_as_asked columns all) ≡ true = sym (asked_aside all below columns) ∙ may.built in
+    let picked = asked_schema_fields (rc_value file.schema) columns s may.asked in
+    let fields : fields_in s ≡ fields_as_asked columns (meta_view file).schema.fields = picked ∙ sym (asked_stay all below columns sent) in
+    record {
+      fields = fields;
+      pairs_are = may.pairs_are;
+      sent = ap are_sent_fields picked ∙ sent;
+      fit = subst (λ fs. FieldsFit 64 fs) (sym fields) (sendable file columns may.right may.built may.read).0.may.fit;
+    }
+
+as_of_file : (file : FileMetadata) (columns : Option (List ℕ)) (s : List Keyed) (pairs : Metadata) (r : Result (Vec ℕ Global) IpcError) → IsOfFile file columns s pairs → WritesSchema r (fields_in s) pairs → WritesSchema r (fields_as_asked columns (meta_view file).schema.fields) (meta_view file).schema.metadata
+as_of_file file columns s pairs r of w = subst (λ fs. WritesSchema r fs (meta_view file).schema.metadata) of.fields (subst (λ ps. WritesSchema r (fields_in s) ps) of.pairs_are w)
 
 -- it is refused
-pub file_schema_refused : (file : FileMetadata) (r : Result (Vec ℕ Global) IpcError) (s : List Keyed) (own : Ids) (pairs : Metadata) (e : IpcError) → IsBuilt (meta_view file) → WasRead file → s ≡ rc_value file.schema → pairs ≡ (meta_view file).schema.metadata → have_shapes (fields_in s) own ≡ true
-    → r ≡ Err e → Gives (λ (v : Vec ℕ Global). v.items) (Err e) (written little (fields_in s) own pairs) → IsOfMessage e → WritesSchema r (meta_view file).schema.fields (meta_view file).schema.metadata
-file_schema_refused file r s own pairs e built read is same shape err g k =
-    let of = of_file file s pairs built read is same in
-    as_of_file file s pairs r of (schema_refused r (fields_in s) own pairs e _ of.sent of.fit shape err g k)
+pub file_schema_refused : (file : FileMetadata) (columns : Option (List ℕ)) (r : Result (Vec ℕ Global) IpcError) (s : List Keyed) (own : Ids) (pairs : Metadata) (e : IpcError) → MayBeSent file columns s pairs → have_shapes (fields_in s) own ≡ true
+    → r ≡ Err e → Gives (λ (v : Vec ℕ Global). v.items) (Err e) (written little (fields_in s) own pairs) → IsOfMessage e → WritesSchema r (fields_as_asked columns (meta_view file).schema.fields) (meta_view file).schema.metadata
+file_schema_refused file columns r s own pairs e may shape err g k =
+    let of = of_file file columns s pairs may in
+    as_of_file file columns s pairs r of (schema_refused r (fields_in s) own pairs e _ of.sent of.fit shape err g k)
 
 no_body : (fs : Fields) (pairs : Metadata) → (schema_message little fs pairs []).body ≡ 0
 unfolding schema_message
 no_body fs pairs = refl
 
 -- its frame
-pub file_schema_framed : (file : FileMetadata) (r : Result (Vec ℕ Global) IpcError) (s : List Keyed) (own : Ids) (pairs : Metadata) (v : Vec ℕ Global) (metadata body : List ℕ) → IsBuilt (meta_view file) → WasRead file → s ≡ rc_value file.schema → pairs ≡ (meta_view file).schema.metadata
-    → have_shapes (fields_in s) own ≡ true → Gives (λ (w : Vec ℕ Global). w.items) (Ok v) (written little (fields_in s) own pairs) → metadata ≡ v.items → body ≡ [] → Framed r metadata body → WritesSchema r (meta_view file).schema.fields (meta_view file).schema.metadata
-file_schema_framed file r s own pairs v metadata body built read is same shape g items none f =
-    let of = of_file file s pairs built read is same in
+pub file_schema_framed : (file : FileMetadata) (columns : Option (List ℕ)) (r : Result (Vec ℕ Global) IpcError) (s : List Keyed) (own : Ids) (pairs : Metadata) (v : Vec ℕ Global) (metadata body : List ℕ) → MayBeSent file columns s pairs
+    → have_shapes (fields_in s) own ≡ true → Gives (λ (w : Vec ℕ Global). w.items) (Ok v) (written little (fields_in s) own pairs) → metadata ≡ v.items → body ≡ [] → Framed r metadata body → WritesSchema r (fields_as_asked columns (meta_view file).schema.fields) (meta_view file).schema.metadata
+file_schema_framed file columns r s own pairs v metadata body may shape g items none f =
+    let of = of_file file columns s pairs may in
     let m = stream_schema (fields_in s) pairs [] in
-    as_of_file file s pairs r of (alone_written r m metadata (no_body (numbered (fields_in s) 0) pairs) (items ∙ schema_written (fields_in s) own pairs v of.sent of.fit shape g) (subst (λ x. Framed r metadata x) none f))
+    as_of_file file columns s pairs r of (alone_written r m metadata (no_body (numbered (fields_in s) 0) pairs) (items ∙ schema_written (fields_in s) own pairs v of.sent of.fit shape g) (subst (λ x. Framed r metadata x) none f))

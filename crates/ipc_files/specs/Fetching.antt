@@ -1,12 +1,13 @@
 -- How many bytes are fetched of a file at most.
-use Rattle.std.specs.Prelude.{◌≡◌, ℕ, ◌+◌, ◌≤◌, List, take, drop, length, ⊤, Option, Result, Ok, Err, None, Some, IsSome, option_map, sum_by, true}
+use Rattle.std.specs.Prelude.{◌≡◌, ℕ, ◌+◌, ◌≤◌, List, [], ◌∷◌, take, drop, length, ⊤, Option, Ok, Err, None, Some, IsSome, option_map, true}
 use Rattle.arrow_spec.specs.Readings.{Reading, meaning}
-use Rattle.arrow_spec.specs.Files.{FileBlock, Meta, Request, TableBatch, «all», all_asked, batch_of, batches_of, footer_of, to_read}
+use Rattle.arrow_spec.specs.Files.{FileBlock, Meta, Request, TableBatch, batch_of, batches_of, footer_of, to_read, what_is_left}
 use Rattle.arrow_spec.specs.Messages.{RecordMessage, prefix_of}
 use Rattle.arrow_spec.specs.Needed.{lengths, or_nothing}
 use Rattle.file_laws.specs.Fetched.{batch_fetched, fetched as ranges_fetched}
 use Rattle.ipc_files.specs.FileBlocks.{block_metadata, block_record}
 use Rattle.transcode_laws.specs.Built.{so_far}
+use Rattle.transcode_laws.specs.Files.{asked_of}
 use Rattle.transcode_laws.specs.Meaning.{file_table}
 
 -- a prefix with the metadata behind it
@@ -18,9 +19,15 @@ both_of (Err es) = 0
 abbrev pub message_cost : List ℕ → FileBlock → ℕ
 message_cost b block = both_of (prefix_of (block_metadata b block))
 
--- these, and the buffers that are looked at
-abbrev pub block_cost : List ℕ → Meta → FileBlock → ℕ
-block_cost b meta block = lengths (or_nothing (option_map (λ x. x.0) (meaning (batch_fetched b meta «all» block None))))
+-- what is fetched of a block's message and of the buffers that are looked at, where rows are left to be read
+abbrev pub block_cost : List ℕ → Meta → Request → FileBlock → Option ℕ → ℕ
+block_cost b meta r block left = lengths (or_nothing (option_map (λ x. x.0) (meaning (batch_fetched b meta r block left))))
+
+-- the same of some blocks, of which some batches were read
+abbrev pub blocks_cost : List ℕ → Meta → Request → List FileBlock → List TableBatch → Option ℕ → ℕ
+blocks_cost b meta r [] xs left = 0
+blocks_cost b meta r (block ∷ blocks) [] left = 0
+blocks_cost b meta r (block ∷ blocks) (x ∷ xs) left = block_cost b meta r block left + blocks_cost b meta r blocks xs (what_is_left left x.rows)
 
 -- ── what a count of fetched bytes has risen by, where bytes are told ──
 
@@ -35,18 +42,17 @@ MessageFetched None block fetched fetched' = ⊤
 MessageFetched (Some b) block fetched fetched' = (m : RecordMessage) → block_record b block ≡ Ok m → fetched' ≤ fetched + message_cost b block
 
 -- of a block that means a batch, at most what it costs
-abbrev pub BlockFetched : Option (List ℕ) → Meta → FileBlock → ℕ → ℕ → Type 0
-BlockFetched None meta block fetched fetched' = ⊤
-BlockFetched (Some b) meta block fetched fetched' =
-    (x : TableBatch) → batch_of so_far.custom to_read b (all_asked meta.schema.order meta.schema.fields (length b)) block None ≡ Ok x
-    → fetched' ≤ fetched + block_cost b meta block
+abbrev pub BlockFetched : Option (List ℕ) → Meta → Request → FileBlock → Option ℕ → ℕ → ℕ → Type 0
+BlockFetched None meta r block left fetched fetched' = ⊤
+BlockFetched (Some b) meta r block left fetched fetched' =
+    (x : TableBatch) → batch_of so_far.custom to_read b (asked_of b meta r) block left ≡ Ok x → fetched' ≤ fetched + block_cost b meta r block left
 
--- of some blocks that mean batches, at most what they cost
-abbrev pub BlocksFetched : Option (List ℕ) → Meta → List FileBlock → ℕ → ℕ → Type 0
-BlocksFetched None meta blocks fetched fetched' = ⊤
-BlocksFetched (Some b) meta blocks fetched fetched' =
-    (xs : List TableBatch) → batches_of so_far.custom to_read b (all_asked meta.schema.order meta.schema.fields (length b)) true meta.blocks None ≡ Ok xs
-    → fetched' ≤ fetched + sum_by (block_cost b meta) blocks
+-- of the first blocks of those that mean batches, at most what they cost
+abbrev pub BlocksFetched : Option (List ℕ) → Meta → Request → List FileBlock → ℕ → ℕ → Type 0
+BlocksFetched None meta r blocks fetched fetched' = ⊤
+BlocksFetched (Some b) meta r blocks fetched fetched' =
+    (xs : List TableBatch) → batches_of so_far.custom to_read b (asked_of b meta r) true meta.blocks r.limit ≡ Ok xs
+    → fetched' ≤ fetched + blocks_cost b meta r blocks xs r.limit
 
 -- of a footer, at most the end of the file and its own length
 abbrev pub FooterFetched : Option (List ℕ) → ℕ → ℕ → Type 0

@@ -5,3 +5,4 @@ pub mod Blocks
 pub mod Sends
 pub mod Fetching
 pub mod Written
+pub mod Selections

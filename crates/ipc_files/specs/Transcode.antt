@@ -1,10 +1,12 @@
 -- What a transcoding adds to a sink, and when it is refused.
-use Rattle.std.specs.Prelude.{◌≡◌, ◌⊎◌, ℕ, List, length, sum_by, ⊤, Option, Some, None, IfSome, Result, Ok, Err}
+use Rattle.std.specs.Prelude.{◌≡◌, ◌⊎◌, ℕ, List, length, sum_by, ⊤, Option, Some, IfSome, Result, Ok, Err}
 use Rattle.std.specs.Io.KnownBytes.{Appends, Keeps}
 use Rattle.hex.specs.Hex.{encode_lower}
 use Rattle.arrow_spec.specs.declared.error.IpcError.{IpcError}
 use Rattle.arrow_spec.specs.declared.error.IpcError.TheVariants as errors
-use Rattle.arrow_spec.specs.Files.{Request, ArrowTable}
+use Rattle.arrow_spec.specs.Files as files
+use Rattle.arrow_spec.specs.Files.{Request, ArrowTable, «all»}
+use Rattle.file_laws.specs.Laws.{whole_file_table}
 use Rattle.transcode_laws.specs.Built.{so_far}
 use Rattle.transcode_laws.specs.Files.{IsFrontOf, IsStreamOf, StopsBehind}
 use Rattle.transcode_laws.specs.Meaning.{may}
@@ -52,10 +54,11 @@ pub record IsSummary (s : Summary) (table : ArrowTable) (x : List ℕ) : Type 0 
   pub rows : s.rows ≡ sum_by (λ batch. batch.rows) table.batches
   pub bytes : s.bytes ≡ length x
 
--- a transcoding that was done
+-- A transcoding that was done. Where the whole file means a table, the stream has of it the columns asked for, each batch cut to its share of the limit.
 pub record Transcodes (s : Summary) (b : List ℕ) (r : Request) (text : List ℕ → List ℕ) (old new : Option (List ℕ)) : Type 0 where
   pub stream : AddsStream b r text old new
   pub summary : IsSummary s stream.table stream.bytes
+  pub cut : (t : ArrowTable) → whole_file_table b «all» ≡ Some t → stream.table ≡ files.cut (files.project t r.columns) r.limit
 
 -- what a refused transcoding added: nothing, or a front; after a failed put a part of a stream
 abbrev pub AddsPart : IpcError → List ℕ → Request → (List ℕ → List ℕ) → Option (List ℕ) → Option (List ℕ) → Type 0

@@ -1,15 +1,15 @@
-//! What of a file is built so far: files whose columns have no dictionaries, no floats and no decimals of 256 bits at any depth.
-ghost use Rattle.std.specs.Prelude.{◌≡◌, ◌↔◌, ◌<◌, false, IsTrue, None, Some, length, map, slice_get};
+//! What of a file is built so far: columns that have no dictionaries, no floats and no decimals of 256 bits at any depth.
+ghost use Rattle.std.specs.Prelude.{◌≡◌, ◌<◌, false, true, None, Some, length, map, slice_get};
 ghost use Rattle.arrow_spec.specs.Features.{feature_faults};
+ghost use Rattle.arrow_spec.specs.Files.{fields_as_asked, fields_asked};
 ghost use Rattle.arrow_spec.specs.Readings.{IsAmong};
 ghost use Rattle.arrow_spec.specs.declared.error.IpcError.TheVariants.{Unsupported};
 ghost use Rattle.arrow_types.specs.Child.{one_field};
 ghost use Rattle.arrow_types.specs.KindOf.{child_of, fields_of, kind_of};
 ghost use Rattle.arrow_types.specs.Schemas.{fields_in};
 ghost use Rattle.transcode_laws.specs.Built.{are_sent_fields, is_sent_kind};
-ghost use Rattle.ipc_files.specs.FileViews.{meta_view, IsBuilt};
+ghost use Rattle.ipc_read.specs.Projection.{are_below, are_columns, columns_of};
 
-use crate::metadata::FileMetadata;
 use arrow_spec::Feature;
 use arrow_types::{ArrowDataType, ArrowSchema, Field};
 use ipc_read::unread_feature;
@@ -78,15 +78,32 @@ fn are_columns_sent(schema: &ArrowSchema) -> bool
     true
 }
 
-/// Whether the columns of a file are built.
-pub fn is_built(file: &FileMetadata) -> bool
-    ensures { IsTrue result ↔ IsBuilt (meta_view file.now) }
+/// The same of the columns under some numbers.
+fn are_asked_sent(schema: &ArrowSchema, columns: &[usize]) -> bool
+    requires { are_below (length schema.now) columns.now ≡ true }
+    ensures { result ≡ are_sent_fields (fields_asked (fields_in schema.now) columns.now) }
 {
-    are_columns_sent(&file.schema)
+    for column in columns {
+        let field = field_at(schema, *column);
+        if !is_sent(&field.dtype) {
+            return false;
+        }
+    }
+    true
 }
 
-/// What is not built of a schema's columns: a column of floats or decimals of 256 bits by its name, else what is to come.
-pub fn missing_feature(schema: &ArrowSchema) -> Feature
+/// Whether the columns of a schema that are asked for are built.
+pub(crate) fn is_built(schema: &ArrowSchema, columns: Option<&[usize]>) -> bool
+    requires range { are_columns (columns_of columns) (length schema.now) ≡ true }
+    ensures { result ≡ are_sent_fields (fields_as_asked (columns_of columns.entry) (fields_in schema.now)) }
+{
+    match columns {
+        None => are_columns_sent(schema),
+        Some(columns) => are_asked_sent(schema, columns),
+    }
+}
+
+fn missing_of_all(schema: &ArrowSchema) -> Feature
     ensures { IsAmong (feature_faults None (fields_in schema.now) false) (Unsupported result) }
 {
     for i in 0..schema.len() {
@@ -97,4 +114,29 @@ pub fn missing_feature(schema: &ArrowSchema) -> Feature
         }
     }
     Feature::NotYet
+}
+
+fn missing_of_asked(schema: &ArrowSchema, columns: &[usize]) -> Feature
+    requires { are_below (length schema.now) columns.now ≡ true }
+    ensures { IsAmong (feature_faults (Some columns.now) (fields_in schema.now) false) (Unsupported result) }
+{
+    for column in columns {
+        let field = field_at(schema, *column);
+        match unread_feature(&field.dtype) {
+            Some(feature) => return feature,
+            None => {}
+        }
+    }
+    Feature::NotYet
+}
+
+/// What is not built of the columns that are asked for: a column of floats or decimals of 256 bits by its name, else what is to come.
+pub(crate) fn missing_feature(schema: &ArrowSchema, columns: Option<&[usize]>) -> Feature
+    requires range { are_columns (columns_of columns) (length schema.now) ≡ true }
+    ensures { IsAmong (feature_faults (columns_of columns.entry) (fields_in schema.now) false) (Unsupported result) }
+{
+    match columns {
+        None => missing_of_all(schema),
+        Some(columns) => missing_of_asked(schema, columns),
+    }
 }

@@ -1,13 +1,14 @@
 //! From a file to a stream (Arrow Columnar Format, IPC File Format and IPC Streaming Format).
-ghost use Rattle.std.specs.Prelude.{◌≡◌, ◌≤◌, true, IfOk, IfErr, IfSome, IsSome, option_map};
+ghost use Rattle.std.specs.Prelude.{◌≡◌, ◌≤◌, true, IfOk, IfErr, IfSome, IsSome};
 ghost use Rattle.transcode_laws.specs.Meaning.{file_table};
 ghost use Rattle.ipc_io.specs.Outside.{Stands, SourceKept, SinkKept};
+ghost use Rattle.ipc_read.specs.Projection.{columns_of};
 ghost use Rattle.ipc_files.specs.Fetching.{FileFetched};
 ghost use Rattle.ipc_files.specs.Transcode.{asked, text_of, Transcodes, AddsPart, TranscodeCause, IsSmallRefusal};
 
 use crate::encoding::Encoding;
 use crate::send::send_file;
-use arrow_spec::{Feature, IpcError};
+use arrow_spec::IpcError;
 use ipc_schema::{Sink, Source};
 use std::alloc::Global;
 
@@ -28,30 +29,29 @@ pub fn transcode_as<S: Source, W: Sink>(
     limit: Option<usize>,
     encoding: Encoding,
 ) -> Result<Summary, IpcError>
-    ensures whole { IfOk result (λ s. IfSome (S.content source.old) (λ b. Transcodes s b (asked (option_map (λ c. c.now) columns.entry) limit) (text_of encoding) (W.written sink.old) (W.written sink.new))) }
+    ensures whole { IfOk result (λ s. IfSome (S.content source.old) (λ b. Transcodes s b (asked (columns_of columns.entry) limit) (text_of encoding) (W.written sink.old) (W.written sink.new))) }
 
     // A refusal has its cause, and leaves nothing or a front.
-    ensures cause { IfErr result (λ e. TranscodeCause e (S.content source.old) (asked (option_map (λ c. c.now) columns.entry) limit) (S.faults source.old) (S.faults source.new) (W.faults sink.old) (W.faults sink.new)) }
-    ensures part { IfErr result (λ e. IfSome (S.content source.old) (λ b. AddsPart e b (asked (option_map (λ c. c.now) columns.entry) limit) (text_of encoding) (W.written sink.old) (W.written sink.new))) }
+    ensures cause { IfErr result (λ e. TranscodeCause e (S.content source.old) (asked (columns_of columns.entry) limit) (S.faults source.old) (S.faults source.new) (W.faults sink.old) (W.faults sink.new)) }
+    ensures part { IfErr result (λ e. IfSome (S.content source.old) (λ b. AddsPart e b (asked (columns_of columns.entry) limit) (text_of encoding) (W.written sink.old) (W.written sink.new))) }
 
     // A file that means a table is sent where no device fails and memory is there, or a message of it is too large.
-    ensures complete { let r = asked (option_map (λ c. c.now) columns.entry) limit in
+    ensures complete { let r = asked (columns_of columns.entry) limit in
         IfSome (S.content source.old) (λ b. IsSome (file_table b r) → Stands (S.faults source.old) (S.faults source.new) → Stands (W.faults sink.old) (W.faults sink.new) → IfErr result (IsSmallRefusal b r)) }
 
     // Of a file that means a table no more is fetched than the request needs, and no buffer of what is read for no rows.
-    ensures fetched { FileFetched (S.content source.old) (asked (option_map (λ c. c.now) columns.entry) limit) (S.fetched source.old) (S.fetched source.new) }
+    ensures fetched { FileFetched (S.content source.old) (asked (columns_of columns.entry) limit) (S.fetched source.old) (S.fetched source.new) }
     ensures kept { SourceKept S.content S.faults S.references source.old source.new }
     ensures sink { SinkKept W.faults W.wants W.references sink.old sink.new }
 {
-    if columns.is_some() || limit.is_some() {
-        return Err(IpcError::Unsupported(Feature::NotYet));
-    }
-    send_file(alloc, source, sink, encoding)
+    send_file(alloc, source, sink, columns, limit, encoding)
 }
 
 /// Reads a file from the source and adds it to the sink as one stream that means the same.
 ///
-/// `columns` are the columns that are kept, in their order in the stream; without them all are. `limit` is the greatest number of rows in all.
+/// `columns` are the numbers of the columns that are kept, in their order in the stream; without them all are. `limit`
+/// is the greatest number of rows in all: each batch is cut to what those before it leave, and a batch behind it has
+/// none. Of a column that is not kept, and of a batch of which no row is, no buffer is fetched.
 pub fn transcode<S: Source, W: Sink>(
     alloc: Global,
     source: &mut S,
@@ -59,18 +59,18 @@ pub fn transcode<S: Source, W: Sink>(
     columns: Option<&[usize]>,
     limit: Option<usize>,
 ) -> Result<Summary, IpcError>
-    ensures whole { IfOk result (λ s. IfSome (S.content source.old) (λ b. Transcodes s b (asked (option_map (λ c. c.now) columns.entry) limit) (λ x. x) (W.written sink.old) (W.written sink.new))) }
+    ensures whole { IfOk result (λ s. IfSome (S.content source.old) (λ b. Transcodes s b (asked (columns_of columns.entry) limit) (λ x. x) (W.written sink.old) (W.written sink.new))) }
 
     // A refusal has its cause, and leaves nothing or a front.
-    ensures cause { IfErr result (λ e. TranscodeCause e (S.content source.old) (asked (option_map (λ c. c.now) columns.entry) limit) (S.faults source.old) (S.faults source.new) (W.faults sink.old) (W.faults sink.new)) }
-    ensures part { IfErr result (λ e. IfSome (S.content source.old) (λ b. AddsPart e b (asked (option_map (λ c. c.now) columns.entry) limit) (λ x. x) (W.written sink.old) (W.written sink.new))) }
+    ensures cause { IfErr result (λ e. TranscodeCause e (S.content source.old) (asked (columns_of columns.entry) limit) (S.faults source.old) (S.faults source.new) (W.faults sink.old) (W.faults sink.new)) }
+    ensures part { IfErr result (λ e. IfSome (S.content source.old) (λ b. AddsPart e b (asked (columns_of columns.entry) limit) (λ x. x) (W.written sink.old) (W.written sink.new))) }
 
     // A file that means a table is sent where no device fails and memory is there, or a message of it is too large.
-    ensures complete { let r = asked (option_map (λ c. c.now) columns.entry) limit in
+    ensures complete { let r = asked (columns_of columns.entry) limit in
         IfSome (S.content source.old) (λ b. IsSome (file_table b r) → Stands (S.faults source.old) (S.faults source.new) → Stands (W.faults sink.old) (W.faults sink.new) → IfErr result (IsSmallRefusal b r)) }
 
     // Of a file that means a table no more is fetched than the request needs, and no buffer of what is read for no rows.
-    ensures fetched { FileFetched (S.content source.old) (asked (option_map (λ c. c.now) columns.entry) limit) (S.fetched source.old) (S.fetched source.new) }
+    ensures fetched { FileFetched (S.content source.old) (asked (columns_of columns.entry) limit) (S.fetched source.old) (S.fetched source.new) }
     ensures kept { SourceKept S.content S.faults S.references source.old source.new }
     ensures sink { SinkKept W.faults W.wants W.references sink.old sink.new }
 {

@@ -1,4 +1,4 @@
-//! Arrow files: what the footer says, record batches by their block, and the stream that means what a file means, for columns without dictionaries (Arrow Columnar Format, "IPC File Format").
+//! Arrow files: what the footer says, record batches by their block, and the stream that means what a file means, for columns without dictionaries, whole or in the columns and the rows asked for (Arrow Columnar Format, "IPC File Format").
 #![tactic(auto)]
 
 mod batch;
@@ -10,6 +10,7 @@ mod fetch;
 mod integers;
 mod messages;
 mod metadata;
+mod selection;
 mod send;
 
 pub use batch::read_batch;

@@ -1,15 +1,20 @@
 //! Messages in one piece (Arrow Columnar Format, "Encapsulated message format").
-ghost use Rattle.std.specs.Prelude.{◌≡◌, ◌^◌, ◌<◌, [], map, IfOk};
+ghost use Rattle.std.specs.Prelude.{◌≡◌, ◌^◌, ◌<◌, [], map, IfOk, Ok};
 ghost use Rattle.std.specs.List.{AllByRecursion};
+ghost use Rattle.arrow_spec.specs.Files.{columns_right, fields_as_asked};
 ghost use Rattle.arrow_spec.specs.Flat.{little};
+ghost use Rattle.arrow_spec.specs.Kinds.{width};
 ghost use Rattle.arrow_arrays.specs.Parts.{cells_in};
 ghost use Rattle.ipc_write_laws.specs.Columns.{Means};
 ghost use Rattle.ipc_write_laws.specs.Streams.{batch_bytes, written_batch};
 ghost use Rattle.ipc_write.specs.Batches.{written_batch_of};
+ghost use Rattle.ipc_read.specs.Projection.{columns_of};
 ghost use Rattle.ipc_files.specs.FileViews.{meta_view, IsBuilt, WasRead};
+ghost use Rattle.ipc_files.specs.Selections.{IsSelection};
 ghost use Rattle.ipc_files.specs.Written.{Writes, WritesSchema};
 
-use crate::metadata::{FileMetadata, metadata_of};
+use crate::metadata::metadata_of;
+use crate::selection::{Selection, selected_schema};
 use arrow_arrays::RecordBatch;
 use arrow_spec::IpcError;
 use ipc_schema::{default_ipc_fields, schema_to_bytes};
@@ -19,14 +24,17 @@ use std::alloc::Global;
 /// The end of a stream: a prefix of length 0.
 pub(crate) const END_MARK: [u8; 8] = [255, 255, 255, 255, 0, 0, 0, 0];
 
-/// The message of a file's schema, with its metadata and without dictionaries.
-pub(crate) fn schema_message(alloc: Global, file: &FileMetadata) -> Result<Vec<u8>, IpcError>
-    requires built { IsBuilt (meta_view file.now) }
-    requires read { WasRead file.now }
-    ensures { WritesSchema result (meta_view file.now).schema.fields (meta_view file.now).schema.metadata }
+/// The message of the schema of the columns that are asked for, with the file's metadata and without dictionaries.
+pub(crate) fn schema_message(alloc: Global, selection: &Selection<'_>) -> Result<Vec<u8>, IpcError>
+    requires selected { IsSelection selection.now }
+    requires built { IsBuilt (meta_view selection.now.file.now) (columns_of selection.now.columns) }
+    requires read { WasRead selection.now.file.now }
+    requires right { columns_right (columns_of selection.now.columns) (width (meta_view selection.now.file.now).schema.fields) ≡ Ok tt }
+    ensures { WritesSchema result (fields_as_asked (columns_of selection.now.columns) (meta_view selection.now.file.now).schema.fields) (meta_view selection.now.file.now).schema.metadata }
 {
-    let ipc_fields = default_ipc_fields(alloc, &file.schema)?;
-    let metadata = schema_to_bytes(alloc, &file.schema, &ipc_fields, metadata_of(file))?;
+    let schema = selected_schema(selection);
+    let ipc_fields = default_ipc_fields(alloc, schema)?;
+    let metadata = schema_to_bytes(alloc, schema, &ipc_fields, metadata_of(selection.file))?;
     message_to_bytes(alloc, &metadata, &[])
 }
 

@@ -1,7 +1,7 @@
 //! What a file's footer says (Arrow Columnar Format, "IPC File Format", File.fbs).
 ghost use Rattle.std.specs.Prelude.{◌≡◌, ◌+◌, ◌≤◌, ◌<◌, ◌^◌, true, length, None, IfOk, IfErr, IfSome};
 ghost use Rattle.arrow_spec.specs.Readings.{Gives, Refuses, refusals};
-ghost use Rattle.arrow_spec.specs.Files.{«all», file_reading, footer_of, meta_in, meta_of, to_send};
+ghost use Rattle.arrow_spec.specs.Files.{Request, file_reading, footer_of, meta_in, meta_of, to_send};
 ghost use Rattle.arrow_spec.specs.WrittenSchemas.{SchemaMayBeWritten};
 ghost use Rattle.arrow_types.specs.Schemas.{fields_in};
 ghost use Rattle.ipc_fields.specs.IpcFields.{have_shapes, ids_of, metadata_in};
@@ -123,7 +123,7 @@ pub(crate) fn read_plain_metadata<S: Source>(
     source: &mut S,
 ) -> Result<FileMetadata, IpcError>
     ensures says { IfOk result (λ m. IfSome (S.content source.old) (λ b. FileSays b (meta_view m))) }
-    ensures refused { IfErr result (λ e. IfSome (S.content source.old) (λ b. Refuses e (refusals (file_reading so_far to_send b «all» None)))) }
+    ensures refused { IfErr result (λ e. IfSome (S.content source.old) (λ b. (r : Request) → Refuses e (refusals (file_reading so_far to_send b r None)))) }
     ensures size { IfOk result (λ m. IsSize (S.content source.old) m.size) }
     ensures read { IfOk result WasRead }
     ensures cause { IfErr result (λ e. FileCause e (S.faults source.old) (S.faults source.new)) }

@@ -1,19 +1,23 @@
 //! A file's table, sent batch by batch.
 ghost use Rattle.std.specs.Prelude.{◌≡◌, ◌+◌, ◌*◌, ◌^◌, ◌<◌, ◌≤◌, List, Option, length, IfOk, IfErr, IfSome, Ok, ℕ};
-ghost use Rattle.arrow_spec.specs.Files.{«all», dictionaries_read, has_any};
+ghost use Rattle.arrow_spec.specs.Files.{columns_right, dictionaries_read, has_any, what_is_left};
+ghost use Rattle.arrow_spec.specs.Kinds.{width};
+ghost use Rattle.transcode_laws.specs.Files.{asked_of};
 ghost use Rattle.ipc_io.specs.Outside.{IsSize, SourceKept, SinkKept};
+ghost use Rattle.ipc_read.specs.Projection.{columns_of};
 ghost use Rattle.ipc_files.specs.FileBlocks.{file_block};
 ghost use Rattle.ipc_files.specs.FileViews.{meta_view, FileSays, IsBuilt, WasRead};
 ghost use Rattle.ipc_files.specs.Fetching.{BlockFetched, BlocksFetched, FileFetched};
+ghost use Rattle.ipc_files.specs.Selections.{IsSelection};
 ghost use Rattle.ipc_files.specs.Sends.{Begun, BlockRefused, BlockSent, Refused, SendCause, SentBlocks};
-ghost use Rattle.ipc_files.specs.Transcode.{text_of, Transcodes};
+ghost use Rattle.ipc_files.specs.Transcode.{asked, text_of, Transcodes};
 
-use crate::batch::read_block;
 use crate::built::{is_built, missing_feature};
 use crate::conversion::Summary;
 use crate::encoding::{Encoding, put_text};
 use crate::messages::{END_MARK, batch_message, schema_message};
 use crate::metadata::{FileMetadata, read_plain_metadata};
+use crate::selection::{Selection, project, read_selected};
 use arrow_spec::{Block, Feature, IpcError};
 use ipc_schema::{Sink, Source};
 use std::alloc::Global;
@@ -25,29 +29,32 @@ struct SentBlock {
     bytes: usize,
 }
 
-/// Reads a block and puts its message.
+/// Reads a block as far as rows are left, and puts its message.
 fn send_block<S: Source, W: Sink>(
     alloc: Global,
     source: &mut S,
     sink: &mut W,
     block: &Block,
-    file: &FileMetadata,
+    selection: &Selection<'_>,
+    left: Option<usize>,
     scratch: &mut Vec<u8>,
     encoding: Encoding,
 ) -> Result<SentBlock, IpcError>
-    requires built { IsBuilt (meta_view file.now) }
-    requires read { WasRead file.now }
-    requires whole { IsSize (S.content source.old) file.now.size }
-    ensures sent { IfOk result (λ s. IfSome (S.content source.old) (λ b. BlockSent b (meta_view file.now).schema.order (meta_view file.now).schema.fields (file_block block.now) encoding (W.written sink.old) (W.written sink.new) s.rows s.bytes)) }
-    ensures refused { IfErr result (λ e. IfSome (S.content source.old) (λ b. BlockRefused b (meta_view file.now).schema.order (meta_view file.now).schema.fields (file_block block.now) encoding (W.written sink.old) (W.written sink.new) e (W.faults sink.old) (W.faults sink.new))) }
+    requires selected { IsSelection selection.now }
+    requires right { columns_right (columns_of selection.now.columns) (width (meta_view selection.now.file.now).schema.fields) ≡ Ok tt }
+    requires built { IsBuilt (meta_view selection.now.file.now) (columns_of selection.now.columns) }
+    requires read { WasRead selection.now.file.now }
+    requires whole { IsSize (S.content source.old) selection.now.file.now.size }
+    ensures sent { IfOk result (λ s. IfSome (S.content source.old) (λ b. BlockSent b (asked_of b (meta_view selection.now.file.now) (asked (columns_of selection.now.columns) left)) (file_block block.now) left encoding (W.written sink.old) (W.written sink.new) s.rows s.bytes)) }
+    ensures refused { IfErr result (λ e. IfSome (S.content source.old) (λ b. BlockRefused b (asked_of b (meta_view selection.now.file.now) (asked (columns_of selection.now.columns) left)) (file_block block.now) left encoding (W.written sink.old) (W.written sink.new) e (W.faults sink.old) (W.faults sink.new))) }
     ensures small { IfOk result (λ s. s.bytes < 2 ^ 63) }
     ensures few { IfOk result (λ s. s.rows < 2 ^ 63) }
     ensures cause { IfErr result (λ e. SendCause e (S.faults source.old) (S.faults source.new) (W.faults sink.old) (W.faults sink.new)) }
-    ensures fetched { BlockFetched (S.content source.old) (meta_view file.now) (file_block block.now) (S.fetched source.old) (S.fetched source.new) }
+    ensures fetched { BlockFetched (S.content source.old) (meta_view selection.now.file.now) (asked (columns_of selection.now.columns) left) (file_block block.now) left (S.fetched source.old) (S.fetched source.new) }
     ensures kept { SourceKept S.content S.faults S.references source.old source.new }
     ensures sink { SinkKept W.faults W.wants W.references sink.old sink.new }
 {
-    let batch = read_block(alloc, source, block, file, scratch)?;
+    let batch = read_selected(alloc, source, block, selection, left, scratch)?;
     let rows = batch.height();
     let message = batch_message(alloc, &batch)?;
     drop(batch);
@@ -58,23 +65,36 @@ fn send_block<S: Source, W: Sink>(
     })
 }
 
+/// How many rows are left of a limit behind some rows.
+fn rows_left(limit: Option<usize>, rows: u128) -> Option<usize>
+    ensures { result ≡ what_is_left limit rows }
+{
+    match limit {
+        None => None,
+        Some(limit) => Some((limit as u128).saturating_sub(rows) as usize),
+    }
+}
+
 /// Sends the blocks of a file, in their order, behind the schema's message of so many bytes.
 fn send_blocks<S: Source, W: Sink>(
     alloc: Global,
     source: &mut S,
     sink: &mut W,
-    file: &FileMetadata,
+    selection: &Selection<'_>,
+    limit: Option<usize>,
     schema_length: usize,
     encoding: Encoding,
 ) -> Result<Summary, IpcError>
-    requires built { IsBuilt (meta_view file.now) }
-    requires read { WasRead file.now }
-    requires whole { IsSize (S.content source.old) file.now.size }
-    ensures sent { IfOk result (λ s. IfSome (S.content source.old) (λ b. (start : Option (List ℕ)) → Begun b (meta_view file.now) encoding start (W.written sink.old) schema_length → SentBlocks b (meta_view file.now) (meta_view file.now).blocks encoding start (W.written sink.new) s)) }
-    ensures refused { IfErr result (λ e. IfSome (S.content source.old) (λ b. (start : Option (List ℕ)) → Begun b (meta_view file.now) encoding start (W.written sink.old) schema_length → Refused e b encoding start (W.written sink.new))) }
-    ensures small { IfOk result (λ s. s.bytes ≤ (length file.now.blocks.items + 1) * 2 ^ 64) }
+    requires selected { IsSelection selection.now }
+    requires right { columns_right (columns_of selection.now.columns) (width (meta_view selection.now.file.now).schema.fields) ≡ Ok tt }
+    requires built { IsBuilt (meta_view selection.now.file.now) (columns_of selection.now.columns) }
+    requires read { WasRead selection.now.file.now }
+    requires whole { IsSize (S.content source.old) selection.now.file.now.size }
+    ensures sent { IfOk result (λ s. IfSome (S.content source.old) (λ b. (start : Option (List ℕ)) → Begun b (meta_view selection.now.file.now) (asked (columns_of selection.now.columns) limit) encoding start (W.written sink.old) schema_length → SentBlocks b (meta_view selection.now.file.now) (asked (columns_of selection.now.columns) limit) (meta_view selection.now.file.now).blocks encoding start (W.written sink.new) s)) }
+    ensures refused { IfErr result (λ e. IfSome (S.content source.old) (λ b. (start : Option (List ℕ)) → Begun b (meta_view selection.now.file.now) (asked (columns_of selection.now.columns) limit) encoding start (W.written sink.old) schema_length → Refused e b (asked (columns_of selection.now.columns) limit) encoding start (W.written sink.new))) }
+    ensures small { IfOk result (λ s. s.bytes ≤ (length selection.now.file.now.blocks.items + 1) * 2 ^ 64) }
     ensures cause { IfErr result (λ e. SendCause e (S.faults source.old) (S.faults source.new) (W.faults sink.old) (W.faults sink.new)) }
-    ensures fetched { BlocksFetched (S.content source.old) (meta_view file.now) (meta_view file.now).blocks (S.fetched source.old) (S.fetched source.new) }
+    ensures fetched { BlocksFetched (S.content source.old) (meta_view selection.now.file.now) (asked (columns_of selection.now.columns) limit) (meta_view selection.now.file.now).blocks (S.fetched source.old) (S.fetched source.new) }
     ensures kept { SourceKept S.content S.faults S.references source.old source.new }
     ensures sink { SinkKept W.faults W.wants W.references sink.old sink.new }
 {
@@ -84,8 +104,18 @@ fn send_blocks<S: Source, W: Sink>(
         rows: 0,
         bytes: schema_length as u128,
     };
-    for block in &file.blocks {
-        let sent = send_block(alloc, source, sink, block, file, &mut scratch, encoding)?;
+    for block in &selection.file.blocks {
+        let left = rows_left(limit, summary.rows);
+        let sent = send_block(
+            alloc,
+            source,
+            sink,
+            block,
+            selection,
+            left,
+            &mut scratch,
+            encoding,
+        )?;
         summary.batches += 1;
         summary.rows += sent.rows as u128;
         summary.bytes += sent.bytes as u128;
@@ -104,19 +134,21 @@ fn reads_dictionaries(file: &FileMetadata) -> bool
 fn begin_stream<W: Sink>(
     alloc: Global,
     sink: &mut W,
-    file: &FileMetadata,
+    selection: &Selection<'_>,
     encoding: Encoding,
 ) -> Result<usize, IpcError>
-    requires built { IsBuilt (meta_view file.now) }
-    requires read { WasRead file.now }
-    ensures begun { IfOk result (λ n. (b : List ℕ) → FileSays b (meta_view file.now) → Begun b (meta_view file.now) encoding (W.written sink.old) (W.written sink.new) n) }
-    ensures refused { IfErr result (λ e. (b : List ℕ) → FileSays b (meta_view file.now) → Refused e b encoding (W.written sink.old) (W.written sink.new)) }
+    requires selected { IsSelection selection.now }
+    requires right { columns_right (columns_of selection.now.columns) (width (meta_view selection.now.file.now).schema.fields) ≡ Ok tt }
+    requires built { IsBuilt (meta_view selection.now.file.now) (columns_of selection.now.columns) }
+    requires read { WasRead selection.now.file.now }
+    ensures begun { IfOk result (λ n. (b : List ℕ) (limit : Option ℕ) → FileSays b (meta_view selection.now.file.now) → Begun b (meta_view selection.now.file.now) (asked (columns_of selection.now.columns) limit) encoding (W.written sink.old) (W.written sink.new) n) }
+    ensures refused { IfErr result (λ e. (b : List ℕ) (limit : Option ℕ) → FileSays b (meta_view selection.now.file.now) → Refused e b (asked (columns_of selection.now.columns) limit) encoding (W.written sink.old) (W.written sink.new)) }
     ensures small { IfOk result (λ n. n < 2 ^ 63) }
     ensures cause { IfErr result (λ e. SendCause e 0 0 (W.faults sink.old) (W.faults sink.new)) }
     ensures sink { SinkKept W.faults W.wants W.references sink.old sink.new }
 {
-    let message = schema_message(alloc, file)?;
-    if reads_dictionaries(file) {
+    let message = schema_message(alloc, selection)?;
+    if reads_dictionaries(selection.file) {
         return Err(IpcError::Unsupported(Feature::NotYet));
     }
     put_text(alloc, sink, &message, encoding)?;
@@ -128,43 +160,76 @@ fn send_table<S: Source, W: Sink>(
     alloc: Global,
     source: &mut S,
     sink: &mut W,
-    file: &FileMetadata,
+    selection: &Selection<'_>,
+    limit: Option<usize>,
     encoding: Encoding,
 ) -> Result<Summary, IpcError>
-    requires built { IsBuilt (meta_view file.now) }
-    requires read { WasRead file.now }
-    requires whole { IsSize (S.content source.old) file.now.size }
-    ensures whole { IfOk result (λ s. IfSome (S.content source.old) (λ b. FileSays b (meta_view file.now) → Transcodes s b «all» (text_of encoding) (W.written sink.old) (W.written sink.new))) }
-    ensures refused { IfErr result (λ e. IfSome (S.content source.old) (λ b. FileSays b (meta_view file.now) → Refused e b encoding (W.written sink.old) (W.written sink.new))) }
+    requires selected { IsSelection selection.now }
+    requires right { columns_right (columns_of selection.now.columns) (width (meta_view selection.now.file.now).schema.fields) ≡ Ok tt }
+    requires built { IsBuilt (meta_view selection.now.file.now) (columns_of selection.now.columns) }
+    requires read { WasRead selection.now.file.now }
+    requires whole { IsSize (S.content source.old) selection.now.file.now.size }
+    ensures whole { IfOk result (λ s. IfSome (S.content source.old) (λ b. FileSays b (meta_view selection.now.file.now) → Transcodes s b (asked (columns_of selection.now.columns) limit) (text_of encoding) (W.written sink.old) (W.written sink.new))) }
+    ensures refused { IfErr result (λ e. IfSome (S.content source.old) (λ b. FileSays b (meta_view selection.now.file.now) → Refused e b (asked (columns_of selection.now.columns) limit) encoding (W.written sink.old) (W.written sink.new))) }
     ensures cause { IfErr result (λ e. SendCause e (S.faults source.old) (S.faults source.new) (W.faults sink.old) (W.faults sink.new)) }
-    ensures fetched { BlocksFetched (S.content source.old) (meta_view file.now) (meta_view file.now).blocks (S.fetched source.old) (S.fetched source.new) }
+    ensures fetched { BlocksFetched (S.content source.old) (meta_view selection.now.file.now) (asked (columns_of selection.now.columns) limit) (meta_view selection.now.file.now).blocks (S.fetched source.old) (S.fetched source.new) }
     ensures kept { SourceKept S.content S.faults S.references source.old source.new }
     ensures sink { SinkKept W.faults W.wants W.references sink.old sink.new }
 {
-    let begun = begin_stream(alloc, sink, file, encoding)?;
-    let mut summary = send_blocks(alloc, source, sink, file, begun, encoding)?;
+    let begun = begin_stream(alloc, sink, selection, encoding)?;
+    let mut summary = send_blocks(alloc, source, sink, selection, limit, begun, encoding)?;
     put_text(alloc, sink, &END_MARK, encoding)?;
     summary.bytes += 8;
     Ok(summary)
 }
 
-/// Reads a file and sends its table as one stream.
+/// Sends the columns of a file that are asked for, once its metadata was read.
+fn send_columns<'x, S: Source, W: Sink>(
+    alloc: Global,
+    source: &mut S,
+    sink: &mut W,
+    file: &'x FileMetadata,
+    columns: Option<&'x [usize]>,
+    limit: Option<usize>,
+    encoding: Encoding,
+) -> Result<Summary, IpcError>
+    requires read { WasRead file.now }
+    requires whole { IsSize (S.content source.old) file.now.size }
+    ensures whole { IfOk result (λ s. IfSome (S.content source.old) (λ b. FileSays b (meta_view file.now) → Transcodes s b (asked (columns_of columns.entry) limit) (text_of encoding) (W.written sink.old) (W.written sink.new))) }
+    ensures refused { IfErr result (λ e. IfSome (S.content source.old) (λ b. FileSays b (meta_view file.now) → Refused e b (asked (columns_of columns.entry) limit) encoding (W.written sink.old) (W.written sink.new))) }
+    ensures cause { IfErr result (λ e. SendCause e (S.faults source.old) (S.faults source.new) (W.faults sink.old) (W.faults sink.new)) }
+    ensures fetched { BlocksFetched (S.content source.old) (meta_view file.now) (asked (columns_of columns.entry) limit) (meta_view file.now).blocks (S.fetched source.old) (S.fetched source.new) }
+    ensures kept { SourceKept S.content S.faults S.references source.old source.new }
+    ensures sink { SinkKept W.faults W.wants W.references sink.old sink.new }
+{
+    let projection = project(alloc, &file.schema, columns)?;
+    if !is_built(&file.schema, columns) {
+        return Err(IpcError::Unsupported(missing_feature(&file.schema, columns)));
+    }
+    let selection = Selection {
+        file,
+        columns,
+        projection: projection.as_ref(),
+    };
+    send_table(alloc, source, sink, &selection, limit, encoding)
+}
+
+/// Reads a file and sends its table, in the columns and the rows that are asked for, as one stream.
 pub(crate) fn send_file<S: Source, W: Sink>(
     alloc: Global,
     source: &mut S,
     sink: &mut W,
+    columns: Option<&[usize]>,
+    limit: Option<usize>,
     encoding: Encoding,
 ) -> Result<Summary, IpcError>
-    ensures whole { IfOk result (λ s. IfSome (S.content source.old) (λ b. Transcodes s b «all» (text_of encoding) (W.written sink.old) (W.written sink.new))) }
-    ensures refused { IfErr result (λ e. IfSome (S.content source.old) (λ b. Refused e b encoding (W.written sink.old) (W.written sink.new))) }
+    ensures whole { IfOk result (λ s. IfSome (S.content source.old) (λ b. Transcodes s b (asked (columns_of columns.entry) limit) (text_of encoding) (W.written sink.old) (W.written sink.new))) }
+    ensures refused { IfErr result (λ e. IfSome (S.content source.old) (λ b. Refused e b (asked (columns_of columns.entry) limit) encoding (W.written sink.old) (W.written sink.new))) }
     ensures cause { IfErr result (λ e. SendCause e (S.faults source.old) (S.faults source.new) (W.faults sink.old) (W.faults sink.new)) }
-    ensures fetched { FileFetched (S.content source.old) «all» (S.fetched source.old) (S.fetched source.new) }
+    ensures fetched { FileFetched (S.content source.old) (asked (columns_of columns.entry) limit) (S.fetched source.old) (S.fetched source.new) }
     ensures kept { SourceKept S.content S.faults S.references source.old source.new }
     ensures sink { SinkKept W.faults W.wants W.references sink.old sink.new }
 {
     let file = read_plain_metadata(alloc, source)?;
-    if !is_built(&file) {
-        return Err(IpcError::Unsupported(missing_feature(&file.schema)));
-    }
-    send_table(alloc, source, sink, &file, encoding)
+    send_columns(alloc, source, sink, &file, columns, limit, encoding)
 }

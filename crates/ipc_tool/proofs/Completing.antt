@@ -1,9 +1,8 @@
 -- Where the source means a table, or says a schema, and no device failed, few refusals are left.
-use Rattle.std.proofs.Common.{◌≡◌, ℕ, Bool, ◌<◌, ◌^◌, ◌⊎◌, inl, inr, List, length, Option, None, Some, IfSome, IsSome, IsSomeAnd, IsNone, option_map, subst, ap, ◌∙◌, refl, arith, length-append}
+use Rattle.std.proofs.Common.{◌≡◌, ℕ, ◌<◌, ◌^◌, ◌⊎◌, inl, inr, List, length, Option, None, Some, IfSome, IsSome, IsSomeAnd, IsNone, option_map, subst, ap, ◌∙◌, refl, arith, length-append}
 use Rattle.std.specs.Prelude.{IsOk}
 use Rattle.std.specs.Io.KnownBytes.{Consumes}
 use Rattle.arrow_spec.specs.declared.error.IpcError.TheVariants as errors
-use Rattle.arrow_spec.specs.Files.{«all»}
 use Rattle.transcode_laws.specs.Meaning.{file_table}
 use Rattle.arrow_spec.specs.SchemaText.{schema_text_of}
 use Rattle.arrow_spec.specs.Words.{Command, SchemaAsked, bytes_of_hex, StreamAsked, Held, source_of}
@@ -11,7 +10,8 @@ use Rattle.ipc_io.specs.Outside.{Stands}
 use Rattle.ipc_tool.specs.declared.refusal.Refusal.{Refusal}
 use Rattle.ipc_tool.specs.declared.refusal.Refusal.TheVariants.{Ipc, Words, NotHex, InputTooLong, NoName}
 use Rattle.ipc_tool.specs.Refusal.{number_of}
-use Rattle.ipc_tool.specs.Request.{stream_asked, schema_asked}
+use Rattle.ipc_tool.specs.Request.{stream_asked, schema_asked, table_asked}
+use Rattle.ipc_tool.specs.declared.request.StreamOptions.{StreamOptions}
 use Rattle.ipc_tool.specs.Input.{TakesTooMany, IsNoHex, HexCause}
 use Rattle.ipc_tool.specs.Run.{Outside, MayBe, NoneFailed, HasMeaning, HasText, IsMissing, IsOfOpening, name_in, IsLeft, IsComplete, IsTold}
 use Rattle.ipc_files.proofs.Refusing.{stood}
@@ -59,8 +59,8 @@ hex_left P (Ipc errors.TooLarge) rest rest' faults faults' c h f = absurd c
 hex_left P Words rest rest' faults faults' c h f = absurd c
 hex_left P NoName rest rest' faults faults' c h f = absurd c
 
-pub read_left : (e : Refusal) (raw : Bool) (old new : Outside) → HexCause e old.rest new.rest old.input_faults new.input_faults → IsComplete e (stream_asked raw None) old new
-read_left e raw old new c = λ h f. inl (hex_left (λ b. IsSome (file_table b «all»)) e old.rest new.rest old.input_faults new.input_faults c h f.input)
+pub read_left : (e : Refusal) (options : StreamOptions) (old new : Outside) → HexCause e old.rest new.rest old.input_faults new.input_faults → IsComplete e (stream_asked options None) old new
+read_left e options old new c = λ h f. inl (hex_left (λ b. IsSome (file_table b (table_asked options))) e old.rest new.rest old.input_faults new.input_faults c h f.input)
 
 pub schema_left : (e : Refusal) (old new : Outside) → HexCause e old.rest new.rest old.input_faults new.input_faults → IsTold e (schema_asked None) old new
 schema_left e old new c = λ h f. hex_left (λ b. IsOk (schema_text_of b)) e old.rest new.rest old.input_faults new.input_faults c h f.input

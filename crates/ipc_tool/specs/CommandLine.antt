@@ -45,7 +45,6 @@ pub record Ran (status : ℕ) (words : List (List ℕ)) (old new : Outside) (not
   pub write_fault : status ≡ 12 → Rose old.output_faults new.output_faults
   pub words_are : status ≡ 14 → IsNone (asked_of words)
   pub no_request : IsNone (asked_of words) → (status ≡ 14) ⊎ (status ≡ 13)
-  pub later_words : IsSome (asked_of words) → IsNone (command_of words) → (status ≡ 2) ⊎ (status ≡ 13)
   pub not_hex : status ≡ 15 → IsSomeAnd (command_of words) (λ c. IsNone (name_in c) × IsNoHex old.rest new.rest)
   pub too_long : status ≡ 16 → IsSomeAnd (command_of words) (λ c. IsNone (name_in c) × TakesTooMany old.rest new.rest)
   pub no_name : status ≡ 17 → IsSomeAnd (command_of words) (λ c. IsSomeAnd (name_in c) (Lacks old.held))

@@ -1,4 +1,4 @@
--- The commands that are built.
+-- The commands that are read.
 use Rattle.std.specs.Prelude.{option_map}
 use Rattle.arrow_spec.specs.Words.{Command as Asked, of_schema, of_stream}
 use Rattle.ipc_words.specs.Views.{text}
@@ -8,5 +8,5 @@ use Rattle.ipc_tool.specs.declared.request.Command.TheVariants as command
 
 -- what each asks for
 abbrev pub asked_command : Command → Asked
-asked_command (command.Stream raw name) = of_stream (stream_asked raw (option_map text name))
+asked_command (command.Stream options name) = of_stream (stream_asked options (option_map text name))
 asked_command (command.Schema name) = of_schema (schema_asked (option_map text name))

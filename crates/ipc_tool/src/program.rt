@@ -14,7 +14,7 @@ ghost use Rattle.arrow_spec.specs.declared.error.IpcError.TheVariants.{TooLarge}
 use crate::input::read_hex;
 use crate::note::note_refusal;
 use crate::refusal::Refusal;
-use crate::request::{Command, read_command};
+use crate::request::{Command, StreamOptions, read_command};
 use crate::schema_output::write_schema;
 use crate::stream_output::write_stream;
 use ipc_schema::{Failed, Feed, Got, Shelf, Sink, Source};
@@ -53,18 +53,18 @@ fn stream_from_input<I: Feed, W: Sink>(
     alloc: Global,
     input: &mut I,
     output: &mut W,
-    raw: bool,
+    options: &StreamOptions,
 ) -> Result<(), Refusal>
-    ensures whole { OnOk result (IsWhole (stream_asked raw None)
+    ensures whole { OnOk result (IsWhole (stream_asked options.now None)
         (beside_shelf I.rest I.faults W.written W.faults input.old output.old)
         (beside_shelf I.rest I.faults W.written W.faults input.new output.new)) }
-    ensures part { IfErr result (λ e. AddsPartOf e (stream_asked raw None)
+    ensures part { IfErr result (λ e. AddsPartOf e (stream_asked options.now None)
         (beside_shelf I.rest I.faults W.written W.faults input.old output.old)
         (beside_shelf I.rest I.faults W.written W.faults input.new output.new)) }
-    ensures cause { IfErr result (λ e. RequestCause e (stream_asked raw None)
+    ensures cause { IfErr result (λ e. RequestCause e (stream_asked options.now None)
         (beside_shelf I.rest I.faults W.written W.faults input.old output.old)
         (beside_shelf I.rest I.faults W.written W.faults input.new output.new)) }
-    ensures complete { IfErr result (λ e. IsComplete e (stream_asked raw None)
+    ensures complete { IfErr result (λ e. IsComplete e (stream_asked options.now None)
         (beside_shelf I.rest I.faults W.written W.faults input.old output.old)
         (beside_shelf I.rest I.faults W.written W.faults input.new output.new)) }
     ensures at_end { OnOk result (IsAtEnd (I.rest input.new)) }
@@ -74,7 +74,7 @@ fn stream_from_input<I: Feed, W: Sink>(
     ensures untouched { IfErr result (λ e. 14 ≤ number_of e → Keeps (W.written output.old) (W.written output.new)) }
 {
     let bytes = read_hex(alloc, input)?;
-    write_stream(alloc, &mut Bytes { bytes }, output, raw)?;
+    write_stream(alloc, &mut Bytes { bytes }, output, options)?;
     Ok(())
 }
 
@@ -84,18 +84,18 @@ fn stream_from_shelf<H: Shelf, W: Sink>(
     shelf: &mut H,
     name: &str,
     output: &mut W,
-    raw: bool,
+    options: &StreamOptions,
 ) -> Result<(), Refusal>
-    ensures whole { OnOk result (IsWhole (stream_asked raw (Some name.now))
+    ensures whole { OnOk result (IsWhole (stream_asked options.now (Some name.now))
         (beside_input H.held H.faults W.written W.faults shelf.old output.old)
         (beside_input H.held H.faults W.written W.faults shelf.new output.new)) }
-    ensures part { IfErr result (λ e. AddsPartOf e (stream_asked raw (Some name.now))
+    ensures part { IfErr result (λ e. AddsPartOf e (stream_asked options.now (Some name.now))
         (beside_input H.held H.faults W.written W.faults shelf.old output.old)
         (beside_input H.held H.faults W.written W.faults shelf.new output.new)) }
-    ensures cause { IfErr result (λ e. RequestCause e (stream_asked raw (Some name.now))
+    ensures cause { IfErr result (λ e. RequestCause e (stream_asked options.now (Some name.now))
         (beside_input H.held H.faults W.written W.faults shelf.old output.old)
         (beside_input H.held H.faults W.written W.faults shelf.new output.new)) }
-    ensures complete { IfErr result (λ e. IsComplete e (stream_asked raw (Some name.now))
+    ensures complete { IfErr result (λ e. IsComplete e (stream_asked options.now (Some name.now))
         (beside_input H.held H.faults W.written W.faults shelf.old output.old)
         (beside_input H.held H.faults W.written W.faults shelf.new output.new)) }
     ensures missing { IsMissing (Some name.now) (H.held shelf.old) → IsErrAnd result IsOfOpening }
@@ -105,7 +105,7 @@ fn stream_from_shelf<H: Shelf, W: Sink>(
     ensures untouched { IfErr result (λ e. 14 ≤ number_of e → Keeps (W.written output.old) (W.written output.new)) }
 {
     let mut file = shelf.open_file(name)?;
-    let done = write_stream(alloc, &mut file, output, raw);
+    let done = write_stream(alloc, &mut file, output, options);
     shelf.close_file(file);
     done?;
     Ok(())
@@ -214,22 +214,23 @@ fn work<H: Shelf, I: Feed, W: Sink>(
     ensures not_read { IfErr result (λ e. number_of e ≡ 11 → IfSome (command_of (texts words.now)) (λ c. IsNone (name_in c) → Keeps (W.written output.old) (W.written output.new))) }
 {
     match read_command(alloc, words)? {
-        Command::Stream { raw, name: None } => stream_from_input(alloc, input, output, raw),
-        Command::Stream {
-            raw,
-            name: Some(name),
-        } => stream_from_shelf(alloc, shelf, name, output, raw),
-        Command::Schema { name: None } => schema_from_input(alloc, input, output),
-        Command::Schema { name: Some(name) } => schema_from_shelf(alloc, shelf, name, output),
+        Command::Stream { options, name } => match name {
+            None => stream_from_input(alloc, input, output, &options),
+            Some(name) => stream_from_shelf(alloc, shelf, name, output, &options),
+        },
+        Command::Schema { name } => match name {
+            None => schema_from_input(alloc, input, output),
+            Some(name) => schema_from_shelf(alloc, shelf, name, output),
+        },
     }
 }
 
 /// Answers what the words ask for.
 ///
 /// The file is what stands on the shelf under NAME, which is opened, and closed before the answer. Without NAME, or with `-`, it is what the input's hex text stands for, which is read to its end.
-/// `stream` adds to the output one stream that means what the file means: its bytes with `--raw`, and else their hex text and a line feed.
+/// `stream` adds to the output one stream that means what the file means: its bytes with `--raw`, and else their hex text and a line feed. With `--columns` it has the columns of these numbers, in this order, and with `--limit` at most so many rows in all.
 /// `schema` adds the text of the schema that the file's footer says, for columns of all types and in either byte order, as it is and in one put.
-/// Columns and a limit are not built: they are refused before anything is read or opened. Words that ask for help or the version are no request here.
+/// Words that ask for help or the version are no request here.
 /// The status is 0 then, and else that of a refusal, of which one line is noted: `refused`, the status, the name. What the notes answer changes nothing.
 pub fn run<H: Shelf, I: Feed, W: Sink, N: Sink>(
     alloc: Global,
@@ -275,13 +276,12 @@ pub fn run<H: Shelf, I: Feed, W: Sink, N: Sink>(
     ensures write_fault { result ≡ 12 → Rose (W.faults output.old) (W.faults output.new) }
     ensures words { result ≡ 14 → IsNone (asked_of (texts words.now)) }
     ensures no_request { IsNone (asked_of (texts words.now)) → (result ≡ 14) ⊎ (result ≡ 13) }
-    ensures later_words { IsSome (asked_of (texts words.now)) → IsNone (command_of (texts words.now)) → (result ≡ 2) ⊎ (result ≡ 13) }
     ensures not_hex { result ≡ 15 → IsSomeAnd (command_of (texts words.now)) (λ c. IsNone (name_in c) × IsNoHex (I.rest input.old) (I.rest input.new)) }
     ensures too_long { result ≡ 16 → IsSomeAnd (command_of (texts words.now)) (λ c. IsNone (name_in c) × TakesTooMany (I.rest input.old) (I.rest input.new)) }
     ensures no_name { result ≡ 17 → IsSomeAnd (command_of (texts words.now)) (λ c. IsSomeAnd (name_in c) (Lacks (H.held shelf.old))) }
     ensures missing { IfSome (command_of (texts words.now)) (λ c. IsMissing (name_in c) (H.held shelf.old) → (result ≡ 17) ⊎ (result ≡ 11) ⊎ (result ≡ 13)) }
 
-    // What was refused before a file was read added nothing. Words that are no request, or one that is not built, are refused before the input is read or a name opened; with a name the input is not read, and without one nothing is opened.
+    // What was refused before a file was read added nothing. Words that are no request are refused before the input is read or a name opened; with a name the input is not read, and without one nothing is opened.
     ensures untouched { 14 ≤ result → Keeps (W.written output.old) (W.written output.new) }
     ensures not_read { result ≡ 11 → IfSome (command_of (texts words.now)) (λ c. IsNone (name_in c) → Keeps (W.written output.old) (W.written output.new)) }
     ensures unread { MatchOption (command_of (texts words.now)) (input.new ≡ input.old) (λ c. IsSome (name_in c) → input.new ≡ input.old) }

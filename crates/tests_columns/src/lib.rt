@@ -18,6 +18,8 @@ mod nested;
 #[cfg(test)]
 mod nests;
 #[cfg(test)]
+mod projections;
+#[cfg(test)]
 mod round_trips;
 #[cfg(test)]
 mod steps;

@@ -1,5 +1,6 @@
 //! Files of one column, in parts, as hex text (Arrow Columnar Format, "IPC File Format").
 use crate::kinds::Piece;
+use crate::selection_parts::Selected;
 use std::alloc::Global;
 use std::test::Fail;
 
@@ -71,6 +72,8 @@ pub(crate) enum Part {
     HalfByte,
     /// A part of a file of other columns.
     Kind(Piece),
+    /// A whole file or stream.
+    Selected(Selected),
 }
 
 impl Part {
@@ -135,6 +138,7 @@ impl Part {
             Part::NotHex => b"4G",
             Part::HalfByte => b"4",
             Part::Kind(piece) => piece.text(),
+            Part::Selected(selected) => selected.text(),
         }
     }
 }

@@ -20,6 +20,10 @@ mod refusal_texts;
 #[cfg(test)]
 mod runs;
 #[cfg(test)]
+mod selection_parts;
+#[cfg(test)]
+mod selections;
+#[cfg(test)]
 mod transcodes;
 #[cfg(test)]
 mod words;

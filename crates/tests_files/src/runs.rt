@@ -1,6 +1,7 @@
 //! Runs over memory, from words to status.
-use crate::files::{ONE_COLUMN, Part, text_of};
+use crate::files::{ONE_COLUMN, Part, TWO_BATCHES, text_of};
 use crate::kinds::{FLOATS, NULLS, Piece, STRINGS, THREE};
+use crate::selection_parts::Selected;
 use ipc_schema::{MemoryFeed, MemoryShelf, MemorySink};
 use ipc_tool::run;
 use std::alloc::Global;
@@ -139,11 +140,11 @@ const CASES: &[Case] = &[
         ..REFUSED
     },
     Case {
-        title: "a word that is not built yet, before the input",
-        words: &["stream", "--raw", "--limit", "1", "x"],
+        title: "a limit that is no number, before the input",
+        words: &["stream", "--raw", "--limit", "x"],
         failing_pulls: &[0],
-        status: 2,
-        notes: b"refused 2 NotYet\n",
+        status: 14,
+        notes: b"refused 14 Words\n",
         ..REFUSED
     },
     Case {
@@ -181,6 +182,41 @@ const OF_KINDS: &[Case] = &[
         input: FLOATS,
         status: 2,
         notes: b"refused 2 Float\n",
+        ..REFUSED
+    },
+];
+
+const OF_SELECTIONS: &[Case] = &[
+    Case {
+        title: "columns in the order asked",
+        words: &["stream", "--columns", "2,0"],
+        input: THREE,
+        text: &[Part::Selected(Selected::LastAndFirst), Part::LineFeed],
+        added: 1105,
+        ..WHOLE
+    },
+    Case {
+        title: "no columns",
+        words: &["stream", "--columns", ""],
+        input: TWO_BATCHES,
+        text: &[Part::Selected(Selected::NoColumns), Part::LineFeed],
+        added: 497,
+        ..WHOLE
+    },
+    Case {
+        title: "rows up to a limit over both batches",
+        words: &["stream", "--limit", "5", "-"],
+        input: TWO_BATCHES,
+        text: &[Part::Selected(Selected::FiveRows), Part::LineFeed],
+        added: 1153,
+        ..WHOLE
+    },
+    Case {
+        title: "a column twice",
+        words: &["stream", "--columns", "1,1"],
+        input: THREE,
+        status: 5,
+        notes: b"refused 5 Projection\n",
         ..REFUSED
     },
 ];
@@ -247,6 +283,11 @@ fn a_run_gives_its_text_its_status_and_its_note(rt: HostRuntime) -> Result<(), F
 #[test]
 fn a_run_gives_the_text_of_each_kind(rt: HostRuntime) -> Result<(), Fail> {
     run_cases(&rt, rt.alloc(), OF_KINDS)
+}
+
+#[test]
+fn a_run_gives_the_columns_and_rows_asked_for(rt: HostRuntime) -> Result<(), Fail> {
+    run_cases(&rt, rt.alloc(), OF_SELECTIONS)
 }
 
 #[test]

@@ -523,27 +523,3 @@ fn a_file_gives_its_stream_or_its_refusal(rt: HostRuntime) -> Result<(), Fail> {
 fn a_file_of_each_kind_gives_its_stream_or_its_refusal(rt: HostRuntime) -> Result<(), Fail> {
     transcode_cases(&rt, rt.alloc(), OF_KINDS)
 }
-
-/// What a request for columns or rows is answered, where nothing was put.
-fn answered(
-    alloc: Global,
-    columns: Option<&[usize]>,
-    limit: Option<usize>,
-) -> Result<Result<Summary, IpcError>, Fail> {
-    let mut source = source(alloc, &WHOLE)?;
-    let mut sink = MemorySink::new(alloc, None, Vec::new(alloc));
-    let answer = transcode(alloc, &mut source, &mut sink, columns, limit);
-    if sink.bytes().is_empty() {
-        Ok(answer)
-    } else {
-        Err(Fail::from("bytes were put"))
-    }
-}
-
-#[test]
-fn columns_and_a_limit_are_not_built_yet(rt: HostRuntime) -> Result<(), Fail> {
-    let refusal = Err(IpcError::Unsupported(Feature::NotYet));
-    assert!(rt; answered(rt.alloc(), Some(&[0]), None)? == refusal);
-    assert!(rt; answered(rt.alloc(), None, Some(3))? == refusal);
-    Ok(())
-}

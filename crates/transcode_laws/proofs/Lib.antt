@@ -8,9 +8,15 @@ pub mod Refusals
 pub mod Numbers
 pub mod Headers
 pub mod SoFar
+pub mod Everything
 pub mod SentFields
 pub mod Pieces
 pub mod LaidRows
 pub mod TreeLengths
 pub mod TopColumns
 pub mod ReadBatches
+pub mod ReadTables
+pub mod ChosenColumns
+pub mod AskedFeatures
+pub mod AskedSchemas
+pub mod RisingBatches

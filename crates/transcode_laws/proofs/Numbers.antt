@@ -1,36 +1,36 @@
 -- What is written of columns that were read has numbers of the format's widths, where the tables that were read have.
-use Rattle.std.proofs.Common.{◌≡◌, ℕ, zero, suc, ◌+◌, ◌-◌, ◌*◌, ◌^◌, ◌<◌, ◌≤◌, List, [], ◌∷◌, ◌++◌, length, Option, Some, None, Ok, refl, subst, arith, true, false, Bool, cond, pos, FitsSigned}
+use Rattle.std.proofs.Common.{◌≡◌, ℕ, zero, suc, ◌+◌, ◌-◌, ◌*◌, ◌^◌, ◌<◌, ◌≤◌, List, [], ◌∷◌, ◌++◌, length, Option, Some, None, Ok, refl, sym, subst, arith, true, false, Bool, cond, pos, FitsSigned}
 use Rattle.std.specs.Prelude.{nat_le, nat_lt, slice_get, ℤ, negsuc}
+use Rattle.std.specs.Prelude.{map as each_of}
 use Rattle.std.specs.Int.{w64}
 use Rattle.std.specs.List.{AllByRecursion}
 use Rattle.std.proofs.lemmas.Bool.{ltb-false}
-use Rattle.arrow_spec.specs.Flat.{Order}
 use Rattle.arrow_spec.specs.declared.error.IpcError.{IpcError}
 use Rattle.arrow_spec.specs.declared.error.IpcError.TheVariants.{Unsupported}
 use Rattle.arrow_spec.specs.declared.error.Feature.TheVariants as features
 use Rattle.arrow_spec.specs.declared.message.FieldNode.{FieldNode}
 use Rattle.arrow_spec.specs.declared.message.IpcBuffer.{IpcBuffer}
 use Rattle.arrow_spec.specs.declared.types.UnionMode.TheVariants.{Dense, Sparse}
-use Rattle.arrow_spec.specs.declared.types.IntervalUnit.TheVariants.{YearMonth, DayTime, MonthDayNano}
-use Rattle.arrow_spec.specs.Kinds.{Metadata, Kind, Fields, none, field, null, boolean, integer, float, date32, date64, time32, time64, timestamp, duration, interval, decimal, decimal256, binary, utf8, binary_view, utf8_view, fixed_size_binary, «list», fixed_size_list, struct, map, union, dictionary, extension, Offsets, small}
+use Rattle.arrow_spec.specs.declared.types.IntervalUnit.TheVariants.{YearMonth}
+use Rattle.arrow_spec.specs.Kinds.{Metadata, Kind, Fields, none, field, null, float, interval, decimal256, binary_view, utf8_view, «list», fixed_size_list, struct, map, union, extension, Offsets, small}
 use Rattle.arrow_spec.specs.declared.message.MetadataVersion.{MetadataVersion}
 use Rattle.arrow_spec.specs.Messages.{BatchHeader}
 use Rattle.arrow_spec.specs.Readings.{natural}
-use Rattle.arrow_spec.specs.Files.{TableBatch, batch_of_tables, record_batch_of, to_read, all_asked}
+use Rattle.arrow_spec.specs.Files.{Asked, TableBatch, batch_of_tables, record_batch_of, share, to_read}
 use Rattle.arrow_spec.specs.declared.error.IpcError.TheVariants.{OutOfSpec}
 use Rattle.arrow_spec.specs.declared.error.OutOfSpecKind.TheVariants as kinds
 use Rattle.arrow_spec.specs.Counts.{RecordBatch, Place, after, count_at, first_place, inside, is_negative, magnitude, magnitude_or_0, union_buffers, Written}
 use Rattle.arrow_spec.specs.Cells.{Cell}
 use Rattle.arrow_spec.specs.Arrays.{Dictionaries, node_of, offset, range_of, range_or_none, valid}
-use Rattle.arrow_spec.specs.Faults.{array_faults, child_faults, column_faults, cause, fixed_faults, is_big, node_causes, node_faults, numbers_faults, offsets_faults, range_faults, validity_faults, view_parts_faults, view_text_faults, views_faults}
-use Rattle.arrow_spec.specs.Columns.{columns_at}
-use Rattle.arrow_spec.specs.Sent.{all_written, columns_written, compacted, compacted_written, needs_compaction, null_count, parts_written, top_views_written, top_written, view_length, views_written, written, written_part}
+use Rattle.arrow_spec.specs.Faults.{array_faults, child_faults, cause, fixed_faults, is_big, node_causes, node_faults, numbers_faults, offsets_faults, range_faults, validity_faults, view_parts_faults, view_text_faults, views_faults}
+use Rattle.arrow_spec.specs.Columns.{columns_at, is_chosen, stands_in}
+use Rattle.arrow_spec.specs.Sent.{all_written, columns_written, compacted, compacted_written, needs_compaction, null_count, parts_written, top_views_written, top_written, view_length, views_written, written, written_as_asked, written_at, written_part}
 use Rattle.arrow_spec.proofs.Fewer.{cause-none, none_first, none_second, offset-fewer, sound_first, sound_second}
 use Rattle.arrow_spec.proofs.MessageTables.{fits_pos}
 use Rattle.arrow_spec.specs.Bodies.{BufferFits, NodeFits}
-use Rattle.arrow_spec.proofs.Projection.{place-ok}
-use Rattle.arrow_spec.proofs.ReadPairs.{same_read, through}
 use Rattle.transcode_laws.specs.Files.{HeaderFits}
+use Rattle.transcode_laws.proofs.ChosenColumns.{there, not_there, column_at, stands_first, stands_later}
+use Rattle.transcode_laws.proofs.ReadTables.{share_below, tables_read}
 
 -- ── the tables ──
 
@@ -105,7 +105,7 @@ pub record HaveWidth (nodes : List FieldNode) (views : List ℕ) : Type 0 where
 abbrev pub WrittenFits : Written → Type 0
 WrittenFits w = HaveWidth w.nodes w.views
 
-all_both : {A : Type 0} (P : A → Type 0) (xs ys : List A) → AllByRecursion P xs → AllByRecursion P ys → AllByRecursion P (xs ++ ys)
+pub all_both : {A : Type 0} (P : A → Type 0) (xs ys : List A) → AllByRecursion P xs → AllByRecursion P ys → AllByRecursion P (xs ++ ys)
 all_both P [] ys h k = k
 all_both P (x ∷ xs) ys h k = (h.0, all_both P xs ys h.1 k)
 
@@ -255,12 +255,26 @@ top_fits m d utf8_view p (suc n) fit h = top_views_fit m p (suc n) fit (sound_fi
 top_fits m d (extension name metadata k) p rows fit h = top_fits m d k p rows fit h
 top_fits m d k p rows fit h = part_fits m d k p rows 0 rows fit h (λ positive. omega arith)
 
-columns_fit : (m : RecordBatch) (d : Dictionaries) (fs : Fields) (c : ℕ) (p : Place) (rows : ℕ) (xs : List (List Cell)) → TablesHaveWidth m → columns_at m d None fs c p rows rows ≡ Ok xs → WrittenFits (all_written (columns_written m None fs c p rows))
-unfolding columns_at column_faults
-columns_fit m d none c p rows xs fit h = nothing_fits
-columns_fit m d (field name nullable metadata k others) c p rows xs fit h =
-    through _ _ xs h λ u fits h1. through _ _ xs h1 λ rest rest_are h2.
-    also_fits (top_fits m d k p rows fit (none_second _ _ (place-ok _ fits))) (columns_fit m d others (suc c) (after m k p) rows rest fit rest_are)
+-- ── columns ──
+
+-- a column that is asked for
+column_fits : (m : RecordBatch) (d : Dictionaries) (asked : Option (List ℕ)) (fs : Fields) (p : Place) (rows few : ℕ) (cells : List (List Cell)) (c : ℕ) → TablesHaveWidth m → columns_at m d asked fs 0 p rows few ≡ Ok cells → is_chosen asked c ≡ true → WrittenFits (written_at (columns_written m asked fs 0 p few) c)
+column_fits m d asked fs p rows few cells c fit h is = elim (column_at m d asked fs 0 p rows few cells c c h (omega arith) is) [
+  | there name nullable metadata k at same read w fine ↦ subst WrittenFits (sym w) (top_fits m d k at few fit fine)
+  | not_there read w ↦ subst WrittenFits (sym w) nothing_fits
+]
+
+all_fit : (ws : List Written) → ((i : ℕ) → WrittenFits (written_at ws i)) → WrittenFits (all_written ws)
+all_fit [] h = nothing_fits
+all_fit (w ∷ ws) h = also_fits (h 0) (all_fit ws (λ i. h (suc i)))
+
+those_fit : (ws : List Written) (cs : List ℕ) → ((c : ℕ) → stands_in cs c ≡ true → WrittenFits (written_at ws c)) → WrittenFits (all_written (each_of (λ c. written_at ws c) cs))
+those_fit ws [] h = nothing_fits
+those_fit ws (c ∷ cs) h = also_fits (h c (stands_first c cs)) (those_fit ws cs (λ x is. h x (stands_later c x cs is)))
+
+asked_fit : (asked : Option (List ℕ)) (ws : List Written) → ((c : ℕ) → is_chosen asked c ≡ true → WrittenFits (written_at ws c)) → WrittenFits (written_as_asked asked ws)
+asked_fit None ws h = all_fit ws (λ c. h c refl)
+asked_fit (Some cs) ws h = those_fit ws cs h
 
 -- ── a batch ──
 
@@ -269,11 +283,13 @@ natural_small (pos k) n fit h = let e : k ≡ n = cc in subst (λ j. j < 2 ^ 63)
 natural_small (negsuc k) n fit h = cc
 
 -- the rows, nodes and view counts of a batch that was read
-pub batch_fits : (o : Order) (fs : Fields) (most : ℕ) (v : MetadataVersion) (custom : Metadata) (tables : BatchHeader) (body : List ℕ) (x : TableBatch) → HeaderFits tables → batch_of_tables to_read (all_asked o fs most) v custom tables body None ≡ Ok x
-    → (x.rows < 2 ^ 63) × WrittenFits (all_written (columns_written (record_batch_of o v tables body) None fs 0 first_place x.rows))
-unfolding batch_of_tables
-batch_fits o fs most v custom tables body x fit h =
-    through _ _ x h λ u compression h1. through _ _ x h1 λ rows rows_are h2. through _ _ x h2 λ u' negative h3. through _ _ x h3 λ u'' sum h4. through _ _ x h4 λ columns columns_are h5. through _ _ x h5 λ u''' size h6.
-    let m : RecordBatch = record_batch_of o v tables body in
+pub batch_fits : (a : Asked) (v : MetadataVersion) (custom : Metadata) (tables : BatchHeader) (body : List ℕ) (left : Option ℕ) (x : TableBatch) → HeaderFits tables → batch_of_tables to_read a v custom tables body left ≡ Ok x
+    → (x.rows < 2 ^ 63) × WrittenFits (written_as_asked a.columns (columns_written (record_batch_of a.order v tables body) a.columns a.fields 0 first_place x.rows))
+batch_fits a v custom tables body left x fit h =
+    let m : RecordBatch = record_batch_of a.order v tables body in
+    let t = tables_read a v custom tables body left x h in
+    let few = share left t.rows in
     let width : TablesHaveWidth m = record { nodes = fit.nodes; buffers = fit.buffers; views = fit.views } in
-    subst (λ (y : TableBatch). (y.rows < 2 ^ 63) × WrittenFits (all_written (columns_written m None fs 0 first_place y.rows))) (same_read _ x h6) (natural_small tables.length rows fit.rows rows_are, columns_fit m [] fs 0 first_place rows columns width columns_are)
+    let small : few < 2 ^ 63 = omega (arith, natural_small tables.length t.rows fit.rows t.count, share_below left t.rows) in
+    let each : (c : ℕ) → is_chosen a.columns c ≡ true → WrittenFits (written_at (columns_written m a.columns a.fields 0 first_place few) c) = λ c is. column_fits m a.dictionaries a.columns a.fields first_place t.rows few t.cells c width t.columns is in
+    subst (λ (y : TableBatch). (y.rows < 2 ^ 63) × WrittenFits (written_as_asked a.columns (columns_written m a.columns a.fields 0 first_place y.rows))) t.is (small, asked_fit a.columns (columns_written m a.columns a.fields 0 first_place few) each)

@@ -1,36 +1,36 @@
--- A batch of the columns that were read is one that was read to be sent.
-use Rattle.std.proofs.Common.{◌≡◌, ℕ, suc, List, [], Bool, true, false, None, Ok, map, cond, refl, sym, ap, arith, subst, ◌∙◌}
+-- A batch of columns that were read by their kinds is one that was read to be sent.
+use Rattle.std.proofs.Common.{◌≡◌, ℕ, suc, List, [], ◌∷◌, Bool, true, false, Option, None, Some, Ok, map, cond, refl, sym, ap, arith, subst, ◌∙◌}
 use Rattle.std.proofs.lemmas.Bool.{and_parts}
-use Rattle.arrow_spec.specs.Flat.{Order}
 use Rattle.arrow_spec.specs.declared.message.MetadataVersion.{MetadataVersion}
 use Rattle.arrow_spec.specs.Readings.{Reading, ◌>>=◌}
-use Rattle.arrow_spec.specs.Kinds.{Fields, none, field}
+use Rattle.arrow_spec.specs.Kinds.{Kind, Fields, Metadata, none, field}
 use Rattle.arrow_spec.specs.Cells.{Cell}
-use Rattle.arrow_spec.specs.Counts.{RecordBatch, Place, after, first_place}
+use Rattle.arrow_spec.specs.Counts.{RecordBatch, Place, Written, after, first_place}
 use Rattle.arrow_spec.specs.Arrays.{Dictionaries}
-use Rattle.arrow_spec.specs.Faults.{column_faults}
-use Rattle.arrow_spec.specs.Columns.{columns_at}
+use Rattle.arrow_spec.specs.Faults.{array_faults, column_faults}
+use Rattle.arrow_spec.specs.Columns.{columns_at, is_chosen, stands_in}
 use Rattle.arrow_spec.specs.Messages.{BatchHeader}
-use Rattle.arrow_spec.specs.Files.{TableBatch, batch_of_tables, if_sent, record_batch_of, to_read, to_send, all_asked}
-use Rattle.arrow_spec.specs.Sent.{all_written, columns_written, may_be_sent}
+use Rattle.arrow_spec.specs.Files.{Asked, TableBatch, batch_of_tables, fields_as_asked, fields_asked, if_sent, record_batch_of, share, to_read, to_send}
+use Rattle.arrow_spec.specs.Sent.{all_written, also_written, columns_written, may_be_sent, top_written, written_as_asked, written_at}
 use Rattle.arrow_spec.proofs.Fewer.{none_second}
 use Rattle.arrow_spec.proofs.Projection.{place-ok}
-use Rattle.arrow_spec.proofs.SentMessages.{tables_sent}
-use Rattle.arrow_spec.proofs.ReadPairs.{same_read, through}
+use Rattle.arrow_spec.proofs.ReadPairs.{through}
 use Rattle.arrow_buffers.specs.Views.{Views}
 use Rattle.arrow_arrays.specs.LeafParts.{binary_views, text_views}
 use Rattle.arrow_arrays.specs.Parts.{Parts, leaf, cells_in, kind_in}
 use Rattle.arrow_arrays.specs.Batches.{Batch}
-use Rattle.ipc_write_laws.specs.Streams.{AreOf, AreSent, WrittenBatch, table_batch, written_of}
-use Rattle.ipc_write_laws.proofs.SentBatches.{batch_sent, columns_sent}
+use Rattle.ipc_write_laws.specs.Streams.{AreOf, WrittenBatch, table_batch, written_of}
+use Rattle.ipc_write_laws.proofs.SentBatches.{written_of_cons}
 use Rattle.ipc_read_laws.specs.Batches.{columns_read}
 use Rattle.arrow_arrays.specs.Carried.{is_carried, are_carried}
 use Rattle.ipc_read_laws.specs.PartsRead.{parts_read}
 use Rattle.ipc_read_laws.proofs.TreesSound.{parts_sound}
 use Rattle.ipc_write.specs.Compaction.{compacted, views_need_compaction, top}
 use Rattle.ipc_write.specs.Batches.{top_column, written_batch_of}
-use Rattle.transcode_laws.specs.Files.{IsReadBatch}
-use Rattle.transcode_laws.proofs.Batches.{batch_sendable}
+use Rattle.transcode_laws.specs.Files.{ArePicked, AreAsked, IsReadBatch, asked_fields}
+use Rattle.transcode_laws.proofs.Batches.{batch_sendable, batch_sent}
+use Rattle.transcode_laws.proofs.ChosenColumns.{there, not_there, column_at, stands_first, stands_later}
+use Rattle.transcode_laws.proofs.ReadTables.{tables_read, tables_sent}
 use Rattle.transcode_laws.specs.ColumnLaws.{ReadBatchIsSendable, ReadBatchIsSent}
 use Rattle.transcode_laws.proofs.TopColumns.{top_sent}
 
@@ -46,62 +46,73 @@ kind_kept (leaf (binary_views q)) = kind_if (views_need_compaction q) q
 kind_kept (leaf (text_views q)) = kind_if (views_need_compaction q) q
 kind_kept q = refl
 
--- columns that were read are of the fields' kinds
-columns_are_of : (m : RecordBatch) (d : Dictionaries) (fs : Fields) (c : ℕ) (p : Place) (rows : ℕ) (xs : List (List Cell)) → are_carried fs ≡ true → columns_at m d None fs c p rows rows ≡ Ok xs → AreOf fs (map top_column (columns_read m fs p rows))
-unfolding columns_at column_faults
-columns_are_of m d none c p rows xs carried h = tt
-columns_are_of m d (field name nullable metadata k others) c p rows xs carried h =
-    let each = and_parts (is_carried k) (are_carried others) carried in
-    through _ _ xs h λ u fits h1. through _ _ xs h1 λ rest rest_are h2.
-    (sym (kind_kept (parts_read m k p rows) ∙ (parts_sound m d k p rows each.0 (none_second _ _ (place-ok _ fits))).same_kind), columns_are_of m d others (suc c) (after m k p) rows rest each.1 rest_are)
+-- a column that was read is of its field's kind, and is written as is to be written of the record batch
+one_sent : (m : RecordBatch) (d : Dictionaries) (k : Kind) (p : Place) (rows : ℕ) → is_carried k ≡ true → array_faults m d k p rows ≡ [] → (k ≡ (top_column (parts_read m k p rows)).kind) × (top_written m k p rows ≡ written_of (top_column (parts_read m k p rows) ∷ []))
+one_sent m d k p rows carried h = (sym (kind_kept (parts_read m k p rows) ∙ (parts_sound m d k p rows carried h).same_kind), top_sent m d k p rows carried h)
 
--- and are written as is to be written of the record batch
-columns_are_sent : (m : RecordBatch) (d : Dictionaries) (fs : Fields) (c : ℕ) (p : Place) (rows : ℕ) (xs : List (List Cell)) → are_carried fs ≡ true → columns_at m d None fs c p rows rows ≡ Ok xs → AreSent m rows fs (map top_column (columns_read m fs p rows)) p
+-- so are columns of some fields
+abbrev AreSentAs : Fields → Written → List Parts → Type 0
+AreSentAs fs w ps = AreOf fs (map top_column ps) × (w ≡ written_of (map top_column ps))
+
+one_before : (name : List ℕ) (nullable : Bool) (metadata : Metadata) (k : Kind) (fs : Fields) (v w : Written) (q : Parts) (ps : List Parts) → (k ≡ (top_column q).kind) × (v ≡ written_of (top_column q ∷ [])) → AreSentAs fs w ps → AreSentAs (field name nullable metadata k fs) (also_written v w) (q ∷ ps)
+one_before name nullable metadata k fs v w q ps one rest = ((one.0, rest.0), rw (one.1, rest.1) (sym (written_of_cons (top_column q) (map top_column ps))))
+
+-- all columns
+all_sent : (m : RecordBatch) (d : Dictionaries) (fs : Fields) (c : ℕ) (p : Place) (rows few : ℕ) (cells : List (List Cell)) → columns_at m d None fs c p rows few ≡ Ok cells → are_carried fs ≡ true → AreSentAs fs (all_written (columns_written m None fs c p few)) (columns_read m fs p few)
 unfolding columns_at column_faults
-columns_are_sent m d none c p rows xs carried h = tt
-columns_are_sent m d (field name nullable metadata k others) c p rows xs carried h =
+all_sent m d none c p rows few cells h carried = (tt, refl)
+all_sent m d (field name nullable metadata k others) c p rows few cells h carried =
     let each = and_parts (is_carried k) (are_carried others) carried in
-    through _ _ xs h λ u fits h1. through _ _ xs h1 λ rest rest_are h2.
-    (top_sent m d k p rows each.0 (none_second _ _ (place-ok _ fits)), columns_are_sent m d others (suc c) (after m k p) rows rest each.1 rest_are)
+    through _ _ cells h λ u fits h1. through _ _ cells h1 λ rest rest_are h2.
+    one_before name nullable metadata k others _ _ _ _ (one_sent m d k p few each.0 (none_second _ _ (place-ok _ fits))) (all_sent m d others (suc c) (after m k p) rows few rest rest_are each.1)
+
+-- the columns at some numbers
+picked_sent : (m : RecordBatch) (d : Dictionaries) (asked : Option (List ℕ)) (fs : Fields) (p : Place) (rows few : ℕ) (cells : List (List Cell)) (cs : List ℕ) (ps : List Parts) → columns_at m d asked fs 0 p rows few ≡ Ok cells → ((c : ℕ) → stands_in cs c ≡ true → is_chosen asked c ≡ true)
+    → are_carried (fields_asked fs cs) ≡ true → ArePicked (columns_read m fs p few) cs ps → AreSentAs (fields_asked fs cs) (all_written (map (λ c. written_at (columns_written m asked fs 0 p few) c) cs)) ps
+picked_sent m d asked fs p rows few cells [] [] h chosen carried are = (tt, refl)
+picked_sent m d asked fs p rows few cells [] (q ∷ ps) h chosen carried are = absurd are
+picked_sent m d asked fs p rows few cells (c ∷ cs) [] h chosen carried are = absurd are
+picked_sent m d asked fs p rows few cells (c ∷ cs) (q ∷ ps) h chosen carried are =
+    elim (column_at m d asked fs 0 p rows few cells c c h (omega arith) (chosen c (stands_first c cs))) [
+      | there name nullable metadata k at same read w fine ↦
+          let with_it = same (fields_asked fs cs) in
+          let it_is : parts_read m k at few ≡ q = cc (read, are.0) in
+          let each = and_parts (is_carried k) (are_carried (fields_asked fs cs)) (ap are_carried (sym with_it) ∙ carried) in
+          let one = subst (λ x. (k ≡ (top_column x).kind) × (top_written m k at few ≡ written_of (top_column x ∷ []))) it_is (one_sent m d k at few each.0 fine) in
+          let rest = picked_sent m d asked fs p rows few cells cs ps h (λ x is. chosen x (stands_later c x cs is)) each.1 are.1 in
+          rw (with_it, w) (one_before name nullable metadata k (fields_asked fs cs) _ _ q ps one rest)
+      | not_there read w ↦ cc (read, are.0)
+    ]
+
+asked_sent : (m : RecordBatch) (d : Dictionaries) (asked : Option (List ℕ)) (fs : Fields) (p : Place) (rows few : ℕ) (cells : List (List Cell)) (ps : List Parts) → columns_at m d asked fs 0 p rows few ≡ Ok cells → are_carried (fields_as_asked asked fs) ≡ true → AreAsked (columns_read m fs p few) asked ps
+    → AreSentAs (fields_as_asked asked fs) (written_as_asked asked (columns_written m asked fs 0 p few)) ps
+asked_sent m d None fs p rows few cells ps h carried are = rw are (all_sent m d fs 0 p rows few cells h carried)
+asked_sent m d (Some cs) fs p rows few cells ps h carried are = picked_sent m d (Some cs) fs p rows few cells cs ps h (λ c is. is) carried are
 
 -- ── a batch ──
 
--- the columns of a batch that was read
-record ColumnsAreRead (fs : Fields) (m : RecordBatch) (rows : ℕ) : Type 0 where
-  cells : List (List Cell)
-  are : columns_at m [] None fs 0 first_place rows rows ≡ Ok cells
-
-columns_of : (o : Order) (fs : Fields) (most : ℕ) (v : MetadataVersion) (tables : BatchHeader) (body : List ℕ) (x : TableBatch) → batch_of_tables to_read (all_asked o fs most) v [] tables body None ≡ Ok x → ColumnsAreRead fs (record_batch_of o v tables body) x.rows
-unfolding batch_of_tables
-columns_of o fs most v tables body x h =
-    through _ _ x h λ u compression h1. through _ _ x h1 λ rows rows_are h2. through _ _ x h2 λ u' negative h3. through _ _ x h3 λ u'' sum h4. through _ _ x h4 λ columns columns_are h5. through _ _ x h5 λ u''' size h6.
-    let m : RecordBatch = record_batch_of o v tables body in
-    subst (λ (y : TableBatch). ColumnsAreRead fs m y.rows) (same_read _ x h6) (record { cells = columns; are = columns_are })
-
 -- what is to be written of a batch's columns is what they are written with
-columns_written_are : (fs : Fields) (m : RecordBatch) (b : Batch) (cells : List (List Cell)) → are_carried fs ≡ true → columns_at m [] None fs 0 first_place b.height b.height ≡ Ok cells → b.arrays ≡ columns_read m fs first_place b.height
-    → all_written (columns_written m None fs 0 first_place b.height) ≡ written_of (written_batch_of b).columns
-columns_written_are fs m b cells carried are arrays =
-    let sent : AreSent m b.height fs (written_batch_of b).columns first_place = subst (λ ps. AreSent m b.height fs (map top_column ps) first_place) (sym arrays) (columns_are_sent m [] fs 0 first_place b.height cells carried are) in
-    columns_sent fs (written_batch_of b).columns m 0 b.height first_place sent
+columns_sent : (a : Asked) (v : MetadataVersion) (tables : BatchHeader) (body : List ℕ) (left : Option ℕ) (b : Batch) → are_carried (asked_fields a) ≡ true → batch_of_tables to_read a v [] tables body left ≡ Ok (record { rows = b.height; columns = map cells_in b.arrays; custom = [] })
+    → AreAsked (columns_read (record_batch_of a.order v tables body) a.fields first_place b.height) a.columns b.arrays → AreSentAs (asked_fields a) (written_as_asked a.columns (columns_written (record_batch_of a.order v tables body) a.columns a.fields 0 first_place b.height)) b.arrays
+columns_sent a v tables body left b carried h arrays =
+    let m : RecordBatch = record_batch_of a.order v tables body in
+    let t = tables_read a v [] tables body left _ h in
+    let few : share left t.rows ≡ b.height = ap (λ (y : TableBatch). y.rows) t.is in
+    let are : columns_at m a.dictionaries a.columns a.fields 0 first_place t.rows b.height ≡ Ok t.cells = ap (columns_at m a.dictionaries a.columns a.fields 0 first_place t.rows) (sym few) ∙ t.columns in
+    asked_sent m a.dictionaries a.columns a.fields first_place t.rows b.height t.cells b.arrays are carried arrays
 
 pub read_batch_sent : ReadBatchIsSent
-read_batch_sent o fs most v tables body b carried h arrays =
-    let m : RecordBatch = record_batch_of o v tables body in
-    let x : WrittenBatch = written_batch_of b in
+read_batch_sent a v tables body left b no_dictionaries carried right h arrays =
     let t : TableBatch = record { rows = b.height; columns = map cells_in b.arrays; custom = [] } in
-    let columns : ColumnsAreRead fs m b.height = columns_of o fs most v tables body t h in
-    let written = columns_written_are fs m b columns.cells carried columns.are arrays in
-    tables_sent (all_asked o fs most) v [] tables body t h ∙ ap (λ s. if_sent to_send (may_be_sent s) >>= λ size. Ok t) (batch_sent fs m x written)
+    tables_sent a v [] tables body left t h
+    ∙ ap (λ s. if_sent to_send (may_be_sent s) >>= λ size. Ok t) (batch_sent (record_batch_of a.order v tables body) a.columns a.fields (written_batch_of b) (columns_sent a v tables body left b carried h arrays).1)
 
 pub read_batch_sendable : ReadBatchIsSendable
-read_batch_sendable o fs most v tables body b fit carried h arrays good cells =
-    let m : RecordBatch = record_batch_of o v tables body in
+read_batch_sendable a v tables body left b fit no_dictionaries carried right h arrays good cells =
     let x : WrittenBatch = written_batch_of b in
-    let columns : ColumnsAreRead fs m b.height = columns_of o fs most v tables body _ h in
-    let kinds : AreOf fs x.columns = subst (λ ps. AreOf fs (map top_column ps)) (sym arrays) (columns_are_of m [] fs 0 first_place b.height columns.cells carried columns.are) in
-    let is : IsReadBatch fs m x = record { kinds = kinds; good = good; written = columns_written_are fs m b columns.cells carried columns.are arrays } in
+    let sent = columns_sent a v tables body left b carried h arrays in
+    let is : IsReadBatch a (record_batch_of a.order v tables body) x = record { kinds = sent.0; good = good; written = sent.1 } in
     let whole : List (List Cell) → Reading TableBatch = λ cs. Ok (record { rows = b.height; columns = cs; custom = [] }) in
-    let read : batch_of_tables to_read (all_asked o fs most) v [] tables body None ≡ Ok (table_batch x) = h ∙ ap whole (sym cells) in
-    let both = batch_sendable o fs most v tables body x fit (record { ascend = tt; few = omega arith }) is read in
+    let read : batch_of_tables to_read a v [] tables body left ≡ Ok (table_batch x) = h ∙ ap whole (sym cells) in
+    let both = batch_sendable a v tables body left x fit (record { ascend = tt; few = omega arith }) is read in
     (is, read, both.0, both.1)

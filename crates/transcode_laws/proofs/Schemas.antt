@@ -1,15 +1,12 @@
 -- A schema that is read without dictionaries is one whose fields a stream takes as they are.
-use Rattle.std.proofs.Common.{◌≡◌, ℕ, ◌+◌, List, [], Ok, None, refl, ◌∙◌, ap, subst, arith, true}
-use Rattle.arrow_spec.specs.Flat.{Table}
-use Rattle.arrow_spec.specs.Kinds.{Kind, Fields, none, field, null, boolean, integer, float, date32, date64, time32, time64, timestamp, duration, interval, decimal, decimal256, binary, utf8, binary_view, utf8_view, fixed_size_binary, «list», fixed_size_list, struct, map, union, dictionary, extension, dictionary_count, dictionary_counts}
+use Rattle.std.proofs.Common.{◌≡◌, ℕ, ◌+◌, [], None, refl, ◌∙◌, ap, arith, true}
+use Rattle.arrow_spec.specs.Kinds.{Kind, Fields, none, field, «list», fixed_size_list, struct, map, union, dictionary, extension, dictionary_count, dictionary_counts}
 use Rattle.arrow_spec.specs.Built.{Built}
 use Rattle.arrow_spec.specs.Arrays.{Dictionaries}
 use Rattle.arrow_spec.specs.Features.{chosen_floats}
-use Rattle.arrow_spec.specs.Schema.{Schema, schema_of}
+use Rattle.arrow_spec.specs.Schema.{Schema}
 use Rattle.arrow_spec.specs.Sent.{Sending, send_fields, send_kind}
-use Rattle.arrow_spec.specs.Files.{Meta, meta_in}
 use Rattle.arrow_spec.specs.WrittenSchemas.{SchemaMayBeWritten}
-use Rattle.arrow_spec.proofs.ReadPairs.{same_read, through}
 use Rattle.arrow_spec.proofs.ReadSchemas.{schema_read}
 use Rattle.ipc_write_laws.proofs.PlainFields.{fields_stay}
 use Rattle.transcode_laws.specs.Files.{IsSendable}
@@ -47,11 +44,3 @@ pub schema_sendable : ReadSchemaIsSendable
 schema_sendable built b t s h chosen floats none_there sizes =
     let read = schema_read b t s h in
     plain_sendable built s chosen floats none_there (read.may sizes)
-
--- ── the schema of a file ──
-
-schema_in : (f : List ℕ) (meta : Meta) → meta_in f ≡ Ok meta → (t : Table) × (schema_of f t ≡ Ok meta.schema)
-unfolding meta_in
-schema_in f meta h =
-    through _ _ meta h λ t t_is h1. through _ _ meta h1 λ v v_is h2. through _ _ meta h2 λ blocks blocks_are h3. through _ _ meta h3 λ w w_is h4. through _ _ meta h4 λ dictionaries dictionaries_are h5.
-    through _ _ meta h5 λ table table_is h6. through _ _ meta h6 λ s s_is h7. (table, subst (λ (m : Meta). schema_of f table ≡ Ok m.schema) (same_read _ meta h7) s_is)

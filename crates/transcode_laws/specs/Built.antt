@@ -21,6 +21,6 @@ abbrev mutual
   are_sent_fields none = true
   are_sent_fields (field name nullable metadata k others) = is_sent_kind k && are_sent_fields others
 
--- files in either byte order whose chosen columns are all of such kinds, without pairs of the footer and of record messages
+-- files in either byte order whose chosen columns are all of such kinds, under any columns and limit, without pairs of the footer and of record messages
 abbrev pub so_far : Built
-so_far = record { chosen = λ o fs. are_sent_fields fs; custom = false; dictionaries = false; requests = false }
+so_far = record { chosen = λ o fs. are_sent_fields fs; custom = false; dictionaries = false; requests = true }

@@ -1,16 +1,18 @@
 -- What holds of columns that were read and are written. Each statement is the contract of a public function without a body (src/lib.rt).
-use Rattle.std.specs.Prelude.{◌≡◌, ℕ, List, [], ◌∷◌, length, map, None, Ok, true}
+use Rattle.std.specs.Prelude.{◌≡◌, ℕ, List, [], ◌∷◌, length, map, Option, None, Some, Ok, Err, true}
 use Rattle.std.specs.List.{AllByRecursion}
+use Rattle.arrow_spec.specs.declared.error.IpcError.{IpcError}
 use Rattle.arrow_spec.specs.declared.message.MetadataVersion.{MetadataVersion}
 use Rattle.arrow_spec.specs.Readings.{◌>>=◌}
-use Rattle.arrow_spec.specs.Flat.{Order, little}
-use Rattle.arrow_spec.specs.Kinds.{Kind, Fields}
+use Rattle.arrow_spec.specs.Flat.{little}
+use Rattle.arrow_spec.specs.Kinds.{Kind, Fields, width}
+use Rattle.arrow_spec.specs.Columns.{stands_in}
 use Rattle.arrow_spec.specs.Counts.{RecordBatch, Place, first_place}
 use Rattle.arrow_spec.specs.Arrays.{Dictionaries}
 use Rattle.arrow_spec.specs.Faults.{array_faults}
 use Rattle.arrow_spec.specs.Messages.{BatchHeader}
 use Rattle.arrow_spec.specs.Sent.{may_be_sent, top_written}
-use Rattle.arrow_spec.specs.Files.{batch_of_tables, if_sent, record_batch_of, to_read, to_send, all_asked}
+use Rattle.arrow_spec.specs.Files.{Asked, batch_of_tables, columns_right, if_sent, record_batch_of, to_read, to_send}
 use Rattle.arrow_spec.specs.WrittenSchemas.{FieldsFit}
 use Rattle.arrow_arrays.specs.LeafParts.{LeafParts, leaf_fault_in}
 use Rattle.arrow_arrays.specs.Parts.{Parts, cells_in, fault_in}
@@ -24,7 +26,7 @@ use Rattle.ipc_read_laws.specs.WrittenParts.{leaf_lengths_in, written_in}
 use Rattle.ipc_write_arrays.specs.Pieces.{column_in, leaf_pieces}
 use Rattle.ipc_write.specs.Batches.{top_column, written_batch_of}
 use Rattle.transcode_laws.specs.Built.{are_sent_fields}
-use Rattle.transcode_laws.specs.Files.{HeaderFits, IsReadBatch}
+use Rattle.transcode_laws.specs.Files.{ArePicked, AreAsked, HeaderFits, IsReadBatch, asked_fields, with_columns}
 
 -- The lengths that are written of sound parts of an array without children are those of their buffers.
 abbrev pub LengthsAreOfPieces : Type 0
@@ -39,27 +41,44 @@ abbrev pub TopIsSent : Type 0
 TopIsSent = (m : RecordBatch) (d : Dictionaries) (k : Kind) (p : Place) (rows : ℕ) → is_carried k ≡ true → array_faults m d k p rows ≡ []
     → top_written m k p rows ≡ written_of (top_column (parts_read m k p rows) ∷ [])
 
--- A batch of the columns that were read is sent where its message may be.
+-- A batch of the columns that were read is sent where its message may be: of some columns of the record batch, each once, in the order asked.
 abbrev pub ReadBatchIsSent : Type 0
-ReadBatchIsSent = (o : Order) (fs : Fields) (most : ℕ) (v : MetadataVersion) (tables : BatchHeader) (body : List ℕ) (b : Batch) → are_carried fs ≡ true
-    → batch_of_tables to_read (all_asked o fs most) v [] tables body None ≡ Ok (record { rows = b.height; columns = map cells_in b.arrays; custom = [] })
-    → b.arrays ≡ columns_read (record_batch_of o v tables body) fs first_place b.height
-    → batch_of_tables to_send (all_asked o fs most) v [] tables body None ≡
+ReadBatchIsSent = (a : Asked) (v : MetadataVersion) (tables : BatchHeader) (body : List ℕ) (left : Option ℕ) (b : Batch) → a.dictionaries ≡ []
+    → are_carried (asked_fields a) ≡ true → columns_right a.columns (width a.fields) ≡ Ok tt
+    → batch_of_tables to_read a v [] tables body left ≡ Ok (record { rows = b.height; columns = map cells_in b.arrays; custom = [] })
+    → AreAsked (columns_read (record_batch_of a.order v tables body) a.fields first_place b.height) a.columns b.arrays
+    → batch_of_tables to_send a v [] tables body left ≡
     (if_sent to_send (may_be_sent (written_batch (written_batch_of b)))
     >>= λ size. Ok (record { rows = b.height; columns = map cells_in b.arrays; custom = [] }))
 
 -- Where its columns mean their cells as they are written, it may be written where its message may be sent.
 abbrev pub ReadBatchIsSendable : Type 0
-ReadBatchIsSendable = (o : Order) (fs : Fields) (most : ℕ) (v : MetadataVersion) (tables : BatchHeader) (body : List ℕ) (b : Batch) → HeaderFits tables
-    → are_carried fs ≡ true
-    → batch_of_tables to_read (all_asked o fs most) v [] tables body None ≡ Ok (record { rows = b.height; columns = map cells_in b.arrays; custom = [] })
-    → b.arrays ≡ columns_read (record_batch_of o v tables body) fs first_place b.height
+ReadBatchIsSendable = (a : Asked) (v : MetadataVersion) (tables : BatchHeader) (body : List ℕ) (left : Option ℕ) (b : Batch) → HeaderFits tables
+    → a.dictionaries ≡ [] → are_carried (asked_fields a) ≡ true → columns_right a.columns (width a.fields) ≡ Ok tt
+    → batch_of_tables to_read a v [] tables body left ≡ Ok (record { rows = b.height; columns = map cells_in b.arrays; custom = [] })
+    → AreAsked (columns_read (record_batch_of a.order v tables body) a.fields first_place b.height) a.columns b.arrays
     → AllByRecursion (λ c. Means little [] b.height c) (written_batch_of b).columns → map (λ c. c.cells) (written_batch_of b).columns ≡ map cells_in b.arrays
-    → IsReadBatch fs (record_batch_of o v tables body) (written_batch_of b)
-    × (batch_of_tables to_read (all_asked o fs most) v [] tables body None ≡ Ok (table_batch (written_batch_of b)))
-    × (may_be_sent (written_batch (written_batch_of b)) ≡ true → MayBeWritten fs (written_batch_of b))
-    × (batch_of_tables to_send (all_asked o fs most) v [] tables body None
+    → IsReadBatch a (record_batch_of a.order v tables body) (written_batch_of b)
+    × (batch_of_tables to_read a v [] tables body left ≡ Ok (table_batch (written_batch_of b)))
+    × (may_be_sent (written_batch (written_batch_of b)) ≡ true → MayBeWritten (asked_fields a) (written_batch_of b))
+    × (batch_of_tables to_send a v [] tables body left
     ≡ (if_sent to_send (may_be_sent (written_batch (written_batch_of b))) >>= λ size. Ok (table_batch (written_batch_of b))))
+
+-- A batch that was read of columns by rising numbers is, in the order asked, what the columns asked for mean. The numbers are the same.
+abbrev pub RisingBatchIsAsked : Type 0
+RisingBatchIsAsked = (a : Asked) (rising : List ℕ) (asked : List ℕ) (v : MetadataVersion) (tables : BatchHeader) (body : List ℕ) (left : Option ℕ) (rows : ℕ) (read given : List Parts)
+    → ((c : ℕ) → stands_in rising c ≡ stands_in asked c) → columns_right (Some asked) (width a.fields) ≡ Ok tt
+    → batch_of_tables to_read (with_columns (Some rising) a) v [] tables body left ≡ Ok (record { rows = rows; columns = map cells_in read; custom = [] })
+    → ArePicked (columns_read (record_batch_of a.order v tables body) a.fields first_place rows) rising read
+    → ArePicked (columns_read (record_batch_of a.order v tables body) a.fields first_place rows) asked given
+    → batch_of_tables to_read (with_columns (Some asked) a) v [] tables body left ≡ Ok (record { rows = rows; columns = map cells_in given; custom = [] })
+
+-- What refuses a batch of columns by rising numbers refuses that of the columns asked for, in whatever order.
+abbrev pub RisingBatchRefuses : Type 0
+RisingBatchRefuses = (a : Asked) (rising : List ℕ) (asked : List ℕ) (v : MetadataVersion) (tables : BatchHeader) (body : List ℕ) (left : Option ℕ) (es : List IpcError)
+    → ((c : ℕ) → stands_in rising c ≡ stands_in asked c)
+    → batch_of_tables to_read (with_columns (Some rising) a) v [] tables body left ≡ Err es
+    → batch_of_tables to_read (with_columns (Some asked) a) v [] tables body left ≡ Err es
 
 -- Fields that are let through so far are those that arrays are read of, where they fit, as those of a schema that may be written do.
 abbrev pub FittingFieldsAreCarried : Type 0

@@ -1,24 +1,59 @@
--- Files whose fields are of any kinds without dictionaries, as they are read to be sent as a stream.
-use Rattle.std.specs.Prelude.{◌≡◌, ℕ, suc, List, [], length, map, Some, None, Ok, true, false, FitsSigned}
+-- Files whose fields are of any kinds without dictionaries, as they are read under a request to be sent as a stream.
+use Rattle.std.specs.Prelude.{◌≡◌, ℕ, suc, List, [], ◌∷◌, length, map, slice_get, Option, Some, None, Ok, true, false, FitsSigned, ◌&&◌, ◌||◌}
 use Rattle.std.specs.Int.{w64}
 use Rattle.std.specs.List.{AllByRecursion}
 use Rattle.arrow_spec.specs.declared.error.IpcError.{IpcError}
-use Rattle.arrow_spec.specs.Readings.{Refuses, meaning, refusals}
-use Rattle.arrow_spec.specs.Flat.{Order, little}
-use Rattle.arrow_spec.specs.Kinds.{Fields, Metadata, numbered}
+use Rattle.arrow_spec.specs.Readings.{Refuses, is_absent, meaning, refusals}
+use Rattle.arrow_spec.specs.Flat.{little}
+use Rattle.arrow_spec.specs.Kinds.{Fields, Metadata, numbered, width}
 use Rattle.arrow_spec.specs.Built.{Built}
 use Rattle.arrow_spec.specs.Schema.{Schema}
 use Rattle.arrow_spec.specs.Counts.{RecordBatch, first_place}
 use Rattle.arrow_spec.specs.Arrays.{Dictionaries}
 use Rattle.arrow_spec.specs.Features.{chosen_floats}
 use Rattle.arrow_spec.specs.Messages.{BatchHeader}
-use Rattle.arrow_spec.specs.Sent.{Sending, all_written, columns_written, may_be_sent, send_fields, stream_schema}
-use Rattle.arrow_spec.specs.Files.{ArrowTable, FileBlock, Meta, Request, TableBatch, batch_of, batches_of, custom_of, dictionaries_read, file_reading, has_any, meta_of, to_read, to_send, all_asked}
+use Rattle.arrow_spec.specs.Sent.{Sending, columns_written, may_be_sent, send_fields, stream_schema, written_as_asked}
+use Rattle.arrow_spec.specs.Files.{ArrowTable, Asked, FileBlock, Meta, Request, TableBatch, batch_of, batches_of, columns_right, custom_of, dictionaries_read, fields_as_asked, file_reading, has_any, meta_of, to_read, to_send, what_is_left}
 use Rattle.arrow_spec.specs.Streams.{closed, stream_table, unended}
 use Rattle.arrow_spec.specs.WrittenSchemas.{SchemaMayBeWritten}
 use Rattle.arrow_spec.specs.Bodies.{BufferFits, NodeFits}
 use Rattle.ipc_write_laws.specs.Columns.{Means}
 use Rattle.ipc_write_laws.specs.Streams.{AreOf, MayBeWritten, WrittenBatch, table_batch, written_of}
+
+-- ── what is asked for ──
+
+-- items are those at some numbers of a list, in their order
+abbrev pub ArePicked : {A : Type 0} → List A → List ℕ → List A → Type 0
+ArePicked all [] [] = Unit {0}
+ArePicked all [] (x ∷ xs) = ⊥
+ArePicked all (c ∷ cs) [] = ⊥
+ArePicked all (c ∷ cs) (x ∷ xs) = (slice_get all c ≡ Some x) × ArePicked all cs xs
+
+-- the same where all may be asked for
+abbrev pub AreAsked : {A : Type 0} → List A → Option (List ℕ) → List A → Type 0
+AreAsked all None xs = xs ≡ all
+AreAsked all (Some cs) xs = ArePicked all cs xs
+
+-- the fields that are asked for, in their order
+abbrev pub asked_fields : Asked → Fields
+asked_fields a = fields_as_asked a.columns a.fields
+
+-- the schema of the columns that are asked for
+abbrev pub asked_schema : Schema → Option (List ℕ) → Schema
+asked_schema s columns = record { order = s.order; fields = fields_as_asked columns s.fields; metadata = s.metadata }
+
+-- the same with other columns
+abbrev pub with_columns : Option (List ℕ) → Asked → Asked
+with_columns columns a = record { order = a.order; fields = a.fields; columns = columns; dictionaries = a.dictionaries; most = a.most }
+
+-- what a request asks of a file of which no dictionary is read
+abbrev pub asked_of : List ℕ → Meta → Request → Asked
+asked_of b meta r = record { order = meta.schema.order; fields = meta.schema.fields; columns = r.columns; dictionaries = []; most = length b }
+
+-- what batches leave of a limit
+abbrev pub left_behind : Option ℕ → List WrittenBatch → Option ℕ
+left_behind left [] = left
+left_behind left (x ∷ xs) = left_behind (what_is_left left x.rows) xs
 
 -- ── the schema ──
 
@@ -38,12 +73,15 @@ pub record IsSendable (built : Built) (s : Schema) : Type 0 where
 abbrev pub table_of : Fields → Metadata → Metadata → List TableBatch → ArrowTable
 table_of fs pairs custom batches = record { metadata = pairs; custom = custom; fields = fs; batches = batches }
 
--- a file whose schema may be sent with these pairs of its footer, and of which no dictionary is read
-pub record IsSentFile (built : Built) (b : List ℕ) (meta : Meta) (custom : Metadata) : Type 0 where
+-- a file whose schema under a request may be sent with these pairs of its footer, and of which no dictionary is read
+pub record IsSentFile (built : Built) (b : List ℕ) (r : Request) (meta : Meta) (custom : Metadata) : Type 0 where
+  pub known : (built.requests || (is_absent r.columns && is_absent r.limit)) ≡ true
   pub read : meta_of b ≡ Ok meta
   pub pairs : custom_of built.custom b ≡ Ok custom
-  pub schema : IsSendable built meta.schema
-  pub small : may_be_sent (stream_schema meta.schema.fields meta.schema.metadata custom) ≡ true
+  pub columns : columns_right r.columns (width meta.schema.fields) ≡ Ok tt
+  pub readable : chosen_floats r.columns meta.schema.fields 0 ≡ []
+  pub schema : IsSendable built (asked_schema meta.schema r.columns)
+  pub small : may_be_sent (stream_schema (fields_as_asked r.columns meta.schema.fields) meta.schema.metadata custom) ≡ true
   pub no_dictionaries : has_any (dictionaries_read meta.blocks meta.dictionaries) ≡ false
 
 -- ── batches ──
@@ -55,23 +93,23 @@ pub record HeaderFits (tables : BatchHeader) : Type 0 where
   pub buffers : AllByRecursion BufferFits tables.buffers
   pub views : AllByRecursion (λ x. FitsSigned w64 x) tables.variadic
 
--- columns that were read of a record batch: they are of the fields' kinds, mean their cells, and are written as is to be written of the record batch
-pub record IsReadBatch (fs : Fields) (m : RecordBatch) (x : WrittenBatch) : Type 0 where
-  pub kinds : AreOf fs x.columns
+-- columns that were read of a record batch: they are of the kinds of the fields asked for, mean their cells, and are written as is to be written of the record batch
+pub record IsReadBatch (a : Asked) (m : RecordBatch) (x : WrittenBatch) : Type 0 where
+  pub kinds : AreOf (asked_fields a) x.columns
   pub good : AllByRecursion (λ c. Means little [] x.rows c) x.columns
-  pub written : all_written (columns_written m None fs 0 first_place x.rows) ≡ written_of x.columns
+  pub written : written_as_asked a.columns (columns_written m a.columns a.fields 0 first_place x.rows) ≡ written_of x.columns
 
--- a block that is read in a byte order and sent as a batch that may be written
-pub record IsSentBatch (built : Built) (b : List ℕ) (o : Order) (fs : Fields) (block : FileBlock) (x : WrittenBatch) : Type 0 where
-  pub read : batch_of built.custom to_read b (all_asked o fs (length b)) block None ≡ Ok (table_batch x)
-  pub sent : batch_of built.custom to_send b (all_asked o fs (length b)) block None ≡ Ok (table_batch x)
-  pub fit : MayBeWritten fs x
+-- a block that is read, where rows are left to be read, and sent as a batch that may be written
+pub record IsSentBatch (built : Built) (b : List ℕ) (a : Asked) (block : FileBlock) (left : Option ℕ) (x : WrittenBatch) : Type 0 where
+  pub read : batch_of built.custom to_read b a block left ≡ Ok (table_batch x)
+  pub sent : batch_of built.custom to_send b a block left ≡ Ok (table_batch x)
+  pub fit : MayBeWritten (asked_fields a) x
 
 -- some blocks were read and sent as such batches
-pub record SentSoFar (built : Built) (b : List ℕ) (o : Order) (fs : Fields) (blocks : List FileBlock) (xs : List WrittenBatch) : Type 0 where
-  pub read : batches_of built.custom to_read b (all_asked o fs (length b)) true blocks None ≡ Ok (map table_batch xs)
-  pub sent : batches_of built.custom to_send b (all_asked o fs (length b)) true blocks None ≡ Ok (map table_batch xs)
-  pub fit : AllByRecursion (λ x. MayBeWritten fs x) xs
+pub record SentSoFar (built : Built) (b : List ℕ) (a : Asked) (blocks : List FileBlock) (left : Option ℕ) (xs : List WrittenBatch) : Type 0 where
+  pub read : batches_of built.custom to_read b a true blocks left ≡ Ok (map table_batch xs)
+  pub sent : batches_of built.custom to_send b a true blocks left ≡ Ok (map table_batch xs)
+  pub fit : AllByRecursion (λ x. MayBeWritten (asked_fields a) x) xs
 
 -- ── streams ──
 

@@ -16,7 +16,7 @@ use Rattle.worked_definitions.proofs.Vectors.{int32_file}
 use Rattle.worked_definitions.proofs.WorkedFiles.{three_columns_file, inner_first_file, list_offsets_file, sparse_union_file, extension_file}
 use Rattle.worked_definitions.proofs.MoreFiles.{big_endian_file, dense_union_file, float_file, views_file}
 use Rattle.worked_definitions.proofs.Int32Table.{computed, int32_table}
-use Rattle.worked_definitions.proofs.Rows.{batches, int, txt, option_fields}
+use Rattle.worked_definitions.proofs.Rows.{batches, int, txt, option_fields, request}
 use Rattle.worked_definitions.proofs.Damage.{int32_file_with}
 use Rattle.worked_definitions.proofs.CustomRows.{broken, file_with, one, two}
 use Rattle.worked_definitions.proofs.PairRows.{pairs_file, pairs_table}
@@ -75,6 +75,30 @@ pub big_endian : file_table big_endian_file «all» ≡ Some int32_table
 unfolding computed file_table
 big_endian = refl
 
+-- ── columns and a limit ──
+
+-- a batch keeps its rows where no column is asked for
+pub no_columns : file_table int32_file (request (Some []) None) ≡ Some (record { metadata = []; custom = []; fields = none; batches = record { rows = 3; columns = []; custom = [] } ∷ [] })
+unfolding computed file_table
+no_columns = refl
+
+pub columns : batches (file_table three_columns_file (request (Some (2 ∷ 0 ∷ [])) None)) ≡ ((int 10 ∷ int 20 ∷ []) ∷ (int 1 ∷ int 2 ∷ []) ∷ []) ∷ []
+unfolding computed file_table
+columns = refl
+
+pub limit : file_table int32_file (request None (Some 3)) ≡ Some int32_table
+unfolding computed file_table
+limit = refl
+
+pub limit_cuts : batches (file_table int32_file (request None (Some 2))) ≡ ((int 1 ∷ cells.null ∷ []) ∷ []) ∷ []
+unfolding computed file_table
+limit_cuts = refl
+
+-- a column of floats that is not asked for is passed over
+pub float_passed_over : batches (file_table float_file (request (Some (1 ∷ [])) None)) ≡ ((int 7 ∷ []) ∷ []) ∷ []
+unfolding computed file_table
+float_passed_over = refl
+
 -- ── what is not built ──
 
 -- the schema of any kinds is read, and a chosen column of floats is told by its name
@@ -85,14 +109,6 @@ floats = refl
 pub dictionary : why inner_first_file «all» ≡ Unsupported NotYet ∷ []
 unfolding computed
 dictionary = refl
-
-pub columns : why int32_file (record { columns = Some []; limit = None }) ≡ Unsupported NotYet ∷ []
-unfolding computed
-columns = refl
-
-pub limit : why int32_file (record { columns = None; limit = Some 3 }) ≡ Unsupported NotYet ∷ []
-unfolding computed
-limit = refl
 
 -- pairs of the footer, whatever is in them, and pairs of a record message
 pub footer_pairs : why (file_with one []) «all» ≡ Unsupported NotYet ∷ []

@@ -5,6 +5,9 @@ pub use ipc_files::{
     Dictionaries, FileMetadata, Footer, decode_footer_len, deserialize_footer, read_batch,
     read_file_metadata,
 };
+pub use ipc_projection::{
+    ProjectionInfo, ProjectionIter, ProjectionResult, apply_projection, prepare_projection,
+};
 pub use ipc_read::{
     Body, read, read_binary, read_binview, read_boolean, read_fixed_size_binary,
     read_fixed_size_list, read_list, read_map, read_null, read_primitive, read_record_batch,

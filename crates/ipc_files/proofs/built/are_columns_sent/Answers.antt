@@ -1,13 +1,8 @@
 use Rattle.std.proofs.Common.{◌≡◌, map, sym, ap, ◌∙◌, true, false}
-use Rattle.arrow_types.specs.Child.{Child}
 use Rattle.arrow_types.specs.KindOf.{child_of, kind_of}
-use Rattle.arrow_types.specs.Schemas.{Keyed}
 use Rattle.transcode_laws.specs.Built.{is_sent_kind}
-use Rattle.ipc_files.proofs.SentFields.{fields_left, kind_of_field, one_is_other, one_more}
+use Rattle.ipc_files.proofs.SentFields.{child_in, fields_left, kind_of_field, one_is_other, one_more}
 use Rattle.ipc_files.proofs.built.are_columns_sent.Goals as goal
-
-abbrev child_in : Keyed → Child
-child_in p = p.1
 
 pub returns-then-not-is_sent : goal.returns-then-not-is_sent
 returns-then-not-is_sent c =

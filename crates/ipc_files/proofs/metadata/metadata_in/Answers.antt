@@ -1,5 +1,4 @@
-use Rattle.std.proofs.Common.{◌≡◌, ◌∙◌, ap, refl, sym}
-use Rattle.arrow_spec.specs.Files.{meta_in}
+use Rattle.std.proofs.Common.{refl}
 use Rattle.ipc_files.specs.declared.metadata.FileMetadata.{FileMetadata}
 use Rattle.ipc_files.proofs.ReadFits.{same_meta, said_same, was_read}
 use Rattle.ipc_files.proofs.metadata.metadata_in.Goals as goal

@@ -30,7 +30,6 @@ returns g c =
       write_fault = r.write_fault;
       words_are = r.words;
       no_request = r.no_request;
-      later_words = r.later_words;
       not_hex = r.not_hex;
       too_long = r.too_long;
       no_name = r.no_name;

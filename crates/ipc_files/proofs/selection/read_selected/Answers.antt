@@ -1,0 +1,45 @@
+use Rattle.std.proofs.Common.{◌≡◌, Err}
+use Rattle.std.specs.Rc.{rc_value}
+use Rattle.ipc_read.specs.Projection.{columns_of}
+use Rattle.ipc_files.specs.FileBlocks.{file_block}
+use Rattle.ipc_files.proofs.Errors.{is_err}
+use Rattle.ipc_files.proofs.Selected.{built_rising, may_apply, selected, selected_answer, selected_fetched, selected_refused}
+use Rattle.ipc_files.proofs.selection.read_selected.Goals as goal
+
+pub read_block-requires-2-clause-built : goal.read_block-requires-2-clause-built
+read_block-requires-2-clause-built g c =
+    let file = c.args.selection.now.file.now in
+    let h = selected (rc_value file.schema) c.args.selection.now.columns c.args.selection.now.projection c.in-Some.projection c.in-Some.is c.requires.selected in
+    built_rising file (columns_of c.args.selection.now.columns) c.in-Some.projection.now c.as_slice.result.now c.as_slice.ensures.value h c.requires.built
+
+pub returns-in_err-batch-clause-gives : goal.returns-in_err-batch-clause-gives
+returns-in_err-batch-clause-gives g c =
+    let file = c.args.selection.now.file.now in
+    let h = selected (rc_value file.schema) c.args.selection.now.columns c.args.selection.now.projection c.in-Some.projection c.in-Some.is c.requires.selected in
+    let e : c.from_residual.result ≡ Err c.in_err-batch.field-0.0 = is_err _ _ _ c.from_residual.ensures.0 c.from_residual.ensures.1 (λ f h. h) in
+    selected_refused (g.S.Source.content c.args.source.now) file (columns_of c.args.selection.now.columns) c.in-Some.projection.now c.as_slice.result.now c.args.left (file_block c.args.block.now) c.from_residual.result c.in_err-batch.field-0.0 c.as_slice.ensures.value e h c.in_err-batch.ensures.gives
+
+pub returns-in_err-batch-clause-fetched : goal.returns-in_err-batch-clause-fetched
+returns-in_err-batch-clause-fetched g c =
+    let file = c.args.selection.now.file.now in
+    let h = selected (rc_value file.schema) c.args.selection.now.columns c.args.selection.now.projection c.in-Some.projection c.in-Some.is c.requires.selected in
+    selected_fetched (g.S.Source.content c.args.source.now) file (columns_of c.args.selection.now.columns) c.in-Some.projection.now c.as_slice.result.now (file_block c.args.block.now) c.args.left _ _ c.as_slice.ensures.value h c.in_err-batch.ensures.fetched
+
+pub apply_projection-requires : goal.apply_projection-requires
+apply_projection-requires g c =
+    let file = c.args.selection.now.file.now in
+    let s = rc_value file.schema in
+    let h = selected s c.args.selection.now.columns c.args.selection.now.projection c.in-Some.projection c.in-Some.is c.requires.selected in
+    record { permutes = may_apply s (columns_of c.args.selection.now.columns) c.in-Some.projection.now c.as_slice.result.now c.in_ok-batch.batch c.as_slice.ensures.value h c.in_ok-batch.ensures.schema }
+
+pub returns-clause-gives : goal.returns-clause-gives
+returns-clause-gives g c =
+    let file = c.args.selection.now.file.now in
+    let h = selected (rc_value file.schema) c.args.selection.now.columns c.args.selection.now.projection c.in-Some.projection c.in-Some.is c.requires.selected in
+    selected_answer (g.S.Source.content c.args.source.now) file (columns_of c.args.selection.now.columns) c.in-Some.projection.now c.as_slice.result.now c.args.left (file_block c.args.block.now) c.in_ok-batch.batch c.apply_projection.result c.as_slice.ensures.value h c.requires.right c.apply_projection.ensures.reordered c.apply_projection.ensures.memory c.in_ok-batch.ensures.gives
+
+pub returns-clause-fetched : goal.returns-clause-fetched
+returns-clause-fetched g c =
+    let file = c.args.selection.now.file.now in
+    let h = selected (rc_value file.schema) c.args.selection.now.columns c.args.selection.now.projection c.in-Some.projection c.in-Some.is c.requires.selected in
+    selected_fetched (g.S.Source.content c.args.source.now) file (columns_of c.args.selection.now.columns) c.in-Some.projection.now c.as_slice.result.now (file_block c.args.block.now) c.args.left _ _ c.as_slice.ensures.value h c.in_ok-batch.ensures.fetched

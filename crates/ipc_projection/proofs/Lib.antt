@@ -1,0 +1,10 @@
+pub mod Numbers
+pub mod Stood
+pub mod Keys
+pub mod Asked
+pub mod Risen
+pub mod Inverse
+pub mod Prepared
+pub mod Applied
+pub mod Projected
+pub mod Marks
