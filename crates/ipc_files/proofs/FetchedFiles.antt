@@ -25,9 +25,9 @@ use Rattle.transcode_laws.specs.Meaning.{file_table}
 use Rattle.ipc_io.specs.Outside.{IsSize}
 use Rattle.ipc_read_laws.specs.Faults.{stated_of}
 use Rattle.ipc_read.specs.Batches.{batch_fetched as buffers_fetched}
-use Rattle.ipc_files.specs.FileBlocks.{Fetched, PrefixIn, block_metadata, block_record}
+use Rattle.ipc_files.specs.FileBlocks.{Fetched, PrefixIn, block_metadata, block_record, message_metadata}
 use Rattle.ipc_files.specs.FileViews.{FileSays}
-use Rattle.ipc_files.specs.Fetching.{BlockFetched, BlocksFetched, FileFetched, FooterFetched, FrontFetched, MessageFetched, block_cost, blocks_cost, both_of, message_cost}
+use Rattle.ipc_files.specs.Fetching.{BlockFetched, BlocksFetched, FileFetched, FooterFetched, FrontFetched, MessageFetched, MetadataFetched, block_cost, blocks_cost, both_of, message_cost}
 use Rattle.ipc_files.specs.Transcode.{asked}
 use Rattle.ipc_files.proofs.BlockMessages.{batch_by_record}
 use Rattle.ipc_files.proofs.BlockSteps.{left_twice, take_next}
@@ -42,30 +42,36 @@ record HasPrefix (b : List ℕ) (block : FileBlock) : Type 0 where
   prefix : ℕ × ℕ
   is : prefix_of (block_metadata b block) ≡ Ok prefix
 
-has_prefix : (b : List ℕ) (block : FileBlock) (m : RecordMessage) → block_record b block ≡ Ok m → HasPrefix b block
-unfolding block_record
-has_prefix b block m is =
-    let range = went (only_if _ _) _ m is in
-    let prefix = went (prefix_of (block_metadata b block)) _ m range.rest in
+has_prefix : (b : List ℕ) (block : FileBlock) (bytes : List ℕ) → message_metadata b block ≡ Ok bytes → HasPrefix b block
+unfolding message_metadata
+has_prefix b block bytes is =
+    let range = went (only_if _ _) _ bytes is in
+    let prefix = went (prefix_of (block_metadata b block)) _ bytes range.rest in
     record { prefix = prefix.got; is = prefix.first }
 
-pub message_front : (content : Option (List ℕ)) (block : FileBlock) (at size f f' : ℕ) → at ≡ block.offset → size ≡ block.metadata → FrontFetched content at size f f' → MessageFetched content block f f'
-message_front None block at size f f' e n h = tt
-message_front (Some b) block at size f f' e n h = λ m is.
+pub metadata_front : (content : Option (List ℕ)) (block : FileBlock) (at size f f' : ℕ) → at ≡ block.offset → size ≡ block.metadata → FrontFetched content at size f f' → MetadataFetched content block f f'
+metadata_front None block at size f f' e n h = tt
+metadata_front (Some b) block at size f f' e n h = λ m is.
     let p = has_prefix b block m is in
     let here : prefix_of (take size (drop at b)) ≡ Ok p.prefix = rw (e, n) p.is in
     let cost : message_cost b block ≡ p.prefix.0 + p.prefix.1 = ap both_of p.is in
     omega (arith, h p.prefix here, cost)
 
-pub message_whole : (content : Option (List ℕ)) (block : FileBlock) (at size f mid f' : ℕ) (q : ℕ × ℕ) → at ≡ block.offset → size ≡ block.metadata → FrontFetched content at size f mid → PrefixIn content at size (Ok q) → f' ≤ mid + q.1 → MessageFetched content block f f'
-message_whole None block at size f mid f' q e n h is more = tt
-message_whole (Some b) block at size f mid f' q e n h is more = λ m read.
+pub metadata_whole : (content : Option (List ℕ)) (block : FileBlock) (at size f mid f' : ℕ) (q : ℕ × ℕ) → at ≡ block.offset → size ≡ block.metadata → FrontFetched content at size f mid → PrefixIn content at size (Ok q) → f' ≤ mid + q.1 → MetadataFetched content block f f'
+metadata_whole None block at size f mid f' q e n h is more = tt
+metadata_whole (Some b) block at size f mid f' q e n h is more = λ m read.
     let p = has_prefix b block m read in
     let here : prefix_of (take size (drop at b)) ≡ Ok p.prefix = rw (e, n) p.is in
     let same : p.prefix ≡ q = cc in
     let cost : message_cost b block ≡ p.prefix.0 + p.prefix.1 = ap both_of p.is in
     let rest : p.prefix.1 ≡ q.1 = ap (λ (x : ℕ × ℕ). x.1) same in
     omega (arith, h p.prefix here, cost, rest, more)
+
+-- of a block whose message stands the metadata does
+pub message_fetched : (content : Option (List ℕ)) (block : FileBlock) (f f' : ℕ) → MetadataFetched content block f f' → MessageFetched content block f f'
+unfolding block_record
+message_fetched None block f f' h = tt
+message_fetched (Some b) block f f' h = λ m is. let bytes = went (message_metadata b block) _ m is in h bytes.got bytes.first
 
 -- ── a block ──
 

@@ -1,5 +1,5 @@
 -- How many bytes are fetched of a file that means a table.
-use Rattle.std.proofs.Common.{◌≡◌, ℕ, zero, suc, ◌+◌, ◌≤◌, List, [], ◌∷◌, take, drop, Option, Some, None, Ok, Err, refl, sym, ◌∙◌, ap, arith, true, false, Bool, if◌then◌else◌}
+use Rattle.std.proofs.Common.{◌≡◌, ℕ, zero, suc, ◌+◌, ◌≤◌, List, [], ◌∷◌, take, drop, Option, Some, None, Ok, Err, refl, sym, ◌∙◌, ap, arith, subst, true, false, Bool, if◌then◌else◌}
 use Rattle.std.specs.Prelude.{option_map}
 use Rattle.std.specs.Int.{w32}
 use Rattle.std.proofs.lemmas.List.Sums.{sum_by-cons}
@@ -15,7 +15,7 @@ use Rattle.file_laws.specs.Fetched.{batch_fetched, for_rows}
 use Rattle.transcode_laws.specs.Built.{so_far}
 use Rattle.ipc_read_laws.specs.Faults.{stated_of}
 use Rattle.ipc_read.specs.Batches.{batch_fetched as buffers_fetched}
-use Rattle.ipc_files.specs.FileBlocks.{Fetched, Lies, block_metadata, block_record, plain_message}
+use Rattle.ipc_files.specs.FileBlocks.{Fetched, Lies, block_metadata, block_record, message_metadata, plain_message}
 use Rattle.ipc_files.specs.Fetching.{FrontFetched, block_cost, both_of, message_cost}
 use Rattle.ipc_files.proofs.BlockPrefixes.{region-front}
 
@@ -43,12 +43,14 @@ pub record IsFetched (b : List ℕ) (meta : Meta) (r : Request) (block : FileBlo
 
 -- of a block whose message was read
 pub block_fetched : (b : List ℕ) (meta : Meta) (r : Request) (block : FileBlock) (left : Option ℕ) (m : RecordMessage) (rows : ℕ) → block_record b block ≡ Ok m → natural m.tables.length ≡ Ok rows → IsFetched b meta r block left m rows
-unfolding block_record plain_message record_message batch_fetched block_message
+unfolding block_record message_metadata plain_message record_message batch_fetched block_message
 block_fetched b meta r block left m rows is count =
-    let range = went (only_if _ _) _ m is in
-    let prefix = went (prefix_of (block_metadata b block)) _ m range.rest in
+    let metadata = went (message_metadata b block) _ m is in
+    let range = went (only_if _ _) _ metadata.got metadata.first in
+    let prefix = went (prefix_of (block_metadata b block)) _ metadata.got range.rest in
     let bytes = take prefix.got.1 (drop (block.offset + prefix.got.0) b) in
-    let whole = went (record_message bytes) _ m prefix.rest in
+    let bytes_are : bytes ≡ metadata.got = ap (answer_or bytes) prefix.rest in
+    let whole = went (record_message bytes) _ m (subst (λ x. plain_message x ≡ Ok m) (sym bytes_are) metadata.rest) in
     let message = went (message_of bytes _) _ whole.got whole.first in
     let tables = went (batch_at bytes message.got.header) _ whole.got message.rest in
     let version = went (version_of bytes message.got) _ whole.got tables.rest in

@@ -17,8 +17,10 @@ pub mod FileFooters
 pub mod MissingFeatures
 pub mod Fetching
 pub mod FetchedFiles
+pub mod BlockRows
 pub mod ReadBatches
 pub mod AskedFields
 pub mod Counted
 pub mod Picked
 pub mod Selected
+pub mod InOrder

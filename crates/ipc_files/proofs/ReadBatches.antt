@@ -1,5 +1,5 @@
 -- A record batch of a file that is read by its number.
-use Rattle.std.proofs.Common.{◌≡◌, ℕ, ◌<◌, List, [], map, length, Option, Some, None, Result, Ok, Err, IfSome, refl, sym, ◌∙◌, ap, subst, false}
+use Rattle.std.proofs.Common.{◌≡◌, ℕ, ◌<◌, List, [], map, length, Option, Some, None, Result, Ok, Err, IfOk, IfSome, refl, sym, ◌∙◌, ap, subst, false}
 use Rattle.std.specs.Prelude.{slice_get, get_or}
 use Rattle.std.proofs.lemmas.Option.{slice_get-get_or, slice_get-map}
 use Rattle.arrow_spec.specs.declared.error.Feature.{Feature}
@@ -8,7 +8,7 @@ use Rattle.arrow_spec.specs.declared.error.IpcError.TheVariants.{Unsupported}
 use Rattle.arrow_spec.specs.declared.message.Block.{Block}
 use Rattle.arrow_spec.specs.Features.{chosen_floats, feature_faults}
 use Rattle.arrow_spec.specs.Readings.{Gives, IsAmong, Refuses, bind, free_of, refusals}
-use Rattle.arrow_spec.specs.Files.{FileBlock, Meta, Request, batch_of, fields_as_asked, to_read}
+use Rattle.arrow_spec.specs.Files.{Asked, FileBlock, Meta, Request, batch_of, fields_as_asked, to_read}
 use Rattle.arrow_spec.proofs.FeatureFaults.{features-none, features-refused}
 use Rattle.arrow_spec.proofs.Projection.{ok-place, on}
 use Rattle.arrow_arrays.specs.Batches.{Batch}
@@ -41,7 +41,7 @@ batch_in_block b r meta block built readable =
     let kinds : free_of (feature_faults r.columns meta.schema.fields (so_far.chosen meta.schema.order (fields_as_asked r.columns meta.schema.fields))) ≡ Ok tt = rw built (ok-place _ (features-none r.columns meta.schema.fields readable)) in
     rw kinds refl
 
-gives_block : (b : List ℕ) (r : Request) (meta : Meta) (block : FileBlock) (result : Result Batch IpcError) → batch_in r b meta block ≡ batch_of so_far.custom to_read b (asked_of b meta r) block r.limit → ReadsBlock b (asked_of b meta r) block r.limit result → Gives table_of result (batch_in r b meta block)
+pub gives_block : (b : List ℕ) (r : Request) (meta : Meta) (block : FileBlock) (result : Result Batch IpcError) → batch_in r b meta block ≡ batch_of so_far.custom to_read b (asked_of b meta r) block r.limit → ReadsBlock b (asked_of b meta r) block r.limit result → Gives table_of result (batch_in r b meta block)
 gives_block b r meta block (Ok x) same h =
     let read : BlockRead b (asked_of b meta r) block r.limit x = h.read in
     same ∙ batch_by_record to_read b (asked_of b meta r) block r.limit ∙ on (block_record b block) _ read.message read.is ∙ read.read
@@ -53,6 +53,12 @@ batch_given None r meta block found result built readable same h = tt
 batch_given (Some b) r meta block found result built readable same h =
     let here : ReadsBlock b (asked_of b meta r) block r.limit result = subst (λ x. ReadsBlock b (asked_of b meta r) x r.limit result) same h in
     gives_block b r meta block result (batch_in_block b r meta block built readable) here
+
+-- and where it was read, what was read of it
+pub block_given : (content : Option (List ℕ)) (a : List ℕ → Asked) (block found : FileBlock) (left : Option ℕ) (result : Result Batch IpcError) → found ≡ block → IfSome content (λ b. ReadsBlock b (a b) found left result) → IfOk result (λ x. IfSome content (λ b. BlockRead b (a b) block left x))
+block_given None a block found left (Ok x) same h = tt
+block_given (Some b) a block found left (Ok x) same h = subst (λ w. BlockRead b (a b) w left x) same h.read
+block_given content a block found left (Err e) same h = tt
 
 -- the block of a number
 pub indexed : (blocks : List Block) (i : ℕ) (d : Block) (block : FileBlock) → i < length blocks → d ≡ get_or blocks i d → slice_get (map file_block blocks) i ≡ Some block → file_block d ≡ block

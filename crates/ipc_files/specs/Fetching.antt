@@ -5,7 +5,7 @@ use Rattle.arrow_spec.specs.Files.{FileBlock, Meta, Request, TableBatch, batch_o
 use Rattle.arrow_spec.specs.Messages.{RecordMessage, prefix_of}
 use Rattle.arrow_spec.specs.Needed.{lengths, or_nothing}
 use Rattle.file_laws.specs.Fetched.{batch_fetched, fetched as ranges_fetched}
-use Rattle.ipc_files.specs.FileBlocks.{block_metadata, block_record}
+use Rattle.ipc_files.specs.FileBlocks.{block_metadata, block_record, message_metadata}
 use Rattle.transcode_laws.specs.Built.{so_far}
 use Rattle.transcode_laws.specs.Files.{asked_of}
 use Rattle.transcode_laws.specs.Meaning.{file_table}
@@ -35,6 +35,11 @@ blocks_cost b meta r (block ∷ blocks) (x ∷ xs) left = block_cost b meta r bl
 abbrev pub FrontFetched : Option (List ℕ) → ℕ → ℕ → ℕ → ℕ → Type 0
 FrontFetched None at size fetched fetched' = ⊤
 FrontFetched (Some b) at size fetched fetched' = (p : ℕ × ℕ) → prefix_of (take size (drop at b)) ≡ Ok p → fetched' ≤ fetched + p.0
+
+-- of a block whose metadata stands, at most its prefix and its metadata
+abbrev pub MetadataFetched : Option (List ℕ) → FileBlock → ℕ → ℕ → Type 0
+MetadataFetched None block fetched fetched' = ⊤
+MetadataFetched (Some b) block fetched fetched' = (bytes : List ℕ) → message_metadata b block ≡ Ok bytes → fetched' ≤ fetched + message_cost b block
 
 -- of a block's message, at most its prefix and its metadata
 abbrev pub MessageFetched : Option (List ℕ) → FileBlock → ℕ → ℕ → Type 0

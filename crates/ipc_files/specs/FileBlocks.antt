@@ -23,12 +23,20 @@ plain_message bytes = do
   pairs ← message_pairs so_far.custom bytes
   Ok m
 
--- the message of a record batch in a block
-unfoldable pub block_record : List ℕ → FileBlock → Reading RecordMessage
-block_record b block = do
+-- the metadata of the message in a block, behind its prefix
+unfoldable pub message_metadata : List ℕ → FileBlock → Reading (List ℕ)
+message_metadata b block = do
   range ← only_if (nat_le (block.offset + block.metadata + block.body) (length b)) kinds.BlockRange
   prefix ← prefix_of (block_metadata b block)
-  plain_message (take prefix.1 (drop (block.offset + prefix.0) b))
+  Ok (take prefix.1 (drop (block.offset + prefix.0) b))
+
+-- the message of a record batch in a block
+unfoldable pub block_record : List ℕ → FileBlock → Reading RecordMessage
+block_record b block = message_metadata b block >>= λ bytes. plain_message bytes
+
+-- the same whatever pairs it has
+unfoldable pub block_header : List ℕ → FileBlock → Reading RecordMessage
+block_header b block = message_metadata b block >>= λ bytes. record_message bytes
 
 -- ── a source's bytes, where they are told ──
 

@@ -6,3 +6,4 @@ pub mod Sends
 pub mod Fetching
 pub mod Written
 pub mod Selections
+pub mod RowCounts

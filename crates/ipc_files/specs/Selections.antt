@@ -23,3 +23,17 @@ Projects s (Some columns) (Some p) = IsProjection s columns.now p.now
 
 abbrev pub IsSelection : Selection → Type 0
 IsSelection s = Projects (rc_value s.file.now.schema) s.columns s.projection
+
+-- the numbers that are read for a projection
+abbrev pub numbers_read : Option ProjectionInfo → Option (List ℕ)
+numbers_read None = None
+numbers_read (Some p) = Some p.columns.items
+
+-- the fields of the columns, in the order asked
+abbrev pub schema_shown : List Keyed → Option ProjectionInfo → List Keyed
+schema_shown s None = s
+schema_shown s (Some p) = rc_value p.schema
+
+-- a projection was made for a schema, of whatever numbers
+abbrev pub IsMade : List Keyed → Option ProjectionInfo → Type 0
+IsMade s p = ∥ ((columns : Option (List ℕ)) × MayProject s columns p) ∥₁

@@ -7,7 +7,7 @@ ghost use Rattle.transcode_laws.specs.Files.{asked_of};
 ghost use Rattle.ipc_io.specs.Outside.{IsSize, SourceKept};
 ghost use Rattle.ipc_read.specs.Batches.{table_of};
 ghost use Rattle.ipc_read.specs.Projection.{are_columns, are_rising, chosen, columns_of};
-ghost use Rattle.ipc_files.specs.Blocks.{batch_in, body_place, ReadsBlock};
+ghost use Rattle.ipc_files.specs.Blocks.{batch_in, body_place, BlockRead, ReadsBlock};
 ghost use Rattle.ipc_files.specs.FileBlocks.{file_block};
 ghost use Rattle.ipc_files.specs.FileViews.{meta_view, FileCause, IsBuilt, IsReadable};
 ghost use Rattle.ipc_files.specs.Fetching.{BlockFetched};
@@ -101,6 +101,7 @@ pub fn read_batch<S: Source>(
 
     // The batch is what the block means under the columns and the limit, or a refusal of its.
     ensures gives { (block : FileBlock) → slice_get (meta_view metadata.now).blocks index ≡ Some block → IfSome (S.content source.old) (λ b. Gives table_of result (batch_in (asked (columns_of projection.entry) limit) b (meta_view metadata.now) block)) }
+    ensures read { (block : FileBlock) → slice_get (meta_view metadata.now).blocks index ≡ Some block → IfOk result (λ x. IfSome (S.content source.old) (λ b. BlockRead b (asked_of b (meta_view metadata.now) (asked (columns_of projection.entry) limit)) block limit x)) }
     ensures schema { IfOk result (λ x. x.schema ≡ chosen (columns_of projection.entry) 0 (rc_value metadata.now.schema)) }
     ensures cause { IfErr result (λ e. FileCause e (S.faults source.old) (S.faults source.new)) }
 

@@ -4,9 +4,9 @@ ghost use Rattle.ipc_fields.specs.Causes.{Decodes};
 ghost use Rattle.ipc_io.specs.Outside.{IsSize, SourceKept};
 ghost use Rattle.ipc_schema.specs.Views.{message_of};
 ghost use Rattle.transcode_laws.specs.Files.{HeaderFits};
-ghost use Rattle.ipc_files.specs.FileBlocks.{plain_message, Lies, PrefixIn, BlockIn, file_block};
+ghost use Rattle.ipc_files.specs.FileBlocks.{block_header, message_metadata, plain_message, Lies, PrefixIn, BlockIn, GivesIn, file_block};
 ghost use Rattle.ipc_files.specs.FileViews.{FileCause};
-ghost use Rattle.ipc_files.specs.Fetching.{FrontFetched, MessageFetched};
+ghost use Rattle.ipc_files.specs.Fetching.{FrontFetched, MessageFetched, MetadataFetched};
 
 use crate::fetch::fetch;
 use crate::integers::magnitude;
@@ -59,13 +59,38 @@ fn message_in(alloc: Global, bytes: &[u8]) -> Result<RecordMessage, IpcError>
     Ok(message)
 }
 
+/// The metadata of the message in a block of a file of `size` bytes, behind its prefix.
+#[tactic(auto, using(crate::proofs::BlockMessages::prefix_refused))]
+fn fetch_metadata<S: Source>(
+    alloc: Global,
+    source: &mut S,
+    block: &Block,
+    size: u64,
+) -> Result<Vec<u8>, IpcError>
+    requires { IsSize (S.content source.old) size }
+    ensures within { OnOk result ((file_block block.now).offset + (file_block block.now).metadata + (file_block block.now).body ≤ size) }
+    ensures metadata { GivesIn (S.content source.old) (λ v. v.items) result (λ b. message_metadata b (file_block block.now)) }
+    ensures cause { IfErr result (λ e. FileCause e (S.faults source.old) (S.faults source.new)) }
+    ensures fetched { MetadataFetched (S.content source.old) (file_block block.now) (S.fetched source.old) (S.fetched source.new) }
+    ensures kept { SourceKept S.content S.faults S.references source.old source.new }
+{
+    let offset = magnitude(block.offset);
+    let metadata = magnitude(i64::from(block.meta_data_length));
+    let body = magnitude(block.body_length);
+    if offset > size || metadata > size - offset || body > size - offset - metadata {
+        return Err(IpcError::OutOfSpec(OutOfSpecKind::BlockRange));
+    }
+    let (start, length) = read_prefix(alloc, source, offset, metadata as usize)?;
+    fetch(alloc, source, offset + start as u64, length)
+}
+
 /// The message of a record batch in a block of a file of `size` bytes; of the block, the prefix and the metadata are read.
 ///
 /// # Errors
 ///
 /// `OutOfSpec(BlockRange)` where the block passes the end of the file, `OutOfSpec` with the kind of the part that is not
-/// as the format says, `Unsupported(Version)`, `ReadFault` and `Memory`.
-#[tactic(auto, using(crate::proofs::BlockMessages::out_of_range, crate::proofs::BlockMessages::prefix_refused, crate::proofs::BlockMessages::block_faulted, crate::proofs::BlockMessages::message_read))]
+/// as the format says, `Unsupported(Version)`, `Unsupported(NotYet)` for pairs, `ReadFault` and `Memory`.
+#[tactic(auto, using(crate::proofs::FetchedFiles::message_fetched))]
 pub(crate) fn read_block_message<S: Source>(
     alloc: Global,
     source: &mut S,
@@ -80,13 +105,28 @@ pub(crate) fn read_block_message<S: Source>(
     ensures fetched { MessageFetched (S.content source.old) (file_block block.now) (S.fetched source.old) (S.fetched source.new) }
     ensures kept { SourceKept S.content S.faults S.references source.old source.new }
 {
-    let offset = magnitude(block.offset);
-    let metadata = magnitude(i64::from(block.meta_data_length));
-    let body = magnitude(block.body_length);
-    if offset > size || metadata > size - offset || body > size - offset - metadata {
-        return Err(IpcError::OutOfSpec(OutOfSpecKind::BlockRange));
-    }
-    let (start, length) = read_prefix(alloc, source, offset, metadata as usize)?;
-    let bytes = fetch(alloc, source, offset + start as u64, length)?;
+    let bytes = fetch_metadata(alloc, source, block, size)?;
     message_in(alloc, &bytes)
+}
+
+/// The message of a record batch in a block of a file of `size` bytes, whatever pairs it has; of the block, the prefix and
+/// the metadata are read.
+///
+/// # Errors
+///
+/// As of `read_batch`, where they lie in the prefix or the metadata, but for pairs.
+pub fn read_block_header<S: Source>(
+    alloc: Global,
+    source: &mut S,
+    block: &Block,
+    size: u64,
+) -> Result<RecordMessage, IpcError>
+    requires { IsSize (S.content source.old) size }
+    ensures header { GivesIn (S.content source.old) message_of result (λ b. block_header b (file_block block.now)) }
+    ensures cause { IfErr result (λ e. FileCause e (S.faults source.old) (S.faults source.new)) }
+    ensures fetched { MetadataFetched (S.content source.old) (file_block block.now) (S.fetched source.old) (S.fetched source.new) }
+    ensures kept { SourceKept S.content S.faults S.references source.old source.new }
+{
+    let bytes = fetch_metadata(alloc, source, block, size)?;
+    read_record_message(alloc, &bytes)
 }

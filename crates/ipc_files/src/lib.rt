@@ -10,12 +10,17 @@ mod fetch;
 mod integers;
 mod messages;
 mod metadata;
+mod ordered;
+mod row_counts;
 mod selection;
 mod send;
 
 pub use batch::read_batch;
+pub use block::read_block_header;
 pub use conversion::{Summary, transcode, transcode_as};
 pub use encoding::Encoding;
 pub use ipc_read::Dictionaries;
-pub use ipc_schema::{Footer, decode_footer_len, deserialize_footer};
+pub use ipc_schema::{Footer, RecordMessage, decode_footer_len, deserialize_footer};
 pub use metadata::{FileMetadata, metadata_of, read_file_metadata};
+pub use ordered::read_projected_batch;
+pub use row_counts::{get_row_count, get_row_count_from_blocks, read_block_rows};

@@ -54,13 +54,13 @@ fn fetch_footer<S: Source>(alloc: Global, source: &mut S, size: u64) -> Result<V
 
 /// The bytes of a file's footer, and how many bytes the file has.
 #[derive(Drop)]
-struct FooterBytes {
-    bytes: Vec<u8>,
-    size: u64,
+pub(crate) struct FooterBytes {
+    pub(crate) bytes: Vec<u8>,
+    pub(crate) size: u64,
 }
 
 /// Fetches the footer of a file.
-fn read_footer<S: Source>(alloc: Global, source: &mut S) -> Result<FooterBytes, IpcError>
+pub(crate) fn read_footer<S: Source>(alloc: Global, source: &mut S) -> Result<FooterBytes, IpcError>
     ensures footer { GivesIn (S.content source.old) (λ f. f.bytes.items) result footer_of }
     ensures size { IfOk result (λ f. IsSize (S.content source.old) f.size) }
     ensures bound { IfOk result (λ f. f.size < 2 ^ 63) }

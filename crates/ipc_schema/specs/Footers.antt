@@ -68,6 +68,10 @@ unfoldable pub records_part : List ℕ → Table → Reading (List FileBlock)
 records_part f t = as_kind kinds.InvalidFlatbufferRecordBatches (slot_vector 24 f t 3) >>= required (OutOfSpec kinds.MissingRecordBatches)
     >>= λ v. blocks_at (λ e. OutOfSpec (kinds.InvalidFlatbufferRecordBatches e)) f v
 
+-- the blocks of record batches of a footer, of which nothing else is looked at
+unfoldable pub record_blocks_in : List ℕ → Reading (List FileBlock)
+record_blocks_in f = as_kind kinds.InvalidFlatbufferFooter (root f) >>= λ t. records_part f t
+
 -- the blocks of dictionaries
 unfoldable pub dictionaries_part : List ℕ → Table → Reading (List FileBlock)
 dictionaries_part f t = as_kind kinds.InvalidFlatbufferDictionaries (slot_vector 24 f t 2)

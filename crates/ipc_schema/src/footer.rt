@@ -5,7 +5,7 @@ ghost use Rattle.ipc_fields.specs.Causes.{Decodes, IsOfBytes};
 ghost use Rattle.arrow_spec.specs.Files.{footer_of, meta_in};
 ghost use Rattle.arrow_types.specs.Schemas.{fields_in};
 ghost use Rattle.ipc_fields.specs.IpcFields.{AreNamed, have_shapes, ids_of, schema_view};
-ghost use Rattle.ipc_schema.specs.Footers.{IsNatural, HasNaturalBlocks, file_block, footer_view, block_numbers_at, block_by, fault_in, block_in, blocks_in, footer_length_in, records_part, dictionaries_part, schema_in_footer, footer_parts};
+ghost use Rattle.ipc_schema.specs.Footers.{IsNatural, HasNaturalBlocks, file_block, footer_view, block_numbers_at, block_by, fault_in, block_in, blocks_in, footer_length_in, records_part, dictionaries_part, record_blocks_in, schema_in_footer, footer_parts};
 ghost use Rattle.schema_reader.specs.Metadata.{HasPairsIfAny};
 
 use crate::number::{i32_at, i64_at};
@@ -206,6 +206,24 @@ pub fn deserialize_footer(alloc: Global, bytes: &[u8]) -> Result<Footer, IpcErro
     ensures natural { IfOk result HasNaturalBlocks }
 {
     read_footer_parts(alloc, bytes)
+}
+
+/// The blocks of record batches of a footer, by its bytes. Its dictionaries and its schema are not looked at.
+///
+/// # Errors
+///
+/// `OutOfSpec` with the kind of the part that is not as the format says, and `Memory`.
+#[tactic(auto, unfolding(arrow_spec::specs::Readings::bind, crate::specs::Footers::record_blocks_in))]
+pub fn deserialize_record_blocks(alloc: Global, bytes: &[u8]) -> Result<Vec<Block>, IpcError>
+    ensures gives { Decodes (λ v. map file_block v.items) result (record_blocks_in bytes.now) }
+
+    // No number of a block is negative.
+    ensures natural { IfOk result (λ v. All IsNatural v.items) }
+{
+    let table = Flat::root(bytes).map_err(|e| IpcError::OutOfSpec(
+        OutOfSpecKind::InvalidFlatbufferFooter(e),
+    ))?;
+    read_record_blocks(alloc, &table)
 }
 
 /// The footer's length in bytes, by the last ten bytes of a file of `size` bytes: the length and `ARROW1`.

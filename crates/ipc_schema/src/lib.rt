@@ -13,7 +13,7 @@ pub use arrow_spec::{
     OutOfSpecKind,
 };
 pub use custom::{refuse_footer_pairs, refuse_message_pairs};
-pub use footer::{Footer, decode_footer_len, deserialize_footer};
+pub use footer::{Footer, decode_footer_len, deserialize_footer, deserialize_record_blocks};
 pub use header::{read_message_header, read_record_message};
 pub use ipc_fields::{IpcField, IpcSchema};
 pub use ipc_io::{

@@ -19,6 +19,10 @@ pub(crate) enum Part {
     NoNull,
     /// Values 1, 2, 3.
     FirstBody,
+    /// The same, which tells its rows as -1.
+    NegativeRows,
+    /// The same, which tells its rows as 2^62.
+    ManyRows,
     /// The message of a batch of four rows.
     FourRows,
     /// Values 4, 5, 6, 7.
@@ -89,6 +93,10 @@ impl Part {
                 b"0500000000000000000000000000000000000000000000000000000000000000000000000000000000000000000000000000000000000000000000000000000001000000000000000300000000000000000000000000000000000000000000000000000000000000000000000000000000000000000000000000000000000000",
             Part::NoNull =>
                 b"ffffffff90000000100000000c00180004000600080010000c00000004000300200000000000000040000000000000000000000000000a0018000800100014000a0000000000000003000000000000000c0000002000000000000000010000000300000000000000000000000000000000000000020000000000000000000000000000000000000000000000000000000c00000000000000",
+            Part::NegativeRows =>
+                b"ffffffff90000000100000000c00180004000600080010000c00000004000300200000000000000040000000000000000000000000000a0018000800100014000a00000000000000ffffffffffffffff0c0000002000000000000000010000000300000000000000000000000000000000000000020000000000000000000000000000000000000000000000000000000c00000000000000",
+            Part::ManyRows =>
+                b"ffffffff90000000100000000c00180004000600080010000c00000004000300200000000000000040000000000000000000000000000a0018000800100014000a0000000000000000000000000000400c0000002000000000000000010000000300000000000000000000000000000000000000020000000000000000000000000000000000000000000000000000000c00000000000000",
             Part::FirstBody =>
                 b"01000000020000000300000000000000000000000000000000000000000000000000000000000000000000000000000000000000000000000000000000000000",
             Part::FourRows =>
@@ -168,6 +176,48 @@ pub(crate) const TWO_BATCHES: &[Part] = &[
     Part::SecondBody,
     Part::EndMark,
     Part::TwoBlocks,
+];
+
+/// Two batches, of which the second tells its rows as -1.
+pub(crate) const NEGATIVE_ROWS: &[Part] = &[
+    Part::Magic,
+    Part::Schema,
+    Part::NoNull,
+    Part::FirstBody,
+    Part::NegativeRows,
+    Part::SecondBody,
+    Part::EndMark,
+    Part::TwoBlocks,
+];
+
+/// Two batches, which tell their rows as 2^62 each.
+pub(crate) const MANY_ROWS: &[Part] = &[
+    Part::Magic,
+    Part::Schema,
+    Part::ManyRows,
+    Part::FirstBody,
+    Part::ManyRows,
+    Part::SecondBody,
+    Part::EndMark,
+    Part::TwoBlocks,
+];
+
+/// A batch whose message has a pair of its own.
+pub(crate) const PAIR_OF_MESSAGE: &[Part] = &[
+    Part::Magic,
+    Part::Schema,
+    Part::OneNullWithPair,
+    Part::OneNullBody,
+    Part::EndMark,
+    Part::BlockOfPair,
+];
+
+/// No batch, and a dictionary's block far past the end.
+pub(crate) const FAR_DICTIONARY: &[Part] = &[
+    Part::Magic,
+    Part::Schema,
+    Part::EndMark,
+    Part::FarDictionary,
 ];
 
 pub(crate) const TWO_BATCHES_STREAM: &[Part] = &[

@@ -16,6 +16,8 @@ mod large_parts;
 #[cfg(test)]
 mod names;
 #[cfg(test)]
+mod readers;
+#[cfg(test)]
 mod refusal_texts;
 #[cfg(test)]
 mod runs;

@@ -1,12 +1,14 @@
-//! Three uses of `arrow_ipc`. An Arrow file comes on standard input: the first column of its first record batch is printed, a batch of numbers is written, and the file is sent as a stream.
+//! Four uses of `arrow_ipc`. An Arrow file comes on standard input: the first column of its first record batch and the rows of each batch are printed, a batch of numbers is written, and the file is sent as a stream.
 #![tactic(auto)]
 
+mod each_batch;
 mod file_to_stream;
 mod read_column;
 mod write_batch;
 
 use arrow_ipc::io::MemorySource;
 use arrow_ipc::io::ipc::IpcError;
+use each_batch::heights;
 use file_to_stream::stream_of;
 use read_column::{first_batch, first_column};
 use std::alloc::Global;
@@ -38,19 +40,26 @@ fn lengths(alloc: Global, source: &mut MemorySource) -> Result<(usize, usize), I
     Ok((message.len(), stream.bytes().len()))
 }
 
-/// The uses, one after another.
-fn show(rt: &HostRuntime) -> Result<(), &'static str> {
-    let bytes = input(rt)?;
-    let mut source = MemorySource::new(bytes, Vec::new(rt.alloc()), Vec::new(rt.alloc()));
-    let column = match column_of(rt.alloc(), &mut source) {
-        Ok(column) => column,
-        Err(error) => return Err(error.name()),
-    };
-    for row in &column {
+/// The first column of the first record batch, and the rows of each.
+fn show_batches(rt: &HostRuntime, source: &mut MemorySource) -> Result<(), IpcError> {
+    for row in &column_of(rt.alloc(), source)? {
         let _ = match row {
             Some(number) => println!(rt; "{number}"),
             None => println!(rt; "null"),
         };
+    }
+    for height in &heights(rt.alloc(), source, None)? {
+        let _ = println!(rt; "a batch of {height} rows");
+    }
+    Ok(())
+}
+
+/// The uses, one after another.
+fn show(rt: &HostRuntime) -> Result<(), &'static str> {
+    let bytes = input(rt)?;
+    let mut source = MemorySource::new(bytes, Vec::new(rt.alloc()), Vec::new(rt.alloc()));
+    if let Err(error) = show_batches(rt, &mut source) {
+        return Err(error.name());
     }
     match lengths(rt.alloc(), &mut source) {
         Ok((message, stream)) => {

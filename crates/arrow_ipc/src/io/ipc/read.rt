@@ -2,8 +2,9 @@
 
 pub use arrow_spec::{Block, FieldNode, IpcBuffer, MetadataVersion};
 pub use ipc_files::{
-    Dictionaries, FileMetadata, Footer, decode_footer_len, deserialize_footer, read_batch,
-    read_file_metadata,
+    Dictionaries, FileMetadata, Footer, decode_footer_len, deserialize_footer, get_row_count,
+    get_row_count_from_blocks, read_batch, read_block_header, read_block_rows, read_file_metadata,
+    read_projected_batch,
 };
 pub use ipc_projection::{
     ProjectionInfo, ProjectionIter, ProjectionResult, apply_projection, prepare_projection,
@@ -15,7 +16,8 @@ pub use ipc_read::{
     skip_fixed_size_binary, skip_fixed_size_list, skip_list, skip_map, skip_null, skip_primitive,
     skip_struct, skip_union, skip_utf8,
 };
+pub use ipc_reader::{FileCursor, FileReader, Refused};
 pub use ipc_schema::{
-    BatchHeader, Message, MessageHeader, RecordMessage, deserialize_schema, message_prefix,
-    read_message_header, read_record_message,
+    BatchHeader, Message, MessageHeader, RecordMessage, deserialize_record_blocks,
+    deserialize_schema, message_prefix, read_message_header, read_record_message,
 };

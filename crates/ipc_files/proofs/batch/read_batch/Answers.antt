@@ -3,13 +3,14 @@ use Rattle.ipc_fields.specs.IpcFields.{fields_with, ids_of}
 use Rattle.arrow_types.specs.Schemas.{fields_in}
 use Rattle.std.specs.Rc.{rc_value}
 use Rattle.ipc_read.specs.Projection.{columns_of}
+use Rattle.transcode_laws.specs.Files.{asked_of}
 use Rattle.ipc_files.specs.FileViews.{IsBuilt, meta_view}
 use Rattle.ipc_files.specs.Fetching.{BlockFetched}
 use Rattle.ipc_files.specs.Transcode.{asked}
 use Rattle.ipc_files.proofs.AskedFields.{built_as_read, built_from}
 use Rattle.ipc_files.proofs.Counted.{asked_floats}
 use Rattle.ipc_files.proofs.MissingFeatures.{chosen_with}
-use Rattle.ipc_files.proofs.ReadBatches.{batch_given, batch_not_built, indexed}
+use Rattle.ipc_files.proofs.ReadBatches.{batch_given, batch_not_built, block_given, indexed}
 use Rattle.ipc_files.proofs.SentFiles.{columns_sent}
 use Rattle.ipc_files.proofs.batch.read_batch.Goals as goal
 
@@ -28,6 +29,11 @@ returns-clause-gives g c = λ block at.
     let built : IsBuilt (meta_view file) columns = built_from file columns _ c.deref.ensures (sym c.is_built.ensures ∙ c.if-not-is_built.false) in
     batch_given (g.S.Source.content c.args.source.now) (asked columns c.args.limit) (meta_view file) block _ c.read_block.result
     built (chosen_with columns (fields_in (rc_value file.schema)) (ids_of file.ipc_schema.fields.items) 0 ∙ asked_floats columns (rc_value file.schema) (columns_sent file columns built)) (indexed file.blocks.items c.args.index c.index.result.now block c.requires.in_range c.index.ensures at) c.read_block.ensures.gives
+
+pub returns-clause-read : goal.returns-clause-read
+returns-clause-read g c = λ block at.
+    block_given (g.S.Source.content c.args.source.now) (λ b. asked_of b (meta_view c.args.metadata.now) (asked (columns_of c.args.projection) c.args.limit)) block _ c.args.limit c.read_block.result
+    (indexed c.args.metadata.now.blocks.items c.args.index c.index.result.now block c.requires.in_range c.index.ensures at) c.read_block.ensures.gives
 
 pub returns-clause-fetched : goal.returns-clause-fetched
 returns-clause-fetched g c = λ block at.

@@ -1,0 +1,57 @@
+-- How many rows the record batches of a file have, by their messages alone: no pairs and no body are looked at. (Arrow Columnar Format, "IPC File Format"; Message.fbs, RecordBatch.)
+use Rattle.std.specs.Prelude.{ℕ, ◌+◌, ◌-◌, ◌^◌, ◌≡◌, ◌≤◌, List, [], ◌∷◌, length, Option, Some, None, ℤ, pos, Ok, ⊤, nat_le, nat_lt, if◌then◌else◌}
+use Rattle.arrow_spec.specs.declared.error.OutOfSpecKind.TheVariants as kinds
+use Rattle.arrow_spec.specs.Readings.{Reading, ◌>>=◌, natural, only_if}
+use Rattle.arrow_spec.specs.Files.{FileBlock, footer_of}
+use Rattle.ipc_schema.specs.Footers.{record_blocks_in}
+use Rattle.ipc_files.specs.FileBlocks.{block_header}
+use Rattle.ipc_files.specs.Fetching.{message_cost}
+
+-- the rows of a block's batch
+unfoldable pub block_rows : List ℕ → FileBlock → Reading ℕ
+block_rows b block = block_header b block >>= λ m. natural m.tables.length
+
+-- the rows of blocks together, behind some rows: as many as an i64 can tell
+unfoldable pub rows_behind : List ℕ → List FileBlock → ℕ → Reading ℕ
+rows_behind b [] n = Ok n
+rows_behind b (block ∷ blocks) n = do
+  rows ← block_rows b block
+  few ← only_if (nat_lt (n + rows) (2 ^ 63)) kinds.RowCount
+  rows_behind b blocks (n + rows)
+
+-- the rows of blocks
+abbrev pub row_count_of : List ℕ → List FileBlock → Reading ℤ
+row_count_of b blocks = rows_behind b blocks 0 >>= λ n. Ok (pos n)
+
+-- the rows of a file, by the record blocks of its footer, of which no more is looked at
+unfoldable pub file_row_count : List ℕ → Reading ℤ
+file_row_count b = do
+  f ← footer_of b
+  blocks ← record_blocks_in f
+  row_count_of b blocks
+
+-- The block at which a number of rows ends, of blocks from this number on, and what remains of the rows there: a block of no more rows than remain is passed.
+unfoldable pub blocks_passed : List ℕ → List FileBlock → ℕ → ℕ → Reading (ℕ × ℕ)
+blocks_passed b [] number left = Ok (number, left)
+blocks_passed b (block ∷ blocks) number left = do
+  rows ← block_rows b block
+  if nat_le rows left then blocks_passed b blocks (number + 1) (left - rows) else Ok (number, left)
+
+-- ── what is fetched ──
+
+-- the prefixes and the metadata of blocks
+abbrev pub messages_cost : List ℕ → List FileBlock → ℕ
+messages_cost b [] = 0
+messages_cost b (block ∷ blocks) = message_cost b block + messages_cost b blocks
+
+-- of blocks of which something is read by their messages, at most these
+abbrev pub MessagesFetched : {A : Type 0} → Option (List ℕ) → List FileBlock → (List ℕ → Reading A) → ℕ → ℕ → Type 0
+MessagesFetched None blocks reading fetched fetched' = ⊤
+MessagesFetched {A} (Some b) blocks reading fetched fetched' = (x : A) → reading b ≡ Ok x → fetched' ≤ fetched + messages_cost b blocks
+
+-- of a file whose rows are counted, at most the end of the file, its footer and the messages of its record blocks
+abbrev pub RowCountFetched : Option (List ℕ) → ℕ → ℕ → Type 0
+RowCountFetched None fetched fetched' = ⊤
+RowCountFetched (Some b) fetched fetched' =
+    (f : List ℕ) (blocks : List FileBlock) (n : ℤ) → footer_of b ≡ Ok f → record_blocks_in f ≡ Ok blocks → row_count_of b blocks ≡ Ok n
+    → fetched' ≤ fetched + 10 + length f + messages_cost b blocks

@@ -1,0 +1,2 @@
+pub mod PassedBlocks
+pub mod Progress
