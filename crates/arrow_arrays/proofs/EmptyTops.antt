@@ -225,10 +225,10 @@ only_top k b h = (and_parts (nat_eq (width (child_fields k)) 1) b h).1
 pub no_union_fault : (k : Kind) (ts : List ℤ) (os : Option (List ℤ)) (cs : Forest) → is_union (has_offsets os) k ≡ true → ts ≡ [] → IfSome os (λ o. o ≡ []) → EmptyUnder (child_fields k) cs → fault_in (nested (tagged (record { kind = k; types = ts; offsets = os })) cs) ≡ None
 no_union_fault k ts None cs l t o u =
     let h : Head = tagged (record { kind = k; types = ts; offsets = None }) in
-    both (head_fault h (kinds_each cs) (rows_each cs)) _ (sound_head h (kinds_each cs) (rows_each cs) (record { suits = and_from (is_union false k) _ l u.kinds; valid = refl; rows = ap (λ xs. are_all (length xs) (rows_each cs)) t ∙ u.rows; offsets = refl; types = ap (have_ids (ids_in k)) t })) u.sound
+    both (head_fault h (kinds_each cs) (rows_each cs)) _ (sound_head h (kinds_each cs) (rows_each cs) (record { suits = and_from (is_union false k) _ l u.kinds; valid = refl; rows = ap (λ xs. are_all (length xs) (rows_each cs)) t ∙ u.rows; offsets = refl; types = ap (have_ids (ids_in k)) t; keys = refl })) u.sound
 no_union_fault k ts (Some xs) cs l t o u =
     let h : Head = tagged (record { kind = k; types = ts; offsets = Some xs }) in
-    both (head_fault h (kinds_each cs) (rows_each cs)) _ (sound_head h (kinds_each cs) (rows_each cs) (record { suits = and_from (is_union true k) _ l u.kinds; valid = refl; rows = ap (λ ys. nat_eq (length ys) (length ts)) o ∙ ap (λ ys. nat_eq 0 (length ys)) t; offsets = ap (λ ys. fits_places (ids_in k) ys (Some xs) (rows_each cs)) t; types = ap (have_ids (ids_in k)) t })) u.sound
+    both (head_fault h (kinds_each cs) (rows_each cs)) _ (sound_head h (kinds_each cs) (rows_each cs) (record { suits = and_from (is_union true k) _ l u.kinds; valid = refl; rows = ap (λ ys. nat_eq (length ys) (length ts)) o ∙ ap (λ ys. nat_eq 0 (length ys)) t; offsets = ap (λ ys. fits_places (ids_in k) ys (Some xs) (rows_each cs)) t; types = ap (have_ids (ids_in k)) t; keys = refl })) u.sound
 
 pub no_fault : (f : Option ArrayError) (e : ArrayError) → f ≡ None → f ≡ Some e → ⊥
 no_fault f e p q = cc

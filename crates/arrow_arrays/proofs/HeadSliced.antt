@@ -2,6 +2,7 @@
 use Rattle.std.proofs.Common.{◌≡◌, ℕ, zero, suc, ◌+◌, ◌*◌, ◌≤◌, ◌<◌, ◌&&◌, List, [], ◌∷◌, Bool, true, false, Option, Some, None, ℤ, map, length, drop, nat_eq, refl, sym, ap, ◌∙◌, arith, get_or}
 use Rattle.std.specs.Prelude.{pos, not, if◌then◌else◌}
 use Rattle.std.specs.Option.{option_map}
+use Rattle.std.specs.List.{sum}
 use Rattle.std.proofs.lemmas.Bool.{and_parts, and_from, eqb-true, eq-eqb}
 use Rattle.std.proofs.lemmas.List.{get_or-take, get_or-drop}
 use Rattle.std.proofs.Math.Nat.{mul-le-mul_left}
@@ -9,41 +10,44 @@ use Rattle.arrow_spec.specs.Kinds.{Kind}
 use Rattle.arrow_spec.specs.Cells as cells
 use Rattle.arrow_spec.specs.Cells.{Cell, cells_of}
 use Rattle.arrow_spec.specs.Counts.{magnitude}
-use Rattle.arrow_spec.specs.Arrays.{from_on, id_place, or_0}
+use Rattle.arrow_spec.specs.Arrays.{from_on, id_place, or_0, keyed}
 use Rattle.arrow_spec.specs.Faults.{some_row, is_no_id}
-use Rattle.arrow_buffers.specs.declared.error.ArrayError.TheVariants.{DataType, Length, Offsets as BadOffsets, UnionType}
-use Rattle.arrow_buffers.specs.Rows.{part, has_rows, masked}
+use Rattle.arrow_buffers.specs.declared.error.ArrayError.TheVariants.{DataType, Length, Offsets as BadOffsets, UnionType, Key}
+use Rattle.arrow_buffers.specs.Rows.{part, has_rows, is_valid, masked}
 use Rattle.arrow_buffers.specs.Variable.{place_at, are_offsets, variable_rows}
 use Rattle.arrow_buffers.proofs.Parts.{length-part, length-from_on, part-from_on, shift-from_on, part-part}
-use Rattle.arrow_buffers.proofs.Masks.{length-masked, part-masked, has_rows-part}
+use Rattle.arrow_buffers.proofs.Masks.{length-masked, part-masked, has_rows-part, is_valid-part}
 use Rattle.arrow_buffers.proofs.Rising.{some_offset, are_offsets-part}
 use Rattle.arrow_buffers.proofs.Rows.{none_below, none_from}
-use Rattle.arrow_arrays.specs.Heads.{Head, listed, mapped, sized, structured, tagged, Cut, whole, run, head_kind, head_rows, head_validity, head_cell, head_cells, head_part, cut_of, cut_cells, suits, are_of, child_fields, fits_rows, fits_offsets, fits_types, are_all, first_or_0, first_of, across, row_items, list_size, head_fault, Reaches, ids_in, number_at, child_under, tagged_cell, tagged_cut, tagged_rows, is_union, has_offsets, is_bad_place, fits_places, have_ids}
+use Rattle.arrow_arrays.specs.Heads.{Head, listed, mapped, sized, structured, tagged, indexed, joined, Cut, whole, run, head_kind, head_rows, head_validity, head_cell, head_cells, head_part, cut_of, cut_cells, suits, are_under, fits_rows, fits_offsets, fits_types, fits_keys, are_all, first_or_0, first_of, across, row_items, list_size, head_fault, Reaches, ids_in, number_at, child_under, tagged_cell, tagged_cut, tagged_rows, is_union, has_offsets, is_bad_place, fits_places, have_ids, is_bad_key, have_keys}
 
 -- what holds of a top that is not refused
 pub record Sound (h : Head) (ks : List Kind) (ns : List ℕ) : Type 0 where
-  pub suits : (suits h && are_of (child_fields (head_kind h)) ks) ≡ true
+  pub suits : (suits h && are_under h ks) ≡ true
   pub valid : has_rows (head_validity h) (head_rows h) ≡ true
   pub rows : fits_rows h ns ≡ true
   pub offsets : fits_offsets h ns ≡ true
   pub types : fits_types h ≡ true
+  pub keys : fits_keys h ns ≡ true
 
-tests : (s t u v : Bool) → (if not s then Some DataType else (if not t then Some Length else (if not u then Some BadOffsets else (if not v then Some UnionType else None)))) ≡ None
-    → (s ≡ true) × (t ≡ true) × (u ≡ true) × (v ≡ true)
-tests true true true true e = (refl, refl, refl, refl)
-tests true true true false e = cc
-tests true true false v e = cc
-tests true false u v e = cc
-tests false t u v e = cc
+tests : (s t u v w : Bool)
+    → (if not s then Some DataType else (if not t then Some Length else (if not u then Some BadOffsets else (if not v then Some UnionType else (if not w then Some Key else None))))) ≡ None
+    → (s ≡ true) × (t ≡ true) × (u ≡ true) × (v ≡ true) × (w ≡ true)
+tests true true true true true e = (refl, refl, refl, refl, refl)
+tests true true true true false e = cc
+tests true true true false w e = cc
+tests true true false v w e = cc
+tests true false u v w e = cc
+tests false t u v w e = cc
 
 pub head_sound : (h : Head) (ks : List Kind) (ns : List ℕ) → head_fault h ks ns ≡ None → Sound h ks ns
 head_sound h ks ns e =
-    let t = tests (suits h && are_of (child_fields (head_kind h)) ks) (has_rows (head_validity h) (head_rows h) && fits_rows h ns) (fits_offsets h ns) (fits_types h) e in
+    let t = tests (suits h && are_under h ks) (has_rows (head_validity h) (head_rows h) && fits_rows h ns) (fits_offsets h ns) (fits_types h) (fits_keys h ns) e in
     let v = and_parts (has_rows (head_validity h) (head_rows h)) (fits_rows h ns) t.1 in
-    record { suits = t.0; valid = v.0; rows = v.1; offsets = t.2; types = t.3 }
+    record { suits = t.0; valid = v.0; rows = v.1; offsets = t.2; types = t.3; keys = t.4 }
 
 pub sound_head : (h : Head) (ks : List Kind) (ns : List ℕ) → Sound h ks ns → head_fault h ks ns ≡ None
-sound_head h ks ns s = rw (s.suits, s.valid, s.rows, s.offsets, s.types) refl
+sound_head h ks ns s = rw (s.suits, s.valid, s.rows, s.offsets, s.types, s.keys) refl
 
 pub length-head : (h : Head) (css : List (List Cell)) → has_rows (head_validity h) (head_rows h) ≡ true → length (head_cells h css) ≡ head_rows h
 length-head h css v =
@@ -56,6 +60,7 @@ kind-part o n (mapped l) = refl
 kind-part o n (sized c) = refl
 kind-part o n (structured c) = refl
 kind-part o n (tagged t) = refl
+kind-part o n (indexed d) = refl
 
 validity-part : (o n : ℕ) (h : Head) → head_validity (head_part o n h) ≡ option_map (part o n) (head_validity h)
 validity-part o n (listed l) = refl
@@ -63,6 +68,7 @@ validity-part o n (mapped l) = refl
 validity-part o n (sized c) = refl
 validity-part o n (structured c) = refl
 validity-part o n (tagged t) = refl
+validity-part o n (indexed d) = refl
 
 has_offsets-part : (o n : ℕ) (offsets : Option (List ℤ)) → has_offsets (option_map (part o n) offsets) ≡ has_offsets offsets
 has_offsets-part o n None = refl
@@ -74,6 +80,11 @@ suits-part o n (mapped l) = refl
 suits-part o n (sized c) = refl
 suits-part o n (structured c) = refl
 suits-part o n (tagged t) = ap (λ b. is_union b t.kind) (has_offsets-part o n t.offsets)
+suits-part o n (indexed d) = refl
+
+under-part : (o n : ℕ) (h : Head) (ks : List Kind) → are_under (head_part o n h) ks ≡ are_under h ks
+under-part o n (indexed d) ks = refl
+under-part o n h ks = refl
 
 pub offsets-part : (o n limit : ℕ) (os : List ℤ) → are_offsets os limit ≡ true → o + n ≤ variable_rows os → variable_rows (part o (n + 1) os) ≡ n
 offsets-part o n limit os e h =
@@ -87,6 +98,7 @@ rows-part o n (mapped l) ns e h = offsets-part o n (first_or_0 ns) l.offsets e h
 rows-part o n (sized c) ns e h = refl
 rows-part o n (structured c) ns e h = refl
 rows-part o n (tagged t) ns e h = length-part t.types o n h
+rows-part o n (indexed d) ns e h = length-part d.keys o n h
 
 pub place_at-part : (o m k : ℕ) (os : List ℤ) → k < m → place_at (part o m os) k ≡ place_at os (o + k)
 place_at-part o m k os h = ap magnitude (get_or-take m (drop o os) k (pos 0) h ∙ get_or-drop o os k (pos 0))
@@ -151,6 +163,7 @@ cell-part o n k (sized c) css lt =
     ap (λ xs. cells.«list» (cells_of (part (s * k) s xs))) (first_of-part (s * o) (s * n) css) ∙ ap (λ xs. cells.«list» (cells_of xs)) (sized-part s o n k (first_of css) lt)
 cell-part o n k (structured c) css lt = ap (λ xs. cells.struct (cells_of xs)) (across-part o n k css lt)
 cell-part o n k (tagged t) css lt = tagged_cell-part o n k (ids_in t.kind) t.types t.offsets css lt
+cell-part o n k (indexed d) css lt = ap (keyed (Some (joined css))) (number_at-part o n k d.keys lt)
 
 -- so the cells of a part are a part of the cells
 pub cells-part : (o n : ℕ) (h : Head) (css : List (List Cell)) → head_rows (head_part o n h) ≡ n → o + n ≤ head_rows h → head_cells (head_part o n h) (cut_cells (cut_of o n h) css) ≡ part o n (head_cells h css)
@@ -189,6 +202,7 @@ head_reaches o n (sized c) ns e le =
     reach (s * o) (s * n) (s * c.rows) ns e b
 head_reaches o n (structured c) ns e le = reach o n c.rows ns e le
 head_reaches o n (tagged t) ns e le = tagged_reaches o n (length t.types) t.offsets ns e le
+head_reaches o n (indexed d) ns e le = tt
 
 have_cut : (o n : ℕ) (ns : List ℕ) → are_all n (cut_counts (run o n) ns) ≡ true
 have_cut o n [] = refl
@@ -208,6 +222,7 @@ fits_rows-part o n (sized c) ns e le = have_cut (list_size c.kind * o) (list_siz
 fits_rows-part o n (structured c) ns e le = have_cut o n ns
 fits_rows-part o n (tagged t) ns e le =
     ap (λ rows. tagged_rows (option_map (part o n) t.offsets) rows (cut_counts (tagged_cut o n t.offsets) ns)) (length-part t.types o n le) ∙ tagged_rows-part o n (length t.types) t.offsets ns e le
+fits_rows-part o n (indexed d) ns e le = refl
 
 some_more : (o n limit : ℕ) (os : List ℤ) → are_offsets os limit ≡ true → o + n ≤ variable_rows os → o + n < length os
 some_more o n limit os e h = let one = some_offset os limit e in omega arith
@@ -245,6 +260,19 @@ fits_types-part o n (mapped l) e le = refl
 fits_types-part o n (sized c) e le = refl
 fits_types-part o n (structured c) e le = refl
 fits_types-part o n (tagged t) e le = have_ids-part o n (ids_in t.kind) t.types e le
+fits_types-part o n (indexed d) e le = refl
+
+have_keys-part : (o n held : ℕ) (keys : List ℤ) (v : Option (List Bool)) → have_keys held keys v ≡ true → o + n ≤ length keys → have_keys held (part o n keys) (option_map (part o n) v) ≡ true
+have_keys-part o n held keys v e le =
+    let mine : ℕ → Bool = λ row. is_valid (option_map (part o n) v) row && is_bad_key held (number_at (part o n keys) row) in
+    let theirs : ℕ → Bool = λ row. is_valid v row && is_bad_key held (number_at keys row) in
+    let same : (k : ℕ) → k < n → mine k ≡ theirs (o + k) = λ k lt.
+    ap (λ b. b && is_bad_key held (number_at (part o n keys) k)) (is_valid-part o n k v lt) ∙ ap (λ z. is_valid v (o + k) && is_bad_key held z) (number_at-part o n k keys lt) in
+    ap (λ m. not (some_row mine m)) (length-part keys o n le) ∙ none-part o n (length keys) mine theirs le same e
+
+fits_keys-part : (o n : ℕ) (h : Head) (ns : List ℕ) → fits_keys h ns ≡ true → o + n ≤ head_rows h → fits_keys (head_part o n h) (cut_counts (cut_of o n h) ns) ≡ true
+fits_keys-part o n (indexed d) ns e le = have_keys-part o n (sum ns) d.keys d.validity e le
+fits_keys-part o n h ns e le = refl
 
 fits_offsets-part : (o n : ℕ) (h : Head) (ns : List ℕ) → fits_offsets h ns ≡ true → o + n ≤ head_rows h → fits_offsets (head_part o n h) (cut_counts (cut_of o n h) ns) ≡ true
 fits_offsets-part o n (listed l) ns e le = are_offsets-part o n (first_or_0 ns) l.offsets e (some_more o n (first_or_0 ns) l.offsets e le)
@@ -252,13 +280,15 @@ fits_offsets-part o n (mapped l) ns e le = are_offsets-part o n (first_or_0 ns) 
 fits_offsets-part o n (sized c) ns e le = refl
 fits_offsets-part o n (structured c) ns e le = refl
 fits_offsets-part o n (tagged t) ns e le = fits_places-part o n (ids_in t.kind) t.types t.offsets ns e le
+fits_offsets-part o n (indexed d) ns e le = refl
 
 -- a part of a top that is not refused is not refused
 pub fault-part : (o n : ℕ) (h : Head) (ks : List Kind) (ns : List ℕ) → Sound h ks ns → o + n ≤ head_rows h → head_fault (head_part o n h) ks (cut_counts (cut_of o n h) ns) ≡ None
 fault-part o n h ks ns s le = sound_head (head_part o n h) ks (cut_counts (cut_of o n h) ns) (record {
-  suits = rw (suits-part o n h, kind-part o n h) s.suits;
+  suits = rw (suits-part o n h, under-part o n h ks) s.suits;
   valid = rw (validity-part o n h, rows-part o n h ns s.offsets le) (has_rows-part o n (head_rows h) (head_validity h) s.valid le);
   rows = fits_rows-part o n h ns s.rows le;
   offsets = fits_offsets-part o n h ns s.offsets le;
   types = fits_types-part o n h s.types le;
+  keys = fits_keys-part o n h ns s.keys le;
 })

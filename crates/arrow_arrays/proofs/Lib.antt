@@ -12,3 +12,5 @@ pub mod SameBatches
 pub mod UnionPlaces
 pub mod CarriedTypes
 pub mod EmptyTops
+pub mod KeyRows
+pub mod NoDictionaries

@@ -3,8 +3,8 @@ use Rattle.std.specs.Prelude.{◌≤◌, ◌+◌, suc, List, [], ◌∷◌, max}
 use Rattle.std.proofs.Common.{arith}
 use denote.Param.Weighed.{most}
 use Rattle.arrow_arrays.specs.declared.array.Array.{Array}
-use Rattle.arrow_arrays.specs.declared.array.Array.TheVariants.{Null, Boolean, Int8, Int16, Int32, Int64, Int128, UInt8, UInt16, UInt32, UInt64, DaysMs, MonthsDaysNs, Binary, LargeBinary, Utf8, LargeUtf8, BinaryView, Utf8View, FixedSizeBinary, List as Lists, FixedSizeList, Map, Struct, Union}
-use Rattle.arrow_arrays.specs.declared.array.FixedSizeListArray.TheDeep.{deep-Array}
+use Rattle.arrow_arrays.specs.declared.array.Array.TheVariants.{Null, Boolean, Int8, Int16, Int32, Int64, Int128, UInt8, UInt16, UInt32, UInt64, DaysMs, MonthsDaysNs, Binary, LargeBinary, Utf8, LargeUtf8, BinaryView, Utf8View, FixedSizeBinary, List as Lists, FixedSizeList, Map, Struct, Union, Dictionary}
+use Rattle.arrow_arrays.specs.declared.array.DictionaryArray.TheDeep.{deep-Array}
 use Rattle.arrow_arrays.specs.Parts.{tree_size, trees_size}
 use Rattle.arrow_arrays.specs.PartsOf.{parts_of, only, forest_of}
 
@@ -34,6 +34,7 @@ deep_le (FixedSizeList p) = omega arith
 deep_le (Map p) = omega arith
 deep_le (Struct p) = omega arith
 deep_le (Union p) = omega arith
+deep_le (Dictionary p) = omega arith
 
 pub only_falls : (x : Array) → max (deep-Array x) 0 ≤ suc (trees_size (only x))
 only_falls x = omega (arith, deep_le x)

@@ -4,7 +4,9 @@ pub mod Heads
 pub mod Parts
 pub mod PartsCode
 pub mod Nodes
+pub mod NoDictionaries
 pub mod OffsetsOf
+pub mod KeysOf
 pub mod PartsOf
 pub mod Falls
 pub mod Batches

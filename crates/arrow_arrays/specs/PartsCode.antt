@@ -3,10 +3,11 @@ use Rattle.std.specs.Prelude.{◌≡◌, ◌⊎◌, ℕ, List, Bool, true, false
 use Rattle.std.proofs.Common.{ap, ◌∙◌, inl, inr}
 use Rattle.std.specs.Coded.{Coded, code_by, coded×, coded⊎, coded_ℕ, coded_ℤ, coded_list, coded_option, coded_bool}
 use base.Stored.{Gv, gnil, gnum, gcons}
-use Rattle.arrow_spec.specs.Kinds.{Kind, Offsets, small, large}
-use Rattle.arrow_types.specs.KindCode.{head, tail, kind_code}
+use Rattle.arrow_spec.specs.declared.types.IntegerType.{IntegerType}
+use Rattle.arrow_spec.specs.Kinds.{Kind, Offsets, small, large, integer_number}
+use Rattle.arrow_types.specs.KindCode.{head, tail, kind_code, integer_type_from, integer_type_from-integer_number}
 use Rattle.arrow_arrays.specs.LeafCode.{leaf_parts_code}
-use Rattle.arrow_arrays.specs.Heads.{Head, Listed, Counted, Tagged, listed, mapped, sized, structured, tagged}
+use Rattle.arrow_arrays.specs.Heads.{Head, Listed, Counted, Tagged, Indexed, listed, mapped, sized, structured, tagged, indexed}
 use Rattle.arrow_arrays.specs.Parts.{Parts, Forest, leaf, nested, none, also}
 
 abbrev pub width_to : Offsets → Bool
@@ -37,23 +38,31 @@ tagged_code =
     code_by (Kind × (List ℤ × Option (List ℤ))) (coded× kind_code (coded× (coded_list coded_ℤ) (coded_option (coded_list coded_ℤ))))
     (λ t. (t.kind, (t.types, t.offsets))) (λ p. record { kind = p.0; types = p.1.0; offsets = p.1.1 }) (λ _. refl)
 
+abbrev pub indexed_code : Coded Indexed
+indexed_code =
+    code_by (Kind × (IntegerType × (List ℤ × Option (List Bool))))
+    (coded× kind_code (coded× (code_by ℕ coded_ℕ integer_number integer_type_from integer_type_from-integer_number) (coded× (coded_list coded_ℤ) (coded_option (coded_list coded_bool)))))
+    (λ d. (d.kind, (d.index, (d.keys, d.validity)))) (λ p. record { kind = p.0; index = p.1.0; keys = p.1.1.0; validity = p.1.1.1 }) (λ _. refl)
+
 -- one of the tops' records
 abbrev pub StoredHead : Type 0
-StoredHead = (Listed ⊎ Listed) ⊎ ((Counted ⊎ Counted) ⊎ Tagged)
+StoredHead = (Listed ⊎ Listed) ⊎ ((Counted ⊎ Counted) ⊎ (Tagged ⊎ Indexed))
 
 abbrev pub head_to : Head → StoredHead
 head_to (listed l) = inl (inl l)
 head_to (mapped l) = inl (inr l)
 head_to (sized c) = inr (inl (inl c))
 head_to (structured c) = inr (inl (inr c))
-head_to (tagged t) = inr (inr t)
+head_to (tagged t) = inr (inr (inl t))
+head_to (indexed d) = inr (inr (inr d))
 
 abbrev pub head_from : StoredHead → Head
 head_from (inl (inl l)) = listed l
 head_from (inl (inr l)) = mapped l
 head_from (inr (inl (inl c))) = sized c
 head_from (inr (inl (inr c))) = structured c
-head_from (inr (inr t)) = tagged t
+head_from (inr (inr (inl t))) = tagged t
+head_from (inr (inr (inr d))) = indexed d
 
 pub head_back : (h : Head) → head_from (head_to h) ≡ h
 head_back (listed l) = refl
@@ -61,10 +70,11 @@ head_back (mapped l) = refl
 head_back (sized c) = refl
 head_back (structured c) = refl
 head_back (tagged t) = refl
+head_back (indexed d) = refl
 
 abbrev pub head_code : Coded Head
 head_code =
-    code_by StoredHead (coded⊎ (coded⊎ listed_code listed_code) (coded⊎ (coded⊎ counted_code counted_code) tagged_code)) head_to head_from head_back
+    code_by StoredHead (coded⊎ (coded⊎ listed_code listed_code) (coded⊎ (coded⊎ counted_code counted_code) (coded⊎ tagged_code indexed_code))) head_to head_from head_back
 
 abbrev mutual
   pub parts_to : Parts → Gv

@@ -4,10 +4,10 @@ use Rattle.std.specs.Int.{w8, w16, w32, w64, w128}
 use Rattle.arrow_spec.specs.Flat.{little}
 use Rattle.arrow_types.specs.Numbers.{signed_to_bytes, unsigned_to_bytes, days_ms_to_bytes, months_days_ns_to_bytes}
 use Rattle.arrow_arrays.specs.LeafParts.{nulls, bits, numbers, fixed, binary, text, binary_views, text_views, as_bytes}
-use Rattle.arrow_arrays.specs.Heads.{listed, mapped, sized, structured, tagged}
+use Rattle.arrow_arrays.specs.Heads.{listed, mapped, sized, structured, tagged, indexed}
 use Rattle.arrow_arrays.specs.Parts.{Parts, Forest, leaf, nested, none, also, forest}
 use Rattle.arrow_arrays.specs.declared.array.Array.{Array}
-use Rattle.arrow_arrays.specs.declared.array.Array.TheVariants.{Null, Boolean, Int8, Int16, Int32, Int64, Int128, UInt8, UInt16, UInt32, UInt64, DaysMs, MonthsDaysNs, Binary, LargeBinary, Utf8, LargeUtf8, BinaryView, Utf8View, FixedSizeBinary, List as Lists, FixedSizeList, Map, Struct, Union}
+use Rattle.arrow_arrays.specs.declared.array.Array.TheVariants.{Null, Boolean, Int8, Int16, Int32, Int64, Int128, UInt8, UInt16, UInt32, UInt64, DaysMs, MonthsDaysNs, Binary, LargeBinary, Utf8, LargeUtf8, BinaryView, Utf8View, FixedSizeBinary, List as Lists, FixedSizeList, Map, Struct, Union, Dictionary}
 
 abbrev pub parts_of : Array → Parts
 parts_of (Null n) = leaf (nulls n)
@@ -35,6 +35,7 @@ parts_of (FixedSizeList n) = nested (sized n.head) n.children
 parts_of (Map n) = nested (mapped n.head) n.children
 parts_of (Struct n) = nested (structured n.head) n.children
 parts_of (Union n) = nested (tagged n.head) n.children
+parts_of (Dictionary n) = nested (indexed n.head) n.children
 
 -- those of several arrays, in order
 abbrev pub all_parts_of : List Array → List Parts

@@ -6,6 +6,7 @@ ghost use Rattle.arrow_buffers.specs.Rows.{part};
 ghost use Rattle.arrow_arrays.specs.Parts.{kind_in, rows_in, validity_in, null_rows_in, cells_in, part_of, fault_in};
 ghost use Rattle.arrow_arrays.specs.PartsOf.{parts_of};
 
+use crate::keys::DictionaryKeys;
 use crate::numbers::{narrow_numbers, number_rows};
 use crate::offsets::ListOffsets;
 use arrow_buffers::{
@@ -45,6 +46,7 @@ pub enum Array {
     Map(MapArray),
     Struct(StructArray),
     Union(UnionArray),
+    Dictionary(DictionaryArray),
 }
 
 /// Lists between offsets, seen as their top and the one child that the offsets lie in.
@@ -95,6 +97,15 @@ pub struct UnionArray {
     pub(crate) types: Buffer<i8>,
     pub(crate) fields: Vec<Array>,
     pub(crate) offsets: Option<Buffer<i32>>,
+}
+
+/// Rows that are each a row of a dictionary, seen as their top and the parts of the dictionary.
+#[cycle(array)]
+#[derive(Drop)]
+pub struct DictionaryArray {
+    pub(crate) dtype: ArrowDataType,
+    pub(crate) keys: DictionaryKeys,
+    pub(crate) parts: Vec<Array>,
 }
 
 impl Model for ListArray {
@@ -224,6 +235,32 @@ impl Model for UnionArray {
     ghost size_decreases = { λ a h. several_fall a.fields.items };
 }
 
+impl Model for DictionaryArray {
+    ghost use Rattle.arrow_arrays.specs.Heads.{Indexed};
+    ghost use Rattle.arrow_arrays.specs.PartsCode.{Nested, nested_code, indexed_code};
+
+    ghost Value = { Nested Indexed };
+
+    ghost coded = { nested_code indexed_code };
+
+    ghost use Rattle.std.specs.Prelude.{◌≡◌, None};
+    ghost use Rattle.arrow_types.specs.KindOf.{kind_of};
+    ghost use Rattle.arrow_arrays.specs.Heads.{indexed};
+    ghost use Rattle.arrow_arrays.specs.Parts.{nested, fault_in, tree_size};
+    ghost use Rattle.arrow_arrays.specs.KeysOf.{indexed_by};
+    ghost use Rattle.arrow_arrays.specs.PartsOf.{forest_of};
+
+    ghost view = { λ a. record { head = indexed_by (kind_of a.dtype) a.keys; children = forest_of a.parts.items } };
+
+    ghost invariant = { λ a. fault_in (nested (indexed (indexed_by (kind_of a.dtype) a.keys)) (forest_of a.parts.items)) ≡ None };
+
+    ghost size = { λ v. tree_size (nested (indexed v.head) v.children) };
+
+    ghost use Rattle.arrow_arrays.specs.Falls.{several_fall};
+
+    ghost size_decreases = { λ a h. several_fall a.parts.items };
+}
+
 /// An array, which shares its memory with those that were cloned from it.
 pub type ArrayRef = Array;
 
@@ -260,6 +297,7 @@ impl Array {
             Array::Map(array) => array.len(),
             Array::Struct(array) => array.len(),
             Array::Union(array) => array.len(),
+            Array::Dictionary(array) => array.len(),
         }
     }
 
@@ -293,6 +331,7 @@ impl Array {
             Array::Map(array) => array.dtype(),
             Array::Struct(array) => array.dtype(),
             Array::Union(array) => array.dtype(),
+            Array::Dictionary(array) => array.dtype(),
         }
     }
 
@@ -326,6 +365,7 @@ impl Array {
             Array::Map(array) => array.validity(),
             Array::Struct(array) => array.validity(),
             Array::Union(array) => array.validity(),
+            Array::Dictionary(array) => array.validity(),
         }
     }
 
@@ -359,6 +399,7 @@ impl Array {
             Array::Map(array) => array.null_count(),
             Array::Struct(array) => array.null_count(),
             Array::Union(array) => array.null_count(),
+            Array::Dictionary(array) => array.null_count(),
         }
     }
 
@@ -395,6 +436,7 @@ impl Array {
             Array::Map(array) => array.narrow(offset, rows),
             Array::Struct(array) => array.narrow(offset, rows),
             Array::Union(array) => array.narrow(offset, rows),
+            Array::Dictionary(array) => array.narrow(offset, rows),
         }
     }
 
@@ -440,6 +482,7 @@ impl Array {
             Array::Map(array) => Ok(Array::Map(array.try_clone(alloc)?)),
             Array::Struct(array) => Ok(Array::Struct(array.try_clone(alloc)?)),
             Array::Union(array) => Ok(Array::Union(array.try_clone(alloc)?)),
+            Array::Dictionary(array) => Ok(Array::Dictionary(array.try_clone(alloc)?)),
         }
     }
 }

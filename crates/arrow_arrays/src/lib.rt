@@ -3,9 +3,11 @@
 
 mod array;
 mod carried;
+mod dictionary;
 mod empty;
 mod empty_nested;
 mod fixed_size_list;
+mod keys;
 mod list;
 mod map;
 mod numbers;
@@ -20,10 +22,12 @@ mod union;
 mod union_types;
 
 pub use array::{
-    Array, ArrayRef, FixedSizeListArray, ListArray, MapArray, StructArray, UnionArray,
+    Array, ArrayRef, DictionaryArray, FixedSizeListArray, ListArray, MapArray, StructArray,
+    UnionArray,
 };
 pub use carried::is_carried;
 pub use empty_nested::new_empty_array;
+pub use keys::DictionaryKeys;
 pub use offsets::ListOffsets;
 pub use pieces::extend_from_lengths;
 pub use record_batch::{BatchError, RecordBatch, RecordBatchT};

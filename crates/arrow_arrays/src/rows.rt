@@ -8,12 +8,14 @@ ghost use Rattle.arrow_buffers.specs.Leaf.{leaf_cells, fixed_cells, fixed_rows};
 ghost use Rattle.arrow_buffers.specs.Variable.{variable_cells, variable_rows};
 ghost use Rattle.arrow_buffers.specs.Views.{view_cells, view_rows};
 ghost use Rattle.arrow_arrays.specs.LeafParts.{numbers, as_bytes, leaf_cells_in};
-ghost use Rattle.arrow_arrays.specs.Heads.{listed, mapped, sized, structured, tagged};
+ghost use Rattle.arrow_arrays.specs.Heads.{listed, mapped, sized, structured, tagged, indexed};
 ghost use Rattle.arrow_arrays.specs.Parts.{nested, rows_in, cells_in, tree_size, trees_size};
 ghost use Rattle.arrow_arrays.specs.PartsOf.{parts_of};
 ghost use Rattle.arrow_arrays.specs.RowCells.{cell_of, Inside, value_size};
 
-use crate::array::{Array, FixedSizeListArray, ListArray, MapArray, StructArray, UnionArray};
+use crate::array::{
+    Array, DictionaryArray, FixedSizeListArray, ListArray, MapArray, StructArray, UnionArray,
+};
 use crate::row_value::{RowNumber, RowValue};
 use arrow_buffers::{
     BinaryViewArrayGeneric, Bitmap, BooleanArray, FixedSizeBinaryArray, PrimitiveArray,
@@ -22,7 +24,7 @@ use arrow_buffers::{
 use arrow_types::Offset;
 
 /// Whether a row is valid: every row, where no validity is given.
-fn is_valid_in(validity: Option<&Bitmap>, row: usize) -> bool
+pub(crate) fn is_valid_in(validity: Option<&Bitmap>, row: usize) -> bool
     requires { ForSome validity (λ bits. row < length bits.now) }
     ensures { result ≡ is_valid (option_map (λ bits. bits.now) validity.entry) row }
 {
@@ -179,8 +181,27 @@ fn union_in(array: &UnionArray, row: usize) -> RowValue<'_>
     RowValue::Tagged(array.types().get(row), &fields[child], place)
 }
 
+#[cycle(row)]
+fn dictionary_in(array: &DictionaryArray, row: usize) -> RowValue<'_>
+    requires { row < length array.now.head.keys }
+    ensures cell { slice_get (cells_in (nested (indexed array.now.head) array.now.children)) row ≡ Some (cell_of result) }
+    ensures inside { Inside result }
+    ensures smaller { value_size result ≤ 3 * suc (trees_size array.now.children) }
+{
+    prove!(array.len() > row);
+    if is_valid_in(array.validity(), row) {
+        let (part, place) = array.index(row);
+        let parts = array.parts();
+        prove!(part < parts.len());
+        parts[part].row(place)
+    } else {
+        RowValue::Null
+    }
+}
+
 impl Array {
-    /// What stands in a row.
+    /// What stands in a row. The call goes as deep as dictionaries stand in one another.
+    #[cycle(row)]
     pub(crate) fn row(&self, row: usize) -> RowValue<'_>
         requires { row < rows_in (parts_of self.now) }
         ensures cell { slice_get (cells_in (parts_of self.now)) row ≡ Some (cell_of result) }
@@ -213,6 +234,7 @@ impl Array {
             Array::Map(array) => map_in(array, row),
             Array::Struct(array) => struct_in(array, row),
             Array::Union(array) => union_in(array, row),
+            Array::Dictionary(array) => dictionary_in(array, row),
         }
     }
 }

@@ -61,7 +61,7 @@ fn are_rows(offsets: &Option<Buffer<i32>>, rows: usize, fields: &[Array]) -> boo
 }
 
 /// Reads how many rows each column has, by which each is known to be sound.
-fn know_sound(fields: &[Array])
+pub(crate) fn know_sound(fields: &[Array])
     ensures { fault_each (forest_of fields.now) ≡ None }
 {
     for field in fields {

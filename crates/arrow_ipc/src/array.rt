@@ -1,8 +1,8 @@
-//! Arrays of all kinds but dictionaries (Arrow Columnar Format, "Physical Memory Layout").
+//! Arrays of all kinds (Arrow Columnar Format, "Physical Memory Layout").
 
 pub use arrow_arrays::{
-    Array, ArrayRef, FixedSizeListArray, ListArray, ListOffsets, MapArray, StructArray, UnionArray,
-    extend_from_lengths, is_carried, new_empty_array,
+    Array, ArrayRef, DictionaryArray, DictionaryKeys, FixedSizeListArray, ListArray, ListOffsets,
+    MapArray, StructArray, UnionArray, extend_from_lengths, is_carried, new_empty_array,
 };
 pub use arrow_buffers::{
     ArrayError, BinaryArray, BinaryViewArray, BinaryViewArrayGeneric, BooleanArray, ByteRows,

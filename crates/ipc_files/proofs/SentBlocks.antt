@@ -27,6 +27,7 @@ use Rattle.transcode_laws.proofs.ReadBatches.{read_batch_sendable, read_batch_se
 use Rattle.transcode_laws.proofs.Refusals.{none_refuses}
 use Rattle.transcode_laws.proofs.RisingBatches.{rising_asked, rising_refuses}
 use Rattle.transcode_laws.proofs.SentFields.{fields_carried}
+use Rattle.ipc_write_arrays.specs.Dictionaries.{HoldsValues}
 use Rattle.ipc_write.specs.Batches.{written_batch_of}
 use Rattle.ipc_read.specs.Batches.{batch_reading, chosen_read, columns_asked, table_of}
 use Rattle.ipc_files.specs.FileBlocks.{block_record}
@@ -146,7 +147,7 @@ block_sent b a block left x are r =
     ∙ read_batch_sent a r.message.version r.message.tables (block_body b block) left x are.none (fields_carried 64 (asked_fields a) are.sent are.fit) are.right r.read r.columns
 
 pub sent_batch : (b : List ℕ) (a : Asked) (block : FileBlock) (left : Option ℕ) (x : Batch) → AreSent a → BlockRead b a block left x → may_be_sent (written_batch (written_batch_of x)) ≡ true
-    → AllByRecursion (λ c. Means little [] x.height c) (written_batch_of x).columns → map (λ c. c.cells) (written_batch_of x).columns ≡ map cells_in x.arrays → IsSentBatch so_far b a block left (written_batch_of x)
+    → (AllByRecursion (λ p. HoldsValues [] p) x.arrays → AllByRecursion (λ c. Means little [] x.height c) (written_batch_of x).columns) → map (λ c. c.cells) (written_batch_of x).columns ≡ map cells_in x.arrays → IsSentBatch so_far b a block left (written_batch_of x)
 sent_batch b a block left x are r size means cells =
     let table = same_table x cells in
     let read = batch_by_record to_read b a block left ∙ on (block_record b block) _ r.message r.is ∙ r.read in

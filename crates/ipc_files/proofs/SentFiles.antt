@@ -25,6 +25,7 @@ use Rattle.transcode_laws.specs.Files.{ArePicked, HeaderFits, asked_of}
 use Rattle.ipc_io.specs.Outside.{IsSize}
 use Rattle.ipc_schema.specs.Views.{message_of}
 use Rattle.ipc_schema.specs.declared.message.RecordMessage.{RecordMessage as MessageRead}
+use Rattle.ipc_write_arrays.specs.Dictionaries.{HoldsValues}
 use Rattle.ipc_write.specs.Batches.{written_batch_of}
 use Rattle.ipc_read.specs.Batches.{batch_reading, chosen_read, table_of}
 use Rattle.ipc_read.specs.Projection.{are_columns, are_rising}
@@ -151,11 +152,11 @@ Read content a block left x = IfSome content (λ b. ReadsBlock b (a b) block lef
 abbrev NotWritten : IpcError → Batch → Type 0
 NotWritten e x = Writes (Err e) (written_batch (written_batch_of x)) (batch_bytes (written_batch_of x))
 
--- its message was written of columns that mean the batch's cells
+-- its message was written of columns that mean the batch's cells, as far as that asks for no values of dictionaries
 pub record IsWritten (x : Batch) (message : List ℕ) : Type 0 where
   pub size : may_be_sent (written_batch (written_batch_of x)) ≡ true
   pub is : message ≡ batch_bytes (written_batch_of x)
-  pub means : AllByRecursion (λ c. Means little [] x.height c) (written_batch_of x).columns
+  pub means : AllByRecursion (λ p. HoldsValues [] p) x.arrays → AllByRecursion (λ c. Means little [] x.height c) (written_batch_of x).columns
   pub cells : map (λ c. c.cells) (written_batch_of x).columns ≡ map cells_in x.arrays
 
 message_refuses : (e : IpcError) (b : List ℕ) (a : Asked) (block : FileBlock) (left : Option ℕ) (x : Batch) → AreSent a → NotWritten e x → BlockRead b a block left x → Refuses e (refusals (batch_of so_far.custom to_send b a block left))

@@ -7,6 +7,7 @@ ghost use Rattle.arrow_spec.specs.Kinds.{width};
 ghost use Rattle.arrow_arrays.specs.Parts.{cells_in};
 ghost use Rattle.ipc_write_laws.specs.Columns.{Means};
 ghost use Rattle.ipc_write_laws.specs.Streams.{batch_bytes, written_batch};
+ghost use Rattle.ipc_write_arrays.specs.Dictionaries.{HoldsValues};
 ghost use Rattle.ipc_write.specs.Batches.{written_batch_of};
 ghost use Rattle.ipc_read.specs.Projection.{columns_of};
 ghost use Rattle.ipc_files.specs.FileViews.{meta_view, IsBuilt, WasRead};
@@ -42,7 +43,7 @@ pub(crate) fn schema_message(alloc: Global, selection: &Selection<'_>) -> Result
 pub(crate) fn batch_message(alloc: Global, batch: &RecordBatch) -> Result<Vec<u8>, IpcError>
     requires few { batch.now.height < 2 ^ 63 }
     ensures writes { Writes result (written_batch (written_batch_of batch.now)) (batch_bytes (written_batch_of batch.now)) }
-    ensures means { IfOk result (λ _. AllByRecursion (λ c. Means little [] batch.now.height c) (written_batch_of batch.now).columns) }
+    ensures means { IfOk result (λ _. AllByRecursion (λ p. HoldsValues [] p) batch.now.arrays → AllByRecursion (λ c. Means little [] batch.now.height c) (written_batch_of batch.now).columns) }
     ensures cells { IfOk result (λ _. map (λ c. c.cells) (written_batch_of batch.now).columns ≡ map cells_in batch.now.arrays) }
 {
     let mut encoded = EncodedData::new(alloc);

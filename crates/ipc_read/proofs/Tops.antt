@@ -12,7 +12,7 @@ use Rattle.arrow_buffers.specs.declared.error.ArrayError.{ArrayError}
 use Rattle.arrow_buffers.specs.declared.error.ArrayError.TheVariants.{DataType}
 use Rattle.arrow_buffers.specs.Layouts.{is_null, is_boolean, is_variable_any, is_view, binary_size}
 use Rattle.arrow_arrays.specs.LeafParts.{LeafParts, nulls, bits, numbers, fixed, binary, text, binary_views, text_views, leaf_kind_in, leaf_fault_in, are_numbers, number_size}
-use Rattle.arrow_arrays.specs.Heads.{Head, listed, mapped, sized, structured, tagged, head_kind, suits, is_list, is_map, is_sized, is_struct, is_union, are_of, child_fields, has_offsets}
+use Rattle.arrow_arrays.specs.Heads.{Head, Indexed, listed, mapped, sized, structured, tagged, indexed, head_kind, suits, is_list, is_map, is_sized, is_struct, is_union, is_dictionary, are_under, has_offsets}
 use Rattle.arrow_arrays.specs.Parts.{Parts, leaf, nested, kind_in, fault_in, kinds_each}
 use Rattle.arrow_arrays.specs.PartsOf.{parts_of}
 use Rattle.arrow_arrays.specs.declared.array.Array.{Array}
@@ -72,6 +72,8 @@ is_of_top (structured c) physical.Struct = true
 is_of_top (structured c) p = false
 is_of_top (tagged t) physical.Union = true
 is_of_top (tagged t) p = false
+is_of_top (indexed d) (physical.Dictionary i) = true
+is_of_top (indexed d) p = false
 
 list_layout : (o : Offsets) (k : Kind) → is_list o k ≡ true → is_of_lists (physical_of k) ≡ true
 list_layout small (kind.«list» small fs) h = refl
@@ -103,12 +105,18 @@ union_layout dense (kind.union mode stated ids fs) h = refl
 union_layout dense (kind.extension name metadata k) h = union_layout dense k h
 union_layout dense k h = cc
 
+dictionary_layout : (d : Indexed) (k : Kind) → is_dictionary d.index k ≡ true → is_of_top (indexed d) (physical_of k) ≡ true
+dictionary_layout d (kind.dictionary index ordered id k) h = refl
+dictionary_layout d (kind.extension name metadata k) h = dictionary_layout d k h
+dictionary_layout d k h = cc
+
 top_layout : (t : Head) → suits t ≡ true → is_of_top t (physical_of (head_kind t)) ≡ true
 top_layout (listed l) h = list_layout l.width l.kind h
 top_layout (mapped l) h = ap (is_of_top (mapped l)) (map_layout l.width l.kind h)
 top_layout (sized c) h = ap (is_of_top (sized c)) (sized_layout c.kind h)
 top_layout (structured c) h = ap (is_of_top (structured c)) (struct_layout c.kind h)
 top_layout (tagged t) h = ap (is_of_top (tagged t)) (union_layout (has_offsets t.offsets) t.kind h)
+top_layout (indexed d) h = dictionary_layout d d.kind h
 
 -- ── arrays ──
 
@@ -119,7 +127,7 @@ is_of_parts (nested t cs) p = is_of_top t p
 
 parts_layout : (x : Parts) → fault_in x ≡ None → is_of_parts x (physical_of (kind_in x)) ≡ true
 parts_layout (leaf l) h = leaf_childless l h
-parts_layout (nested t cs) h = top_layout t (and_parts (suits t) (are_of (child_fields (head_kind t)) (kinds_each cs)) (top_sound t cs h).0.suits).0
+parts_layout (nested t cs) h = top_layout t (and_parts (suits t) (are_under t (kinds_each cs)) (top_sound t cs h).0.suits).0
 
 lists_alone : (a : Array) (p : PhysicalType) → is_of_lists p ≡ true → is_of_parts (parts_of a) p ≡ true → ((x : ListArray) → a ≡ arrays.List x → ⊥) → ⊥
 lists_alone (arrays.List x) p e h n = n x refl

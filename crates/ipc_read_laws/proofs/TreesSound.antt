@@ -79,6 +79,7 @@ list_sound m l o fs p rows cs s f w c a =
         rows = r.0;
         offsets = ap (are_offsets (listed_read m l o p rows).offsets) r.1 ∙ a;
         types = refl;
+        keys = refl;
       })) c.none;
     }
 
@@ -97,6 +98,7 @@ map_sound m l fs p rows cs s f w c a =
         rows = r.0;
         offsets = ap (are_offsets (listed_read m l small p rows).offsets) r.1 ∙ a;
         types = refl;
+        keys = refl;
       })) c.none;
     }
 
@@ -114,6 +116,7 @@ sized_sound m l size fs p rows cs s z f c =
         rows = ap (λ n. are_all (n * rows) (rows_each cs)) z ∙ ap (are_all (size * rows)) c.rows ∙ told_all m fs (inside 1 p) (size * rows);
         offsets = refl;
         types = refl;
+        keys = refl;
       })) c.none;
     }
 
@@ -129,6 +132,7 @@ struct_sound m l fs p rows cs s f c =
         rows = ap (are_all rows) c.rows ∙ told_all m fs (inside 1 p) rows;
         offsets = refl;
         types = refl;
+        keys = refl;
       })) c.none;
     }
 

@@ -33,13 +33,13 @@ use Rattle.arrow_buffers.proofs.Parts.{length-part, length-from_on, part-from_on
 use Rattle.arrow_buffers.proofs.Rising.{some_offset}
 use Rattle.arrow_arrays.specs.LeafParts.{number_size, leaf_part_of}
 use Rattle.arrow_arrays.specs.LeafKinds.{is_leaf_kind}
-use Rattle.arrow_arrays.specs.Heads.{Head, Listed, Cut, whole, run, Reaches, listed_part, tagged_rows, listed, mapped, sized, structured, tagged, head_rows, head_part, first_or_0}
+use Rattle.arrow_arrays.specs.Heads.{Head, Listed, Cut, whole, run, Reaches, listed_part, tagged_rows, listed, mapped, sized, structured, tagged, indexed, head_rows, head_part, first_or_0}
 use Rattle.arrow_arrays.specs.Parts.{Parts, Forest, leaf, nested, fault_in, rows_in, kinds_each, rows_each}
 use Rattle.arrow_arrays.proofs.HeadSliced.{Sound, place_at-part}
 use Rattle.arrow_arrays.proofs.Sliced.{top_sound}
 use Rattle.arrow_arrays.specs.Carried.{is_carried}
 use Rattle.ipc_read_laws.specs.PartsRead.{parts_in, parts_under, parts_read, forest_read, bits_read, bytes_of_rows, validity_read, variable_read, views_read, listed_read, number_read, item_bytes}
-use Rattle.ipc_read_laws.specs.WrittenParts.{bits_length, validity_bytes, offset_bytes, width_bytes, variable_lengths, leaf_written_in, head_written, held_by, written_on, written_each, written_in}
+use Rattle.ipc_read_laws.specs.WrittenParts.{bits_length, validity_bytes, offset_bytes, width_bytes, variable_lengths, leaf_written_in, head_written, held_by, written_on, written_each, written_in, written_under}
 use Rattle.ipc_read_laws.specs.Laws.{WrittenAsSent}
 use Rattle.ipc_read_laws.proofs.KindCases.{IsNumbers, by_kind, Like}
 use Rattle.ipc_read_laws.proofs.FaultLaws.{fixed_held}
@@ -441,6 +441,7 @@ whole_head (mapped l) ks ns s = rw (all_offsets (first_or_0 ns) l.offsets s.offs
 whole_head (sized c) ks ns s = rw (all_marks c.rows c.validity s.valid) refl
 whole_head (structured c) ks ns s = rw (all_marks c.rows c.validity s.valid) refl
 whole_head (tagged t) ks ns s = rw (all_of (length t.types) t.types refl, all_places (length t.types) t.offsets ns s.rows) refl
+whole_head (indexed d) ks ns s = rw (all_of (length d.keys) d.keys refl, all_marks (length d.keys) d.validity s.valid) refl
 
 abbrev pub is_nested : Parts → Bool
 is_nested (leaf l) = false
@@ -449,7 +450,7 @@ is_nested (nested h cs) = true
 -- what is written of all rows of an array with children is what is written of the array
 pub whole_on : (q : Parts) → is_nested q ≡ true → fault_in q ≡ None → written_on 0 (rows_in q) q ≡ written_in q
 whole_on (leaf l) s e = cc
-whole_on (nested h cs) s e = ap (λ x. also_written (head_written x) (written_each (held_by 0 (head_rows h) h) cs)) (whole_head h (kinds_each cs) (rows_each cs) (top_sound h cs e).0)
+whole_on (nested h cs) s e = ap (λ x. also_written (head_written x) (written_under h (written_each (held_by 0 (head_rows h) h) cs))) (whole_head h (kinds_each cs) (rows_each cs) (top_sound h cs e).0)
 
 pub nested_under : (k : Kind) → is_carried k ≡ true → is_leaf_kind k ≡ false → (l : Kind) (m : RecordBatch) (p : Place) (rows : ℕ) → is_nested (parts_under l m k p rows) ≡ true
 nested_under (kind.«list» o fs) c other l m p rows = refl

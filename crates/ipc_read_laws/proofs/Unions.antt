@@ -188,6 +188,7 @@ union_sound m d l mode stated ids fs p rows cs e right h c =
         rows = rows_fit m l mode fs p rows (rows_each cs) c.rows;
         offsets = ap (λ x. fits_places x (tagged_read m l p rows o).types o (rows_each cs)) (label_ids l k e) ∙ offsets_fit m l mode ids fs p rows (rows_each cs) all c.rows;
         types = ap (λ x. have_ids x (tagged_read m l p rows o).types) (label_ids l k e) ∙ ids_fit m l mode ids fs p rows o all;
+        keys = refl;
       })) c.none;
     }
 

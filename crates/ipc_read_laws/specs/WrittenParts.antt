@@ -1,6 +1,8 @@
 -- What is written of the parts of an array: its nodes, the lengths of its buffers, and its view counts.
--- (Arrow Columnar Format, "Buffer Listing for Each Layout".)
+-- (Arrow Columnar Format, "Buffer Listing for Each Layout", "Dictionary-encoded Layout".)
 use Rattle.std.specs.Prelude.{ℕ, ◌+◌, ◌-◌, ◌*◌, ◌/◌, List, [], ◌∷◌, length, map, Bool, true, false, Option, Some, None, ℤ, pos, if◌then◌else◌}
+use Rattle.std.specs.Int.{byte_len}
+use Rattle.arrow_spec.specs.Arrays.{integer_width}
 use Rattle.arrow_spec.specs.Kinds.{Offsets, small, large}
 use Rattle.arrow_spec.specs.Counts.{Written}
 use Rattle.arrow_spec.specs.Sent.{nothing_written, also_written}
@@ -10,7 +12,7 @@ use Rattle.arrow_buffers.specs.Layouts.{is_variable}
 use Rattle.arrow_buffers.specs.Variable.{Variable, place_at, variable_rows}
 use Rattle.arrow_buffers.specs.Views.{Views}
 use Rattle.arrow_arrays.specs.LeafParts.{LeafParts, nulls, bits, numbers, fixed, binary, text, binary_views, text_views, number_size, leaf_part_of}
-use Rattle.arrow_arrays.specs.Heads.{Head, Cut, whole, run, listed, mapped, sized, structured, tagged, list_size, head_rows, head_validity, head_part}
+use Rattle.arrow_arrays.specs.Heads.{Head, Cut, whole, run, listed, mapped, sized, structured, tagged, indexed, list_size, head_rows, head_validity, head_part}
 use Rattle.arrow_arrays.specs.Parts.{Parts, Forest, leaf, nested, none, also, rows_in}
 use Rattle.arrow_arrays.specs.Nodes.{node_in, leaf_counts_in}
 
@@ -71,6 +73,7 @@ head_lengths (mapped l) = validity_bytes l.validity ∷ (width_bytes l.width * l
 head_lengths (sized c) = validity_bytes c.validity ∷ []
 head_lengths (structured c) = validity_bytes c.validity ∷ []
 head_lengths (tagged t) = length t.types ∷ places_length t.offsets
+head_lengths (indexed d) = validity_bytes d.validity ∷ (byte_len (integer_width d.index) * length d.keys) ∷ []
 
 -- its node, and the lengths of its buffers
 abbrev pub head_written : Head → Written
@@ -91,6 +94,12 @@ held_by offset rows (mapped l) = run (place_at l.offsets offset) (place_at l.off
 held_by offset rows (sized c) = run (list_size c.kind * offset) (list_size c.kind * rows)
 held_by offset rows (structured c) = run offset rows
 held_by offset rows (tagged t) = tagged_held offset rows t.offsets
+held_by offset rows (indexed d) = whole
+
+-- what is written of the children: nothing of a dictionary's, of which the keys alone are
+abbrev pub written_under : Head → Written → Written
+written_under (indexed d) w = nothing_written
+written_under h w = w
 
 -- ── any array ──
 
@@ -98,7 +107,7 @@ held_by offset rows (tagged t) = tagged_held offset rows t.offsets
 abbrev mutual
   pub written_on : ℕ → ℕ → Parts → Written
   written_on offset rows (leaf l) = leaf_written_in (leaf_part_of offset rows l)
-  written_on offset rows (nested h cs) = also_written (head_written (head_part offset rows h)) (written_each (held_by offset rows h) cs)
+  written_on offset rows (nested h cs) = also_written (head_written (head_part offset rows h)) (written_under h (written_each (held_by offset rows h) cs))
 
   pub written_each : Cut → Forest → Written
   written_each c none = nothing_written
@@ -108,4 +117,4 @@ abbrev mutual
 -- and of all rows
 abbrev pub written_in : Parts → Written
 written_in (leaf l) = leaf_written_in l
-written_in (nested h cs) = also_written (head_written h) (written_each (held_by 0 (head_rows h) h) cs)
+written_in (nested h cs) = also_written (head_written h) (written_under h (written_each (held_by 0 (head_rows h) h) cs))

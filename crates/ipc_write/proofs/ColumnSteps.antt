@@ -17,6 +17,7 @@ use Rattle.arrow_arrays.specs.Batches.{have_rows}
 use Rattle.arrow_arrays.specs.Parts.{Parts, rows_in}
 use Rattle.arrow_arrays.specs.PartsOf.{parts_of, all_parts_of}
 use Rattle.arrow_arrays.specs.declared.array.Array.{Array}
+use Rattle.ipc_write_arrays.specs.Trims.{sent}
 use Rattle.ipc_write_arrays.specs.Outputs.{Outputs, outputs, written_behind}
 use Rattle.arrow_arrays.specs.Nodes.{counts_in}
 use Rattle.ipc_write_laws.specs.Streams.{pieces_of}
@@ -55,7 +56,7 @@ all_added (p ∷ ps) o =
     let body : w.body ++ body_bytes (length w.body) (columns_pieces ps) ≡ o.body ++ body_bytes at (columns_pieces (p ∷ ps)) =
     ap (λ n. w.body ++ body_bytes n (columns_pieces ps)) end ∙ append_assoc o.body (body_bytes at (pieces_in little t)) (body_bytes (body_of at lens) (columns_pieces ps)) ∙ ap (λ l. o.body ++ l) (sym (body-append at (pieces_in little t) (columns_pieces ps))) in
     let views : w.views ++ map pos (columns_written ps).views ≡ o.views ++ map pos (columns_written (p ∷ ps)).views =
-    append_assoc o.views (map pos (counts_in t)) (map pos (columns_written ps).views) ∙ ap (λ l. o.views ++ l) (sym (map-append pos (counts_in t) (columns_written ps).views)) in
+    append_assoc o.views (map pos (counts_in (sent t))) (map pos (columns_written ps).views) ∙ ap (λ l. o.views ++ l) (sym (map-append pos (counts_in (sent t)) (columns_written ps).views)) in
     all_added ps w ∙ four nodes buffers body views
   where
     four : {a b : List FieldNode} {c d : List IpcBuffer} {e f : List ℕ} {g h : List ℤ} → a ≡ b → c ≡ d → e ≡ f → g ≡ h → outputs a c e g ≡ outputs b d f h

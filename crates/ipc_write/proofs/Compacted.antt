@@ -6,7 +6,7 @@ use Rattle.std.proofs.lemmas.Bool.{and_left, eq-eqb, cases_Bool}
 use Rattle.std.proofs.Math.Nat.{mul-mod_right}
 use Rattle.arrow_spec.specs.Kinds.{Kind}
 use Rattle.arrow_spec.specs.Cells.{Cell, null}
-use Rattle.arrow_spec.specs.Arrays.{from_on, u32_of}
+use Rattle.arrow_spec.specs.Arrays.{Dictionaries, from_on, u32_of}
 use Rattle.arrow_spec.specs.Faults.{some_row}
 use Rattle.arrow_types.specs.Physical.{physical_of}
 use Rattle.arrow_buffers.specs.declared.error.ArrayError.{ArrayError}
@@ -18,6 +18,7 @@ use Rattle.arrow_buffers.proofs.Fixed.{quotient}
 use Rattle.arrow_buffers.proofs.Rows.{none_below, none_from, fine_here, null_here}
 use Rattle.arrow_buffers.proofs.ViewParts.{Seen, view_sound, good_row}
 use Rattle.arrow_arrays.specs.LeafParts.{nulls, bits, numbers, fixed, binary, text, binary_views, text_views}
+use Rattle.ipc_write_arrays.specs.Dictionaries.{HoldsValues}
 use Rattle.arrow_arrays.specs.Parts.{Parts, leaf, nested, rows_in, cells_in, fault_in}
 use Rattle.arrow_arrays.proofs.PieceLaws.{Viewed}
 use Rattle.ipc_write.specs.Compaction.{laid_from, laid_anew, compacted, views_need_compaction, top, top_views, value_at, value_length}
@@ -190,3 +191,15 @@ top_rows (leaf (fixed f)) e fits = refl
 top_rows (leaf (binary p)) e fits = refl
 top_rows (leaf (text p)) e fits = refl
 top_rows (nested h cs) e fits = refl
+
+-- and the same dictionaries
+pub top_held : (d : Dictionaries) (p : Parts) → HoldsValues d p → HoldsValues d (top p)
+top_held d (leaf (binary_views v)) h = tt
+top_held d (leaf (text_views v)) h = tt
+top_held d (leaf (nulls n)) h = tt
+top_held d (leaf (bits f)) h = tt
+top_held d (leaf (numbers f)) h = tt
+top_held d (leaf (fixed f)) h = tt
+top_held d (leaf (binary p)) h = tt
+top_held d (leaf (text p)) h = tt
+top_held d (nested h cs) held = held

@@ -9,27 +9,23 @@ use Rattle.arrow_arrays.specs.Batches.{Batch, have_rows}
 use Rattle.arrow_arrays.specs.Parts.{Parts, rows_in, cells_in, fault_in}
 use Rattle.arrow_arrays.specs.PartsOf.{parts_of, all_parts_of}
 use Rattle.arrow_arrays.specs.declared.array.Array.{Array}
-use Rattle.ipc_write_laws.specs.Columns.{WrittenColumn, Means}
+use Rattle.ipc_write_laws.specs.Columns.{Means}
+use Rattle.ipc_write_arrays.specs.Dictionaries.{HoldsValues}
 use Rattle.ipc_write_arrays.specs.Pieces.{column_in}
 use Rattle.ipc_write.specs.Batches.{top_column}
 use Rattle.ipc_write.specs.Compaction.{top}
 use Rattle.ipc_write.specs.Laying.{ColumnFits}
 use Rattle.ipc_write.specs.Encoding.{TopMeans, AllMean}
 use Rattle.ipc_write.proofs.ColumnSteps.{next_parts, height_of}
-use Rattle.ipc_write.proofs.Compacted.{top_cells, top_rows}
+use Rattle.ipc_write.proofs.Compacted.{top_cells, top_rows, top_held}
 
 -- ── one column ──
 
--- without dictionaries too
-pub means_alone : {T E : Type 0} → (r : Result T E) (rows : ℕ) (c : WrittenColumn) → IfOk r (λ _. (d : Dictionaries) → Means little d rows c) → IfOk r (λ _. Means little [] rows c)
-means_alone (Ok t) rows c h = h []
-means_alone (Err e) rows c h = tt
-
 -- an array that stands for a top column
-pub top_means : {T E : Type 0} → (r : Result T E) (p q : Parts) → fault_in p ≡ None → ColumnFits p → q ≡ top p → IfOk r (λ _. Means little [] (rows_in q) (column_in little q)) → IfOk r (λ _. TopMeans (rows_in p) p)
+pub top_means : {T E : Type 0} → (r : Result T E) (p q : Parts) → fault_in p ≡ None → ColumnFits p → q ≡ top p → IfOk r (λ _. (d : Dictionaries) → HoldsValues d q → Means little d (rows_in q) (column_in little q)) → IfOk r (λ _. TopMeans (rows_in p) p)
 top_means (Ok t) p q e fits same h =
-    let here : Means little [] (rows_in (top p)) (column_in little (top p)) = subst (λ x. Means little [] (rows_in x) (column_in little x)) same h in
-    record { means = subst (λ n. Means little [] n (column_in little (top p))) (top_rows p e fits) here; cells = top_cells p e fits }
+    let here : (d : Dictionaries) → HoldsValues d (top p) → Means little d (rows_in (top p)) (column_in little (top p)) = subst (λ x. (d : Dictionaries) → HoldsValues d x → Means little d (rows_in x) (column_in little x)) same h in
+    record { means = λ d held. subst (λ n. Means little d n (column_in little (top p))) (top_rows p e fits) (here d (top_held d p held)); cells = top_cells p e fits }
 top_means (Err x) p q e fits same h = tt
 
 -- ── the loop ──
@@ -50,9 +46,9 @@ means_done xs i height h before = before (subst (λ l. AllMean height (all_parts
 pub batch_means : (rows : ℕ) (ps : List Parts) (b : Batch) → rows ≡ b.height → ps ≡ b.arrays → AllMean rows ps → AllMean b.height b.arrays
 batch_means rows ps b hr hp h = subst (λ n. AllMean n b.arrays) hr (subst (AllMean rows) hp h)
 
-pub all_columns : (rows : ℕ) (ps : List Parts) → AllMean rows ps → AllByRecursion (λ c. Means little [] rows c) (map top_column ps)
-all_columns rows [] h = tt
-all_columns rows (p ∷ ps) h = (h.0.means, all_columns rows ps h.1)
+pub all_columns : (d : Dictionaries) (rows : ℕ) (ps : List Parts) → AllMean rows ps → AllByRecursion (λ p. HoldsValues d p) ps → AllByRecursion (λ c. Means little d rows c) (map top_column ps)
+all_columns d rows [] h held = tt
+all_columns d rows (p ∷ ps) h held = (h.0.means d held.0, all_columns d rows ps h.1 held.1)
 
 pub all_cells : (rows : ℕ) (ps : List Parts) → AllMean rows ps → map (λ c. c.cells) (map top_column ps) ≡ map cells_in ps
 all_cells rows [] h = refl

@@ -4,12 +4,14 @@ use Rattle.std.specs.List.{AllByRecursion}
 use Rattle.arrow_spec.specs.declared.error.IpcError.{IpcError}
 use Rattle.arrow_spec.specs.declared.error.IpcError.TheVariants as errors
 use Rattle.arrow_spec.specs.Flat.{little}
+use Rattle.arrow_spec.specs.Arrays.{Dictionaries}
 use Rattle.arrow_spec.specs.Framing.{body_bytes}
 use Rattle.arrow_spec.specs.Sent.{placed}
 use Rattle.arrow_spec.specs.Layout.{layout}
 use Rattle.arrow_arrays.specs.Batches.{Batch}
 use Rattle.arrow_arrays.specs.Parts.{Parts, rows_in, cells_in}
 use Rattle.ipc_write_laws.specs.Columns.{Means}
+use Rattle.ipc_write_arrays.specs.Dictionaries.{HoldsValues}
 use Rattle.ipc_write_arrays.specs.Outputs.{Outputs, outputs, written_behind}
 use Rattle.ipc_write.specs.Batches.{columns_written, columns_pieces, batch_message, batch_body, is_within, top_column}
 use Rattle.ipc_write.specs.Compaction.{top}
@@ -47,9 +49,9 @@ abbrev pub IsTop : Parts → Option Parts → Type 0
 IsTop p None = top p ≡ p
 IsTop p (Some q) = (q ≡ top p) × (rows_in q < 2 ^ 63)
 
--- what a top column is written as means the cells of its array
+-- what a top column is written as means the cells of its array, where the values of its dictionaries were read
 pub record TopMeans (rows : ℕ) (p : Parts) : Type 0 where
-  pub means : Means little [] rows (top_column p)
+  pub means : (d : Dictionaries) → HoldsValues d p → Means little d rows (top_column p)
   pub cells : cells_in (top p) ≡ cells_in p
 
 -- the same of each of several

@@ -3,6 +3,8 @@ ghost use Rattle.std.specs.Prelude.{◌≡◌, ◌%◌, ◌^◌, ◌<◌, [], le
 ghost use Rattle.std.specs.Option.{option_map};
 ghost use Rattle.arrow_spec.specs.Flat.{little};
 ghost use Rattle.arrow_arrays.specs.Batches.{have_rows};
+ghost use Rattle.arrow_spec.specs.Arrays.{Dictionaries};
+ghost use Rattle.ipc_write_arrays.specs.Dictionaries.{HoldsValues};
 ghost use Rattle.arrow_arrays.specs.Parts.{rows_in};
 ghost use Rattle.arrow_arrays.specs.PartsOf.{parts_of, all_parts_of};
 ghost use Rattle.ipc_write_laws.specs.Columns.{Means};
@@ -56,7 +58,7 @@ fn add_array(alloc: Global, array: &Array, columns: &mut Columns) -> Result<(), 
     requires few { rows_in (parts_of array.now) < 2 ^ 63 }
     requires aligned { length columns.old.body.items % 64 ≡ 0 }
     ensures adds { Adds result (parts_of array.now) (outputs_of columns.old) (outputs_of columns.new) }
-    ensures means { IfOk result (λ _. Means little [] (rows_in (parts_of array.now)) (column_in little (parts_of array.now))) }
+    ensures means { IfOk result (λ _. (d : Dictionaries) → HoldsValues d (parts_of array.now) → Means little d (rows_in (parts_of array.now)) (column_in little (parts_of array.now))) }
 {
     if array_end(alloc, columns.body.len(), array)?.is_none() {
         return Err(IpcError::TooLarge);

@@ -1,7 +1,9 @@
 //! Record batches to messages (Arrow Columnar Format, "RecordBatch message").
-ghost use Rattle.std.specs.Prelude.{◌≡◌, [], map, IfOk};
+ghost use Rattle.std.specs.Prelude.{◌≡◌, map, IfOk};
 ghost use Rattle.std.specs.List.{AllByRecursion};
 ghost use Rattle.arrow_spec.specs.Flat.{little};
+ghost use Rattle.arrow_spec.specs.Arrays.{Dictionaries};
+ghost use Rattle.ipc_write_arrays.specs.Dictionaries.{HoldsValues};
 ghost use Rattle.arrow_arrays.specs.Parts.{cells_in};
 ghost use Rattle.ipc_write_laws.specs.Columns.{Means};
 ghost use Rattle.ipc_write.specs.Batches.{written_batch_of};
@@ -47,7 +49,7 @@ fn batch_message(alloc: Global, batch: &RecordBatch, limit: usize) -> Result<Enc
     })
 }
 
-/// The message of a batch without dictionaries in little-endian order. A view column of which at least min(v, 1024) bytes of
+/// The message of a batch in little-endian order. Of its dictionaries the keys are written, and no values. A view column of which at least min(v, 1024) bytes of
 /// its buffers are unused, where v is the sum of the lengths of its values, is laid anew.
 ///
 /// # Errors
@@ -61,8 +63,8 @@ pub fn encode_record_batch(
     encoded: &mut EncodedData,
 ) -> Result<(), IpcError>
     ensures encodes { Encodes result options.now batch.now encoded.old encoded.new }
-    // What was written means the cells of the batch.
-    ensures means { IfOk result (λ _. AllByRecursion (λ c. Means little [] batch.now.height c) (written_batch_of batch.now).columns) }
+    // What was written means the cells of the batch, where the values of its dictionaries were read.
+    ensures means { IfOk result (λ _. (d : Dictionaries) → AllByRecursion (λ p. HoldsValues d p) batch.now.arrays → AllByRecursion (λ c. Means little d batch.now.height c) (written_batch_of batch.now).columns) }
     ensures cells { IfOk result (λ _. map (λ c. c.cells) (written_batch_of batch.now).columns ≡ map cells_in batch.now.arrays) }
 {
     if options.compression.is_some() {

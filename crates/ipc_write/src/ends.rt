@@ -2,14 +2,14 @@
 ghost use Rattle.std.specs.Prelude.{◌≡◌, ◌+◌, ◌-◌, ◌*◌, ◌^◌, ◌≤◌, ◌<◌, ◌∷◌, [], length, map, true, IfOk, if◌then◌else◌};
 ghost use Rattle.std.specs.Option.{ForSome, option_map};
 ghost use Rattle.std.specs.Int.{byte_len};
-ghost use Rattle.arrow_spec.specs.Arrays.{offset_width};
+ghost use Rattle.arrow_spec.specs.Arrays.{integer_width, offset_width};
 ghost use Rattle.arrow_spec.specs.Flat.{little};
 ghost use Rattle.arrow_spec.specs.Layout.{up_to};
 ghost use Rattle.arrow_spec.specs.Sent.{body_of};
 ghost use Rattle.arrow_spec.specs.Framing.{validity_bytes};
 ghost use Rattle.arrow_buffers.specs.Variable.{place_at, variable_rows, are_offsets};
 ghost use Rattle.arrow_arrays.specs.LeafParts.{numbers, as_bytes};
-ghost use Rattle.arrow_arrays.specs.Heads.{listed, mapped, sized, structured, tagged, Reaches};
+ghost use Rattle.arrow_arrays.specs.Heads.{listed, mapped, sized, structured, tagged, indexed, Reaches};
 ghost use Rattle.arrow_arrays.specs.Parts.{leaf, nested, rows_in, rows_each};
 ghost use Rattle.arrow_arrays.specs.OffsetsOf.{offsets_in, width_in};
 ghost use Rattle.arrow_buffers.specs.Rows.{part, has_rows};
@@ -20,12 +20,13 @@ ghost use Rattle.ipc_write_arrays.specs.Pieces.{listed_pieces, variable_pieces, 
 ghost use Rattle.ipc_write.specs.Ends.{IsPlace, places_length, end_of_array, end_of_tree, end_of_trees};
 
 use arrow_arrays::{
-    Array, FixedSizeListArray, ListArray, ListOffsets, MapArray, StructArray, UnionArray,
+    Array, DictionaryArray, FixedSizeListArray, ListArray, ListOffsets, MapArray, StructArray,
+    UnionArray,
 };
 use arrow_buffers::{
     BinaryViewArrayGeneric, Bitmap, Buffer, PrimitiveArray, VariableArray, ViewType, place_of,
 };
-use arrow_types::{NativeType, Offset};
+use arrow_types::{IntegerType, NativeType, Offset};
 use ipc_write_arrays::{Cut, cut_rows, ends_between, is_leaf, items_between, union_cut};
 use std::alloc::{AllocError, Global};
 
@@ -166,7 +167,8 @@ fn leaf_end(at: usize, array: &Array) -> Option<usize>
         | Array::FixedSizeList(_)
         | Array::Map(_)
         | Array::Struct(_)
-        | Array::Union(_) => unreachable!(),
+        | Array::Union(_)
+        | Array::Dictionary(_) => unreachable!(),
     }
 }
 
@@ -209,6 +211,7 @@ fn rows_end(
         Array::Map(maps) => map_end(alloc, at, maps, offset, rows),
         Array::Struct(columns) => struct_end(alloc, at, columns, offset, rows),
         Array::Union(union) => union_end(alloc, at, union, offset, rows),
+        Array::Dictionary(array) => Ok(dictionary_end(at, array, offset, rows)),
         _ => part_end(alloc, at, array, offset, rows),
     }
 }
@@ -426,6 +429,32 @@ fn union_end(
         return Ok(None);
     };
     each_end(alloc, next, union.fields(), union_cut(places, offset, rows))
+}
+
+/// How many bytes a key takes.
+fn key_size(index: IntegerType) -> usize
+    ensures size { result ≡ byte_len (integer_width index) }
+    ensures narrow { result ≤ 16 }
+{
+    match index {
+        IntegerType::Int8 | IntegerType::UInt8 => 1,
+        IntegerType::Int16 | IntegerType::UInt16 => 2,
+        IntegerType::Int32 | IntegerType::UInt32 => 4,
+        IntegerType::Int64 | IntegerType::UInt64 => 8,
+        IntegerType::Int128 => 16,
+    }
+}
+
+/// Where the validity and the keys of rows of a dictionary end.
+fn dictionary_end(at: usize, array: &DictionaryArray, offset: usize, rows: usize) -> Option<usize>
+    requires at { at < 2 ^ 63 }
+    requires within { offset + rows ≤ length array.now.head.keys }
+    ensures { IsPlace result (end_of_tree at (trim offset rows (nested (indexed array.now.head) array.now.children))) }
+{
+    let _rows = array.len();
+    let validity = rows_length(array.validity(), offset, rows) as u128;
+    let size = key_size(array.keys().index_type()) as u128 * rows as u128;
+    two_end(at, validity, size)
 }
 
 /// Where rows of several arrays end, one after another.

@@ -85,3 +85,12 @@ if_ok (Err e) f a = tt
 pub if_err : {T E A : Type 0} (r : Result T E) → IsErr r → A → IfErr r (λ _. A)
 if_err (Ok x) h a = tt
 if_err (Err e) h a = a
+
+-- what follows from what was put, and from what was kept
+pub adds_ok : {T E B : Type 0} (r : Result T E) {b0 b1 : List IpcBuffer} {d0 d1 : List ℕ} {xs : List (List ℕ)} → (Puts b0 d0 b1 d1 xs → B) → Adds r b0 d0 b1 d1 xs → IfOk r (λ _. B)
+adds_ok (Ok x) f p = f p
+adds_ok (Err e) f p = tt
+
+pub adds_err : {T E B : Type 0} (r : Result T E) {b0 b1 : List IpcBuffer} {d0 d1 : List ℕ} (xs : List (List ℕ)) → (KeptBoth b0 d0 b1 d1 → B) → Adds r b0 d0 b1 d1 xs → IfErr r (λ _. B)
+adds_err (Ok x) xs f p = tt
+adds_err (Err e) xs f p = f p

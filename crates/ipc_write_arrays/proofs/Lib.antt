@@ -9,10 +9,12 @@ pub mod RoundTripHeads
 pub mod RoundTripPlain
 pub mod RoundTripTurned
 pub mod RoundTripNumbers
+pub mod Keys
 pub mod RoundTripPlaces
 pub mod RoundTripOffsets
 pub mod RoundTripViews
 pub mod RoundTripNested
 pub mod RoundTripUnions
+pub mod RoundTripKeys
 pub mod RoundTrip
 pub mod LayoutKinds

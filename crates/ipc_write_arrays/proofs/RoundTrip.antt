@@ -1,35 +1,42 @@
 -- What an array is written as means its cells.
-use Rattle.std.proofs.Common.{◌≡◌, ℕ, suc, ◌+◌, ◌-◌, ◌≤◌, ◌<◌, List, [], ◌∷◌, Bool, true, false, Option, Some, None, map, length, ℤ, pos, refl, sym, ap, subst, ◌∙◌, arith}
-use Rattle.std.specs.List.{AllByRecursion}
+use Rattle.std.proofs.Common.{◌≡◌, ℕ, suc, ◌+◌, ◌-◌, ◌≤◌, ◌<◌, List, [], ◌∷◌, Bool, true, false, Option, Some, None, map, length, ℤ, pos, refl, sym, ap, subst, ◌∙◌, arith, length-append}
+use Rattle.std.specs.List.{flat_map, sum, AllByRecursion}
 use Rattle.std.specs.Option.{option_map}
+use Rattle.std.specs.Prelude.{not}
 use Rattle.std.proofs.lemmas.Bool.{and_parts, eqb-true}
 use Rattle.std.proofs.lemmas.List.{length-map}
+use Rattle.std.proofs.lemmas.List.Sums.{sum_by-cons}
 use Rattle.arrow_spec.specs.declared.message.FieldNode.{FieldNode}
 use Rattle.arrow_spec.specs.Flat.{Order, order_by}
 use Rattle.arrow_spec.specs.Kinds.{Kind}
 use Rattle.arrow_spec.specs.Cells.{Cell}
 use Rattle.arrow_spec.specs.Counts.{magnitude}
-use Rattle.arrow_spec.specs.Arrays.{Dictionaries}
-use Rattle.arrow_buffers.specs.Rows.{part, null_rows}
+use Rattle.arrow_spec.specs.Arrays.{Dictionaries, found}
+use Rattle.arrow_spec.specs.Framing.{validity_bytes}
+use Rattle.arrow_buffers.specs.Rows.{part, has_rows, null_rows}
 use Rattle.arrow_buffers.specs.Variable.{place_at, are_offsets, variable_rows}
 use Rattle.arrow_buffers.proofs.Parts.{length-part}
 use Rattle.arrow_buffers.proofs.Masks.{has_rows-part}
 use Rattle.arrow_buffers.proofs.Rising.{some_offset, offset_between}
 use Rattle.arrow_arrays.specs.LeafParts.{LeafParts, nulls, bits, numbers, fixed, binary, text, binary_views, text_views, leaf_rows_in, leaf_fault_in, leaf_part_of}
-use Rattle.arrow_arrays.specs.Heads.{Head, Listed, Counted, listed, mapped, sized, structured, tagged, Cut, whole, run, Reaches, head_kind, head_rows, head_validity, head_cells, suits, are_of, child_fields, first_or_0, is_list, is_map, is_sized, is_struct, is_union, tagged_cut, fits_places, ids_in, head_part, cut_of}
-use Rattle.arrow_arrays.specs.Parts.{Parts, Forest, leaf, nested, none, also, rows_in, null_rows_in, kinds_each, rows_each, fault_in, fault_each}
+use Rattle.arrow_arrays.specs.Heads.{Head, Listed, Counted, Indexed, indexed_part, is_dictionary, have_keys, joined, are_under, listed, mapped, sized, structured, tagged, indexed, Cut, whole, run, Reaches, head_kind, head_rows, head_cells, suits, are_of, child_fields, first_or_0, is_list, is_map, is_sized, is_struct, is_union, tagged_cut, fits_places, ids_in, head_part, cut_of}
+use Rattle.arrow_arrays.specs.Nodes.{counts_in}
+use Rattle.arrow_arrays.specs.NoDictionaries.{is_indexed, has_no_dictionary, have_no_dictionary}
+use Rattle.arrow_arrays.specs.Parts.{Parts, Forest, leaf, nested, none, also, rows_in, null_rows_in, kinds_each, rows_each, cells_in, cells_each, fault_in, fault_each}
 use Rattle.arrow_arrays.proofs.LeafSliced as leaves
 use Rattle.arrow_arrays.proofs.HeadSliced.{Sound, place_at-part, fault-part, head_sound, cut_counts}
-use Rattle.arrow_arrays.proofs.Sliced.{top_sound, neither}
+use Rattle.arrow_arrays.proofs.Sliced.{top_sound, neither, length-cells}
 use Rattle.ipc_write_laws.specs.Columns.{WrittenColumn, Means}
 use Rattle.ipc_write_laws.specs.Streams.{AreOf}
-use Rattle.ipc_write_laws.proofs.Tops.{top_column}
-use Rattle.ipc_write_arrays.specs.Pieces.{HeadFit, TagsFit, LeafFit, Fit, FitEach, column_in, head_pieces, tree_nodes, tree_pieces, offset_limit}
+use Rattle.ipc_write_arrays.specs.Dictionaries.{KeyFits, dictionary_id, HoldsValues, HoldsEach}
+use Rattle.ipc_write_arrays.specs.Pieces.{HeadFit, TagsFit, LeafFit, Fit, FitEach, column_in, key_written, tree_nodes, tree_pieces, offset_limit}
 use Rattle.ipc_write_arrays.specs.Trims.{counted_from, listed_trim, head_trim, held_between, held_by, trim, trim_each, sent}
 use Rattle.ipc_write_arrays.specs.Outputs.{LeafMayHaveOrder, MayHaveOrder, MayHaveOrderEach}
-use Rattle.ipc_write_arrays.proofs.TrimLaws.{place_from, head_holds, kind-trim, kinds-trim, all_rows-trim, counts-sent, cells-sent}
-use Rattle.ipc_write_arrays.proofs.TreeColumns.{tree_column, tree_columns, nodes_below, own_node, nested_is, columns_are_of}
+use Rattle.ipc_write_arrays.proofs.TrimLaws.{place_from, head_holds, head_cells-trim, all_of, all_rows-trim}
+use Rattle.ipc_write_arrays.proofs.TreeColumns.{sent_column, sent_columns, trimmed, nodes_below, own_node, nested_is, columns_are_of, length-columns}
 use Rattle.ipc_write_arrays.proofs.RoundTripUnions.{sparse_mean, dense_mean}
+use Rattle.ipc_write_arrays.proofs.RoundTripHeads.{one_column}
+use Rattle.ipc_write_arrays.proofs.RoundTripKeys.{keys_mean}
 use Rattle.ipc_write_arrays.proofs.RoundTripNested.{MeansOwn, own_rows, first_rows, Climbing, list_column, list_mean, map_mean, sized_mean, struct_mean}
 use Rattle.ipc_write_arrays.proofs.RoundTripPlain as plain
 use Rattle.ipc_write_arrays.proofs.RoundTripNumbers as numbered
@@ -79,12 +86,6 @@ climbing o n limit os e le =
       below = λ j lt. omega (arith, at j (omega arith), up j n (omega arith) (omega arith));
       end = at n (omega arith);
     }
-
--- a top as it is laid anew over columns
-abbrev trimmed : Order → ℕ → ℕ → Head → List WrittenColumn → WrittenColumn
-trimmed order o n h cs =
-    let t = head_trim o n h in
-    top_column (head_kind t) (head_rows t) (null_rows (head_validity t)) (head_pieces order t) cs (head_cells t (map (λ c. c.cells) cs))
 
 module _ (order : Order) (d : Dictionaries) (o n : ℕ) where
   between_means : (make : Listed → Head) (l : Listed) (cs : List WrittenColumn) → length cs ≡ 1
@@ -140,14 +141,29 @@ module _ (order : Order) (d : Dictionaries) (o n : ℕ) where
       subst (λ r. Means order d r (trimmed order o n h cs)) rows
       (dense_mean order d k (part o n types) (part o n offsets) cs (and_parts (is_union true k) (are_of (child_fields k) ks) s.suits).0 (long ∙ sym rows) sound.types there fit.0 fit.1 kinds good)
 
-  head_mean : (h : Head) (ks : List Kind) (ns ms : List ℕ) (cs : List WrittenColumn) → Sound h ks ns → o + n ≤ head_rows h → HeadFit (head_trim o n h) ms → length cs ≡ length ms → length ms ≡ length ns → AreOf (child_fields (head_kind h)) cs
+  indexed_mean : (x : Indexed) (ks : List Kind) (ns : List ℕ) (css : List (List Cell)) → Sound (indexed x) ks ns → o + n ≤ length x.keys → AllByRecursion (λ key. KeyFits x.index key) (part o n x.keys) → length (joined css) ≡ sum ns → found d (dictionary_id x.kind) ≡ Some (joined css)
+      → Means order d n (one_column x.kind (length (part o n x.keys)) (null_rows (option_map (part o n) x.validity)) (validity_bytes (option_map (part o n) x.validity) ∷ flat_map (key_written order x.index) (part o n x.keys) ∷ []) [] (part o n (head_cells (indexed x) css)))
+  indexed_mean x ks ns css s le fit long held =
+      let rows : length (part o n x.keys) ≡ n = length-part x.keys o n le in
+      let v = option_map (part o n) x.validity in
+      let h : Head = indexed x in
+      let sound = head_sound (head_part o n h) ks (cut_counts (cut_of o n h) ns) (fault-part o n h ks ns s le) in
+      let known : have_keys (length (joined css)) (part o n x.keys) v ≡ true = ap (λ size. have_keys size (part o n x.keys) v) long ∙ sound.keys in
+      let there : has_rows v (length (part o n x.keys)) ≡ true = ap (has_rows v) rows ∙ has_rows-part o n (length x.keys) x.validity s.valid le in
+      let suits = (and_parts (is_dictionary x.index x.kind) (are_under h ks) s.suits).0 in
+      subst (λ xs. Means order d n (one_column x.kind (length (part o n x.keys)) (null_rows v) (validity_bytes v ∷ flat_map (key_written order x.index) (part o n x.keys) ∷ []) [] xs)) (head_cells-trim o n h ns css s.offsets le)
+      (subst (λ r. Means order d r (one_column x.kind (length (part o n x.keys)) (null_rows v) (validity_bytes v ∷ flat_map (key_written order x.index) (part o n x.keys) ∷ []) [] (head_cells (indexed (indexed_part o n x)) css))) rows
+      (keys_mean order d x.kind x.index (part o n x.keys) v css suits there fit known held))
+
+  head_mean : (h : Head) (ks : List Kind) (ns ms : List ℕ) (cs : List WrittenColumn) → not (is_indexed h) ≡ true → Sound h ks ns → o + n ≤ head_rows h → HeadFit (head_trim o n h) ms → length cs ≡ length ms → length ms ≡ length ns → AreOf (child_fields (head_kind h)) cs
       → AreCut order d (held_by o n h) cs → CutRows (held_by o n h) ns cs → Means order d n (trimmed order o n h cs)
-  head_mean (listed l) ks ns ms cs s le fit count same kinds good own = between_means listed l cs (count ∙ same ∙ eqb-true (length ns) 1 s.rows) (λ x mine of. lists_mean l ks ns x s le fit mine of) kinds good
-  head_mean (mapped l) ks ns ms cs s le fit count same kinds good own = between_means mapped l cs (count ∙ same ∙ eqb-true (length ns) 1 s.rows) (λ x mine of. maps_mean l ks ns x s le fit mine of) kinds good
-  head_mean (sized c) ks ns ms cs s le fit count same kinds good own = sizes_mean c ks ns cs s le (count ∙ fit) kinds good
-  head_mean (structured c) ks ns ms cs s le fit count same kinds good own =
+  head_mean (listed l) ks ns ms cs plain s le fit count same kinds good own = between_means listed l cs (count ∙ same ∙ eqb-true (length ns) 1 s.rows) (λ x mine of. lists_mean l ks ns x s le fit mine of) kinds good
+  head_mean (mapped l) ks ns ms cs plain s le fit count same kinds good own = between_means mapped l cs (count ∙ same ∙ eqb-true (length ns) 1 s.rows) (λ x mine of. maps_mean l ks ns x s le fit mine of) kinds good
+  head_mean (sized c) ks ns ms cs plain s le fit count same kinds good own = sizes_mean c ks ns cs s le (count ∙ fit) kinds good
+  head_mean (structured c) ks ns ms cs plain s le fit count same kinds good own =
       struct_mean order d c.kind n (option_map (part o n) c.validity) cs (and_parts (is_struct c.kind) (are_of (child_fields c.kind) ks) s.suits).0 (has_rows-part o n c.rows c.validity s.valid le) kinds good
-  head_mean (tagged t) ks ns ms cs s le fit count same kinds good own = tags_mean t.kind t.types t.offsets ks ns cs s le fit kinds good own
+  head_mean (tagged t) ks ns ms cs plain s le fit count same kinds good own = tags_mean t.kind t.types t.offsets ks ns cs s le fit kinds good own
+  head_mean (indexed x) ks ns ms cs plain s le fit count same kinds good own = cc
 
 -- ── trees ──
 
@@ -161,82 +177,108 @@ may_part o n (text x) le may = may
 may_part o n (binary_views x) le may = may
 may_part o n (text_views x) le may = may
 
-length-columns : (order : Order) (cs : Forest) → length (tree_columns order cs) ≡ length (rows_each cs)
-length-columns order none = refl
-length-columns order (also p cs) = ap suc (length-columns order cs)
-
 length-trim : (c : Cut) (cs : Forest) → length (rows_each (trim_each c cs)) ≡ length (rows_each cs)
 length-trim whole none = refl
 length-trim whole (also p cs) = ap suc (length-trim whole cs)
 length-trim (run o n) none = refl
 length-trim (run o n) (also p cs) = ap suc (length-trim (run o n) cs)
 
-meant : (order : Order) (d : Dictionaries) (n : ℕ) (q : Parts) → rows_in q ≡ n → Means order d n (tree_column order q) → MeansOwn order d n (tree_column order q)
-meant order d n q e means = record {
-  means = means;
-  nulls = null_rows_in q;
-  others = nodes_below q;
-  own = own_node q ∙ ap (λ r. record { length = pos r; null_count = pos (null_rows_in q) } ∷ nodes_below q) e;
-}
+meant : (order : Order) (d : Dictionaries) (o n : ℕ) (p : Parts) → rows_in (trim o n p) ≡ n → Means order d n (sent_column order o n p) → MeansOwn order d n (sent_column order o n p)
+meant order d o n p e means =
+    let q = trim o n p in
+    record {
+      means = means;
+      nulls = null_rows_in q;
+      others = nodes_below q;
+      own = own_node q ∙ ap (λ r. record { length = pos r; null_count = pos (null_rows_in q) } ∷ nodes_below q) e;
+    }
 
 own_rows_are : (q : Parts) → rows_in q ≡ first_rows (tree_nodes q)
 own_rows_are q = ap first_rows (sym (own_node q))
 
-cut_rows : (order : Order) (c : Cut) (cs : Forest) → fault_each cs ≡ None → CutRows c (rows_each cs) (tree_columns order (trim_each c cs))
+cut_rows : (order : Order) (c : Cut) (cs : Forest) → fault_each cs ≡ None → CutRows c (rows_each cs) (sent_columns order c cs)
 cut_rows order whole none e = refl
 cut_rows order whole (also p cs) e =
     let f = neither (fault_in p) (fault_each cs) e in
     let q = trim 0 (rows_in p) p in
     let rows : first_rows (tree_nodes q) ≡ rows_in p = sym (own_rows_are q) ∙ all_rows-trim 0 (rows_in p) p f.0 (omega arith) in
-    ap (λ r. r ∷ map own_rows (tree_columns order (trim_each whole cs))) rows ∙ ap (λ ns. rows_in p ∷ ns) (cut_rows order whole cs f.1)
+    ap (λ r. r ∷ map own_rows (sent_columns order whole cs)) rows ∙ ap (λ ns. rows_in p ∷ ns) (cut_rows order whole cs f.1)
 cut_rows order (run o n) cs e = tt
 
--- what is sent of some rows means their cells
-mutual
-  pub tree_means : (is_little_endian : Bool) (d : Dictionaries) (o n : ℕ) (p : Parts) → fault_in p ≡ None → o + n ≤ rows_in p → Fit (trim o n p) → MayHaveOrder p is_little_endian
-      → Means (order_by is_little_endian) d n (tree_column (order_by is_little_endian) (trim o n p))
-  tree_means le d o n (leaf l) e within fit may =
-      subst (λ r. Means (order_by le) d r (tree_column (order_by le) (leaf (leaf_part_of o n l)))) (leaves.rows-part o n l e within)
-      (leaf_means le d (leaf_part_of o n l) (leaves.fault-part o n l e within) fit (may_part o n l le may))
-  tree_means le d o n (nested h cs) e within fit may =
-      let order = order_by le in
-      let t = top_sound h cs e in
-      let c = held_by o n h in
-      let sent = trim_each c cs in
-      let fs = child_fields (head_kind h) in
-      let good = each_means le d c cs t.1 (head_holds o n h (rows_each cs) t.0.rows t.0.offsets within) fit.1 may in
-      let kinds : AreOf fs (tree_columns order sent) = columns_are_of order fs sent (ap (are_of fs) (kinds-trim c cs) ∙ (and_parts (suits h) (are_of fs (kinds_each cs)) t.0.suits).1) in
-      subst (Means order d n) (sym (nested_is order (head_trim o n h) sent))
-      (head_mean order d o n h (kinds_each cs) (rows_each cs) (rows_each sent) (tree_columns order sent) t.0 within fit.0 (length-columns order sent) (length-trim c cs) kinds good (cut_rows order c cs t.1))
-
-  each_means : (is_little_endian : Bool) (d : Dictionaries) (c : Cut) (cs : Forest) → fault_each cs ≡ None → Reaches c (rows_each cs) → FitEach (trim_each c cs) → MayHaveOrderEach cs is_little_endian
-      → AreCut (order_by is_little_endian) d c (tree_columns (order_by is_little_endian) (trim_each c cs))
-  each_means le d whole none e r fit may = tt
-  each_means le d whole (also p cs) e r fit may =
-      let f = neither (fault_in p) (fault_each cs) e in
-      let q = trim 0 (rows_in p) p in
-      let rows : rows_in q ≡ rows_in p = all_rows-trim 0 (rows_in p) p f.0 (omega arith) in
-      let own : rows_in p ≡ first_rows (tree_nodes q) = sym rows ∙ own_rows_are q in
-      (subst (λ n. MeansOwn (order_by le) d n (tree_column (order_by le) q)) own (meant (order_by le) d (rows_in p) q rows (tree_means le d 0 (rows_in p) p f.0 (omega arith) fit.0 may.0)), each_means le d whole cs f.1 tt fit.1 may.1)
-  each_means le d (run o n) none e r fit may = tt
-  each_means le d (run o n) (also p cs) e r fit may =
-      let f = neither (fault_in p) (fault_each cs) e in
-      let q = trim o n p in
-      (meant (order_by le) d n q (all_rows-trim o n p f.0 r.0) (tree_means le d o n p f.0 r.0 fit.0 may.0), each_means le d (run o n) cs f.1 r.1 fit.1 may.1)
+-- the cells of all children
+length-joined : (cs : Forest) → fault_each cs ≡ None → length (joined (cells_each cs)) ≡ sum (rows_each cs)
+length-joined none e = refl
+length-joined (also p cs) e =
+    let f = neither (fault_in p) (fault_each cs) e in
+    length-append (cells_in p) (joined (cells_each cs)) ∙ ap (λ k. k + length (joined (cells_each cs))) (length-cells p f.0) ∙ ap (λ k. rows_in p + k) (length-joined cs f.1) ∙ sym (sum_by-cons (λ n. n) (rows_in p) (rows_each cs))
 
 abbrev column_of : Kind → List FieldNode → List (List ℕ) → List ℕ → List Cell → WrittenColumn
 column_of k nodes pieces ns xs = record { kind = k; nodes = nodes; pieces = pieces; views = ns; cells = xs }
 
-same_column : {k l : Kind} (nodes : List FieldNode) (pieces : List (List ℕ)) {ns ms : List ℕ} {xs ys : List Cell} → k ≡ l → ns ≡ ms → xs ≡ ys → column_of k nodes pieces ns xs ≡ column_of l nodes pieces ms ys
-same_column nodes pieces p q r = rw (p, q, r) refl
+same_column : {k l : Kind} (nodes : List FieldNode) (pieces : List (List ℕ)) (ns : List ℕ) {xs ys : List Cell} → k ≡ l → xs ≡ ys → column_of k nodes pieces ns xs ≡ column_of l nodes pieces ns ys
+same_column nodes pieces ns p q = rw (p, q) refl
 
--- so does any array's column
-pub column_means : (is_little_endian : Bool) (d : Dictionaries) (p : Parts) → fault_in p ≡ None → Fit (sent p) → MayHaveOrder p is_little_endian
+-- what is sent of some rows means their cells, where the values of its dictionaries were read
+mutual
+  pub tree_means : (is_little_endian : Bool) (d : Dictionaries) (o n : ℕ) (p : Parts) → HoldsValues d p → fault_in p ≡ None → o + n ≤ rows_in p → Fit (trim o n p) → MayHaveOrder p is_little_endian
+      → Means (order_by is_little_endian) d n (sent_column (order_by is_little_endian) o n p)
+  tree_means le d o n (leaf l) held e within fit may =
+      let order = order_by le in
+      let q = leaf_part_of o n l in
+      let same : column_in order (leaf q) ≡ sent_column order o n (leaf l) = same_column (tree_nodes (leaf q)) (tree_pieces order (leaf q)) (counts_in (leaf q)) (leaves.kind-part o n l) (leaves.cells-part o n l e within) in
+      subst (Means order d n) same
+      (subst (λ r. Means order d r (column_in order (leaf q))) (leaves.rows-part o n l e within)
+      (leaf_means le d q (leaves.fault-part o n l e within) fit (may_part o n l le may)))
+  tree_means le d o n (nested (indexed x) cs) held e within fit may =
+      let t = top_sound (indexed x) cs e in
+      indexed_mean (order_by le) d o n x (kinds_each cs) (rows_each cs) (cells_each cs) t.0 within fit.0 (length-joined cs t.1) held
+  tree_means le d o n (nested h cs) held e within fit may =
+      let order = order_by le in
+      let t = top_sound h cs e in
+      let c = held_by o n h in
+      let sent = trim_each c cs in
+      let columns = sent_columns order c cs in
+      let fs = child_fields (head_kind h) in
+      let good = each_means le d c cs held t.1 (head_holds o n h (rows_each cs) t.0.rows t.0.offsets within) fit.1 may in
+      let kinds : AreOf fs columns = columns_are_of order c fs cs (and_parts (suits h) (are_of fs (kinds_each cs)) t.0.suits).1 in
+      subst (Means order d n) (sym (nested_is order o n h cs t.1 t.0.offsets within))
+      (head_mean order d o n h (kinds_each cs) (rows_each cs) (rows_each sent) columns refl t.0 within fit.0 (length-columns order c cs ∙ sym (length-trim c cs)) (length-trim c cs) kinds good (cut_rows order c cs t.1))
+
+  each_means : (is_little_endian : Bool) (d : Dictionaries) (c : Cut) (cs : Forest) → HoldsEach d cs → fault_each cs ≡ None → Reaches c (rows_each cs) → FitEach (trim_each c cs) → MayHaveOrderEach cs is_little_endian
+      → AreCut (order_by is_little_endian) d c (sent_columns (order_by is_little_endian) c cs)
+  each_means le d whole none held e r fit may = tt
+  each_means le d whole (also p cs) held e r fit may =
+      let f = neither (fault_in p) (fault_each cs) e in
+      let order = order_by le in
+      let q = trim 0 (rows_in p) p in
+      let rows : rows_in q ≡ rows_in p = all_rows-trim 0 (rows_in p) p f.0 (omega arith) in
+      let own : rows_in p ≡ first_rows (tree_nodes q) = sym rows ∙ own_rows_are q in
+      (subst (λ n. MeansOwn order d n (sent_column order 0 (rows_in p) p)) own (meant order d 0 (rows_in p) p rows (tree_means le d 0 (rows_in p) p held.0 f.0 (omega arith) fit.0 may.0)), each_means le d whole cs held.1 f.1 tt fit.1 may.1)
+  each_means le d (run o n) none held e r fit may = tt
+  each_means le d (run o n) (also p cs) held e r fit may =
+      let f = neither (fault_in p) (fault_each cs) e in
+      (meant (order_by le) d o n p (all_rows-trim o n p f.0 r.0) (tree_means le d o n p held.0 f.0 r.0 fit.0 may.0), each_means le d (run o n) cs held.1 f.1 r.1 fit.1 may.1)
+
+-- so does any such array's column
+pub column_means : (is_little_endian : Bool) (d : Dictionaries) (p : Parts) → HoldsValues d p → fault_in p ≡ None → Fit (sent p) → MayHaveOrder p is_little_endian
     → Means (order_by is_little_endian) d (rows_in p) (column_in (order_by is_little_endian) p)
-column_means le d (leaf l) e fit may = leaf_means le d l e fit may
-column_means le d (nested h cs) e fit may =
+column_means le d (leaf l) held e fit may = leaf_means le d l e fit may
+column_means le d (nested h cs) held e fit may =
     let order = order_by le in
     let p = nested h cs in
     let q = trim 0 (head_rows h) p in
-    let same : tree_column order q ≡ column_in order p = same_column (tree_nodes q) (tree_pieces order q) (kind-trim 0 (head_rows h) p) (counts-sent p) (cells-sent p e) in
-    subst (Means order d (head_rows h)) same (tree_means le d 0 (head_rows h) p e (omega arith) fit may)
+    let same : sent_column order 0 (head_rows h) p ≡ column_in order p = same_column (tree_nodes q) (tree_pieces order q) (counts_in q) refl (all_of (head_rows h) (cells_in p) (length-cells p e)) in
+    subst (Means order d (head_rows h)) same (tree_means le d 0 (head_rows h) p held e (omega arith) fit may)
+
+-- an array without dictionaries needs no values
+mutual
+  pub none_held : (d : Dictionaries) (p : Parts) → has_no_dictionary p ≡ true → HoldsValues d p
+  none_held d (leaf l) plain = tt
+  none_held d (nested (indexed x) cs) plain = cc
+  none_held d (nested h cs) plain = none_held_each d cs (and_parts (not (is_indexed h)) (have_no_dictionary cs) plain).1
+
+  none_held_each : (d : Dictionaries) (cs : Forest) → have_no_dictionary cs ≡ true → HoldsEach d cs
+  none_held_each d none plain = tt
+  none_held_each d (also p cs) plain =
+      let k = and_parts (has_no_dictionary p) (have_no_dictionary cs) plain in
+      (none_held d p k.0, none_held_each d cs k.1)

@@ -48,9 +48,12 @@ length-offset_bytes order o offsets =
     let w = offset_width o in
     length-items (λ n. to_bytes order w n) (byte_len w) (rebased offsets) 0 (λ i lt. unsigned_width w order (get_or (rebased offsets) i 0)) ∙ ap (λ n. byte_len w * n) (length-rebased offsets)
 
-pub signed_by : (w : Width) (order : Order) (m : RecordBatch) (i j : ℕ) (b x : List ℕ) → m.order ≡ order → buf m i ≡ b → length x ≡ byte_len w → Stands b (byte_len w * j) x → signed_in m w i j ≡ cast_signed w (from_bytes order w x)
+pub unsigned_by : (w : Width) (order : Order) (m : RecordBatch) (i j : ℕ) (b x : List ℕ) → m.order ≡ order → buf m i ≡ b → length x ≡ byte_len w → Stands b (byte_len w * j) x → unsigned_in m w i j ≡ from_bytes order w x
 unfolding unsigned_in
-signed_by w order m i j b x o held e s = rw (held, o) (ap (λ r. cast_signed w (or_0 (fold_number order w r))) (part_there b (byte_len w * j) (byte_len w) x e s))
+unsigned_by w order m i j b x o held e s = rw (held, o) (ap (λ r. or_0 (fold_number order w r)) (part_there b (byte_len w * j) (byte_len w) x e s))
+
+pub signed_by : (w : Width) (order : Order) (m : RecordBatch) (i j : ℕ) (b x : List ℕ) → m.order ≡ order → buf m i ≡ b → length x ≡ byte_len w → Stands b (byte_len w * j) x → signed_in m w i j ≡ cast_signed w (from_bytes order w x)
+signed_by w order m i j b x o held e s = ap (cast_signed w) (unsigned_by w order m i j b x o held e s)
 
 module _ (order : Order) (o : Offsets) (offsets : List ℤ) (m : RecordBatch) (i : ℕ) (b : OffsetsHeld order o offsets m i) where
   signed_read : (j : ℕ) → j < length offsets → signed_in m (offset_width o) i j ≡ pos (place_at offsets j - place_at offsets 0)

@@ -83,7 +83,7 @@ child_read order d rows row (suc i) (field name nullable metadata k others) (x �
 
 -- numbers of a width in a buffer
 module _ (w : Width) (order : Order) (xs : List ℤ) (m : RecordBatch) (i : ℕ) (one : m.order ≡ order) (held : BufferHeld m i (flat_map (signed_to_bytes w order) xs)) (fit : AllByRecursion (λ x. FitsSigned w x) xs) where
-  number_read : (row : ℕ) → row < length xs → signed_in m w i row ≡ number_at xs row
+  pub number_read : (row : ℕ) → row < length xs → signed_in m w i row ≡ number_at xs row
   number_read row lt =
       let all = flat_map (signed_to_bytes w order) xs in
       let t = get_or xs row (pos 0) in

@@ -1,5 +1,5 @@
 -- Rows that are laid anew hold what they held.
-use Rattle.std.proofs.Common.{◌≡◌, ℕ, zero, suc, ◌+◌, ◌-◌, ◌≤◌, ◌<◌, List, [], ◌∷◌, ◌++◌, true, false, None, ℤ, map, length, get_or, refl, sym, ap, ◌∙◌, arith}
+use Rattle.std.proofs.Common.{◌≡◌, ℕ, zero, suc, ◌+◌, ◌-◌, ◌≤◌, ◌<◌, List, [], ◌∷◌, true, false, None, ℤ, map, length, get_or, refl, sym, ap, ◌∙◌, arith}
 use Rattle.std.specs.Prelude.{pos}
 use Rattle.std.specs.Option.{option_map}
 use Rattle.std.specs.List.{flat_map, AllByRecursion}
@@ -19,15 +19,13 @@ use Rattle.arrow_buffers.specs.Variable.{place_at, are_offsets, variable_rows}
 use Rattle.arrow_buffers.proofs.Parts.{length-part, part-part, part-from_on, shift-from_on}
 use Rattle.arrow_buffers.proofs.Masks.{part-masked}
 use Rattle.arrow_buffers.proofs.Rising.{some_offset, offset_risen, offset_between}
-use Rattle.arrow_arrays.specs.LeafParts.{LeafParts, nulls, bits, numbers, fixed, binary, text, binary_views, text_views, leaf_part_of}
-use Rattle.arrow_arrays.specs.Nodes.{leaf_counts_in, counts_in, counts_each}
-use Rattle.arrow_arrays.specs.Heads.{Head, listed, mapped, sized, structured, tagged, Cut, whole, run, head_kind, head_rows, head_validity, head_cell, head_cells, cut_cells, fits_rows, fits_offsets, first_of, first_or_0, row_items, Reaches}
-use Rattle.arrow_arrays.specs.Parts.{Parts, Forest, leaf, nested, none, also, kind_in, rows_in, kinds_each, rows_each, part_of, cells_in, cells_each, fault_in, fault_each}
+use Rattle.arrow_arrays.specs.Heads.{Head, listed, mapped, sized, structured, tagged, indexed, Cut, whole, run, head_kind, head_rows, head_validity, head_cell, head_cells, cut_cells, fits_rows, fits_offsets, first_of, first_or_0, row_items, Reaches}
+use Rattle.arrow_arrays.specs.Parts.{Parts, Forest, leaf, nested, none, also, kind_in, rows_in, kinds_each, rows_each, part_of, fault_in}
 use Rattle.ipc_write_arrays.specs.Trims.{has_no_children, counted_from, head_trim, held_by, trim, trim_each, sent}
 use Rattle.arrow_arrays.proofs.LeafSliced as leaves
 use Rattle.arrow_arrays.proofs.HeadSliced as heads
 use Rattle.arrow_arrays.proofs.HeadSliced.{Sound, first_of-part}
-use Rattle.arrow_arrays.proofs.Sliced.{top_sound, neither, length-cells}
+use Rattle.arrow_arrays.proofs.Sliced.{top_sound}
 
 get_or-map : {A B : Type 0} (f : A → B) (xs : List A) (i : ℕ) (d : A) → f (get_or xs i d) ≡ get_or (map f xs) i (f d)
 get_or-map f [] i d = refl
@@ -69,6 +67,7 @@ cell-trim o n k (mapped l) ns css e le lt =
 cell-trim o n k (sized c) ns css e le lt = heads.cell-part o n k (sized c) css lt
 cell-trim o n k (structured c) ns css e le lt = heads.cell-part o n k (structured c) css lt
 cell-trim o n k (tagged t) ns css e le lt = heads.cell-part o n k (tagged t) css lt
+cell-trim o n k (indexed d) ns css e le lt = heads.cell-part o n k (indexed d) css lt
 
 pub validity-trim : (o n : ℕ) (h : Head) → head_validity (head_trim o n h) ≡ option_map (part o n) (head_validity h)
 validity-trim o n (listed l) = refl
@@ -76,6 +75,7 @@ validity-trim o n (mapped l) = refl
 validity-trim o n (sized c) = refl
 validity-trim o n (structured c) = refl
 validity-trim o n (tagged t) = refl
+validity-trim o n (indexed d) = refl
 
 list_rows : (o n limit : ℕ) (os : List ℤ) → are_offsets os limit ≡ true → o + n ≤ variable_rows os → variable_rows (counted_from (place_at os o) (part o (n + 1) os)) ≡ n
 list_rows o n limit os e le = omega (arith, length-map (part o (n + 1) os) (λ x. pos (magnitude x - place_at os o)), heads.offsets-part o n limit os e le)
@@ -86,8 +86,9 @@ rows-trim o n (mapped l) ns e le = list_rows o n (first_or_0 ns) l.offsets e le
 rows-trim o n (sized c) ns e le = refl
 rows-trim o n (structured c) ns e le = refl
 rows-trim o n (tagged t) ns e le = length-part t.types o n le
+rows-trim o n (indexed d) ns e le = length-part d.keys o n le
 
-head_cells-trim : (o n : ℕ) (h : Head) (ns : List ℕ) (css : List (List Cell)) → fits_offsets h ns ≡ true → o + n ≤ head_rows h → head_cells (head_trim o n h) (cut_cells (held_by o n h) css) ≡ part o n (head_cells h css)
+pub head_cells-trim : (o n : ℕ) (h : Head) (ns : List ℕ) (css : List (List Cell)) → fits_offsets h ns ≡ true → o + n ≤ head_rows h → head_cells (head_trim o n h) (cut_cells (held_by o n h) css) ≡ part o n (head_cells h css)
 head_cells-trim o n h ns css e le =
     let mine : ℕ → Cell = head_cell (head_trim o n h) (cut_cells (held_by o n h) css) in
     let theirs : ℕ → Cell = head_cell h css in
@@ -110,36 +111,13 @@ head_holds o n (mapped l) ns r e le = list_reaches o n ns l.offsets e le (eqb-tr
 head_holds o n (sized c) ns r e le = heads.head_reaches o n (sized c) ns r le
 head_holds o n (structured c) ns r e le = heads.head_reaches o n (structured c) ns r le
 head_holds o n (tagged t) ns r e le = heads.head_reaches o n (tagged t) ns r le
+head_holds o n (indexed d) ns r e le = tt
 
 -- all of a list is the list
-all_of : {A : Type 0} (n : ℕ) (xs : List A) → length xs ≡ n → part 0 n xs ≡ xs
+pub all_of : {A : Type 0} (n : ℕ) (xs : List A) → length xs ≡ n → part 0 n xs ≡ xs
 all_of n xs e = take_all n xs (omega arith)
 
--- rows that are laid anew hold what they held
-mutual
-  pub cells-trim : (o n : ℕ) (p : Parts) → fault_in p ≡ None → o + n ≤ rows_in p → cells_in (trim o n p) ≡ part o n (cells_in p)
-  cells-trim o n (leaf l) e le = leaves.cells-part o n l e le
-  cells-trim o n (nested h cs) e le =
-      let t = top_sound h cs e in
-      ap (head_cells (head_trim o n h)) (each-trim (held_by o n h) cs t.1 (head_holds o n h (rows_each cs) t.0.rows t.0.offsets le)) ∙ head_cells-trim o n h (rows_each cs) (cells_each cs) t.0.offsets le
-
-  pub each-trim : (c : Cut) (cs : Forest) → fault_each cs ≡ None → Reaches c (rows_each cs) → cells_each (trim_each c cs) ≡ cut_cells c (cells_each cs)
-  each-trim whole none e r = refl
-  each-trim whole (also p cs) e r =
-      let f = neither (fault_in p) (fault_each cs) e in
-      let all : cells_in (trim 0 (rows_in p) p) ≡ cells_in p = cells-trim 0 (rows_in p) p f.0 (omega arith) ∙ all_of (rows_in p) (cells_in p) (length-cells p f.0) in
-      ap (λ xs. xs ∷ cells_each (trim_each whole cs)) all ∙ ap (λ css. cells_in p ∷ css) (each-trim whole cs f.1 tt)
-  each-trim (run o n) none e r = refl
-  each-trim (run o n) (also p cs) e r =
-      let f = neither (fault_in p) (fault_each cs) e in
-      ap (λ xs. xs ∷ cells_each (trim_each (run o n) cs)) (cells-trim o n p f.0 r.0) ∙ ap (λ css. part o n (cells_in p) ∷ css) (each-trim (run o n) cs f.1 r.1)
-
--- an array that is sent has its cells
-pub cells-sent : (p : Parts) → fault_in p ≡ None → cells_in (sent p) ≡ cells_in p
-cells-sent (leaf l) e = refl
-cells-sent (nested h cs) e = cells-trim 0 (head_rows h) (nested h cs) e (omega arith) ∙ all_of (head_rows h) (cells_in (nested h cs)) (length-cells (nested h cs) e)
-
--- ── kinds, rows and view counts ──
+-- ── kinds and rows ──
 
 head_kind-trim : (o n : ℕ) (h : Head) → head_kind (head_trim o n h) ≡ head_kind h
 head_kind-trim o n (listed l) = refl
@@ -147,6 +125,7 @@ head_kind-trim o n (mapped l) = refl
 head_kind-trim o n (sized c) = refl
 head_kind-trim o n (structured c) = refl
 head_kind-trim o n (tagged t) = refl
+head_kind-trim o n (indexed d) = refl
 
 pub kind-trim : (o n : ℕ) (p : Parts) → kind_in (trim o n p) ≡ kind_in p
 kind-trim o n (leaf l) = leaves.kind-part o n l
@@ -161,31 +140,6 @@ kinds-trim (run o n) (also p cs) = ap (λ k. k ∷ kinds_each (trim_each (run o 
 pub all_rows-trim : (o n : ℕ) (p : Parts) → fault_in p ≡ None → o + n ≤ rows_in p → rows_in (trim o n p) ≡ n
 all_rows-trim o n (leaf l) e le = leaves.rows-part o n l e le
 all_rows-trim o n (nested h cs) e le = rows-trim o n h (rows_each cs) (top_sound h cs e).0.offsets le
-
-leaf_counts-part : (o n : ℕ) (l : LeafParts) → leaf_counts_in (leaf_part_of o n l) ≡ leaf_counts_in l
-leaf_counts-part o n (nulls x) = refl
-leaf_counts-part o n (bits f) = refl
-leaf_counts-part o n (numbers f) = refl
-leaf_counts-part o n (fixed f) = refl
-leaf_counts-part o n (binary p) = refl
-leaf_counts-part o n (text p) = refl
-leaf_counts-part o n (binary_views p) = refl
-leaf_counts-part o n (text_views p) = refl
-
-mutual
-  pub counts-trim : (o n : ℕ) (p : Parts) → counts_in (trim o n p) ≡ counts_in p
-  counts-trim o n (leaf l) = leaf_counts-part o n l
-  counts-trim o n (nested h cs) = counts_each-trim (held_by o n h) cs
-
-  pub counts_each-trim : (c : Cut) (cs : Forest) → counts_each (trim_each c cs) ≡ counts_each cs
-  counts_each-trim whole none = refl
-  counts_each-trim whole (also p cs) = ap (λ ns. ns ++ counts_each (trim_each whole cs)) (counts-trim 0 (rows_in p) p) ∙ ap (λ ns. counts_in p ++ ns) (counts_each-trim whole cs)
-  counts_each-trim (run o n) none = refl
-  counts_each-trim (run o n) (also p cs) = ap (λ ns. ns ++ counts_each (trim_each (run o n) cs)) (counts-trim o n p) ∙ ap (λ ns. counts_in p ++ ns) (counts_each-trim (run o n) cs)
-
-pub counts-sent : (p : Parts) → counts_in (sent p) ≡ counts_in p
-counts-sent (leaf l) = refl
-counts-sent (nested h cs) = counts-trim 0 (head_rows h) (nested h cs)
 
 -- rows of an array without children are not laid anew
 pub leaf-trim : (o n : ℕ) (p : Parts) → has_no_children p ≡ true → trim o n p ≡ part_of o n p

@@ -1,5 +1,6 @@
 pub mod Trims
 pub mod CutsOf
+pub mod Dictionaries
 pub mod Pieces
 pub mod Outputs
 pub mod OutputsOf

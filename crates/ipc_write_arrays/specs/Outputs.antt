@@ -8,6 +8,7 @@ use Rattle.arrow_spec.specs.Sent.{placed}
 use Rattle.arrow_arrays.specs.LeafParts.{LeafParts, binary_views, text_views}
 use Rattle.arrow_arrays.specs.Parts.{Parts, Forest, leaf, nested, none, also}
 use Rattle.arrow_arrays.specs.Nodes.{counts_in, counts_each}
+use Rattle.ipc_write_arrays.specs.Trims.{sent}
 use Rattle.ipc_write_arrays.specs.Pieces.{nodes_in, pieces_in, tree_nodes, trees_nodes, tree_pieces, trees_pieces}
 
 -- views are written in little-endian order alone
@@ -56,4 +57,4 @@ each_behind order cs before = put_behind (trees_nodes cs) (trees_pieces order cs
 
 -- an array has been added to them, as it is sent
 abbrev pub written_behind : Order → Parts → Outputs → Outputs
-written_behind order p before = put_behind (nodes_in p) (pieces_in order p) (counts_in p) before
+written_behind order p before = put_behind (nodes_in p) (pieces_in order p) (counts_in (sent p)) before

@@ -1,14 +1,16 @@
--- What is written of an array: its node, the bytes of its buffers and its view counts. (Arrow Columnar Format, "Buffer Listing for Each Layout", "Variadic buffers".)
-use Rattle.std.specs.Prelude.{FitsSigned, ◌≡◌, length, ℕ, ◌-◌, ◌^◌, ◌<◌, List, [], ◌∷◌, ◌++◌, map, take, drop, reverse, Option, Some, None, ℤ}
+-- What is written of an array: its node, the bytes of its buffers and its view counts. (Arrow Columnar Format, "Buffer Listing for Each Layout", "Dictionary-encoded Layout",
+-- "Variadic buffers".)
+use Rattle.std.specs.Prelude.{FitsSigned, ◌≡◌, length, ℕ, ◌-◌, ◌^◌, ◌<◌, List, [], ◌∷◌, ◌++◌, map, take, drop, reverse, Option, Some, None, ℤ, if◌then◌else◌}
 use Rattle.std.specs.Int.{w8, w32}
 use Rattle.std.specs.List.{flat_map, AllByRecursion}
 use Rattle.arrow_spec.specs.declared.message.FieldNode.{FieldNode}
+use Rattle.arrow_spec.specs.declared.types.IntegerType.{IntegerType}
 use Rattle.arrow_spec.specs.Flat.{Order, little, big}
 use Rattle.arrow_spec.specs.Kinds.{Kind, Offsets, small, large, binary, utf8, extension}
 use Rattle.arrow_spec.specs.Counts.{magnitude}
-use Rattle.arrow_spec.specs.Arrays.{offset_width, slice}
+use Rattle.arrow_spec.specs.Arrays.{offset_width, slice, integer_width, is_unsigned}
 use Rattle.arrow_spec.specs.Framing.{packed, validity_bytes}
-use Rattle.arrow_types.specs.Numbers.{to_bytes, signed_to_bytes}
+use Rattle.arrow_types.specs.Numbers.{to_bytes, signed_to_bytes, unsigned_to_bytes}
 use Rattle.arrow_types.specs.Physical.{physical_of}
 use Rattle.arrow_types.specs.declared.physical.PhysicalType.{PhysicalType}
 use Rattle.arrow_types.specs.declared.physical.PhysicalType.TheVariants as physical
@@ -17,10 +19,11 @@ use Rattle.arrow_types.specs.declared.physical.PrimitiveType.TheVariants as prim
 use Rattle.arrow_buffers.specs.Variable.{Variable, place_at, variable_rows}
 use Rattle.arrow_buffers.specs.Views.{Views}
 use Rattle.arrow_arrays.specs.LeafParts.{LeafParts, nulls, bits, numbers, fixed, binary as binaries, text, binary_views, text_views}
-use Rattle.arrow_arrays.specs.Heads.{Head, Listed, listed, mapped, sized, structured, tagged}
+use Rattle.arrow_arrays.specs.Heads.{Head, Listed, listed, mapped, sized, structured, tagged, indexed}
 use Rattle.arrow_arrays.specs.Parts.{Parts, Forest, leaf, nested, none, also, kind_in, cells_in, rows_each}
 use Rattle.arrow_arrays.specs.Nodes.{node_in, counts_in}
 use Rattle.ipc_write_laws.specs.Columns.{WrittenColumn}
+use Rattle.ipc_write_arrays.specs.Dictionaries.{KeyFits}
 use Rattle.ipc_write_arrays.specs.Trims.{sent}
 
 -- ── numbers ──
@@ -88,6 +91,10 @@ abbrev pub place_pieces : Order → Option (List ℤ) → List (List ℕ)
 place_pieces order None = []
 place_pieces order (Some offsets) = flat_map (signed_to_bytes w32 order) offsets ∷ []
 
+-- a key of a type
+abbrev pub key_written : Order → IntegerType → ℤ → List ℕ
+key_written order t key = if is_unsigned t then unsigned_to_bytes (integer_width t) order (magnitude key) else signed_to_bytes (integer_width t) order key
+
 -- the own buffers of an array with children
 abbrev pub head_pieces : Order → Head → List (List ℕ)
 head_pieces order (listed l) = listed_pieces order l
@@ -95,6 +102,7 @@ head_pieces order (mapped l) = listed_pieces order l
 head_pieces order (sized c) = validity_bytes c.validity ∷ []
 head_pieces order (structured c) = validity_bytes c.validity ∷ []
 head_pieces order (tagged t) = flat_map (signed_to_bytes w8 order) t.types ∷ place_pieces order t.offsets
+head_pieces order (indexed d) = validity_bytes d.validity ∷ flat_map (key_written order d.index) d.keys ∷ []
 
 -- ── trees ──
 
@@ -128,7 +136,7 @@ pieces_in order p = tree_pieces order (sent p)
 
 -- the array as a column that is written
 abbrev pub column_in : Order → Parts → WrittenColumn
-column_in order p = record { kind = kind_in p; nodes = nodes_in p; pieces = pieces_in order p; views = counts_in p; cells = cells_in p }
+column_in order p = record { kind = kind_in p; nodes = nodes_in p; pieces = pieces_in order p; views = counts_in (sent p); cells = cells_in p }
 
 -- ── numbers that fit ──
 
@@ -152,13 +160,14 @@ abbrev pub TagsFit : Option (List ℤ) → List ℤ → Type 0
 TagsFit None types = AllByRecursion (λ x. FitsSigned w8 x) types
 TagsFit (Some offsets) types = AllByRecursion (λ x. FitsSigned w8 x) types × AllByRecursion (λ x. FitsSigned w32 x) offsets
 
--- the same of a top that is laid anew over children of so many rows: offsets, and that lists of one size have one child
+-- the same of a top that is laid anew over children of so many rows: offsets, keys, and that lists of one size have one child
 abbrev pub HeadFit : Head → List ℕ → Type 0
 HeadFit (listed l) ns = AllByRecursion (λ x. magnitude x < offset_limit l.width) l.offsets
 HeadFit (mapped l) ns = AllByRecursion (λ x. magnitude x < offset_limit l.width) l.offsets
 HeadFit (sized c) ns = length ns ≡ 1
 HeadFit (structured c) ns = Unit {0}
 HeadFit (tagged t) ns = TagsFit t.offsets t.types
+HeadFit (indexed d) ns = AllByRecursion (λ key. KeyFits d.index key) d.keys
 
 -- What is sent of an array fits the widths that it is written in. The arrays' types say so: `write` tells it of each.
 abbrev mutual

@@ -1,5 +1,6 @@
 -- Some rows of an array, laid anew as they are sent: offsets of lists begin at 0, and of the children only what these rows hold is left.
--- (Arrow Columnar Format, "Variable-size List Layout", "Fixed-Size List Layout", "Struct Layout", "Union Layout".)
+-- (Arrow Columnar Format, "Variable-size List Layout", "Fixed-Size List Layout", "Struct Layout", "Union Layout",
+-- "Dictionary-encoded Layout".)
 use Rattle.std.specs.Prelude.{Bool, true, false, ℕ, ◌+◌, ◌*◌, ◌-◌, List, Option, ℤ, pos, map}
 use Rattle.std.specs.Option.{option_map}
 use Rattle.arrow_spec.specs.Kinds.{null}
@@ -7,7 +8,7 @@ use Rattle.arrow_spec.specs.Counts.{magnitude}
 use Rattle.arrow_buffers.specs.Rows.{part}
 use Rattle.arrow_buffers.specs.Variable.{place_at}
 use Rattle.arrow_arrays.specs.LeafParts.{leaf_part_of}
-use Rattle.arrow_arrays.specs.Heads.{Head, Listed, listed, mapped, sized, structured, tagged, Cut, whole, run, counted_part, tagged_part, tagged_cut, list_size, head_rows}
+use Rattle.arrow_arrays.specs.Heads.{Head, Listed, listed, mapped, sized, structured, tagged, indexed, Cut, whole, run, counted_part, tagged_part, indexed_part, tagged_cut, list_size, head_rows}
 use Rattle.arrow_arrays.specs.OffsetsOf.{offsets_in, width_in}
 use Rattle.arrow_arrays.specs.declared.offsets.ListOffsets.{ListOffsets}
 use Rattle.arrow_arrays.specs.Parts.{Parts, Forest, leaf, nested, none, also, rows_in}
@@ -36,23 +37,30 @@ head_trim o n (mapped l) = mapped (listed_trim o n l)
 head_trim o n (sized c) = sized (counted_part o n c)
 head_trim o n (structured c) = structured (counted_part o n c)
 head_trim o n (tagged t) = tagged (tagged_part o n t)
+head_trim o n (indexed d) = indexed (indexed_part o n d)
 
 -- the rows of a child between two offsets
 abbrev pub held_between : ℕ → ℕ → List ℤ → Cut
 held_between o n offsets = run (place_at offsets o) (place_at offsets (o + n) - place_at offsets o)
 
--- the rows of a child that these rows hold; a dense union's children are held whole
+-- the rows of a child that these rows hold; a dense union's children and those of a dictionary are held whole
 abbrev pub held_by : ℕ → ℕ → Head → Cut
 held_by o n (listed l) = held_between o n l.offsets
 held_by o n (mapped l) = held_between o n l.offsets
 held_by o n (sized c) = run (list_size c.kind * o) (list_size c.kind * n)
 held_by o n (structured c) = run o n
 held_by o n (tagged t) = tagged_cut o n t.offsets
+held_by o n (indexed d) = whole
+
+-- the children that are sent with it: none of a dictionary, of which the keys alone are
+abbrev pub sent_under : Head → Forest → Forest
+sent_under (indexed d) cs = none
+sent_under h cs = cs
 
 abbrev mutual
   pub trim : ℕ → ℕ → Parts → Parts
   trim o n (leaf l) = leaf (leaf_part_of o n l)
-  trim o n (nested h cs) = nested (head_trim o n h) (trim_each (held_by o n h) cs)
+  trim o n (nested h cs) = nested (head_trim o n h) (sent_under h (trim_each (held_by o n h) cs))
 
   pub trim_each : Cut → Forest → Forest
   trim_each whole none = none

@@ -6,6 +6,7 @@ ghost use Rattle.arrow_spec.specs.Sent.{body_of};
 ghost use Rattle.arrow_arrays.specs.Parts.{rows_in, fault_in};
 ghost use Rattle.arrow_arrays.specs.PartsOf.{parts_of};
 ghost use Rattle.ipc_write_laws.specs.Columns.{Means};
+ghost use Rattle.ipc_write_arrays.specs.Dictionaries.{HoldsValues};
 ghost use Rattle.ipc_write_arrays.specs.Trims.{has_no_children, sent};
 ghost use Rattle.ipc_write_arrays.specs.Pieces.{Fit, column_in, pieces_in, tree_pieces};
 ghost use Rattle.ipc_write_arrays.specs.Outputs.{MayHaveOrder, laid_behind, outputs, written_behind};
@@ -22,7 +23,7 @@ use std::mem;
 
 /// Adds an array: its node, its buffers and their bytes, and its view count, and behind them those of its children, of which only the
 /// rows that it holds are written. Each buffer begins at a multiple of 64 of the body, with zeros up to the next. Offsets begin at 0,
-/// and validity bits past the end are 0.
+/// and validity bits past the end are 0. Of a dictionary the keys alone are written.
 ///
 /// # Errors
 ///
@@ -46,8 +47,8 @@ pub fn write(
     ensures err { IfErr result (λ e. (e ≡ Memory) × (outputs nodes.new.items buffers.new.items arrow_data.new.items variadic.new.items ≡ outputs nodes.old.items buffers.old.items arrow_data.old.items variadic.old.items)) }
     ensures err_offset { IfErr result (λ e. offset.new ≡ offset.old) }
     ensures fit { IfOk result (λ _. Fit (sent (parts_of array.now))) }
-    // What was written means the array's cells.
-    ensures means { IfOk result (λ _. (d : Dictionaries) → Means (order_by is_little_endian) d (rows_in (parts_of array.now)) (column_in (order_by is_little_endian) (parts_of array.now))) }
+    // What was written means the array's cells, where the values of its dictionaries were read.
+    ensures means { IfOk result (λ _. (d : Dictionaries) → HoldsValues d (parts_of array.now) → Means (order_by is_little_endian) d (rows_in (parts_of array.now)) (column_in (order_by is_little_endian) (parts_of array.now))) }
 {
     let (node_count, buffer_count) = (nodes.len(), buffers.len());
     let (start, view_count) = (arrow_data.len(), variadic.len());

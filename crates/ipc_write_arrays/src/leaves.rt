@@ -24,7 +24,8 @@ pub fn is_leaf(array: &Array) -> bool
         | Array::FixedSizeList(_)
         | Array::Map(_)
         | Array::Struct(_)
-        | Array::Union(_) => false,
+        | Array::Union(_)
+        | Array::Dictionary(_) => false,
         _ => true,
     }
 }
@@ -131,6 +132,7 @@ fn write_buffers(
         | Array::FixedSizeList(_)
         | Array::Map(_)
         | Array::Struct(_)
-        | Array::Union(_) => unreachable!(),
+        | Array::Union(_)
+        | Array::Dictionary(_) => unreachable!(),
     }
 }

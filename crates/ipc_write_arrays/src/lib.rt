@@ -5,6 +5,7 @@ mod array;
 mod buffers;
 mod bytes;
 mod cuts;
+mod dictionaries;
 mod layouts;
 mod leaves;
 mod outputs;

@@ -24,6 +24,7 @@ ghost use Rattle.ipc_write_arrays.specs.Adding.{Appends, Adds, AllBelow, KeptAll
 
 use crate::buffers::{put_offsets, put_part, put_validity};
 use crate::cuts::{Cut, cut_rows, items_between, union_cut};
+use crate::dictionaries::add_dictionary;
 use crate::leaves::{add_leaf, push_node};
 use crate::outputs::Outputs;
 use arrow_arrays::{
@@ -56,6 +57,7 @@ pub(crate) fn add_rows(
         Array::Struct(columns) => add_struct(columns, offset, rows, out, is_little_endian),
         Array::FixedSizeList(lists) => add_sized(lists, offset, rows, out, is_little_endian),
         Array::Union(union) => add_union(union, offset, rows, out, is_little_endian),
+        Array::Dictionary(array) => add_dictionary(array, offset, rows, out, is_little_endian),
         _ => add_part(array, offset, rows, out, is_little_endian),
     }
 }
@@ -227,7 +229,7 @@ fn add_listed_top(
 }
 
 /// The rows of a validity from one on, so many of them.
-fn validity_part(
+pub(crate) fn validity_part(
     validity: Option<&Bitmap>,
     offset: usize,
     rows: usize,
@@ -242,7 +244,7 @@ fn validity_part(
 }
 
 /// Adds a node and a validity.
-fn add_top(
+pub(crate) fn add_top(
     rows: usize,
     validity: &Option<Bitmap>,
     buffers: &mut Vec<IpcBuffer>,

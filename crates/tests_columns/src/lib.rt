@@ -8,6 +8,8 @@ mod bodies;
 #[cfg(test)]
 mod columns;
 #[cfg(test)]
+mod dictionaries;
+#[cfg(test)]
 mod kinds;
 #[cfg(test)]
 mod memory;

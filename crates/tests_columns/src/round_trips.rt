@@ -34,6 +34,7 @@ fn may_have_views(array: &Array) -> bool
             | Array::Map(_)
             | Array::Struct(_)
             | Array::Union(_)
+            | Array::Dictionary(_)
     )
 }
 

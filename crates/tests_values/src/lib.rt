@@ -6,6 +6,8 @@ mod batches;
 #[cfg(test)]
 mod buffers;
 #[cfg(test)]
+mod dictionaries;
+#[cfg(test)]
 mod error_texts;
 #[cfg(test)]
 mod flatbuffers;

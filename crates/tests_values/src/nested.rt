@@ -13,7 +13,7 @@ fn field(alloc: Global, dtype: ArrowDataType) -> Field {
 }
 
 /// Numbers of eight bits.
-fn numbers(alloc: Global, numbers: &[i8]) -> Result<Array, ArrayError> {
+pub(crate) fn numbers(alloc: Global, numbers: &[i8]) -> Result<Array, ArrayError> {
     let values = Buffer::from_vec(numbers.to_vec(alloc)?)?;
     let array = PrimitiveArray::try_new(ArrowDataType::Int8, values, None)?;
     Ok(Array::Int8(array))
@@ -44,13 +44,17 @@ fn pairs(alloc: Global, rows: usize, items: &[i8]) -> Result<Array, ArrayError> 
     Ok(Array::FixedSizeList(array))
 }
 
-fn add(arrays: &mut Vec<Array>, array: Array) -> Result<(), AllocError> {
+pub(crate) fn add(arrays: &mut Vec<Array>, array: Array) -> Result<(), AllocError> {
     arrays.push(array)?;
     Ok(())
 }
 
 /// Two columns of numbers.
-fn columns(alloc: Global, first: &[i8], second: &[i8]) -> Result<Vec<Array>, ArrayError> {
+pub(crate) fn columns(
+    alloc: Global,
+    first: &[i8],
+    second: &[i8],
+) -> Result<Vec<Array>, ArrayError> {
     let mut columns = Vec::new(alloc);
     add(&mut columns, numbers(alloc, first)?)?;
     add(&mut columns, numbers(alloc, second)?)?;
@@ -103,7 +107,9 @@ fn union(alloc: Global, types: &[i8], places: &[i32]) -> Result<Array, ArrayErro
 }
 
 /// How many rows there are and how many are null, or why there is no array.
-fn rows_and_nulls(made: Result<Array, ArrayError>) -> Result<(usize, usize), ArrayError> {
+pub(crate) fn rows_and_nulls(
+    made: Result<Array, ArrayError>,
+) -> Result<(usize, usize), ArrayError> {
     let array = made?;
     let counts = (array.len(), array.null_count());
     drop(array);

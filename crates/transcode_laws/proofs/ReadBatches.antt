@@ -1,5 +1,6 @@
 -- A batch of columns that were read by their kinds is one that was read to be sent.
 use Rattle.std.proofs.Common.{◌≡◌, ℕ, suc, List, [], ◌∷◌, Bool, true, false, Option, None, Some, Ok, map, cond, refl, sym, ap, arith, subst, ◌∙◌}
+use Rattle.std.specs.List.{AllByRecursion}
 use Rattle.std.proofs.lemmas.Bool.{and_parts}
 use Rattle.arrow_spec.specs.declared.message.MetadataVersion.{MetadataVersion}
 use Rattle.arrow_spec.specs.Readings.{Reading, ◌>>=◌}
@@ -23,8 +24,11 @@ use Rattle.ipc_write_laws.specs.Streams.{AreOf, WrittenBatch, table_batch, writt
 use Rattle.ipc_write_laws.proofs.SentBatches.{written_of_cons}
 use Rattle.ipc_read_laws.specs.Batches.{columns_read}
 use Rattle.arrow_arrays.specs.Carried.{is_carried, are_carried}
+use Rattle.arrow_arrays.proofs.NoDictionaries.{carried_plain}
 use Rattle.ipc_read_laws.specs.PartsRead.{parts_read}
 use Rattle.ipc_read_laws.proofs.TreesSound.{parts_sound}
+use Rattle.ipc_write_arrays.specs.Dictionaries.{HoldsValues}
+use Rattle.ipc_write_arrays.proofs.RoundTrip.{none_held}
 use Rattle.ipc_write.specs.Compaction.{compacted, views_need_compaction, top}
 use Rattle.ipc_write.specs.Batches.{top_column, written_batch_of}
 use Rattle.transcode_laws.specs.Files.{ArePicked, AreAsked, IsReadBatch, asked_fields}
@@ -46,21 +50,25 @@ kind_kept (leaf (binary_views q)) = kind_if (views_need_compaction q) q
 kind_kept (leaf (text_views q)) = kind_if (views_need_compaction q) q
 kind_kept q = refl
 
--- a column that was read is of its field's kind, and is written as is to be written of the record batch
-one_sent : (m : RecordBatch) (d : Dictionaries) (k : Kind) (p : Place) (rows : ℕ) → is_carried k ≡ true → array_faults m d k p rows ≡ [] → (k ≡ (top_column (parts_read m k p rows)).kind) × (top_written m k p rows ≡ written_of (top_column (parts_read m k p rows) ∷ []))
-one_sent m d k p rows carried h = (sym (kind_kept (parts_read m k p rows) ∙ (parts_sound m d k p rows carried h).same_kind), top_sent m d k p rows carried h)
+-- a column that was read is of its field's kind, is written as is to be written of the record batch, and needs no values of dictionaries
+one_sent : (m : RecordBatch) (d : Dictionaries) (k : Kind) (p : Place) (rows : ℕ) → is_carried k ≡ true → array_faults m d k p rows ≡ [] → (k ≡ (top_column (parts_read m k p rows)).kind) × (top_written m k p rows ≡ written_of (top_column (parts_read m k p rows) ∷ [])) × HoldsValues [] (parts_read m k p rows)
+one_sent m d k p rows carried h =
+    let q = parts_read m k p rows in
+    let sound = parts_sound m d k p rows carried h in
+    (sym (kind_kept q ∙ sound.same_kind), top_sent m d k p rows carried h, none_held [] q (carried_plain q sound.no_fault (ap is_carried sound.same_kind ∙ carried)))
 
 -- so are columns of some fields
 abbrev AreSentAs : Fields → Written → List Parts → Type 0
-AreSentAs fs w ps = AreOf fs (map top_column ps) × (w ≡ written_of (map top_column ps))
+AreSentAs fs w ps = AreOf fs (map top_column ps) × (w ≡ written_of (map top_column ps)) × AllByRecursion (λ p. HoldsValues [] p) ps
 
-one_before : (name : List ℕ) (nullable : Bool) (metadata : Metadata) (k : Kind) (fs : Fields) (v w : Written) (q : Parts) (ps : List Parts) → (k ≡ (top_column q).kind) × (v ≡ written_of (top_column q ∷ [])) → AreSentAs fs w ps → AreSentAs (field name nullable metadata k fs) (also_written v w) (q ∷ ps)
-one_before name nullable metadata k fs v w q ps one rest = ((one.0, rest.0), rw (one.1, rest.1) (sym (written_of_cons (top_column q) (map top_column ps))))
+one_before : (name : List ℕ) (nullable : Bool) (metadata : Metadata) (k : Kind) (fs : Fields) (v w : Written) (q : Parts) (ps : List Parts) → (k ≡ (top_column q).kind) × (v ≡ written_of (top_column q ∷ [])) × HoldsValues [] q → AreSentAs fs w ps → AreSentAs (field name nullable metadata k fs) (also_written v w) (q ∷ ps)
+one_before name nullable metadata k fs v w q ps one rest =
+    ((one.0, rest.0), rw (one.1, rest.1) (sym (written_of_cons (top_column q) (map top_column ps))), (one.2, rest.2))
 
 -- all columns
 all_sent : (m : RecordBatch) (d : Dictionaries) (fs : Fields) (c : ℕ) (p : Place) (rows few : ℕ) (cells : List (List Cell)) → columns_at m d None fs c p rows few ≡ Ok cells → are_carried fs ≡ true → AreSentAs fs (all_written (columns_written m None fs c p few)) (columns_read m fs p few)
 unfolding columns_at column_faults
-all_sent m d none c p rows few cells h carried = (tt, refl)
+all_sent m d none c p rows few cells h carried = (tt, refl, tt)
 all_sent m d (field name nullable metadata k others) c p rows few cells h carried =
     let each = and_parts (is_carried k) (are_carried others) carried in
     through _ _ cells h λ u fits h1. through _ _ cells h1 λ rest rest_are h2.
@@ -69,7 +77,7 @@ all_sent m d (field name nullable metadata k others) c p rows few cells h carrie
 -- the columns at some numbers
 picked_sent : (m : RecordBatch) (d : Dictionaries) (asked : Option (List ℕ)) (fs : Fields) (p : Place) (rows few : ℕ) (cells : List (List Cell)) (cs : List ℕ) (ps : List Parts) → columns_at m d asked fs 0 p rows few ≡ Ok cells → ((c : ℕ) → stands_in cs c ≡ true → is_chosen asked c ≡ true)
     → are_carried (fields_asked fs cs) ≡ true → ArePicked (columns_read m fs p few) cs ps → AreSentAs (fields_asked fs cs) (all_written (map (λ c. written_at (columns_written m asked fs 0 p few) c) cs)) ps
-picked_sent m d asked fs p rows few cells [] [] h chosen carried are = (tt, refl)
+picked_sent m d asked fs p rows few cells [] [] h chosen carried are = (tt, refl, tt)
 picked_sent m d asked fs p rows few cells [] (q ∷ ps) h chosen carried are = absurd are
 picked_sent m d asked fs p rows few cells (c ∷ cs) [] h chosen carried are = absurd are
 picked_sent m d asked fs p rows few cells (c ∷ cs) (q ∷ ps) h chosen carried are =
@@ -78,7 +86,7 @@ picked_sent m d asked fs p rows few cells (c ∷ cs) (q ∷ ps) h chosen carried
           let with_it = same (fields_asked fs cs) in
           let it_is : parts_read m k at few ≡ q = cc (read, are.0) in
           let each = and_parts (is_carried k) (are_carried (fields_asked fs cs)) (ap are_carried (sym with_it) ∙ carried) in
-          let one = subst (λ x. (k ≡ (top_column x).kind) × (top_written m k at few ≡ written_of (top_column x ∷ []))) it_is (one_sent m d k at few each.0 fine) in
+          let one = subst (λ x. (k ≡ (top_column x).kind) × (top_written m k at few ≡ written_of (top_column x ∷ [])) × HoldsValues [] x) it_is (one_sent m d k at few each.0 fine) in
           let rest = picked_sent m d asked fs p rows few cells cs ps h (λ x is. chosen x (stands_later c x cs is)) each.1 are.1 in
           rw (with_it, w) (one_before name nullable metadata k (fields_asked fs cs) _ _ q ps one rest)
       | not_there read w ↦ cc (read, are.0)
@@ -111,7 +119,7 @@ pub read_batch_sendable : ReadBatchIsSendable
 read_batch_sendable a v tables body left b fit no_dictionaries carried right h arrays good cells =
     let x : WrittenBatch = written_batch_of b in
     let sent = columns_sent a v tables body left b carried h arrays in
-    let is : IsReadBatch a (record_batch_of a.order v tables body) x = record { kinds = sent.0; good = good; written = sent.1 } in
+    let is : IsReadBatch a (record_batch_of a.order v tables body) x = record { kinds = sent.0; good = good sent.2; written = sent.1 } in
     let whole : List (List Cell) → Reading TableBatch = λ cs. Ok (record { rows = b.height; columns = cs; custom = [] }) in
     let read : batch_of_tables to_read a v [] tables body left ≡ Ok (table_batch x) = h ∙ ap whole (sym cells) in
     let both = batch_sendable a v tables body left x fit (record { ascend = tt; few = omega arith }) is read in

@@ -15,7 +15,7 @@ use Rattle.arrow_types.specs.NumberLaws.{unsigned_width}
 use Rattle.arrow_buffers.specs.Rows.{part}
 use Rattle.arrow_buffers.specs.Variable.{place_at}
 use Rattle.arrow_arrays.specs.LeafParts.{leaf_part_of}
-use Rattle.arrow_arrays.specs.Heads.{Head, listed, mapped, sized, structured, tagged, tagged_cut, Cut, whole, run, head_rows, head_validity, head_part, Reaches}
+use Rattle.arrow_arrays.specs.Heads.{Head, listed, mapped, sized, structured, tagged, indexed, indexed_part, tagged_cut, Cut, whole, run, head_rows, head_validity, head_part, Reaches}
 use Rattle.arrow_arrays.specs.Parts.{Parts, Forest, leaf, nested, none, also, rows_in, rows_each, fault_in, fault_each}
 use Rattle.arrow_arrays.specs.Nodes.{node_in, leaf_counts_in, counts_in, counts_each}
 use Rattle.arrow_arrays.proofs.LeafSliced as leaves
@@ -27,7 +27,8 @@ use Rattle.ipc_read_laws.specs.WrittenParts as read
 use Rattle.ipc_read_laws.proofs.TreesWritten.{whole_on}
 use Rattle.ipc_write_arrays.specs.Pieces.{place_pieces, head_pieces, tree_nodes, trees_nodes, tree_pieces, trees_pieces, column_in}
 use Rattle.ipc_write_arrays.specs.Trims.{counted_from, head_trim, held_by, trim, trim_each}
-use Rattle.ipc_write_arrays.proofs.TrimLaws.{counts-sent, head_holds, rows-trim}
+use Rattle.ipc_write_arrays.proofs.TrimLaws.{head_holds, rows-trim}
+use Rattle.ipc_write_arrays.proofs.Keys.{length-keys}
 use Rattle.ipc_write.proofs.Lengths.{length-offsets}
 use Rattle.transcode_laws.specs.ColumnLaws.{WrittenAsColumn}
 use Rattle.transcode_laws.proofs.Pieces.{length-validity, lengths_are, by_lengths}
@@ -75,6 +76,7 @@ head_lengths_are o n (mapped l) =
 head_lengths_are o n (sized c) = ap (λ m. m ∷ []) (length-validity (option_map (part o n) c.validity))
 head_lengths_are o n (structured c) = ap (λ m. m ∷ []) (length-validity (option_map (part o n) c.validity))
 head_lengths_are o n (tagged t) = two_same _ _ _ _ (types_are (part o n t.types)) (places_are (option_map (part o n) t.offsets))
+head_lengths_are o n (indexed d) = two_same _ _ _ _ (length-validity (option_map (part o n) d.validity)) (ap (λ m. m ∷ []) (sym (length-keys little d.index (part o n d.keys))))
 
 validity_same : (o n : ℕ) (h : Head) → head_validity (head_part o n h) ≡ head_validity (head_trim o n h)
 validity_same o n (listed l) = refl
@@ -82,6 +84,7 @@ validity_same o n (mapped l) = refl
 validity_same o n (sized c) = refl
 validity_same o n (structured c) = refl
 validity_same o n (tagged t) = refl
+validity_same o n (indexed d) = refl
 
 -- ── trees ──
 
@@ -109,6 +112,7 @@ held_same o n (mapped l) = refl
 held_same o n (sized c) = refl
 held_same o n (structured c) = refl
 held_same o n (tagged t) = tagged_same o n t.offsets
+held_same o n (indexed d) = refl
 
 -- the top of some rows
 top_as : (o n : ℕ) (h : Head) (cs : Forest) → head_rows (head_part o n h) ≡ head_rows (head_trim o n h)
@@ -120,6 +124,8 @@ mutual
   tree_written o n (leaf l) e le =
       let q = leaf_part_of o n l in
       ap (λ lengths. record { nodes = node_in (leaf q) ∷ []; lengths = lengths; views = leaf_counts_in q }) (lengths_are q (leaves.fault-part o n l e le))
+  tree_written o n (nested (indexed d) cs) e le =
+      ap (λ w. also_written w (trees_as none)) (top_as o n (indexed d) none refl) ∙ nested_as (indexed (indexed_part o n d)) none
   tree_written o n (nested h cs) e le =
       let t = top_sound h cs e in
       let below = trim_each (held_by o n h) cs in
@@ -144,6 +150,5 @@ mutual
 pub column_written : WrittenAsColumn
 column_written (leaf l) h = by_lengths l (lengths_are l h)
 column_written (nested top cs) h =
-    let laid = trim 0 (head_rows top) (nested top cs) in
     sym (whole_on (nested top cs) refl h) ∙ tree_written 0 (head_rows top) (nested top cs) h (omega arith)
-    ∙ ap (λ views. record { nodes = tree_nodes laid; lengths = map length (tree_pieces little laid); views = views }) (counts-sent (nested top cs)) ∙ sym (written_of_one (column_in little (nested top cs)))
+    ∙ sym (written_of_one (column_in little (nested top cs)))

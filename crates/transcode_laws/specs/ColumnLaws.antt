@@ -23,6 +23,7 @@ use Rattle.ipc_read_laws.specs.Batches.{columns_read}
 use Rattle.arrow_arrays.specs.Carried.{is_carried, are_carried}
 use Rattle.ipc_read_laws.specs.PartsRead.{parts_read}
 use Rattle.ipc_read_laws.specs.WrittenParts.{leaf_lengths_in, written_in}
+use Rattle.ipc_write_arrays.specs.Dictionaries.{HoldsValues}
 use Rattle.ipc_write_arrays.specs.Pieces.{column_in, leaf_pieces}
 use Rattle.ipc_write.specs.Batches.{top_column, written_batch_of}
 use Rattle.transcode_laws.specs.Built.{are_sent_fields}
@@ -51,13 +52,13 @@ ReadBatchIsSent = (a : Asked) (v : MetadataVersion) (tables : BatchHeader) (body
     (if_sent to_send (may_be_sent (written_batch (written_batch_of b)))
     >>= λ size. Ok (record { rows = b.height; columns = map cells_in b.arrays; custom = [] }))
 
--- Where its columns mean their cells as they are written, it may be written where its message may be sent.
+-- Where its columns mean their cells as they are written, as far as that asks for no values of dictionaries, it may be written where its message may be sent.
 abbrev pub ReadBatchIsSendable : Type 0
 ReadBatchIsSendable = (a : Asked) (v : MetadataVersion) (tables : BatchHeader) (body : List ℕ) (left : Option ℕ) (b : Batch) → HeaderFits tables
     → a.dictionaries ≡ [] → are_carried (asked_fields a) ≡ true → columns_right a.columns (width a.fields) ≡ Ok tt
     → batch_of_tables to_read a v [] tables body left ≡ Ok (record { rows = b.height; columns = map cells_in b.arrays; custom = [] })
     → AreAsked (columns_read (record_batch_of a.order v tables body) a.fields first_place b.height) a.columns b.arrays
-    → AllByRecursion (λ c. Means little [] b.height c) (written_batch_of b).columns → map (λ c. c.cells) (written_batch_of b).columns ≡ map cells_in b.arrays
+    → (AllByRecursion (λ p. HoldsValues [] p) b.arrays → AllByRecursion (λ c. Means little [] b.height c) (written_batch_of b).columns) → map (λ c. c.cells) (written_batch_of b).columns ≡ map cells_in b.arrays
     → IsReadBatch a (record_batch_of a.order v tables body) (written_batch_of b)
     × (batch_of_tables to_read a v [] tables body left ≡ Ok (table_batch (written_batch_of b)))
     × (may_be_sent (written_batch (written_batch_of b)) ≡ true → MayBeWritten (asked_fields a) (written_batch_of b))

@@ -1,13 +1,9 @@
-use Rattle.arrow_spec.specs.Flat.{little}
-use Rattle.arrow_arrays.specs.Parts.{rows_in}
 use Rattle.arrow_arrays.specs.PartsOf.{parts_of}
-use Rattle.ipc_write_arrays.specs.Pieces.{column_in}
-use Rattle.ipc_write.proofs.Meanings.{means_alone}
 use Rattle.ipc_write.proofs.TreeEnds.{may_little}
 use Rattle.ipc_write.proofs.columns.add_array.Goals as goal
 
 pub returns-clause-means : goal.returns-clause-means
-returns-clause-means c = means_alone c.write.result (rows_in (parts_of c.args.array.now)) (column_in little (parts_of c.args.array.now)) c.write.ensures.means
+returns-clause-means c = c.write.ensures.means
 
 pub write-requires-clause-order : goal.write-requires-clause-order
 write-requires-clause-order c = may_little (parts_of c.args.array.now)

@@ -1,0 +1,152 @@
+//! The keys of dictionaries, of any integer type (Arrow Columnar Format, "Dictionary-encoded Layout").
+ghost use Rattle.std.specs.Prelude.{◌≡◌, ◌+◌, ◌≤◌, ◌<◌, length, IfOk, true};
+ghost use Rattle.std.specs.Option.{option_map};
+ghost use Rattle.arrow_buffers.specs.Rows.{part, has_rows, null_rows};
+ghost use Rattle.arrow_arrays.specs.Heads.{number_at};
+ghost use Rattle.arrow_arrays.specs.KeysOf.{keys_in, index_in, key_validity_in};
+
+use arrow_buffers::{Bitmap, PrimitiveArray};
+use arrow_spec::IntegerType;
+use std::alloc::{AllocError, Global};
+
+/// The row of a dictionary that each row is, in any integer type.
+#[derive(Drop)]
+pub enum DictionaryKeys {
+    Int8(PrimitiveArray<i8>),
+    Int16(PrimitiveArray<i16>),
+    Int32(PrimitiveArray<i32>),
+    Int64(PrimitiveArray<i64>),
+    Int128(PrimitiveArray<i128>),
+    UInt8(PrimitiveArray<u8>),
+    UInt16(PrimitiveArray<u16>),
+    UInt32(PrimitiveArray<u32>),
+    UInt64(PrimitiveArray<u64>),
+}
+
+impl DictionaryKeys {
+    /// How many keys there are, one a row.
+    pub fn len(&self) -> usize
+        ensures { result ≡ length (keys_in self.now) }
+    {
+        match self {
+            DictionaryKeys::Int8(keys) => keys.len(),
+            DictionaryKeys::Int16(keys) => keys.len(),
+            DictionaryKeys::Int32(keys) => keys.len(),
+            DictionaryKeys::Int64(keys) => keys.len(),
+            DictionaryKeys::Int128(keys) => keys.len(),
+            DictionaryKeys::UInt8(keys) => keys.len(),
+            DictionaryKeys::UInt16(keys) => keys.len(),
+            DictionaryKeys::UInt32(keys) => keys.len(),
+            DictionaryKeys::UInt64(keys) => keys.len(),
+        }
+    }
+
+    /// The type of the keys.
+    pub fn index_type(&self) -> IntegerType
+        ensures { result ≡ index_in self.now }
+    {
+        match self {
+            DictionaryKeys::Int8(_) => IntegerType::Int8,
+            DictionaryKeys::Int16(_) => IntegerType::Int16,
+            DictionaryKeys::Int32(_) => IntegerType::Int32,
+            DictionaryKeys::Int64(_) => IntegerType::Int64,
+            DictionaryKeys::Int128(_) => IntegerType::Int128,
+            DictionaryKeys::UInt8(_) => IntegerType::UInt8,
+            DictionaryKeys::UInt16(_) => IntegerType::UInt16,
+            DictionaryKeys::UInt32(_) => IntegerType::UInt32,
+            DictionaryKeys::UInt64(_) => IntegerType::UInt64,
+        }
+    }
+
+    /// Which rows are valid; every row, where it is not given.
+    pub fn validity(&self) -> Option<&Bitmap>
+        ensures bits { option_map (λ b. b.now) result ≡ key_validity_in self.now }
+        ensures rows { has_rows (key_validity_in self.now) (length (keys_in self.now)) ≡ true }
+    {
+        match self {
+            DictionaryKeys::Int8(keys) => keys.validity(),
+            DictionaryKeys::Int16(keys) => keys.validity(),
+            DictionaryKeys::Int32(keys) => keys.validity(),
+            DictionaryKeys::Int64(keys) => keys.validity(),
+            DictionaryKeys::Int128(keys) => keys.validity(),
+            DictionaryKeys::UInt8(keys) => keys.validity(),
+            DictionaryKeys::UInt16(keys) => keys.validity(),
+            DictionaryKeys::UInt32(keys) => keys.validity(),
+            DictionaryKeys::UInt64(keys) => keys.validity(),
+        }
+    }
+
+    /// How many rows are null.
+    pub fn null_count(&self) -> usize
+        ensures { result ≡ null_rows (key_validity_in self.now) }
+    {
+        match self {
+            DictionaryKeys::Int8(keys) => keys.null_count(),
+            DictionaryKeys::Int16(keys) => keys.null_count(),
+            DictionaryKeys::Int32(keys) => keys.null_count(),
+            DictionaryKeys::Int64(keys) => keys.null_count(),
+            DictionaryKeys::Int128(keys) => keys.null_count(),
+            DictionaryKeys::UInt8(keys) => keys.null_count(),
+            DictionaryKeys::UInt16(keys) => keys.null_count(),
+            DictionaryKeys::UInt32(keys) => keys.null_count(),
+            DictionaryKeys::UInt64(keys) => keys.null_count(),
+        }
+    }
+
+    /// The number of a row's key, which means nothing where the row is null.
+    pub fn number(&self, row: usize) -> i128
+        requires { row < length (keys_in self.now) }
+        ensures { result ≡ number_at (keys_in self.now) row }
+    {
+        match self {
+            DictionaryKeys::Int8(keys) => keys.value(row) as i128,
+            DictionaryKeys::Int16(keys) => keys.value(row) as i128,
+            DictionaryKeys::Int32(keys) => keys.value(row) as i128,
+            DictionaryKeys::Int64(keys) => keys.value(row) as i128,
+            DictionaryKeys::Int128(keys) => keys.value(row),
+            DictionaryKeys::UInt8(keys) => keys.value(row) as i128,
+            DictionaryKeys::UInt16(keys) => keys.value(row) as i128,
+            DictionaryKeys::UInt32(keys) => keys.value(row) as i128,
+            DictionaryKeys::UInt64(keys) => keys.value(row) as i128,
+        }
+    }
+
+    /// Leaves only the part.
+    pub(crate) fn narrow(&mut self, offset: usize, rows: usize)
+        requires { offset + rows ≤ length (keys_in self.old) }
+        ensures keys { keys_in self.new ≡ part offset rows (keys_in self.old) }
+        ensures index { index_in self.new ≡ index_in self.old }
+        ensures validity { key_validity_in self.new ≡ option_map (part offset rows) (key_validity_in self.old) }
+    {
+        match self {
+            DictionaryKeys::Int8(keys) => keys.narrow(offset, rows),
+            DictionaryKeys::Int16(keys) => keys.narrow(offset, rows),
+            DictionaryKeys::Int32(keys) => keys.narrow(offset, rows),
+            DictionaryKeys::Int64(keys) => keys.narrow(offset, rows),
+            DictionaryKeys::Int128(keys) => keys.narrow(offset, rows),
+            DictionaryKeys::UInt8(keys) => keys.narrow(offset, rows),
+            DictionaryKeys::UInt16(keys) => keys.narrow(offset, rows),
+            DictionaryKeys::UInt32(keys) => keys.narrow(offset, rows),
+            DictionaryKeys::UInt64(keys) => keys.narrow(offset, rows),
+        }
+    }
+
+    /// A second owner of the same keys.
+    pub fn try_clone(&self, alloc: Global) -> Result<DictionaryKeys, AllocError>
+        ensures keys { IfOk result (λ k. keys_in k ≡ keys_in self.now) }
+        ensures index { IfOk result (λ k. index_in k ≡ index_in self.now) }
+        ensures validity { IfOk result (λ k. key_validity_in k ≡ key_validity_in self.now) }
+    {
+        match self {
+            DictionaryKeys::Int8(keys) => Ok(DictionaryKeys::Int8(keys.try_clone(alloc)?)),
+            DictionaryKeys::Int16(keys) => Ok(DictionaryKeys::Int16(keys.try_clone(alloc)?)),
+            DictionaryKeys::Int32(keys) => Ok(DictionaryKeys::Int32(keys.try_clone(alloc)?)),
+            DictionaryKeys::Int64(keys) => Ok(DictionaryKeys::Int64(keys.try_clone(alloc)?)),
+            DictionaryKeys::Int128(keys) => Ok(DictionaryKeys::Int128(keys.try_clone(alloc)?)),
+            DictionaryKeys::UInt8(keys) => Ok(DictionaryKeys::UInt8(keys.try_clone(alloc)?)),
+            DictionaryKeys::UInt16(keys) => Ok(DictionaryKeys::UInt16(keys.try_clone(alloc)?)),
+            DictionaryKeys::UInt32(keys) => Ok(DictionaryKeys::UInt32(keys.try_clone(alloc)?)),
+            DictionaryKeys::UInt64(keys) => Ok(DictionaryKeys::UInt64(keys.try_clone(alloc)?)),
+        }
+    }
+}

@@ -1,0 +1,63 @@
+"""Runs the built program on random files of all kinds but dictionaries, by their names and as hex text, in random columns and up
+to random limits, as bytes and as hex text: python3 drive.py PROGRAM COUNT SEED. Prints what differs; the status is 0 where nothing does."""
+import random
+import subprocess
+import sys
+import tempfile
+from argparse import Namespace
+from pathlib import Path
+
+import fuzz_nested
+
+
+def request_of(r):
+    """The columns and the limit that are asked for, as words have them."""
+    columns = r.choice([None, None, "0", "1,0", "2,0,1", ""])
+    limit = r.choice([None, None, 0, 1, 4, 12])
+    return Namespace(unions=True, columns=columns, limit=limit)
+
+
+def words_of(asked):
+    words = ["stream"]
+    if asked.columns is not None:
+        words += ["--columns", asked.columns]
+    if asked.limit is not None:
+        words += ["--limit", str(asked.limit)]
+    return words
+
+
+def differs(program, folder, r):
+    asked = request_of(r)
+    file, stream = fuzz_nested.case(r, asked)
+    words = words_of(asked)
+    by_name, raw = r.choice([True, False]), r.choice([True, False])
+    given = b""
+    if raw:
+        words.append("--raw")
+    if by_name:
+        (Path(folder) / "file.arrow").write_bytes(file)
+        words.append("file.arrow")
+    else:
+        given = file.hex().encode()
+    done = subprocess.run([program, *words], input=given, capture_output=True, cwd=folder)
+    expected = stream if raw else stream.hex().encode() + b"\n"
+    if (done.returncode, done.stdout, done.stderr) == (0, expected, b""):
+        return None
+    return words, done.returncode, done.stderr.decode(), file.hex()
+
+
+def main():
+    program, count, seed = str(Path(sys.argv[1]).resolve()), int(sys.argv[2]), int(sys.argv[3])
+    wrong = 0
+    with tempfile.TemporaryDirectory() as folder:
+        for i in range(count):
+            found = differs(program, folder, random.Random(seed * 100000 + i))
+            if found:
+                wrong += 1
+                print(i, *found)
+    print(count, "files,", wrong, "differ")
+    sys.exit(1 if wrong else 0)
+
+
+if __name__ == "__main__":
+    main()
