@@ -12,7 +12,7 @@ use Rattle.arrow_types.specs.BytesBack.{later, take_bytes, drop_bytes}
 use Rattle.arrow_buffers.specs.Rows.{part}
 use Rattle.arrow_buffers.specs.Items.{items_at}
 use Rattle.arrow_spec.proofs.CellLists.{from_on-same}
-use Rattle.arrow_buffers.proofs.Parts.{part-from_on, shift-from_on, get-from_on}
+use Rattle.arrow_buffers.proofs.Parts.{part-part, length-part, part-from_on, shift-from_on, get-from_on}
 
 -- ── places ──
 
@@ -172,3 +172,19 @@ held_items write read w v order said law bytes here at n xs s h e b t o =
     ∙ ap (λ ys. flat_map (write order) (items_at read w order ys at n)) b
     ∙ ap (flat_map (write order)) e
     ∙ ap (λ r. flat_map (write r) xs) o
+
+-- items are read again from their own bytes
+pub items_again : {A : Type 0} (read : Order → List ℕ → A) (w : ℕ) (order : Order) (bytes : List ℕ) (at n : ℕ) → items_at read w order (part at (w * n) bytes) 0 n ≡ items_at read w order bytes at n
+items_again read w order bytes at n =
+    from_on-same (λ j. read order (take w (drop (0 + w * j) (part at (w * n) bytes)))) (λ j. read order (take w (drop (at + w * j) bytes))) 0 n (λ k l.
+    (let inside : 0 + w * k + w ≤ w * n = item_inside 0 w k n (w * n) (omega (arith, l)) (omega arith) in
+    let place : at + (0 + w * k) ≡ at + w * k = omega arith in
+    ap (read order) (sym (part-part bytes at (w * n) (0 + w * k) w inside) ∙ ap (λ p. part p w bytes) place)))
+
+-- the bytes of a range, held anew
+pub range_again : (bytes here same range held : List ℕ) (at w v n : ℕ) → here ≡ bytes → same ≡ bytes → v ≡ w → at + w * n ≤ length bytes → range ≡ part at (v * n) here
+    → held ≡ items_at (unsigned_from_bytes w8) 1 little same at (length range) → held ≡ part at (w * n) bytes
+range_again bytes here same range held at w v n h s e inside r k =
+    let own : range ≡ part at (w * n) bytes = r ∙ ap (λ l. part at (v * n) l) h ∙ ap (λ u. part at (u * n) bytes) e in
+    let long : length range ≡ w * n = ap length own ∙ length-part bytes at (w * n) inside in
+    k ∙ ap (λ l. items_at (unsigned_from_bytes w8) 1 little l at (length range)) s ∙ ap (items_at (unsigned_from_bytes w8) 1 little bytes at) long ∙ byte_items little bytes at (w * n) inside

@@ -2,6 +2,7 @@ pub mod Parts
 pub mod Items
 pub mod Counts
 pub mod Unset
+pub mod Packing
 pub mod Masks
 pub mod Sound
 pub mod Fixed

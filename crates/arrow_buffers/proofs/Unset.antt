@@ -17,7 +17,7 @@ unset f at n = count_by not (from_on f at n)
 pub unset_few : (f : ℕ → Bool) (at n : ℕ) → unset f at n ≤ n
 unset_few f at n = omega (arith, count_by-le-length not (from_on f at n), length-from_on f at n)
 
-from_on_split : (f : ℕ → Bool) (at a b : ℕ) → from_on f at (a + b) ≡ from_on f at a ++ from_on f (at + a) b
+pub from_on_split : (f : ℕ → Bool) (at a b : ℕ) → from_on f at (a + b) ≡ from_on f at a ++ from_on f (at + a) b
 from_on_split f at zero b =
     let e : 0 + b ≡ b = omega arith in
     let g : at ≡ at + 0 = omega arith in
@@ -64,7 +64,7 @@ unset_digits (suc k) n h =
     omega (arith, ap (unset (digit n) 0) more, unset_split (digit n) 0 1 k, rest, ones, first, above, lowest (n % 2) (omega arith))
 
 -- the bits of a byte
-byte_bits : (bytes : List ℕ) (q : ℕ) → from_on (bit bytes) (8 * q) 8 ≡ from_on (λ j. nat_eq (bit_at (get_or bytes q 0) j) 1) 0 8
+pub byte_bits : (bytes : List ℕ) (q : ℕ) → from_on (bit bytes) (8 * q) 8 ≡ from_on (λ j. nat_eq (bit_at (get_or bytes q 0) j) 1) 0 8
 byte_bits bytes q =
     shift-from_on (bit bytes) (λ j. nat_eq (bit_at (get_or bytes q 0) j) 1) (8 * q) 0 8 (λ k l.
     (let over : (8 * q + k) / 8 ≡ q = omega (arith, l) in

@@ -1,8 +1,9 @@
 //! A run of bits that several owners may share (Arrow Columnar Format, "Validity bitmaps").
-ghost use Rattle.std.specs.Prelude.{◌≡◌, ◌+◌, ◌*◌, ◌^◌, ◌≤◌, ◌<◌, length, not, slice_get, Some, IfOk, vec_len};
+ghost use Rattle.std.specs.Prelude.{◌≡◌, ℕ, ◌+◌, ◌*◌, ◌/◌, ◌^◌, ◌≤◌, ◌<◌, length, not, slice_get, take, Some, IfOk, IfSome, vec_len};
 ghost use Rattle.std.specs.List.{count_by};
 ghost use Rattle.std.specs.Rc.{rc_slice_items};
 ghost use Rattle.arrow_spec.specs.Arrays.{bit};
+ghost use Rattle.arrow_spec.specs.Framing.{packed};
 ghost use Rattle.arrow_buffers.specs.Rows.{part};
 ghost use Rattle.arrow_buffers.specs.Bits.{bits_from};
 
@@ -66,6 +67,14 @@ fn unset_in_bytes(bytes: &[u8], from: usize, count: usize) -> usize
     unset
 }
 
+/// So many bytes from one on: the bits in them, packed.
+fn bytes_between(bytes: &[u8], from: usize, count: usize) -> &[u8]
+    requires { from + count ≤ length bytes.now }
+    ensures { (rest : ℕ) → result.now ≡ take count (packed (bits_from bytes.now (8 * from) (8 * count + rest))) }
+{
+    &bytes[from..from + count]
+}
+
 impl Bitmap {
     /// The first bits of the bytes, which are moved and not copied.
     pub fn from_vec(bytes: Vec<u8>, length: usize) -> Result<Bitmap, AllocError>
@@ -104,6 +113,17 @@ impl Bitmap {
         ensures { slice_get self.now i ≡ Some result }
     {
         is_set(self.bytes.as_slice(), self.start + i)
+    }
+
+    /// The bytes that hold eight bits of the run each, where it begins with the first bit of a byte.
+    pub fn whole_bytes(&self) -> Option<&[u8]>
+        ensures { IfSome result (λ bytes. bytes.now ≡ take (length self.now / 8) (packed self.now)) }
+    {
+        if self.start % 8 != 0 {
+            return None;
+        }
+        let from = self.start / 8;
+        Some(bytes_between(self.bytes.as_slice(), from, self.count / 8))
     }
 
     /// How many bits are 0.

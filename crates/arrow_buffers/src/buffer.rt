@@ -138,6 +138,18 @@ impl<T: NativeType> Buffer<T> {
         Some(range_of(self.bytes.as_slice(), self.at, T::WIDTH * self.count))
     }
 
+    /// The bytes of the items as they are held, which share the memory, and whether each item's stand in big-endian order.
+    pub fn held(&self) -> Result<(Buffer<u8>, bool), AllocError>
+        ensures bytes { IfOk result (λ r. r.0 ≡ flat_map (T.written (order_by (not r.1))) self.now) }
+        ensures items { IfOk result (λ r. items_at T.read T.WIDTH (order_by (not r.1)) r.0 0 (length self.now) ≡ self.now) }
+        ensures size { IfOk result (λ r. length r.0 ≡ T.WIDTH * length self.now) }
+        ensures small { IfOk result (λ r. (i : ℕ) → get_or r.0 i 0 < 2 ^ 8) }
+    {
+        let size = range_of(self.bytes.as_slice(), self.at, T::WIDTH * self.count).len();
+        let bytes = Buffer::shared(self.bytes.clone()?, self.at, size, false);
+        Ok((bytes, self.is_big_endian))
+    }
+
     /// Leaves only the part, and copies nothing.
     pub fn narrow(&mut self, offset: usize, count: usize)
         requires { offset + count ≤ length self.old }

@@ -1,0 +1,6 @@
+pub mod Adding
+pub mod Puts
+pub mod Places
+pub mod Fitting
+pub mod Pieces
+pub mod BytesOf
