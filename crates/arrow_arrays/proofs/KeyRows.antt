@@ -5,12 +5,11 @@ use Rattle.std.specs.Prelude.{nat_le}
 use Rattle.std.proofs.lemmas.Bool.{leb-false, or_parts}
 use Rattle.std.proofs.lemmas.List.{get_or_append_left, get_or-append-add}
 use Rattle.std.proofs.lemmas.List.Sums.{sum_by-cons, sum_by_more}
-use Rattle.arrow_spec.specs.Kinds.{Kind}
+use Rattle.arrow_spec.specs.Kinds.{Kind, is_same_kind}
 use Rattle.arrow_spec.specs.Cells.{Cell, null}
 use Rattle.arrow_spec.specs.Counts.{magnitude, is_negative}
 use Rattle.arrow_spec.specs.Arrays.{keyed, cell_or_null}
 use Rattle.arrow_spec.specs.Faults.{some_row}
-use Rattle.arrow_types.specs.KindCode.{kind_eq}
 use Rattle.arrow_buffers.specs.Rows.{is_valid}
 use Rattle.arrow_buffers.proofs.Rows.{none_below}
 use Rattle.arrow_arrays.specs.declared.array.Array.{Array}
@@ -22,7 +21,7 @@ use Rattle.arrow_arrays.proofs.Sliced.{neither, top_sound, length-cells}
 use Rattle.arrow_arrays.proofs.UnionPlaces.{length-rows_each, rows_under_at}
 
 -- some arrays that are each of a kind
-pub each_of_some : (k : Kind) (xs : List Array) → 0 < length xs → each_of k (kinds_each (forest_of xs)) ≡ list_all (kind_eq k) (kinds_each (forest_of xs))
+pub each_of_some : (k : Kind) (xs : List Array) → 0 < length xs → each_of k (kinds_each (forest_of xs)) ≡ list_all (is_same_kind k) (kinds_each (forest_of xs))
 each_of_some k [] h = absurd (omega arith)
 each_of_some k (x ∷ xs) h = refl
 

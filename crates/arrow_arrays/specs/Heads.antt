@@ -8,7 +8,7 @@ use Rattle.arrow_spec.specs.Kinds as kind
 use Rattle.arrow_spec.specs.declared.types.IntegerType.{IntegerType}
 use Rattle.arrow_spec.specs.declared.types.UnionMode.{UnionMode}
 use Rattle.arrow_spec.specs.declared.types.UnionMode.TheVariants.{Dense, Sparse}
-use Rattle.arrow_spec.specs.Kinds.{Kind, Fields, Offsets, small, large, width, is_same_integer}
+use Rattle.arrow_spec.specs.Kinds.{Kind, Fields, Offsets, small, large, width, is_same_integer, is_same_kind}
 use Rattle.arrow_spec.specs.Schema.{first_is_struct_of_two}
 use Rattle.arrow_spec.specs.Cells as cells
 use Rattle.arrow_spec.specs.Cells.{Cell, cells_of}
@@ -237,10 +237,10 @@ values_kind (kind.dictionary index ordered id k) = k
 values_kind (kind.extension name metadata k) = values_kind k
 values_kind k = kind.null
 
--- there is a child, and each is of this kind
+-- there is a child, and each is of this kind, names, nullability and metadata aside
 abbrev pub each_of : Kind → List Kind → Bool
 each_of k [] = false
-each_of k (l ∷ ks) = list_all (kind_eq k) (l ∷ ks)
+each_of k (l ∷ ks) = list_all (is_same_kind k) (l ∷ ks)
 
 -- children of these kinds stand under the top: one a field, or several of a dictionary's values
 abbrev pub are_under : Head → List Kind → Bool

@@ -19,9 +19,10 @@ use crate::union::know_sound;
 use arrow_buffers::{ArrayError, Bitmap};
 use arrow_spec::IntegerType;
 use arrow_types::ArrowDataType;
+use ipc_fields::is_same_kind_of_values;
 use std::alloc::{AllocError, Global};
 
-/// Whether there is a part, and each is of this type.
+/// Whether there is a part, and each is of this type, names, nullability and metadata aside.
 fn are_of_type(dtype: &ArrowDataType, parts: &[Array]) -> bool
     ensures { result ≡ each_of (kind_of dtype.now) (kinds_each (forest_of parts.now)) }
 {
@@ -29,7 +30,7 @@ fn are_of_type(dtype: &ArrowDataType, parts: &[Array]) -> bool
         return false;
     }
     for part in parts {
-        if *dtype != *part.dtype() {
+        if !is_same_kind_of_values(dtype, part.dtype()) {
             return false;
         }
     }
@@ -130,7 +131,8 @@ fn row_at(key: i128) -> u128
 }
 
 impl DictionaryArray {
-    /// The array whose values stand in these parts, one after another. Where there is no part it is none of its type.
+    /// The array whose values stand in these parts, one after another, each of the values' type, names, nullability and
+    /// metadata aside. Where there is no part it is none of its type.
     pub fn try_from_parts(
         dtype: ArrowDataType,
         keys: DictionaryKeys,

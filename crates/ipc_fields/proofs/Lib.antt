@@ -6,3 +6,4 @@ pub mod UseSteps
 pub mod KindSteps
 pub mod Agreement
 pub mod TextOrder
+pub mod NoIds

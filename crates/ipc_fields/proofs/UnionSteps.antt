@@ -1,10 +1,7 @@
 -- The ids of unions as they are read, one after another.
-use Rattle.std.proofs.Common.{◌≡◌, ◌≢◌, ℕ, zero, suc, ◌+◌, ◌-◌, ◌*◌, ◌<◌, ◌≤◌, List, [], ◌∷◌, ◌++◌, length, take, drop, get_or, Bool, true, false, not, ◌&&◌, ◌||◌, Option, Some, None, Result, Ok, Err, ℤ, pos, negsuc, refl, sym, ◌∙◌, ap, arith, subst, append_assoc, append-nil, le-leb, leb-true}
-use Rattle.std.proofs.Common.{length-drop}
-use Rattle.std.proofs.Math.Seq.{take-length}
-use Rattle.std.specs.Prelude.{nat_eq, nat_le, nat_lt}
+use Rattle.std.proofs.Common.{◌≡◌, ℕ, suc, ◌+◌, ◌-◌, ◌*◌, ◌<◌, ◌≤◌, List, [], ◌∷◌, ◌++◌, length, take, drop, not, ◌&&◌, Option, Some, None, Result, Ok, Err, ℤ, refl, sym, ◌∙◌, ap, arith, subst, append_assoc, append-nil, le-leb}
+use Rattle.std.specs.Prelude.{nat_eq, nat_lt}
 use Rattle.std.specs.Int.{w32, from_le_bytes, cast_signed}
-use Rattle.std.proofs.lemmas.Bool.{and_parts, eqb-true}
 use Rattle.arrow_spec.specs.declared.error.IpcError.{IpcError}
 use Rattle.arrow_spec.specs.declared.error.FlatError.{FlatError}
 use Rattle.arrow_spec.specs.Readings.{bind, Reading, each, only_if, is_absent}
@@ -13,10 +10,8 @@ use Rattle.arrow_spec.specs.declared.error.OutOfSpecKind.TheVariants.{InvalidDat
 use Rattle.std.specs.declared.alloc.Global.{Global}
 use Rattle.std.specs.declared.vec.Vec.{Vec}
 use Rattle.arrow_spec.specs.Flat.{Table, Vector, part, signed_at, slot_vector}
-use Rattle.arrow_spec.specs.Kinds.{same}
-use Rattle.arrow_spec.specs.Schema.{schema_part, ids_at, counted_ids, is_id_behind, is_id, are_ids}
+use Rattle.arrow_spec.specs.Schema.{schema_part, ids_at, counted_ids, are_ids}
 use Rattle.arrow_flat.specs.Read.{VectorIn, item}
-use Rattle.arrow_types.specs.UnionIds.{are_right}
 use Rattle.ipc_fields.specs.UnionIds.{numbers_in, stated_at, ids_of_vector, ids_by, ids_in}
 
 -- ── numbers of a vector ──

@@ -1,8 +1,7 @@
 -- How many fields there are, and types without ids.
-use Rattle.std.proofs.Common.{◌≡◌, ℕ, suc, List, [], ◌∷◌, length, map, true, false, Option, ℤ, refl, ap}
+use Rattle.std.proofs.Common.{◌≡◌, suc, true, Option, ℤ, refl, ap}
 use Rattle.arrow_spec.specs.Kinds as kind
 use Rattle.arrow_spec.specs.Kinds.{Kind, Fields, width}
-use Rattle.arrow_types.specs.Child.{Child, fields_from}
 use Rattle.ipc_fields.specs.IpcFields.{Ids, no_fields, ids, kind_with, fields_with}
 use Rattle.ipc_fields.specs.Leaves.{is_leaf}
 

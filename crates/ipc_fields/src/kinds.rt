@@ -249,3 +249,11 @@ pub(crate) fn is_same_use(a: &Use, b: &Use) -> bool
 {
     is_same_kind(&a.values, None, &a.fields, &b.values, None, &b.fields)
 }
+
+/// Whether two types are of one kind.
+#[tactic(auto, using(crate::proofs::NoIds::no_ids))]
+pub fn is_same_kind_of_values(a: &ArrowDataType, b: &ArrowDataType) -> bool
+    ensures { result ≡ is_same_kind (kind_of a.now) (kind_of b.now) }
+{
+    is_same_kind(a, None, &[], b, None, &[])
+}

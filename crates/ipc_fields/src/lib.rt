@@ -7,3 +7,4 @@ mod kinds;
 pub mod uses;
 
 pub use ipc_field::{IpcField, IpcSchema};
+pub use kinds::is_same_kind_of_values;
