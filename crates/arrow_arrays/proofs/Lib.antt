@@ -11,6 +11,8 @@ pub mod CellRows
 pub mod SameBatches
 pub mod UnionPlaces
 pub mod CarriedTypes
+pub mod Labels
+pub mod EmptyParts
 pub mod EmptyTops
-pub mod KeyRows
 pub mod NoDictionaries
+pub mod KeyRows

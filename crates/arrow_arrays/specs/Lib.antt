@@ -19,4 +19,5 @@ pub mod Contents
 pub mod BatchCode
 pub mod SameBatches
 pub mod Carried
+pub mod EmptyParts
 pub mod EmptyTops

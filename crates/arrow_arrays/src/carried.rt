@@ -60,8 +60,8 @@ fn is_leaf(dtype: &ArrowDataType) -> bool
     is_leaf_layout(dtype.to_physical_type(), binary_size(dtype))
 }
 
-/// Whether arrays of a type are read: in it stand no dictionaries, no floats and no decimals of 256 bits, no size is
-/// 0, maps are of structs of two, and unions have right ids. The call goes as deep as the type's tree.
+/// Whether arrays of a type are read: in it stand no floats and no decimals of 256 bits, no size is 0, maps are of
+/// structs of two, and unions have right ids. The call goes as deep as the type's tree.
 #[cycle(carried)]
 pub fn is_carried(dtype: &ArrowDataType) -> bool
     ensures { result ≡ is_carried (kind_of dtype.now) }
@@ -75,6 +75,7 @@ pub fn is_carried(dtype: &ArrowDataType) -> bool
         ArrowDataType::Union(union) => {
             has_right_ids(&union.ids, union.fields.len()) && are_carried(union.fields.as_slice())
         }
+        ArrowDataType::Dictionary(_, values, _) => is_carried(values),
         ArrowDataType::Extension(extension) => is_carried(&extension.inner),
         _ => is_leaf(dtype),
     }

@@ -23,7 +23,7 @@ use ipc_fields::is_same_kind_of_values;
 use std::alloc::{AllocError, Global};
 
 /// Whether there is a part, and each is of this type, names, nullability and metadata aside.
-fn are_of_type(dtype: &ArrowDataType, parts: &[Array]) -> bool
+pub fn are_of_type(dtype: &ArrowDataType, parts: &[Array]) -> bool
     ensures { result ≡ each_of (kind_of dtype.now) (kinds_each (forest_of parts.now)) }
 {
     if parts.is_empty() {
@@ -131,8 +131,7 @@ fn row_at(key: i128) -> u128
 }
 
 impl DictionaryArray {
-    /// The array whose values stand in these parts, one after another, each of the values' type, names, nullability and
-    /// metadata aside. Where there is no part it is none of its type.
+    /// The array whose values stand in these parts, one after another. Where there is no part it is none of its type.
     pub fn try_from_parts(
         dtype: ArrowDataType,
         keys: DictionaryKeys,

@@ -3,7 +3,10 @@ ghost use Rattle.std.specs.Prelude.{◌≡◌, ◌∷◌, ◌<◌, [], map, pos,
 ghost use Rattle.arrow_types.specs.KindOf.{kind_of};
 ghost use Rattle.arrow_types.specs.Physical.{primitive_size, physical_of};
 ghost use Rattle.arrow_buffers.specs.Layouts.{is_null, is_boolean, is_primitive, is_variable, is_view, binary_size};
-ghost use Rattle.arrow_arrays.specs.Parts.{kind_in, rows_in};
+ghost use Rattle.arrow_arrays.specs.EmptyParts.{empty_leaf};
+ghost use Rattle.arrow_arrays.specs.EmptyTops.{empty_variable};
+ghost use Rattle.arrow_arrays.specs.LeafParts.{nulls, bits, numbers, fixed};
+ghost use Rattle.arrow_arrays.specs.Parts.{leaf};
 ghost use Rattle.arrow_arrays.specs.PartsOf.{parts_of};
 ghost use Rattle.arrow_arrays.specs.LeafKinds.{is_leaf_layout};
 
@@ -17,8 +20,7 @@ use std::alloc::{AllocError, Global};
 
 fn no_nulls(dtype: ArrowDataType) -> Array
     requires { is_null (physical_of (kind_of dtype)) ≡ true }
-    ensures kind { kind_in (parts_of result) ≡ kind_of dtype }
-    ensures rows { rows_in (parts_of result) ≡ 0 }
+    ensures { parts_of result ≡ leaf (nulls (record { kind = kind_of dtype; rows = 0 })) }
 {
     match NullArray::try_new(dtype, 0) {
         Ok(array) => Array::Null(array),
@@ -28,8 +30,7 @@ fn no_nulls(dtype: ArrowDataType) -> Array
 
 fn no_bits(alloc: Global, dtype: ArrowDataType) -> Result<Array, AllocError>
     requires { is_boolean (physical_of (kind_of dtype)) ≡ true }
-    ensures kind { IfOk result (λ a. kind_in (parts_of a) ≡ kind_of dtype) }
-    ensures rows { IfOk result (λ a. rows_in (parts_of a) ≡ 0) }
+    ensures { IfOk result (λ a. parts_of a ≡ leaf (bits (record { kind = kind_of dtype; values = []; validity = None }))) }
 {
     match Bitmap::from_vec(Vec::new(alloc), 0) {
         Ok(values) => match BooleanArray::try_new(dtype, values, None) {
@@ -45,8 +46,7 @@ fn no_bits(alloc: Global, dtype: ArrowDataType) -> Result<Array, AllocError>
 
 fn no_fixed(alloc: Global, dtype: ArrowDataType) -> Result<Array, AllocError>
     requires { 0 < binary_size (kind_of dtype) }
-    ensures kind { IfOk result (λ a. kind_in (parts_of a) ≡ kind_of dtype) }
-    ensures rows { IfOk result (λ a. rows_in (parts_of a) ≡ 0) }
+    ensures { IfOk result (λ a. parts_of a ≡ leaf (fixed (record { kind = kind_of dtype; values = []; validity = None }))) }
 {
     match Buffer::from_vec(Vec::new(alloc)) {
         Ok(values) => match FixedSizeBinaryArray::try_new(dtype, values, None) {
@@ -60,7 +60,7 @@ fn no_fixed(alloc: Global, dtype: ArrowDataType) -> Result<Array, AllocError>
     }
 }
 
-fn no_numbers<T: NativeType>(
+pub(crate) fn no_numbers<T: NativeType>(
     alloc: Global,
     dtype: ArrowDataType,
 ) -> Result<PrimitiveArray<T>, AllocError>
@@ -87,8 +87,7 @@ fn empty_numbers(
 ) -> Result<Array, AllocError>
     requires layout { is_primitive number (physical_of (kind_of dtype)) ≡ true }
     requires size { 0 < primitive_size number }
-    ensures kind { IfOk result (λ a. kind_in (parts_of a) ≡ kind_of dtype) }
-    ensures rows { IfOk result (λ a. rows_in (parts_of a) ≡ 0) }
+    ensures { IfOk result (λ a. parts_of a ≡ leaf (numbers (record { kind = kind_of dtype; values = []; validity = None }))) }
 {
     match number {
         PrimitiveType::Int8 => Ok(Array::Int8(no_numbers(alloc, dtype)?)),
@@ -159,8 +158,7 @@ fn no_variable<O: Offset, V: ViewType>(
 
 fn no_small(alloc: Global, dtype: ArrowDataType, is_text: bool) -> Result<Array, AllocError>
     requires { is_variable is_text false (physical_of (kind_of dtype)) ≡ true }
-    ensures kind { IfOk result (λ a. kind_in (parts_of a) ≡ kind_of dtype) }
-    ensures rows { IfOk result (λ a. rows_in (parts_of a) ≡ 0) }
+    ensures { IfOk result (λ a. parts_of a ≡ leaf (empty_variable is_text (kind_of dtype))) }
 {
     match first_place(alloc) {
         Ok((offsets, values)) => {
@@ -179,8 +177,7 @@ fn no_small(alloc: Global, dtype: ArrowDataType, is_text: bool) -> Result<Array,
 
 fn no_large(alloc: Global, dtype: ArrowDataType, is_text: bool) -> Result<Array, AllocError>
     requires { is_variable is_text true (physical_of (kind_of dtype)) ≡ true }
-    ensures kind { IfOk result (λ a. kind_in (parts_of a) ≡ kind_of dtype) }
-    ensures rows { IfOk result (λ a. rows_in (parts_of a) ≡ 0) }
+    ensures { IfOk result (λ a. parts_of a ≡ leaf (empty_variable is_text (kind_of dtype))) }
 {
     match first_large_place(alloc) {
         Ok((offsets, values)) => {
@@ -224,8 +221,7 @@ pub(crate) fn empty_leaf(
 ) -> Result<Array, AllocError>
     requires layout { layout ≡ physical_of (kind_of dtype) }
     requires leaf { is_leaf_layout layout (binary_size (kind_of dtype)) ≡ true }
-    ensures kind { IfOk result (λ a. kind_in (parts_of a) ≡ kind_of dtype) }
-    ensures rows { IfOk result (λ a. rows_in (parts_of a) ≡ 0) }
+    ensures { IfOk result (λ a. parts_of a ≡ leaf (empty_leaf layout (kind_of dtype))) }
 {
     match layout {
         PhysicalType::Null => Ok(no_nulls(dtype)),

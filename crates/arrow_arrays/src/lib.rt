@@ -26,6 +26,7 @@ pub use array::{
     UnionArray,
 };
 pub use carried::is_carried;
+pub use dictionary::are_of_type;
 pub use empty_nested::new_empty_array;
 pub use keys::DictionaryKeys;
 pub use offsets::ListOffsets;

@@ -130,10 +130,10 @@ counted_done xs i n whole less len h =
 
 -- ── kinds without children ──
 
-number_self : (n : ℕ) → nat_eq n n ≡ true
+pub number_self : (n : ℕ) → nat_eq n n ≡ true
 number_self n = grind arith
 
-text_self : (z : Option (List ℕ)) → is_same_text z z ≡ true
+pub text_self : (z : Option (List ℕ)) → is_same_text z z ≡ true
 text_self None = refl
 text_self (Some x) = (bytes_eq-Decides x x).1 refl
 
@@ -181,11 +181,11 @@ offsets_true small large h = cc
 offsets_true large small h = cc
 offsets_true large large h = refl
 
-offsets_self : (o : Offsets) → is_same_offsets o o ≡ true
+pub offsets_self : (o : Offsets) → is_same_offsets o o ≡ true
 offsets_self small = refl
 offsets_self large = refl
 
-leaf_self : (k : Kind) → is_leaf k ≡ true → is_same_kind k k ≡ true
+pub leaf_self : (k : Kind) → is_leaf k ≡ true → is_same_kind k k ≡ true
 leaf_self (kind.integer i) h = number_self (integer_number i)
 leaf_self (kind.float t) h = float_self t
 leaf_self (kind.time32 u) h = number_self (unit_number u)

@@ -7,3 +7,4 @@ pub mod KindSteps
 pub mod Agreement
 pub mod TextOrder
 pub mod NoIds
+pub mod SameKinds

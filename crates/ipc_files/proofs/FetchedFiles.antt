@@ -31,7 +31,6 @@ use Rattle.ipc_files.specs.Fetching.{BlockFetched, BlocksFetched, FileFetched, F
 use Rattle.ipc_files.specs.Transcode.{asked}
 use Rattle.ipc_files.proofs.BlockMessages.{batch_by_record}
 use Rattle.ipc_files.proofs.BlockSteps.{left_twice, take_next}
-use Rattle.ipc_files.proofs.Counted.{AreAlike, same_looked_at}
 use Rattle.ipc_files.proofs.Fetching.{answer_or, block_fetched, same_request}
 use Rattle.ipc_files.proofs.FileFooters.{SaysFooter, end_of}
 use Rattle.ipc_files.proofs.SentBlocks.{rising_read}
@@ -108,22 +107,16 @@ counted : (z : ℤ) (n : ℕ) → natural z ≡ Ok n → magnitude z ≡ n
 counted (pos m) n h = cc
 counted (negsuc m) n h = cc
 
--- what is fetched of fields of which those asked for are the same
-same_fetched : (m : RecordBatch) (asked : Option (List ℕ)) (fs gs : Fields) (rows : ℕ) → AreAlike asked 0 fs gs → buffers_fetched m asked fs rows ≡ buffers_fetched m asked gs rows
-same_fetched m asked fs gs zero h = refl
-same_fetched m asked fs gs (suc n) h = ap (stated_of m) (same_looked_at m asked 0 fs gs first_place h)
-
-pub block_whole : (content : Option (List ℕ)) (meta : Meta) (columns : Option (List ℕ)) (order : Bool) (fs : Fields) (block : FileBlock) (left : Option ℕ) (m : RecordMessage) (f mid f' : ℕ) → order_by order ≡ meta.schema.order → AreAlike columns 0 meta.schema.fields fs
-    → MessageFetched content block f mid → IfSome content (λ b. block_record b block ≡ Ok m) → ((bytes : List ℕ) → f' ≤ mid + buffers_fetched (record_batch_of (order_by order) m.version m.tables bytes) columns fs (share left (magnitude m.tables.length))) → BlockFetched content meta (asked columns left) block left f f'
-block_whole None meta columns order fs block left m f mid f' o e h is more = tt
-block_whole (Some b) meta columns order fs block left m f mid f' o e h is more = λ x read.
+pub block_whole : (content : Option (List ℕ)) (meta : Meta) (columns : Option (List ℕ)) (order : Bool) (block : FileBlock) (left : Option ℕ) (m : RecordMessage) (f mid f' : ℕ) → order_by order ≡ meta.schema.order
+    → MessageFetched content block f mid → IfSome content (λ b. block_record b block ≡ Ok m) → ((bytes : List ℕ) → f' ≤ mid + buffers_fetched (record_batch_of (order_by order) m.version m.tables bytes) columns meta.schema.fields (share left (magnitude m.tables.length))) → BlockFetched content meta (asked columns left) block left f f'
+block_whole None meta columns order block left m f mid f' o h is more = tt
+block_whole (Some b) meta columns order block left m f mid f' o h is more = λ x read.
     let p = batch_parts b (asked_of b meta (asked columns left)) block left x read in
     let same : m ≡ p.message = cc in
     let rows : magnitude m.tables.length ≡ p.rows = ap (λ (y : RecordMessage). magnitude y.tables.length) same ∙ counted p.message.tables.length p.rows p.count in
     let body = block_body b block in
-    let moved : buffers_fetched (record_batch_of (order_by order) m.version m.tables body) columns fs (share left (magnitude m.tables.length)) ≡ buffers_fetched (record_batch_of meta.schema.order p.message.version p.message.tables body) columns meta.schema.fields (share left p.rows)
-    = ap (λ (w : Order). buffers_fetched (record_batch_of w m.version m.tables body) columns fs (share left (magnitude m.tables.length))) o
-    ∙ sym (same_fetched (record_batch_of meta.schema.order m.version m.tables body) columns meta.schema.fields fs (share left (magnitude m.tables.length)) e)
+    let moved : buffers_fetched (record_batch_of (order_by order) m.version m.tables body) columns meta.schema.fields (share left (magnitude m.tables.length)) ≡ buffers_fetched (record_batch_of meta.schema.order p.message.version p.message.tables body) columns meta.schema.fields (share left p.rows)
+    = ap (λ (w : Order). buffers_fetched (record_batch_of w m.version m.tables body) columns meta.schema.fields (share left (magnitude m.tables.length))) o
     ∙ ap (λ (n : ℕ). buffers_fetched (record_batch_of meta.schema.order m.version m.tables body) columns meta.schema.fields (share left n)) rows
     ∙ ap (λ (y : RecordMessage). buffers_fetched (record_batch_of meta.schema.order y.version y.tables body) columns meta.schema.fields (share left p.rows)) same in
     let whole = block_fetched b meta (asked columns left) block left p.message p.rows p.is p.count in

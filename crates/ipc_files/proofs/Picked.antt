@@ -10,6 +10,7 @@ use Rattle.arrow_types.specs.Schemas.{Keyed}
 use Rattle.arrow_arrays.specs.Batches.{Batch}
 use Rattle.arrow_arrays.specs.Parts.{Parts}
 use Rattle.ipc_read_laws.specs.Batches.{columns_read}
+use Rattle.ipc_read_laws.specs.Held.{Held}
 use Rattle.ipc_read_laws.specs.PartsRead.{parts_read}
 use Rattle.transcode_laws.specs.Files.{AreAsked, ArePicked}
 use Rattle.ipc_read.specs.Batches.{chosen_read}
@@ -22,13 +23,13 @@ use Rattle.ipc_projection.specs.declared.projection.ProjectionInfo.{ProjectionIn
 use Rattle.ipc_projection.proofs.Projected.{chosen_stand}
 
 -- what is read of columns is what is asked for of all
-read_is_chosen : (m : RecordBatch) (asked : Option (List ℕ)) (fs : Fields) (c : ℕ) (p : Place) (rows : ℕ) → chosen_read m asked fs c p rows ≡ chosen asked c (columns_read m fs p rows)
-read_is_chosen m asked none c p rows = refl
-read_is_chosen m asked (field name nullable metadata k others) c p rows = ap (λ xs. kept (is_chosen asked c) (parts_read m k p rows) xs) (read_is_chosen m asked others (suc c) (after m k p) rows)
+read_is_chosen : (m : RecordBatch) (h : Held) (asked : Option (List ℕ)) (fs : Fields) (c : ℕ) (p : Place) (rows : ℕ) → chosen_read m h asked fs c p rows ≡ chosen asked c (columns_read m h fs p rows)
+read_is_chosen m h asked none c p rows = refl
+read_is_chosen m h asked (field name nullable metadata k others) c p rows = ap (λ xs. kept (is_chosen asked c) (parts_read m h k p rows) xs) (read_is_chosen m h asked others (suc c) (after m k p) rows)
 
-pub as_many : (m : RecordBatch) (fs : Fields) (p : Place) (rows : ℕ) → length (columns_read m fs p rows) ≡ width fs
-as_many m none p rows = refl
-as_many m (field name nullable metadata k others) p rows = ap suc (as_many m others (after m k p) rows)
+pub as_many : (m : RecordBatch) (h : Held) (fs : Fields) (p : Place) (rows : ℕ) → length (columns_read m h fs p rows) ≡ width fs
+as_many m h none p rows = refl
+as_many m h (field name nullable metadata k others) p rows = ap suc (as_many m h others (after m k p) rows)
 
 -- items at some places are those at their numbers
 stand_picked : {A : Type 0} (all : List A) (cs : List ℕ) (xs : List A) → are_below (length all) cs ≡ true → length xs ≡ length cs → ((j c : ℕ) → slice_get cs j ≡ Some c → slice_get xs j ≡ slice_get all c) → ArePicked all cs xs
@@ -67,10 +68,10 @@ asked_picked : {A : Type 0} (columns : Option (List ℕ)) (all : List A) → are
 asked_picked None all rising range = all_chosen 0 all
 asked_picked (Some cs) all rising range = picked_from all cs (chosen (Some cs) 0 all) range (chosen_stand cs all rising range)
 
-pub all_picked : (m : RecordBatch) (columns : Option (List ℕ)) (fs : Fields) (rows : ℕ) → are_rising columns ≡ true → are_columns columns (width fs) ≡ true → AreAsked (columns_read m fs first_place rows) columns (chosen_read m columns fs 0 first_place rows)
-all_picked m columns fs rows rising range =
-    let all = columns_read m fs first_place rows in
-    subst (λ xs. AreAsked all columns xs) (sym (read_is_chosen m columns fs 0 first_place rows)) (asked_picked columns all rising (subst (λ n. are_columns columns n ≡ true) (sym (as_many m fs first_place rows)) range))
+pub all_picked : (m : RecordBatch) (h : Held) (columns : Option (List ℕ)) (fs : Fields) (rows : ℕ) → are_rising columns ≡ true → are_columns columns (width fs) ≡ true → AreAsked (columns_read m h fs first_place rows) columns (chosen_read m h columns fs 0 first_place rows)
+all_picked m h columns fs rows rising range =
+    let all = columns_read m h fs first_place rows in
+    subst (λ xs. AreAsked all columns xs) (sym (read_is_chosen m h columns fs 0 first_place rows)) (asked_picked columns all rising (subst (λ n. are_columns columns n ≡ true) (sym (as_many m h fs first_place rows)) range))
 
 -- ── in the order asked ──
 

@@ -18,6 +18,8 @@ use Rattle.arrow_spec.proofs.Projection.{on, went}
 use Rattle.arrow_arrays.specs.Batches.{Batch}
 use Rattle.arrow_arrays.specs.Parts.{Parts, cells_in}
 use Rattle.ipc_read_laws.specs.Batches.{columns_read}
+use Rattle.ipc_read_laws.specs.Held.{HoldsCells, none_held}
+use Rattle.ipc_read_laws.proofs.Keys.{holds_none}
 use Rattle.ipc_write_laws.specs.Columns.{Means}
 use Rattle.ipc_write_laws.specs.Streams.{MayBeWritten, table_batch, written_batch}
 use Rattle.transcode_laws.specs.Built.{are_sent_fields, so_far}
@@ -26,14 +28,13 @@ use Rattle.transcode_laws.proofs.Batches.{block_is_sent, tables_refused}
 use Rattle.transcode_laws.proofs.ReadBatches.{read_batch_sendable, read_batch_sent}
 use Rattle.transcode_laws.proofs.Refusals.{none_refuses}
 use Rattle.transcode_laws.proofs.RisingBatches.{rising_asked, rising_refuses}
-use Rattle.transcode_laws.proofs.SentFields.{fields_carried}
+use Rattle.transcode_laws.proofs.SentFields.{fields_carried, no_dictionaries}
 use Rattle.ipc_write_arrays.specs.Dictionaries.{HoldsValues}
 use Rattle.ipc_write.specs.Batches.{written_batch_of}
 use Rattle.ipc_read.specs.Batches.{batch_reading, chosen_read, columns_asked, table_of}
 use Rattle.ipc_files.specs.FileBlocks.{block_record}
 use Rattle.ipc_files.specs.Blocks.{BlockRead, ReadsBlock}
 use Rattle.ipc_files.proofs.BlockMessages.{batch_by_record, refused_first}
-use Rattle.ipc_files.proofs.Counted.{AreAlike, same_read, same_tables, with_fields}
 use Rattle.ipc_files.proofs.Picked.{as_many}
 
 -- fields that are asked for are sent, and fit their tables; no dictionary is held
@@ -42,6 +43,9 @@ pub record AreSent (a : Asked) : Type 0 where
   pub fit : FieldsFit 64 (asked_fields a)
   pub right : columns_right a.columns (width a.fields) ≡ Ok tt
   pub none : a.dictionaries ≡ []
+
+holds_nothing : (a : Asked) → a.dictionaries ≡ [] → HoldsCells a.dictionaries none_held
+holds_nothing a none = subst (λ d. HoldsCells d none_held) (sym none) holds_none
 
 -- ── a block that is read ──
 
@@ -75,25 +79,22 @@ refused_sent e b a block left = block_refuses to_read to_send e b a a block left
 
 -- where no kind is refused the tables are read
 pub reading_sent : (columns : Option (List ℕ)) (left : Option ℕ) (order : Bool) (fs : Fields) (most : ℕ) (v : MetadataVersion) (tables : BatchHeader) (body : List ℕ) → chosen_floats columns fs 0 ≡ []
-    → batch_reading columns left order fs most v tables body ≡ batch_of_tables to_read (columns_asked columns (order_by order) fs most) v [] tables body left
+    → batch_reading columns left order fs [] most v tables body ≡ batch_of_tables to_read (columns_asked columns (order_by order) fs [] most) v [] tables body left
 unfolding bind
 reading_sent columns left order fs most v tables body none = rw none refl
 
-pub block_read : (b : List ℕ) (a : Asked) (left : Option ℕ) (fs : Fields) (block : FileBlock) (m : RecordMessage) (result : Result Batch IpcError) → a.dictionaries ≡ [] → AreAlike a.columns 0 a.fields fs → block_record b block ≡ Ok m → HeaderFits m.tables
-    → Gives table_of result (batch_of_tables to_read (with_fields fs a) m.version [] m.tables (block_body b block) left)
-    → IfOk result (λ x. x.arrays ≡ chosen_read (record_batch_of a.order m.version m.tables (block_body b block)) a.columns fs 0 first_place x.height)
-    → ((rows : ℕ) → AreAsked (columns_read (record_batch_of a.order m.version m.tables (block_body b block)) a.fields first_place rows) a.columns (chosen_read (record_batch_of a.order m.version m.tables (block_body b block)) a.columns a.fields 0 first_place rows))
+pub block_read : (b : List ℕ) (a : Asked) (left : Option ℕ) (block : FileBlock) (m : RecordMessage) (result : Result Batch IpcError) → block_record b block ≡ Ok m → HeaderFits m.tables
+    → Gives table_of result (batch_of_tables to_read a m.version [] m.tables (block_body b block) left)
+    → IfOk result (λ x. x.arrays ≡ chosen_read (record_batch_of a.order m.version m.tables (block_body b block)) none_held a.columns a.fields 0 first_place x.height)
+    → ((rows : ℕ) → AreAsked (columns_read (record_batch_of a.order m.version m.tables (block_body b block)) none_held a.fields first_place rows) a.columns (chosen_read (record_batch_of a.order m.version m.tables (block_body b block)) none_held a.columns a.fields 0 first_place rows))
     → ReadsBlock b a block left result
-block_read b a left fs block m (Ok x) none alike is fits gives parts picked =
-    let source = record_batch_of a.order m.version m.tables (block_body b block) in
-    let same : x.arrays ≡ chosen_read source a.columns a.fields 0 first_place x.height = parts ∙ sym (same_read source a.columns 0 a.fields fs first_place x.height alike) in
-    record {
-      read = record { message = m; is = is; fits = fits; read = same_tables a fs m.version m.tables (block_body b block) left none alike ∙ gives; columns = subst (λ xs. AreAsked (columns_read source a.fields first_place x.height) a.columns xs) (sym same) (picked x.height) };
-      refused = tt;
-    }
-block_read b a left fs block m (Err e) none alike is fits gives parts picked = record {
+block_read b a left block m (Ok x) is fits gives parts picked = record {
+  read = record { message = m; is = is; fits = fits; read = gives; columns = subst (λ xs. AreAsked (columns_read (record_batch_of a.order m.version m.tables (block_body b block)) none_held a.fields first_place x.height) a.columns xs) (sym parts) (picked x.height) };
+  refused = tt;
+}
+block_read b a left block m (Err e) is fits gives parts picked = record {
   read = tt;
-  refused = rw (batch_by_record to_read b a block left, on (block_record b block) _ m is) (subst (λ r. Refuses e (refusals r)) (sym (same_tables a fs m.version m.tables (block_body b block) left none alike)) gives);
+  refused = rw (batch_by_record to_read b a block left, on (block_record b block) _ m is) gives;
 }
 
 -- ── the columns in the order asked ──
@@ -102,14 +103,14 @@ block_read b a left fs block m (Err e) none alike is fits gives parts picked = r
 pub block_ordered : (b : List ℕ) (a : Asked) (rising cs : List ℕ) (block : FileBlock) (left : Option ℕ) (x y : Batch) → ((c : ℕ) → stands_in rising c ≡ stands_in cs c) → columns_right (Some cs) (width a.fields) ≡ Ok tt → y.height ≡ x.height
     → ((all : List Parts) → length all ≡ width a.fields → ArePicked all rising x.arrays → ArePicked all cs y.arrays) → BlockRead b (with_columns (Some rising) a) block left x → BlockRead b (with_columns (Some cs) a) block left y
 block_ordered b a rising cs block left x y same right rows order r =
-    let all : ℕ → List Parts = λ n. columns_read (record_batch_of a.order r.message.version r.message.tables (block_body b block)) a.fields first_place n in
-    let given : ArePicked (all x.height) cs y.arrays = order (all x.height) (as_many (record_batch_of a.order r.message.version r.message.tables (block_body b block)) a.fields first_place x.height) r.columns in
+    let all : ℕ → List Parts = λ n. columns_read (record_batch_of a.order r.message.version r.message.tables (block_body b block)) none_held a.fields first_place n in
+    let given : ArePicked (all x.height) cs y.arrays = order (all x.height) (as_many (record_batch_of a.order r.message.version r.message.tables (block_body b block)) none_held a.fields first_place x.height) r.columns in
     let table : ℕ → TableBatch = λ n. record { rows = n; columns = map cells_in y.arrays; custom = [] } in
     record {
       message = r.message;
       is = r.is;
       fits = r.fits;
-      read = rising_asked a rising cs r.message.version r.message.tables (block_body b block) left x.height x.arrays y.arrays same right r.read r.columns given ∙ ap (λ n. Ok (table n)) (sym rows);
+      read = rising_asked a rising cs r.message.version r.message.tables (block_body b block) left none_held x.height x.arrays y.arrays same right r.read r.columns given ∙ ap (λ n. Ok (table n)) (sym rows);
       columns = subst (λ n. ArePicked (all n) cs y.arrays) (sym rows) given;
     }
 
@@ -144,14 +145,14 @@ same_table x cells = let table : List (List Rattle.arrow_spec.specs.Cells.Cell) 
 block_sent : (b : List ℕ) (a : Asked) (block : FileBlock) (left : Option ℕ) (x : Batch) → AreSent a → BlockRead b a block left x → batch_of so_far.custom to_send b a block left ≡ (if_sent to_send (may_be_sent (written_batch (written_batch_of x))) >>= λ size. Ok (table_of x))
 block_sent b a block left x are r =
     batch_by_record to_send b a block left ∙ on (block_record b block) _ r.message r.is
-    ∙ read_batch_sent a r.message.version r.message.tables (block_body b block) left x are.none (fields_carried 64 (asked_fields a) are.sent are.fit) are.right r.read r.columns
+    ∙ read_batch_sent a r.message.version r.message.tables (block_body b block) left none_held x are.none (holds_nothing a are.none) (no_dictionaries (asked_fields a) are.sent) (fields_carried 64 (asked_fields a) are.sent are.fit) are.right r.read r.columns
 
 pub sent_batch : (b : List ℕ) (a : Asked) (block : FileBlock) (left : Option ℕ) (x : Batch) → AreSent a → BlockRead b a block left x → may_be_sent (written_batch (written_batch_of x)) ≡ true
     → (AllByRecursion (λ p. HoldsValues [] p) x.arrays → AllByRecursion (λ c. Means little [] x.height c) (written_batch_of x).columns) → map (λ c. c.cells) (written_batch_of x).columns ≡ map cells_in x.arrays → IsSentBatch so_far b a block left (written_batch_of x)
 sent_batch b a block left x are r size means cells =
     let table = same_table x cells in
     let read = batch_by_record to_read b a block left ∙ on (block_record b block) _ r.message r.is ∙ r.read in
-    let all = read_batch_sendable a r.message.version r.message.tables (block_body b block) left x r.fits are.none (fields_carried 64 (asked_fields a) are.sent are.fit) are.right r.read r.columns means cells in
+    let all = read_batch_sendable a r.message.version r.message.tables (block_body b block) left none_held x r.fits are.none (holds_nothing a are.none) (no_dictionaries (asked_fields a) are.sent) (fields_carried 64 (asked_fields a) are.sent are.fit) are.right r.read r.columns means cells in
     let fit : MayBeWritten (asked_fields a) (written_batch_of x) = all.2 size in
     block_is_sent so_far b a block left (written_batch_of x) (read ∙ ap Ok (sym table)) (block_sent b a block left x are r ∙ ap (λ t. if_sent to_send (may_be_sent (written_batch (written_batch_of x))) >>= λ size. Ok t) (sym table)) fit
 

@@ -179,6 +179,7 @@ carried_column = by_tree (λ k. is_column_kind k ≡ true) (λ fs. are_column_fi
   on_sized = λ size fs w s g. and_from (nat_eq (width fs) 1 && nat_lt 0 size) (are_column_fields fs) (and_from (nat_eq (width fs) 1) (nat_lt 0 size) (eq-eqb (width fs) 1 w) s) g;
   on_struct = λ fs g. g;
   on_union = λ mode stated types fs right g. and_from (are_right types (width fs)) (are_column_fields fs) right g;
+  on_dictionary = λ t ordered id k carried f. f;
   on_extension = λ name metadata k f. f;
   on_none = refl;
   on_field = λ name nullable metadata k others carried f g. and_from (is_column_kind k) (are_column_fields others) f g;

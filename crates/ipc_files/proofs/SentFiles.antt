@@ -7,6 +7,7 @@ use Rattle.arrow_spec.specs.declared.error.IpcError.{IpcError}
 use Rattle.arrow_spec.specs.declared.error.IpcError.TheVariants as errors
 use Rattle.arrow_spec.specs.Readings.{Gives, Refuses, refusals}
 use Rattle.arrow_spec.specs.Columns.{stands_in}
+use Rattle.arrow_spec.specs.Arrays.{Dictionaries}
 use Rattle.arrow_spec.specs.Counts.{first_place}
 use Rattle.arrow_spec.specs.Features.{chosen_floats}
 use Rattle.arrow_spec.specs.Flat.{Order, big, little, order_by}
@@ -27,6 +28,8 @@ use Rattle.ipc_schema.specs.Views.{message_of}
 use Rattle.ipc_schema.specs.declared.message.RecordMessage.{RecordMessage as MessageRead}
 use Rattle.ipc_write_arrays.specs.Dictionaries.{HoldsValues}
 use Rattle.ipc_write.specs.Batches.{written_batch_of}
+use Rattle.ipc_read_laws.specs.Held.{Held, HoldsCells, none_held}
+use Rattle.ipc_read_laws.proofs.Keys.{holds_none}
 use Rattle.ipc_read.specs.Batches.{batch_reading, chosen_read, table_of}
 use Rattle.ipc_read.specs.Projection.{are_columns, are_rising}
 use Rattle.ipc_read.specs.Sources.{bytes_in}
@@ -40,7 +43,6 @@ use Rattle.ipc_files.specs.Transcode.{PutsText, PutTextCause, asked, text_of}
 use Rattle.ipc_files.specs.Written.{Writes}
 use Rattle.ipc_files.specs.declared.metadata.FileMetadata.{FileMetadata}
 use Rattle.ipc_files.proofs.AskedFields.{asked_aside, sent_columns, width_in, width_with}
-use Rattle.ipc_files.proofs.Counted.{AreAlike, from_schema}
 use Rattle.ipc_files.proofs.Picked.{all_picked}
 use Rattle.ipc_files.proofs.SentBlocks.{AreSent, block_ordered, block_read, block_too_large, message_refused, reading_sent, refused_ordered, refused_sent, sent_batch}
 use Rattle.ipc_files.specs.declared.encoding.Encoding.{Encoding}
@@ -75,10 +77,6 @@ file_width file = width_with (fields_in (rc_value file.schema)) (ids_of file.ipc
 pub columns_sent : (file : FileMetadata) (columns : Option (List ℕ)) → IsBuilt (meta_view file) columns → AreSentColumns columns (rc_value file.schema)
 columns_sent file columns built = sent_columns (rc_value file.schema) columns (sym (asked_aside (fields_in (rc_value file.schema)) (ids_of file.ipc_schema.fields.items) columns) ∙ built)
 
--- the columns asked for of a file and of its schema are the same, whatever ids the others have
-pub columns_alike : (file : FileMetadata) (columns : Option (List ℕ)) → IsBuilt (meta_view file) columns → AreAlike columns 0 (meta_view file).schema.fields (fields_in (rc_value file.schema))
-columns_alike file columns built = from_schema columns (rc_value file.schema) (ids_of file.ipc_schema.fields.items) (columns_sent file columns built)
-
 -- what is asked of its blocks is sent
 pub sent_columns_of : (file : FileMetadata) (columns : Option (List ℕ)) (left : Option ℕ) (b : List ℕ) → columns_right columns (width (meta_view file).schema.fields) ≡ Ok tt → IsBuilt (meta_view file) columns → WasRead file → AreSent (asked_of b (meta_view file) (asked columns left))
 sent_columns_of file columns left b right built read = record { sent = built; fit = (sendable file columns right built read).0.may.fit; right = right; none = refl }
@@ -97,29 +95,40 @@ pub given_in : (content : Option (List ℕ)) (block : FileBlock) (m : MessageRea
 given_in None block m h = tt
 given_in (Some b) block m h = h
 
-abbrev GivesAt : Option (List ℕ) → Option (List ℕ) → Option ℕ → Bool → Fields → ℕ → RecordMessage → Body → Result Batch IpcError → Type 0
-GivesAt content columns left order fs size m body result = IfSome content (λ b. Gives table_of result (batch_reading columns left order fs size m.version m.tables (bytes_in body b)))
+-- what is said of it, whatever was read of the dictionaries that are held
+abbrev GivesAt : Option (List ℕ) → Held → Option (List ℕ) → Option ℕ → Bool → Fields → ℕ → RecordMessage → Body → Result Batch IpcError → Type 0
+GivesAt content h columns left order fs size m body result = IfSome content (λ b. (d : Dictionaries) → HoldsCells d h → Gives table_of result (batch_reading columns left order fs d size m.version m.tables (bytes_in body b)))
 
-abbrev PartsAt : Option (List ℕ) → Option (List ℕ) → Order → Fields → RecordMessage → Body → Result Batch IpcError → Type 0
-PartsAt content columns order fs m body result = IfOk result (λ x. IfSome content (λ b. x.arrays ≡ chosen_read (record_batch_of order m.version m.tables (bytes_in body b)) columns fs 0 first_place x.height))
+abbrev PartsAt : Option (List ℕ) → Held → Option (List ℕ) → Order → Fields → RecordMessage → Body → Result Batch IpcError → Type 0
+PartsAt content h columns order fs m body result =
+    IfOk result (λ x. IfSome content (λ b. (d : Dictionaries) → HoldsCells d h → x.arrays ≡ chosen_read (record_batch_of order m.version m.tables (bytes_in body b)) h columns fs 0 first_place x.height))
 
-pub block_answer : (content content' : Option (List ℕ)) (meta : Meta) (columns : Option (List ℕ)) (left : Option ℕ) (order : Bool) (fs : Fields) (size : ℕ) (block : FileBlock) (m : RecordMessage) (body : Body) (result : Result Batch IpcError)
-    → AreAlike columns 0 meta.schema.fields fs → chosen_floats columns fs 0 ≡ [] → are_rising columns ≡ true → are_columns columns (width meta.schema.fields) ≡ true → order_by order ≡ meta.schema.order → content' ≡ content → body ≡ body_place block → IsSize content size
+-- where nothing is held
+parts_alone : (b : List ℕ) (columns : Option (List ℕ)) (order : Order) (fs : Fields) (m : RecordMessage) (body : Body) (result : Result Batch IpcError) → PartsAt (Some b) none_held columns order fs m body result
+    → IfOk result (λ x. x.arrays ≡ chosen_read (record_batch_of order m.version m.tables (bytes_in body b)) none_held columns fs 0 first_place x.height)
+parts_alone b columns order fs m body (Ok x) h = h [] holds_none
+parts_alone b columns order fs m body (Err e) h = tt
+
+pub block_answer : (content content' : Option (List ℕ)) (meta : Meta) (h : Held) (columns : Option (List ℕ)) (left : Option ℕ) (order : Bool) (size : ℕ) (block : FileBlock) (m : RecordMessage) (body : Body) (result : Result Batch IpcError)
+    → h ≡ none_held → chosen_floats columns meta.schema.fields 0 ≡ [] → are_rising columns ≡ true → are_columns columns (width meta.schema.fields) ≡ true → order_by order ≡ meta.schema.order → content' ≡ content → body ≡ body_place block → IsSize content size
     → IfSome content (λ b. block_record b block ≡ Ok m) → HeaderFits m.tables
-    → GivesAt content' columns left order fs size m body result → PartsAt content' columns (order_by order) fs m body result → IfSome content (λ b. ReadsBlock b (asked_of b meta (asked columns left)) block left result)
-block_answer None content' meta columns left order fs size block m body result alike floats rising range first kept place whole is fits gives parts = tt
-block_answer (Some b) content' meta columns left order fs size block m body result alike floats rising range first kept place whole is fits gives parts =
-    let g1 : GivesAt content' columns left order fs (length b) m body result = subst (λ n. GivesAt content' columns left order fs n m body result) whole gives in
-    let g2 : GivesAt content' columns left order fs (length b) m (body_place block) result = subst (λ p. GivesAt content' columns left order fs (length b) m p result) place g1 in
-    let g3 : GivesAt (Some b) columns left order fs (length b) m (body_place block) result = subst (λ w. GivesAt w columns left order fs (length b) m (body_place block) result) kept g2 in
-    let p1 : PartsAt content' columns meta.schema.order fs m body result = subst (λ o. PartsAt content' columns o fs m body result) first parts in
-    let p2 : PartsAt content' columns meta.schema.order fs m (body_place block) result = subst (λ p. PartsAt content' columns meta.schema.order fs m p result) place p1 in
-    let p3 : PartsAt (Some b) columns meta.schema.order fs m (body_place block) result = subst (λ w. PartsAt w columns meta.schema.order fs m (body_place block) result) kept p2 in
+    → GivesAt content' h columns left order meta.schema.fields size m body result → PartsAt content' h columns (order_by order) meta.schema.fields m body result → IfSome content (λ b. ReadsBlock b (asked_of b meta (asked columns left)) block left result)
+block_answer None content' meta h columns left order size block m body result nothing floats rising range first kept place whole is fits gives parts = tt
+block_answer (Some b) content' meta h columns left order size block m body result nothing floats rising range first kept place whole is fits gives parts =
+    let fs = meta.schema.fields in
+    let g0 : GivesAt content' none_held columns left order fs size m body result = subst (λ q. GivesAt content' q columns left order fs size m body result) nothing gives in
+    let g1 : GivesAt content' none_held columns left order fs (length b) m body result = subst (λ n. GivesAt content' none_held columns left order fs n m body result) whole g0 in
+    let g2 : GivesAt content' none_held columns left order fs (length b) m (body_place block) result = subst (λ p. GivesAt content' none_held columns left order fs (length b) m p result) place g1 in
+    let g3 : GivesAt (Some b) none_held columns left order fs (length b) m (body_place block) result = subst (λ w. GivesAt w none_held columns left order fs (length b) m (body_place block) result) kept g2 in
+    let p0 : PartsAt content' none_held columns (order_by order) fs m body result = subst (λ q. PartsAt content' q columns (order_by order) fs m body result) nothing parts in
+    let p1 : PartsAt content' none_held columns meta.schema.order fs m body result = subst (λ o. PartsAt content' none_held columns o fs m body result) first p0 in
+    let p2 : PartsAt content' none_held columns meta.schema.order fs m (body_place block) result = subst (λ p. PartsAt content' none_held columns meta.schema.order fs m p result) place p1 in
+    let p3 : PartsAt (Some b) none_held columns meta.schema.order fs m (body_place block) result = subst (λ w. PartsAt w none_held columns meta.schema.order fs m (body_place block) result) kept p2 in
     let body' = bytes_in (body_place block) b in
     let a : Order → Asked = λ o. record { order = o; fields = fs; columns = columns; dictionaries = []; most = length b } in
     let read = reading_sent columns left order fs (length b) m.version m.tables body' floats ∙ ap (λ o. Rattle.arrow_spec.specs.Files.batch_of_tables to_read (a o) m.version [] m.tables body' left) first in
-    block_read b (asked_of b meta (asked columns left)) left fs block m result refl alike is fits (subst (λ r. Gives table_of result r) read g3) p3
-    (λ rows. all_picked (record_batch_of meta.schema.order m.version m.tables body') columns meta.schema.fields rows rising range)
+    block_read b (asked_of b meta (asked columns left)) left block m result is fits (subst (λ r. Gives table_of result r) read (g3 [] holds_none)) (parts_alone b columns meta.schema.order fs m (body_place block) result p3)
+    (λ rows. all_picked (record_batch_of meta.schema.order m.version m.tables body') none_held columns fs rows rising range)
 
 -- ── the columns in the order asked ──
 

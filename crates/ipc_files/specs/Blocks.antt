@@ -8,6 +8,7 @@ use Rattle.arrow_spec.specs.Messages.{RecordMessage}
 use Rattle.arrow_spec.specs.Files.{Asked, FileBlock, Meta, Request, TableBatch, batch_of, batch_of_tables, block_body, fields_as_asked, record_batch_of, to_read}
 use Rattle.arrow_arrays.specs.Batches.{Batch}
 use Rattle.ipc_read_laws.specs.Batches.{columns_read}
+use Rattle.ipc_read_laws.specs.Held.{none_held}
 use Rattle.transcode_laws.specs.Built.{so_far}
 use Rattle.transcode_laws.specs.Files.{AreAsked, HeaderFits, asked_of}
 use Rattle.ipc_read.specs.Batches.{table_of}
@@ -24,7 +25,7 @@ pub record BlockRead (b : List ℕ) (a : Asked) (block : FileBlock) (left : Opti
   pub is : block_record b block ≡ Ok message
   pub fits : HeaderFits message.tables
   pub read : batch_of_tables to_read a message.version [] message.tables (block_body b block) left ≡ Ok (table_of x)
-  pub columns : AreAsked (columns_read (record_batch_of a.order message.version message.tables (block_body b block)) a.fields first_place x.height) a.columns x.arrays
+  pub columns : AreAsked (columns_read (record_batch_of a.order message.version message.tables (block_body b block)) none_held a.fields first_place x.height) a.columns x.arrays
 
 -- a block that was read, or a refusal of the block
 pub record ReadsBlock (b : List ℕ) (a : Asked) (block : FileBlock) (left : Option ℕ) (result : Result Batch IpcError) : Type 0 where

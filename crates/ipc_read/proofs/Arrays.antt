@@ -124,12 +124,12 @@ none_right : (es fs : List IpcError) → es ++ fs ≡ [] → fs ≡ []
 none_right [] fs h = h
 none_right (e ∷ es) fs h = cc
 
-none_of_array : (m : RecordBatch) (k : Kind) (p : Place) (rows : ℕ) → read_faults m k p rows ≡ [] → array_faults m [] k p rows ≡ []
+none_of_array : (m : RecordBatch) (k : Kind) (p : Place) (rows : ℕ) → read_faults m [] k p rows ≡ [] → array_faults m [] k p rows ≡ []
 unfolding read_faults
 none_of_array m k p rows h = none_right (count_faults m k p) _ h
 
 -- the cells of an array that is read
-pub cells_of : (r : Result Array IpcError) (m : RecordBatch) (k : Kind) (p : Place) (rows : ℕ) → is_leaf_kind k ≡ true → IfOk r (λ _. AreBytes (numbers_bytes m k p rows)) → Answers (λ a. parts_of a) r (read_faults m k p rows) (plain_read m k p rows) → Answers (λ a. cells_in (parts_of a)) r (read_faults m k p rows) (from_on (cell m [] k p) 0 rows)
+pub cells_of : (r : Result Array IpcError) (m : RecordBatch) (k : Kind) (p : Place) (rows : ℕ) → is_leaf_kind k ≡ true → IfOk r (λ _. AreBytes (numbers_bytes m k p rows)) → Answers (λ a. parts_of a) r (read_faults m [] k p rows) (plain_read m k p rows) → Answers (λ a. cells_in (parts_of a)) r (read_faults m [] k p rows) (from_on (cell m [] k p) 0 rows)
 cells_of (Err e) m k p rows f b a = record { ok = tt; err = a.err }
 cells_of (Ok x) m k p rows f b a = record { ok = (a.ok.0, ap cells_in a.ok.1 ∙ cells_read_of m [] k p rows f b (none_of_array m k p rows a.ok.0)); err = tt }
 

@@ -12,7 +12,6 @@ use Rattle.arrow_spec.specs.Messages.{BatchHeader}
 use Rattle.arrow_spec.specs.Flat.{Order, order_by}
 use Rattle.arrow_spec.specs.Cells.{Cell}
 use Rattle.arrow_spec.specs.Kinds.{Fields, none, field, width}
-use Rattle.arrow_spec.specs.Arrays.{Dictionaries}
 use Rattle.arrow_spec.specs.Counts.{RecordBatch, Place, after, first_place, is_negative, magnitude}
 use Rattle.arrow_spec.specs.Columns.{columns_at, is_chosen, chosen_faults, chosen_cells}
 use Rattle.arrow_spec.specs.Features.{chosen_floats}
@@ -25,6 +24,8 @@ use Rattle.arrow_arrays.specs.Parts.{Parts}
 use Rattle.arrow_arrays.specs.Batches.{have_rows, batch_fault}
 use Rattle.ipc_read.specs.Queues.{Left, BatchAt}
 use Rattle.ipc_read.specs.Batches.{AreQueuesOf, MayBeRead, batch_reading, columns_asked}
+use Rattle.arrow_spec.specs.Arrays.{Dictionaries}
+use Rattle.ipc_read_laws.specs.Held.{Held, HoldsCells}
 use Rattle.ipc_read.specs.Projection.{are_rising, are_columns, chosen}
 use Rattle.ipc_read.proofs.Chosen.{asked_are_chosen}
 use Rattle.ipc_read.specs.Sources.{Told, Known, bytes_in}
@@ -39,22 +40,22 @@ pub is_natural : (z : ℤ) → is_negative z ≡ false → z ≡ pos (magnitude 
 is_natural (pos n) h = refl
 is_natural (negsuc n) h = cc
 
-pub refuses_compressed : (columns : Option (List ℕ)) (limit : Option ℕ) (order : Order) (fs : Fields) (most : ℕ) (version : MetadataVersion) (tables : BatchHeader) (bytes : List ℕ) → tables.compressed ≡ true → IsAmong (refusals (batch_of_tables to_read (columns_asked columns order fs most) version [] tables bytes limit)) (Unsupported features.Compression)
+pub refuses_compressed : (columns : Option (List ℕ)) (limit : Option ℕ) (order : Order) (fs : Fields) (d : Dictionaries) (most : ℕ) (version : MetadataVersion) (tables : BatchHeader) (bytes : List ℕ) → tables.compressed ≡ true → IsAmong (refusals (batch_of_tables to_read (columns_asked columns order fs d most) version [] tables bytes limit)) (Unsupported features.Compression)
 unfolding batch_of_tables bind
-refuses_compressed columns limit order fs most version tables bytes h = rw h (inl refl)
+refuses_compressed columns limit order fs d most version tables bytes h = rw h (inl refl)
 
-pub refuses_length : (columns : Option (List ℕ)) (limit : Option ℕ) (order : Order) (fs : Fields) (most : ℕ) (version : MetadataVersion) (tables : BatchHeader) (bytes : List ℕ) → tables.compressed ≡ false → is_negative tables.length ≡ true → IsAmong (refusals (batch_of_tables to_read (columns_asked columns order fs most) version [] tables bytes limit)) (OutOfSpec kinds.UnexpectedNegativeInteger)
+pub refuses_length : (columns : Option (List ℕ)) (limit : Option ℕ) (order : Order) (fs : Fields) (d : Dictionaries) (most : ℕ) (version : MetadataVersion) (tables : BatchHeader) (bytes : List ℕ) → tables.compressed ≡ false → is_negative tables.length ≡ true → IsAmong (refusals (batch_of_tables to_read (columns_asked columns order fs d most) version [] tables bytes limit)) (OutOfSpec kinds.UnexpectedNegativeInteger)
 unfolding batch_of_tables bind
-refuses_length columns limit order fs most version tables bytes h k = rw (h, natural_negative tables.length k) (inl refl)
+refuses_length columns limit order fs d most version tables bytes h k = rw (h, natural_negative tables.length k) (inl refl)
 
-pub refuses_buffer : (columns : Option (List ℕ)) (limit : Option ℕ) (order : Order) (fs : Fields) (most : ℕ) (version : MetadataVersion) (tables : BatchHeader) (bytes : List ℕ) → tables.compressed ≡ false → is_negative tables.length ≡ false → none_negative tables.buffers ≡ false → IsAmong (refusals (batch_of_tables to_read (columns_asked columns order fs most) version [] tables bytes limit)) (OutOfSpec kinds.UnexpectedNegativeInteger)
+pub refuses_buffer : (columns : Option (List ℕ)) (limit : Option ℕ) (order : Order) (fs : Fields) (d : Dictionaries) (most : ℕ) (version : MetadataVersion) (tables : BatchHeader) (bytes : List ℕ) → tables.compressed ≡ false → is_negative tables.length ≡ false → none_negative tables.buffers ≡ false → IsAmong (refusals (batch_of_tables to_read (columns_asked columns order fs d most) version [] tables bytes limit)) (OutOfSpec kinds.UnexpectedNegativeInteger)
 unfolding batch_of_tables bind
-refuses_buffer columns limit order fs most version tables bytes h k n = rw (h, is_natural tables.length k, n) (inl refl)
+refuses_buffer columns limit order fs d most version tables bytes h k n = rw (h, is_natural tables.length k, n) (inl refl)
 
-pub refuses_sum : (columns : Option (List ℕ)) (limit : Option ℕ) (order : Order) (fs : Fields) (most : ℕ) (version : MetadataVersion) (tables : BatchHeader) (bytes : List ℕ) → tables.compressed ≡ false → is_negative tables.length ≡ false → none_negative tables.buffers ≡ true → nat_le (lengths_sum tables.buffers) most ≡ false
-    → IsAmong (refusals (batch_of_tables to_read (columns_asked columns order fs most) version [] tables bytes limit)) (OutOfSpec (kinds.InvalidBuffersLength (lengths_sum tables.buffers) most))
+pub refuses_sum : (columns : Option (List ℕ)) (limit : Option ℕ) (order : Order) (fs : Fields) (d : Dictionaries) (most : ℕ) (version : MetadataVersion) (tables : BatchHeader) (bytes : List ℕ) → tables.compressed ≡ false → is_negative tables.length ≡ false → none_negative tables.buffers ≡ true → nat_le (lengths_sum tables.buffers) most ≡ false
+    → IsAmong (refusals (batch_of_tables to_read (columns_asked columns order fs d most) version [] tables bytes limit)) (OutOfSpec (kinds.InvalidBuffersLength (lengths_sum tables.buffers) most))
 unfolding batch_of_tables bind
-refuses_sum columns limit order fs most version tables bytes h k n s = rw (h, is_natural tables.length k, n, s) (inl refl)
+refuses_sum columns limit order fs d most version tables bytes h k n s = rw (h, is_natural tables.length k, n, s) (inl refl)
 
 -- ── parts of a meaning ──
 
@@ -80,15 +81,15 @@ refused_of (Ok x) f e h = h
 refused_of (Err es) f e h = h
 
 -- where the tables let them be read, what refuses the columns refuses the batch
-pub batch_refused : (columns : Option (List ℕ)) (limit : Option ℕ) (is_little : Bool) (fs : Fields) (most rows few : ℕ) (version : MetadataVersion) (tables : BatchHeader) (bytes : List ℕ) (e : IpcError) → few ≡ share limit rows → MayBeRead tables most rows
-    → Refuses e (refusals (columns_at (record_batch_of (order_by is_little) version tables bytes) [] columns fs 0 first_place rows few >>= λ all. Ok (chosen columns 0 all)))
-    → Refuses e (refusals (batch_of_tables to_read (columns_asked columns (order_by is_little) fs most) version [] tables bytes limit))
+pub batch_refused : (columns : Option (List ℕ)) (limit : Option ℕ) (is_little : Bool) (fs : Fields) (d : Dictionaries) (most rows few : ℕ) (version : MetadataVersion) (tables : BatchHeader) (bytes : List ℕ) (e : IpcError) → few ≡ share limit rows → MayBeRead tables most rows
+    → Refuses e (refusals (columns_at (record_batch_of (order_by is_little) version tables bytes) d columns fs 0 first_place rows few >>= λ all. Ok (chosen columns 0 all)))
+    → Refuses e (refusals (batch_of_tables to_read (columns_asked columns (order_by is_little) fs d most) version [] tables bytes limit))
 unfolding batch_of_tables bind
-batch_refused columns limit is_little fs most rows few version tables bytes e n h k =
+batch_refused columns limit is_little fs d most rows few version tables bytes e n h k =
     let in_few : nat_le (lengths_sum tables.buffers) most ≡ true = le-leb _ _ h.few in
     let m = record_batch_of (order_by is_little) version tables bytes in
-    let r = refused_of (columns_at m [] columns fs 0 first_place rows few) (chosen columns 0) e k in
-    rw (h.plain, h.count, h.natural, in_few) (refused_first (columns_at m [] columns fs 0 first_place rows (share limit rows)) _ e (subst (λ q. Refuses e (refusals (columns_at m [] columns fs 0 first_place rows q))) n r))
+    let r = refused_of (columns_at m d columns fs 0 first_place rows few) (chosen columns 0) e k in
+    rw (h.plain, h.count, h.natural, in_few) (refused_first (columns_at m d columns fs 0 first_place rows (share limit rows)) _ e (subst (λ q. Refuses e (refusals (columns_at m d columns fs 0 first_place rows q))) n r))
 
 -- a meaning of columns, of which these are chosen
 record IsMeant (asked : Option (List ℕ)) (r : Reading (List (List Cell))) (cs : List (List Cell)) : Type 0 where
@@ -115,25 +116,25 @@ of_chosen asked (Ok all) cs h = record { all = all; is = refl; chosen_are = cc }
 of_chosen asked (Err es) cs h = cc
 
 -- and they mean the batch
-pub batch_well : (columns : Option (List ℕ)) (limit : Option ℕ) (is_little : Bool) (fs : Fields) (most rows few : ℕ) (version : MetadataVersion) (tables : BatchHeader) (bytes : List ℕ) (cs : List (List Cell)) → few ≡ share limit rows → are_rising columns ≡ true → are_columns columns (width fs) ≡ true → MayBeRead tables most rows
-    → (columns_at (record_batch_of (order_by is_little) version tables bytes) [] columns fs 0 first_place rows few >>= λ all. Ok (chosen columns 0 all)) ≡ Ok cs
-    → batch_of_tables to_read (columns_asked columns (order_by is_little) fs most) version [] tables bytes limit ≡ Ok (record { rows = few; columns = cs; custom = [] })
+pub batch_well : (columns : Option (List ℕ)) (limit : Option ℕ) (is_little : Bool) (fs : Fields) (d : Dictionaries) (most rows few : ℕ) (version : MetadataVersion) (tables : BatchHeader) (bytes : List ℕ) (cs : List (List Cell)) → few ≡ share limit rows → are_rising columns ≡ true → are_columns columns (width fs) ≡ true → MayBeRead tables most rows
+    → (columns_at (record_batch_of (order_by is_little) version tables bytes) d columns fs 0 first_place rows few >>= λ all. Ok (chosen columns 0 all)) ≡ Ok cs
+    → batch_of_tables to_read (columns_asked columns (order_by is_little) fs d most) version [] tables bytes limit ≡ Ok (record { rows = few; columns = cs; custom = [] })
 unfolding batch_of_tables bind
-batch_well columns limit is_little fs most rows few version tables bytes cs e rise range h meant =
+batch_well columns limit is_little fs d most rows few version tables bytes cs e rise range h meant =
     let in_few : nat_le (lengths_sum tables.buffers) most ≡ true = le-leb _ _ h.few in
     let m = record_batch_of (order_by is_little) version tables bytes in
-    let x = of_chosen columns (columns_at m [] columns fs 0 first_place rows few) cs meant in
-    let n : length x.all ≡ width fs = columns_count m [] columns fs 0 first_place rows few x.all x.is in
+    let x = of_chosen columns (columns_at m d columns fs 0 first_place rows few) cs meant in
+    let n : length x.all ≡ width fs = columns_count m d columns fs 0 first_place rows few x.all x.is in
     let same : as_asked columns x.all ≡ cs = asked_are_chosen columns x.all rise (ap (are_columns columns) n ∙ range) ∙ x.chosen_are in
-    let is : columns_at m [] columns fs 0 first_place rows (share limit rows) ≡ Ok x.all = ap (columns_at m [] columns fs 0 first_place rows) (sym e) ∙ x.is in
+    let is : columns_at m d columns fs 0 first_place rows (share limit rows) ≡ Ok x.all = ap (columns_at m d columns fs 0 first_place rows) (sym e) ∙ x.is in
     rw (h.plain, h.count, h.natural, in_few, is, same, e) refl
 
 -- the kinds that are looked at first
-pub reading_refused : (columns : Option (List ℕ)) (limit : Option ℕ) (is_little : Bool) (fs : Fields) (most : ℕ) (version : MetadataVersion) (tables : BatchHeader) (bytes : List ℕ) (e : IpcError) → Refuses e (chosen_floats columns fs 0) → Refuses e (refusals (batch_reading columns limit is_little fs most version tables bytes))
-reading_refused columns limit is_little fs most version tables bytes e h = refused_first (free_of (chosen_floats columns fs 0)) _ e (refused_place _ e h)
+pub reading_refused : (columns : Option (List ℕ)) (limit : Option ℕ) (is_little : Bool) (fs : Fields) (d : Dictionaries) (most : ℕ) (version : MetadataVersion) (tables : BatchHeader) (bytes : List ℕ) (e : IpcError) → Refuses e (chosen_floats columns fs 0) → Refuses e (refusals (batch_reading columns limit is_little fs d most version tables bytes))
+reading_refused columns limit is_little fs d most version tables bytes e h = refused_first (free_of (chosen_floats columns fs 0)) _ e (refused_place _ e h)
 
-pub reading_is : (columns : Option (List ℕ)) (limit : Option ℕ) (is_little : Bool) (fs : Fields) (most : ℕ) (version : MetadataVersion) (tables : BatchHeader) (bytes : List ℕ) → chosen_floats columns fs 0 ≡ [] → batch_reading columns limit is_little fs most version tables bytes ≡ batch_of_tables to_read (columns_asked columns (order_by is_little) fs most) version [] tables bytes limit
-reading_is columns limit is_little fs most version tables bytes h = place_none (chosen_floats columns fs 0) _ h
+pub reading_is : (columns : Option (List ℕ)) (limit : Option ℕ) (is_little : Bool) (fs : Fields) (d : Dictionaries) (most : ℕ) (version : MetadataVersion) (tables : BatchHeader) (bytes : List ℕ) → chosen_floats columns fs 0 ≡ [] → batch_reading columns limit is_little fs d most version tables bytes ≡ batch_of_tables to_read (columns_asked columns (order_by is_little) fs d most) version [] tables bytes limit
+reading_is columns limit is_little fs d most version tables bytes h = place_none (chosen_floats columns fs 0) _ h
 
 -- ── what is told ──
 
@@ -163,19 +164,23 @@ all_at_first is_little version tables bytes ns bs vs q = record { version = refl
 pub known_some : (content : Option (List ℕ)) (body : Body) (is_little : Bool) (version : MetadataVersion) (tables : BatchHeader) (b : List ℕ) → content ≡ Some b → Known content body is_little (record_batch_of (order_by is_little) version tables (bytes_in body b))
 known_some content body is_little version tables b h = record { told = told_some content body b h; order = refl }
 
--- ── the same under an equal schema ──
+-- ── the same under an equal schema, and whatever was read of the dictionaries ──
 
-pub some_refused : {X Y : Type 0} → (content : Option (List ℕ)) (view : X → Y) (r : Result X IpcError) (e : IpcError) (read : List Keyed → List ℕ → Reading Y) (s t : List Keyed) → r ≡ Err e → s ≡ t → IfSome content (λ b. Refuses e (refusals (read s b))) → IfSome content (λ b. Gives view r (read t b))
-some_refused None view r e read s t p q h = tt
-some_refused (Some b) view r e read s t p q h = gives_err view r e (read t b) p (subst (λ u. Refuses e (refusals (read u b))) q h)
+pub some_held : {X Y : Type 0} → (content : Option (List ℕ)) (view : X → Y) (r : Result X IpcError) (e : IpcError) (h : Held) (read : Dictionaries → List ℕ → Reading Y) → r ≡ Err e → ((d : Dictionaries) (b : List ℕ) → Refuses e (refusals (read d b))) → IfSome content (λ b. (d : Dictionaries) → HoldsCells d h → Gives view r (read d b))
+some_held None view r e h read p k = tt
+some_held (Some b) view r e h read p k = λ d holds. gives_err view r e (read d b) p (k d b)
 
-pub some_given : {Y : Type 0} → (content : Option (List ℕ)) (read : List Keyed → List ℕ → Reading Y) (s t : List Keyed) (x y : Y) → s ≡ t → x ≡ y → IfSome content (λ b. read s b ≡ Ok x) → IfSome content (λ b. read t b ≡ Ok y)
-some_given None read s t x y q h g = tt
-some_given (Some b) read s t x y q h g = subst (λ u. read u b ≡ Ok y) q (g ∙ ap Ok h)
+pub some_refused : {X Y : Type 0} → (content : Option (List ℕ)) (view : X → Y) (r : Result X IpcError) (e : IpcError) (h : Held) (read : List Keyed → Dictionaries → List ℕ → Reading Y) (s t : List Keyed) → r ≡ Err e → s ≡ t → IfSome content (λ b. (d : Dictionaries) → HoldsCells d h → Refuses e (refusals (read s d b))) → IfSome content (λ b. (d : Dictionaries) → HoldsCells d h → Gives view r (read t d b))
+some_refused None view r e h read s t p q g = tt
+some_refused (Some b) view r e h read s t p q g = λ d holds. gives_err view r e (read t d b) p (subst (λ u. Refuses e (refusals (read u d b))) q (g d holds))
 
-pub some_same : {Y : Type 0} → (content : Option (List ℕ)) (parts : ℕ → List Keyed → List ℕ → Y) (s t : List Keyed) (m n : ℕ) (x y : Y) → s ≡ t → m ≡ n → x ≡ y → IfSome content (λ b. x ≡ parts m s b) → IfSome content (λ b. y ≡ parts n t b)
-some_same None parts s t m n x y q e h g = tt
-some_same (Some b) parts s t m n x y q e h g = sym h ∙ g ∙ ap (λ k. parts k s b) e ∙ ap (λ u. parts n u b) q
+pub some_given : {Y : Type 0} → (content : Option (List ℕ)) (h : Held) (read : List Keyed → Dictionaries → List ℕ → Reading Y) (s t : List Keyed) (x y : Y) → s ≡ t → x ≡ y → IfSome content (λ b. (d : Dictionaries) → HoldsCells d h → read s d b ≡ Ok x) → IfSome content (λ b. (d : Dictionaries) → HoldsCells d h → read t d b ≡ Ok y)
+some_given None h read s t x y q e g = tt
+some_given (Some b) h read s t x y q e g = λ d holds. subst (λ u. read u d b ≡ Ok y) q (g d holds ∙ ap Ok e)
+
+pub some_same : {Y : Type 0} → (content : Option (List ℕ)) (h : Held) (parts : ℕ → List Keyed → List ℕ → Y) (s t : List Keyed) (m n : ℕ) (x y : Y) → s ≡ t → m ≡ n → x ≡ y → IfSome content (λ b. (d : Dictionaries) → HoldsCells d h → x ≡ parts m s b) → IfSome content (λ b. (d : Dictionaries) → HoldsCells d h → y ≡ parts n t b)
+some_same None h parts s t m n x y q e f g = tt
+some_same (Some b) h parts s t m n x y q e f g = λ d holds. sym f ∙ g d holds ∙ ap (λ k. parts k s b) e ∙ ap (λ u. parts n u b) q
 
 -- columns of the batch's rows, one for each field, make a batch
 pub batch_fine : (rows : ℕ) (s : List Keyed) (ps : List Parts) → length s ≡ length ps → have_rows rows ps ≡ true → batch_fault (record { height = rows; schema = s; arrays = ps }) ≡ None

@@ -3,8 +3,7 @@ use Rattle.std.proofs.Common.{◌≡◌, ℕ, zero, suc, ◌+◌, ◌<◌, ◌�
 use Rattle.std.proofs.lemmas.List.{length-append}
 use Rattle.std.proofs.lemmas.Bool.{cases_lt}
 use Rattle.std.specs.Result.{is_ok}
-use Rattle.std.specs.Prelude.{get_or, slice_get, nat_eq, nat_le, nat_lt, ◌&&◌, ◌||◌, MatchResult}
-use Rattle.std.proofs.lemmas.List.Sorted.{searched}
+use Rattle.std.specs.Prelude.{get_or, slice_get, nat_eq, nat_le, nat_lt, ◌||◌, MatchResult}
 use Rattle.arrow_spec.specs.Columns.{is_chosen, stands_in}
 use Rattle.arrow_spec.specs.Files.{as_asked, column_or_none}
 use Rattle.arrow_spec.specs.Cells.{Cell}

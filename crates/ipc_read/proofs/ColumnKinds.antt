@@ -4,6 +4,8 @@ use Rattle.std.specs.Prelude.{slice_get, nat_eq, nat_lt, ◌&&◌, ◌||◌, not
 use Rattle.arrow_spec.specs.Columns.{is_chosen}
 use Rattle.std.proofs.Common.{append-nil}
 use Rattle.arrow_types.specs.Child.{one_field}
+use Rattle.arrow_spec.specs.declared.types.IntegerType.{IntegerType}
+use Rattle.ipc_read.specs.Held.{is_any_dictionary, dictionary_as}
 use Rattle.ipc_read.specs.Lists.{is_any_list, as_lists}
 use Rattle.std.proofs.lemmas.Bool.{and_parts, and_from}
 use Rattle.arrow_spec.specs.declared.error.IpcError.{IpcError}
@@ -156,6 +158,7 @@ column_is_leaf k h f = by_layout (physical_of k) (binary_size k) h (none_unread 
 mutual
   pub column_carried : (k : Kind) → is_column_kind k ≡ true → float_faults k ≡ [] → is_carried k ≡ true
   column_carried (struct fs) h f = columns_carried fs h f
+  column_carried (dictionary t ordered id k) h f = column_carried k h f
   column_carried (extension name metadata k) h f = column_carried k h f
   column_carried («list» o fs) h f = let a = and_parts (nat_eq (width fs) 1) (are_column_fields fs) h in and_from (nat_eq (width fs) 1) (are_carried fs) a.0 (columns_carried fs a.1 f)
   column_carried (map sorted fs) h f =
@@ -172,14 +175,15 @@ mutual
       let b = none_of_both (float_faults k) (floats_in others) f in
       and_from (is_carried k) (are_carried others) (column_carried k a.0 b.0) (columns_carried others a.1 b.1)
 
-pub column_plain : (k : Kind) → is_column_kind k ≡ true → is_any_counted k ≡ false → is_any_list k ≡ false → is_any_union k ≡ false → is_plain_kind k ≡ true
-column_plain (struct fs) h s l u = cc
-column_plain (fixed_size_list size fs) h s l u = cc
-column_plain («list» o fs) h s l u = cc
-column_plain (map sorted fs) h s l u = cc
-column_plain (union mode stated ids fs) h s l u = cc
-column_plain (extension name metadata k) h s l u = column_plain k h s l u
-column_plain k h s l u = column_is_plain (physical_of k) (binary_size k) h
+pub column_plain : (k : Kind) → is_column_kind k ≡ true → is_any_counted k ≡ false → is_any_list k ≡ false → is_any_union k ≡ false → is_any_dictionary k ≡ false → is_plain_kind k ≡ true
+column_plain (struct fs) h s l u d = cc
+column_plain (fixed_size_list size fs) h s l u d = cc
+column_plain («list» o fs) h s l u d = cc
+column_plain (map sorted fs) h s l u d = cc
+column_plain (union mode stated ids fs) h s l u d = cc
+column_plain (dictionary t ordered id k) h s l u d = cc
+column_plain (extension name metadata k) h s l u d = column_plain k h s l u d
+column_plain k h s l u d = column_is_plain (physical_of k) (binary_size k) h
 
 pub list_floats : (k : Kind) (o : Offsets) (x : Field) → as_lists k ≡ «list» o (one_field (child_of x)) → float_faults k ≡ float_faults (kind_of x.dtype)
 list_floats k o x e =
@@ -216,6 +220,12 @@ column_union k mode fs e h = (and_parts (are_right (ids_in k) (width fs)) (are_c
 
 pub union_floats : (k : Kind) (mode : UnionMode) (fs : Fields) → under_extensions k ≡ union_as k mode fs → float_faults k ≡ floats_in fs
 union_floats k mode fs e = wrapped (λ k. float_faults k ≡ floats_in fs) (λ name metadata k e. e) k (union_as k mode fs) e refl
+
+pub column_values : (k : Kind) (t : IntegerType) (values : Kind) → under_extensions k ≡ dictionary_as k t values → is_column_kind k ≡ true → is_column_kind values ≡ true
+column_values k t values e h = sym (column_under k ∙ ap is_column_kind e) ∙ h
+
+pub values_floats : (k : Kind) (t : IntegerType) (values : Kind) → under_extensions k ≡ dictionary_as k t values → float_faults k ≡ float_faults values
+values_floats k t values e = wrapped (λ k. float_faults k ≡ float_faults values) (λ name metadata k e. e) k (dictionary_as k t values) e refl
 
 pub child_column : (cs : List Field) (i : ℕ) (x : Field) → i < length cs → x ≡ get_or cs i x → are_column_fields (fields_of cs) ≡ true → is_column_kind (kind_of x.dtype) ≡ true
 child_column [] i x h e f = absurd (omega (arith, h))

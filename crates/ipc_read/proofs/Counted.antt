@@ -13,6 +13,7 @@ use Rattle.arrow_spec.specs.Kinds as kind
 use Rattle.arrow_spec.specs.Kinds.{Kind, small, large}
 use Rattle.arrow_spec.specs.Counts.{RecordBatch, Place, after, nodes, buffers, views}
 use Rattle.arrow_spec.specs.Faults.{cause, count_faults, counts_faults, array_faults}
+use Rattle.arrow_spec.specs.Arrays.{Dictionaries}
 use Rattle.arrow_spec.specs.Needed.{looked_at, validity_looked_at}
 use Rattle.arrow_types.specs.Physical.{physical_of}
 use Rattle.arrow_types.specs.declared.physical.PhysicalType.{PhysicalType}
@@ -86,7 +87,7 @@ counted (kind.extension name metadata k) h = let r = counted k h in record { nod
 
 -- ── what is refused ──
 
-pub refused_in : (m : RecordBatch) (k : Kind) (p : Place) (rows : ℕ) (e : IpcError) → Refuses e (array_faults m [] k p rows) → Refuses e (read_faults m k p rows)
+pub refused_in : (m : RecordBatch) (k : Kind) (p : Place) (rows : ℕ) (e : IpcError) → Refuses e (array_faults m [] k p rows) → Refuses e (read_faults m [] k p rows)
 unfolding read_faults
 refused_in m k p rows e h = refuses_right (count_faults m k p) _ e h
 
@@ -102,21 +103,21 @@ ends : (all : List IpcBuffer) (i j : ℕ) → i < j → nat_le (length all) i �
 ends all i j h k = lt-ltb _ _ (grind (arith, h, k))
 
 -- the buffers end before those of an array do
-pub lacks_in : (m : RecordBatch) (k : Kind) (p : Place) (rows i : ℕ) (x : IpcError) → i < (after m k p).buffer → IsAmong (short_of m.buffers i) x → IsAmong (read_faults m k p rows) x
+pub lacks_in : (m : RecordBatch) (d : Dictionaries) (k : Kind) (p : Place) (rows i : ℕ) (x : IpcError) → i < (after m k p).buffer → IsAmong (short_of m.buffers i) x → IsAmong (read_faults m d k p rows) x
 unfolding read_faults count_faults
-lacks_in m k p rows i x h a =
+lacks_in m d k p rows i x h a =
     among_left (count_faults m k p) _ x (among_left (counts_faults m (after m k p)) _ x
     (cause_more (nat_le (length m.buffers) i) (nat_lt (length m.nodes) (after m k p).node || nat_lt (length m.buffers) (after m k p).buffer) (OutOfSpec ExpectedBuffer) x
     (λ t. or_second (nat_lt (length m.nodes) (after m k p).node) _ (ends m.buffers i (after m k p).buffer h t)) a))
 
 -- a buffer that is missing, or what stands behind it
-pub lacks_or : (m : RecordBatch) (k : Kind) (p : Place) (rows i : ℕ) (e : IpcError) (es : List IpcError) → i < (after m k p).buffer → ((x : IpcError) → IsAmong es x → IsAmong (array_faults m [] k p rows) x) → Refuses e (short_of m.buffers i ++ es) → Refuses e (read_faults m k p rows)
+pub lacks_or : (m : RecordBatch) (k : Kind) (p : Place) (rows i : ℕ) (e : IpcError) (es : List IpcError) → i < (after m k p).buffer → ((x : IpcError) → IsAmong es x → IsAmong (array_faults m [] k p rows) x) → Refuses e (short_of m.buffers i ++ es) → Refuses e (read_faults m [] k p rows)
 unfolding read_faults
 lacks_or m k p rows i e es h s r =
-    refuses_more (short_of m.buffers i ++ es) (read_faults m k p rows) e
-    (λ x a. split x (short_of m.buffers i) (λ y b. lacks_in m k p rows i y h b) a) r
+    refuses_more (short_of m.buffers i ++ es) (read_faults m [] k p rows) e
+    (λ x a. split x (short_of m.buffers i) (λ y b. lacks_in m [] k p rows i y h b) a) r
   where
-    split : (x : IpcError) (fs : List IpcError) → ((y : IpcError) → IsAmong fs y → IsAmong (read_faults m k p rows) y) → IsAmong (fs ++ es) x → IsAmong (read_faults m k p rows) x
+    split : (x : IpcError) (fs : List IpcError) → ((y : IpcError) → IsAmong fs y → IsAmong (read_faults m [] k p rows) y) → IsAmong (fs ++ es) x → IsAmong (read_faults m [] k p rows) x
     split x [] f a = among_right (count_faults m k p) _ x (s x a)
     split x (g ∷ fs) f (inl a) = f x (inl a)
     split x (g ∷ fs) f (inr a) = split x fs (λ y b. f y (inr b)) a
@@ -134,7 +135,7 @@ counts_fine m k l p h a b c =
     let z : nat_lt (length m.variadic) (p.view + 0) ≡ false = le-ltb _ _ (omega (arith, c)) in
     rw (x, y, h.views, z) refl
 
-pub fine_in : (m : RecordBatch) (k : Kind) (l : PhysicalType) (p : Place) (rows : ℕ) → Counted k l → suc p.node ≤ length m.nodes → p.buffer + own_buffers l ≤ length m.buffers → p.view ≤ length m.variadic → array_faults m [] k p rows ≡ [] → read_faults m k p rows ≡ []
+pub fine_in : (m : RecordBatch) (k : Kind) (l : PhysicalType) (p : Place) (rows : ℕ) → Counted k l → suc p.node ≤ length m.nodes → p.buffer + own_buffers l ≤ length m.buffers → p.view ≤ length m.variadic → array_faults m [] k p rows ≡ [] → read_faults m [] k p rows ≡ []
 unfolding read_faults
 fine_in m k l p rows h a b c d = both_none (count_faults m k p) _ (counts_fine m k l p h a b c) d
 

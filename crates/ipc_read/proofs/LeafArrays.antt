@@ -189,26 +189,26 @@ leaf_fixed m k p rows h =
 
 -- ── what is refused of them ──
 
-node_refused : (m : RecordBatch) (k : Kind) (p : Place) (rows : ℕ) (values : ℕ → List IpcError) (e : IpcError) → LeafArray m k p rows values → Refuses e (node_faults m p rows) → Refuses e (read_faults m k p rows)
+node_refused : (m : RecordBatch) (k : Kind) (p : Place) (rows : ℕ) (values : ℕ → List IpcError) (e : IpcError) → LeafArray m k p rows values → Refuses e (node_faults m p rows) → Refuses e (read_faults m [] k p rows)
 node_refused m k p rows values e f h = refused_in m k p rows e (subst (λ es. Refuses e es) (sym f.faults) (refuses_left (node_faults m p rows) _ e h))
 
 end_of : (m : RecordBatch) (k : Kind) (p : Place) (rows : ℕ) (values : ℕ → List IpcError) → LeafArray m k p rows values → (after m k p).buffer ≡ p.buffer + 2
 end_of m k p rows values f = buffer_end m k f.layout p f.counted ∙ ap (λ n. p.buffer + n) f.two
 
-validity_refused : (m : RecordBatch) (k : Kind) (p : Place) (rows : ℕ) (values : ℕ → List IpcError) (e : IpcError) → LeafArray m k p rows values → Refuses e (short_of m.buffers p.buffer ++ validity_faults m p rows) → Refuses e (read_faults m k p rows)
+validity_refused : (m : RecordBatch) (k : Kind) (p : Place) (rows : ℕ) (values : ℕ → List IpcError) (e : IpcError) → LeafArray m k p rows values → Refuses e (short_of m.buffers p.buffer ++ validity_faults m p rows) → Refuses e (read_faults m [] k p rows)
 validity_refused m k p rows values e f h =
     lacks_or m k p rows p.buffer e (validity_faults m p rows) (omega (arith, end_of m k p rows values f))
     (λ x a. subst (λ es. IsAmong es x) (sym f.faults) (among_right (node_faults m p rows) _ x (among_left (validity_faults m p rows) _ x a))) h
 
-pub head_refused : (m : RecordBatch) (k : Kind) (p : Place) (rows : ℕ) (values : ℕ → List IpcError) (e : IpcError) → LeafArray m k p rows values → Refuses e (head_faults m p rows) → Refuses e (read_faults m k p rows)
-head_refused m k p rows values e f h = refuses_by (node_faults m p rows) _ (read_faults m k p rows) e (node_refused m k p rows values e f) (validity_refused m k p rows values e f) h
+pub head_refused : (m : RecordBatch) (k : Kind) (p : Place) (rows : ℕ) (values : ℕ → List IpcError) (e : IpcError) → LeafArray m k p rows values → Refuses e (head_faults m p rows) → Refuses e (read_faults m [] k p rows)
+head_refused m k p rows values e f h = refuses_by (node_faults m p rows) _ (read_faults m [] k p rows) e (node_refused m k p rows values e f) (validity_refused m k p rows values e f) h
 
-pub values_refused : (m : RecordBatch) (k : Kind) (p : Place) (rows : ℕ) (values : ℕ → List IpcError) (e : IpcError) → LeafArray m k p rows values → Refuses e (short_of m.buffers (p.buffer + 1) ++ faults_where rows (values (p.buffer + 1))) → Refuses e (read_faults m k p rows)
+pub values_refused : (m : RecordBatch) (k : Kind) (p : Place) (rows : ℕ) (values : ℕ → List IpcError) (e : IpcError) → LeafArray m k p rows values → Refuses e (short_of m.buffers (p.buffer + 1) ++ faults_where rows (values (p.buffer + 1))) → Refuses e (read_faults m [] k p rows)
 values_refused m k p rows values e f h =
     lacks_or m k p rows (p.buffer + 1) e (faults_where rows (values (p.buffer + 1))) (omega (arith, end_of m k p rows values f))
     (λ x a. subst (λ es. IsAmong es x) (sym f.faults) (among_right (node_faults m p rows) _ x (among_right (validity_faults m p rows) _ x a))) h
 
-pub leaf_fine : (m : RecordBatch) (k : Kind) (p : Place) (rows : ℕ) (values : ℕ → List IpcError) (ns : List FieldNode) (bs : List IpcBuffer) → LeafArray m k p rows values → IsWithin m p → Left m.nodes (suc p.node) ns → Left m.buffers (suc (p.buffer + 1)) bs → head_faults m p rows ≡ [] → short_of m.buffers (p.buffer + 1) ++ faults_where rows (values (p.buffer + 1)) ≡ [] → read_faults m k p rows ≡ []
+pub leaf_fine : (m : RecordBatch) (k : Kind) (p : Place) (rows : ℕ) (values : ℕ → List IpcError) (ns : List FieldNode) (bs : List IpcBuffer) → LeafArray m k p rows values → IsWithin m p → Left m.nodes (suc p.node) ns → Left m.buffers (suc (p.buffer + 1)) bs → head_faults m p rows ≡ [] → short_of m.buffers (p.buffer + 1) ++ faults_where rows (values (p.buffer + 1)) ≡ [] → read_faults m [] k p rows ≡ []
 leaf_fine m k p rows values ns bs f w n b h z =
     let x = none_of_both (node_faults m p rows) _ h in
     let y = none_of_both (short_of m.buffers p.buffer) _ x.1 in
@@ -239,13 +239,13 @@ nothing_more m k p rows h = by_layout m k p rows physical.Null (null_layout (phy
     empty zero = refl
     empty (suc n) = refl
 
-pub null_refused : (m : RecordBatch) (k : Kind) (p : Place) (rows : ℕ) (e : IpcError) → is_null (physical_of k) ≡ true → Refuses e (node_faults m p rows) → Refuses e (read_faults m k p rows)
+pub null_refused : (m : RecordBatch) (k : Kind) (p : Place) (rows : ℕ) (e : IpcError) → is_null (physical_of k) ≡ true → Refuses e (node_faults m p rows) → Refuses e (read_faults m [] k p rows)
 null_refused m k p rows e h r = refused_in m k p rows e (subst (λ es. Refuses e es) (sym (nothing_more m k p rows h)) (refuses_left (node_faults m p rows) _ e r))
 
 null_counted : (k : Kind) → is_null (physical_of k) ≡ true → Counted k physical.Null
 null_counted k h = counted_at k physical.Null (null_layout (physical_of k) h) refl
 
-pub null_fine : (m : RecordBatch) (k : Kind) (p : Place) (rows : ℕ) (ns : List FieldNode) → is_null (physical_of k) ≡ true → IsWithin m p → Left m.nodes (suc p.node) ns → node_faults m p rows ≡ [] → read_faults m k p rows ≡ []
+pub null_fine : (m : RecordBatch) (k : Kind) (p : Place) (rows : ℕ) (ns : List FieldNode) → is_null (physical_of k) ≡ true → IsWithin m p → Left m.nodes (suc p.node) ns → node_faults m p rows ≡ [] → read_faults m [] k p rows ≡ []
 null_fine m k p rows ns h w n z = fine_in m k physical.Null p rows (null_counted k h) n.within (omega (arith, w.buffers)) w.views (nothing_more m k p rows h ∙ both_none (node_faults m p rows) [] z refl)
 
 pub null_next : (m : RecordBatch) (k : Kind) (p : Place) (ns : List FieldNode) → is_null (physical_of k) ≡ true → IsWithin m p → Left m.nodes (suc p.node) ns → NodesAt m (after m k p) ns

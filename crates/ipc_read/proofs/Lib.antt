@@ -6,6 +6,9 @@ pub mod OffsetReads
 pub mod VariableArrays
 pub mod Passing
 pub mod Places
+pub mod ColumnIds
+pub mod LeftFields
+pub mod HeldKinds
 pub mod DataTypes
 pub mod Arrays
 pub mod DataReads
@@ -24,3 +27,5 @@ pub mod ListReads
 pub mod UnionParts
 pub mod UnionReads
 pub mod Tops
+pub mod KeysRead
+pub mod DictionaryReads

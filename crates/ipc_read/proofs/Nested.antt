@@ -6,17 +6,18 @@ use Rattle.arrow_spec.specs.declared.error.IpcError.{IpcError}
 use Rattle.arrow_spec.specs.declared.message.FieldNode.{FieldNode}
 use Rattle.arrow_spec.specs.declared.message.IpcBuffer.{IpcBuffer}
 use Rattle.arrow_spec.specs.declared.message.MetadataVersion.{MetadataVersion}
+use Rattle.arrow_spec.specs.declared.types.IntegerType.{IntegerType}
 use Rattle.arrow_spec.specs.declared.types.UnionMode.{UnionMode}
 use Rattle.arrow_spec.specs.Laws.{AreBytes}
 use Rattle.arrow_spec.specs.Readings.{IsAmong, Refuses}
 use Rattle.arrow_spec.specs.Kinds as kind
 use Rattle.arrow_spec.specs.Kinds.{Kind, Fields, Offsets, none, field, width, struct, extension}
 use Rattle.arrow_spec.specs.Counts.{RecordBatch, Place, first_place, after, inside, buffers, views}
-use Rattle.arrow_spec.specs.Arrays.{from_on}
+use Rattle.arrow_spec.specs.Arrays.{from_on, Dictionaries}
 use Rattle.arrow_spec.specs.Schema.{first_is_struct_of_two}
 use Rattle.arrow_spec.specs.ArrayCells.{cell}
 use Rattle.arrow_spec.specs.Faults.{if_sound, node_faults, validity_faults, counts_faults, count_faults, view_count_faults, array_faults, child_faults, place_in}
-use Rattle.arrow_types.specs.Child.{one_field}
+use Rattle.arrow_types.specs.Child.{Child, one_field}
 use Rattle.arrow_types.specs.KindOf.{kind_of, child_of, fields_of}
 use Rattle.arrow_types.specs.KindCode.{kind_eq}
 use Rattle.arrow_types.specs.Physical.{under_extensions}
@@ -30,34 +31,39 @@ use Rattle.arrow_arrays.specs.PartsOf.{parts_of, all_parts_of, forest_of}
 use Rattle.arrow_arrays.specs.Carried.{is_carried, are_carried}
 use Rattle.arrow_spec.specs.Needed.{looked_at, looked_at_in, validity_looked_at}
 use Rattle.ipc_read_laws.specs.Faults.{read_faults, fetched_at_most, stated_of}
+use Rattle.ipc_read_laws.specs.Held.{Held, HoldsCells, HoldsKinds}
 use Rattle.ipc_read_laws.specs.PartsRead.{parts_read, parts_under, forest_read, counted_read, numbers_bytes, HaveBytes, AllHaveBytes}
+use Rattle.ipc_read_laws.proofs.LayoutLaws.{faults_told}
 use Rattle.ipc_read_laws.proofs.Trees.{same_kind}
 use Rattle.ipc_read_laws.proofs.TreesCells.{cells_read, plain_bytes}
 use Rattle.ipc_read.specs.Batches.{columns_fetched}
 use Rattle.ipc_read.specs.ChildRows.{rows_of_each}
 use Rattle.ipc_read.specs.Places.{behind, IsBehind, place_faults}
 use Rattle.ipc_read.specs.Queues.{Left, AllAt, BatchAt, Shortened, ShortenedBy, short_of}
+use Rattle.ipc_read.specs.Held.{is_any_dictionary, dictionary_as}
 use Rattle.ipc_read.specs.Lists.{is_any_list, as_lists}
 use Rattle.ipc_read.specs.Unions.{is_any_union, union_as}
 use Rattle.ipc_read.specs.CountedArrays.{is_any_counted, counted_kind, counted_rows, counted_head}
 use Rattle.ipc_read.specs.Readers.{ShortenedByAll}
 use Rattle.ipc_read.specs.Sources.{Answers, head_faults, validity_fetched}
 use Rattle.ipc_read.proofs.Refusals.{refuses_left, refuses_right, refuses_more, refuses_by, both_none, none_of_both, among_left, among_right}
-use Rattle.ipc_read.proofs.Places.{behind_itself, behind_first, after_is_behind, fields_behind, wider_refuses, AreNatural, are_natural, none_missing, natural_then, natural_itself, counts_between, first_place_in, next_place_in, last_place_in, within_fields, field_behind, kind_of_child}
+use Rattle.ipc_read.proofs.Places.{behind_itself, after_is_behind, fields_behind, wider_refuses, AreNatural, are_natural, none_missing, natural_then, natural_itself, counts_between, first_place_in, kind_of_child}
+use Rattle.ipc_read.proofs.LeftFields.{dropped, StandsIn, stands_within, dropped_end, next_in, last_in, within_all, place_behind, place_within}
 use Rattle.ipc_read.proofs.Passed.{Opens, after_opens, buffers_dropped, only_tables, batch_from_first}
 use Rattle.ipc_read.proofs.Shortened.{none_taken, all_taken, taken_more, taken_then}
 use Rattle.ipc_read.proofs.Counted.{lacks_in}
 
 -- ── kinds that are read ──
 
-pub carried_leaf : (k : Kind) → is_carried k ≡ true → is_any_counted k ≡ false → is_any_list k ≡ false → is_any_union k ≡ false → is_leaf_kind k ≡ true
-carried_leaf (struct fs) h s l u = cc
-carried_leaf (kind.fixed_size_list size fs) h s l u = cc
-carried_leaf (kind.«list» o fs) h s l u = cc
-carried_leaf (kind.map sorted fs) h s l u = cc
-carried_leaf (kind.union mode stated ids fs) h s l u = cc
-carried_leaf (extension name metadata k) h s l u = carried_leaf k h s l u
-carried_leaf k h s l u = h
+pub carried_leaf : (k : Kind) → is_carried k ≡ true → is_any_counted k ≡ false → is_any_list k ≡ false → is_any_union k ≡ false → is_any_dictionary k ≡ false → is_leaf_kind k ≡ true
+carried_leaf (struct fs) h s l u d = cc
+carried_leaf (kind.fixed_size_list size fs) h s l u d = cc
+carried_leaf (kind.«list» o fs) h s l u d = cc
+carried_leaf (kind.map sorted fs) h s l u d = cc
+carried_leaf (kind.union mode stated ids fs) h s l u d = cc
+carried_leaf (kind.dictionary t ordered id k) h s l u d = cc
+carried_leaf (extension name metadata k) h s l u d = carried_leaf k h s l u d
+carried_leaf k h s l u d = h
 
 pub carried_under : (k : Kind) → is_carried k ≡ is_carried (under_extensions k)
 carried_under (extension name metadata k) = carried_under k
@@ -135,6 +141,7 @@ abbrev mutual
   kind_size (kind.fixed_size_list size fs) = suc (fields_size fs)
   kind_size (struct fs) = suc (fields_size fs)
   kind_size (kind.union mode stated ids fs) = suc (fields_size fs)
+  kind_size (kind.dictionary t ordered id k) = suc (kind_size k)
   kind_size (extension name metadata k) = kind_size k
   kind_size k = 0
 
@@ -158,6 +165,9 @@ list_tree k o x e =
 pub union_tree : (k : Kind) (mode : UnionMode) (fs : Fields) → under_extensions k ≡ union_as k mode fs → kind_size k ≡ suc (fields_size fs)
 union_tree k mode fs e = size_under k ∙ ap kind_size e
 
+pub dictionary_tree : (k : Kind) (t : IntegerType) (values : Kind) → under_extensions k ≡ dictionary_as k t values → kind_size k ≡ suc (kind_size values)
+dictionary_tree k t values e = size_under k ∙ ap kind_size e
+
 pub child_size : (cs : List Field) (i : ℕ) (x : Field) → i < length cs → x ≡ get_or cs i x → kind_size (kind_of x.dtype) ≤ fields_size (fields_of cs)
 child_size [] i x h e = absurd (omega (arith, h))
 child_size (c ∷ cs) zero x h e = let k : (child_of c).kind ≡ kind_of x.dtype = ap (λ f. (child_of f).kind) (sym e) ∙ kind_of_child x in omega (arith, ap kind_size k)
@@ -172,9 +182,6 @@ child_carried (c ∷ cs) (suc i) x h e f = child_carried cs i x (omega (arith, h
 
 -- ── what is left of children ──
 
-pub left_child : (cs : List Field) (i : ℕ) (x : Field) → i < length cs → x ≡ get_or cs i x → drop i cs ≡ x ∷ drop (i + 1) cs
-left_child cs i x h e = drop-cons cs i x h ∙ ap (λ y. y ∷ drop (suc i) cs) (sym e) ∙ ap (λ n. x ∷ drop n cs) (sym (add-one i))
-
 pub drop_all : {A : Type 0} → (xs : List A) (i : ℕ) → length xs ≤ i → drop i xs ≡ []
 drop_all [] zero h = refl
 drop_all [] (suc i) h = refl
@@ -182,142 +189,142 @@ drop_all (x ∷ xs) zero h = absurd (omega (arith, h))
 drop_all (x ∷ xs) (suc i) h = drop_all xs i (omega (arith, h))
 
 -- children are read as a forest is
-abbrev pub trees_read : RecordBatch → Fields → Place → (Place → ℕ) → List Parts
-trees_read m none p rows = []
-trees_read m (field name nullable metadata k others) p rows = parts_read m k p (rows p) ∷ trees_read m others (after m k p) rows
+abbrev pub trees_read : RecordBatch → Held → Fields → Place → (Place → ℕ) → List Parts
+trees_read m h none p rows = []
+trees_read m h (field name nullable metadata k others) p rows = parts_read m h k p (rows p) ∷ trees_read m h others (after m k p) rows
 
-forest_is : (m : RecordBatch) (fs : Fields) (p : Place) (rows : Place → ℕ) → forest (trees_read m fs p rows) ≡ forest_read m fs p rows
-forest_is m none p rows = refl
-forest_is m (field name nullable metadata k others) p rows = ap (also (parts_read m k p (rows p))) (forest_is m others (after m k p) rows)
+forest_is : (m : RecordBatch) (h : Held) (fs : Fields) (p : Place) (rows : Place → ℕ) → forest (trees_read m h fs p rows) ≡ forest_read m h fs p rows
+forest_is m h none p rows = refl
+forest_is m h (field name nullable metadata k others) p rows = ap (also (parts_read m h k p (rows p))) (forest_is m h others (after m k p) rows)
 
 -- the first children were read as these parts, and nothing is wrong with them
-pub record ChildrenDone (m : RecordBatch) (cs : List Field) (i : ℕ) (rows : Place → ℕ) (p : Place) (ps : List Parts) : Type 0 where
-  pub natural : AreNatural m p (place_in m (fields_of cs) i p)
-  pub none : child_faults m [] (fields_of cs) p rows ≡ child_faults m [] (fields_of (drop i cs)) (place_in m (fields_of cs) i p) rows
-  pub parts : trees_read m (fields_of cs) p rows ≡ ps ++ trees_read m (fields_of (drop i cs)) (place_in m (fields_of cs) i p) rows
-  pub bytes : AllHaveBytes m (fields_of (drop i cs)) (place_in m (fields_of cs) i p) rows → AllHaveBytes m (fields_of cs) p rows
+pub record ChildrenDone (m : RecordBatch) (d : Dictionaries) (h : Held) (fs : Fields) (i : ℕ) (rows : Place → ℕ) (p : Place) (ps : List Parts) : Type 0 where
+  pub natural : AreNatural m p (place_in m fs i p)
+  pub none : child_faults m d fs p rows ≡ child_faults m d (dropped i fs) (place_in m fs i p) rows
+  pub parts : trees_read m h fs p rows ≡ ps ++ trees_read m h (dropped i fs) (place_in m fs i p) rows
 
-pub none_children : (m : RecordBatch) (cs : List Field) (rows : Place → ℕ) (p : Place) → ChildrenDone m cs 0 rows p []
-none_children m cs rows p =
-    let e = first_place_in m (fields_of cs) p in
+-- and their numbers are of bytes where those of the others are
+abbrev pub BytesDone : RecordBatch → Fields → ℕ → (Place → ℕ) → Place → Type 0
+BytesDone m fs i rows p = AllHaveBytes m (dropped i fs) (place_in m fs i p) rows → AllHaveBytes m fs p rows
+
+pub none_children : (m : RecordBatch) (d : Dictionaries) (h : Held) (fs : Fields) (rows : Place → ℕ) (p : Place) → ChildrenDone m d h fs 0 rows p []
+none_children m d h fs rows p =
+    let e = first_place_in m fs p in
     record {
       natural = subst (λ q. AreNatural m p q) (sym e) (natural_itself m p);
-      none = ap (λ q. child_faults m [] (fields_of cs) q rows) (sym e);
-      parts = ap (λ q. trees_read m (fields_of cs) q rows) (sym e);
-      bytes = subst (λ q. AllHaveBytes m (fields_of cs) q rows → AllHaveBytes m (fields_of cs) p rows) (sym e) (λ b. b);
+      none = ap (λ q. child_faults m d fs q rows) (sym e);
+      parts = ap (λ q. trees_read m h fs q rows) (sym e);
     }
 
-pub counts_none : (m : RecordBatch) (k : Kind) (p : Place) (rows : ℕ) → read_faults m k p rows ≡ [] → count_faults m k p ≡ []
-unfolding read_faults
-counts_none m k p rows h = (none_of_both (count_faults m k p) _ h).0
+pub none_bytes : (m : RecordBatch) (fs : Fields) (rows : Place → ℕ) (p : Place) → BytesDone m fs 0 rows p
+none_bytes m fs rows p = subst (λ q. AllHaveBytes m fs q rows → AllHaveBytes m fs p rows) (sym (first_place_in m fs p)) (λ b. b)
 
-pub array_none : (m : RecordBatch) (k : Kind) (p : Place) (rows : ℕ) → read_faults m k p rows ≡ [] → array_faults m [] k p rows ≡ []
+pub counts_none : (m : RecordBatch) (d : Dictionaries) (k : Kind) (p : Place) (rows : ℕ) → read_faults m d k p rows ≡ [] → count_faults m k p ≡ []
 unfolding read_faults
-array_none m k p rows h = (none_of_both (count_faults m k p) _ h).1
+counts_none m d k p rows h = (none_of_both (count_faults m k p) _ h).0
 
-pub views_none : (m : RecordBatch) (k : Kind) (p : Place) (rows : ℕ) → read_faults m k p rows ≡ [] → view_count_faults m k p ≡ []
+pub array_none : (m : RecordBatch) (d : Dictionaries) (k : Kind) (p : Place) (rows : ℕ) → read_faults m d k p rows ≡ [] → array_faults m d k p rows ≡ []
+unfolding read_faults
+array_none m d k p rows h = (none_of_both (count_faults m k p) _ h).1
+
+pub views_none : (m : RecordBatch) (d : Dictionaries) (k : Kind) (p : Place) (rows : ℕ) → read_faults m d k p rows ≡ [] → view_count_faults m k p ≡ []
 unfolding count_faults
-views_none m k p rows h = (none_of_both (counts_faults m (after m k p)) _ (counts_none m k p rows h)).1
+views_none m d k p rows h = (none_of_both (counts_faults m (after m k p)) _ (counts_none m d k p rows h)).1
 
 -- the first of the fields that are left
-left_faults : (m : RecordBatch) (cs : List Field) (i : ℕ) (rows : Place → ℕ) (x : Field) (q : Place) → i < length cs → x ≡ get_or cs i x
-    → child_faults m [] (fields_of (drop i cs)) q rows ≡ array_faults m [] (kind_of x.dtype) q (rows q) ++ if_sound (view_count_faults m (kind_of x.dtype) q) (child_faults m [] (fields_of (drop (i + 1) cs)) (after m (kind_of x.dtype) q) rows)
-left_faults m cs i rows x q h e =
-    ap (λ ys. child_faults m [] (fields_of ys) q rows) (left_child cs i x h e)
-    ∙ ap (λ k. array_faults m [] k q (rows q) ++ if_sound (view_count_faults m k q) (child_faults m [] (fields_of (drop (i + 1) cs)) (after m k q) rows)) (kind_of_child x)
+left_faults : (m : RecordBatch) (d : Dictionaries) (fs : Fields) (i : ℕ) (rows : Place → ℕ) (x : Child) (q : Place) → StandsIn fs i x
+    → child_faults m d (dropped i fs) q rows ≡ array_faults m d x.kind q (rows q) ++ if_sound (view_count_faults m x.kind q) (child_faults m d (dropped (suc i) fs) (after m x.kind q) rows)
+left_faults m d fs i rows x q e = ap (λ gs. child_faults m d gs q rows) e
 
-left_parts : (m : RecordBatch) (cs : List Field) (i : ℕ) (rows : Place → ℕ) (x : Field) (q : Place) → i < length cs → x ≡ get_or cs i x
-    → trees_read m (fields_of (drop i cs)) q rows ≡ parts_read m (kind_of x.dtype) q (rows q) ∷ trees_read m (fields_of (drop (i + 1) cs)) (after m (kind_of x.dtype) q) rows
-left_parts m cs i rows x q h e =
-    ap (λ ys. trees_read m (fields_of ys) q rows) (left_child cs i x h e)
-    ∙ ap (λ k. parts_read m k q (rows q) ∷ trees_read m (fields_of (drop (i + 1) cs)) (after m k q) rows) (kind_of_child x)
+left_parts : (m : RecordBatch) (h : Held) (fs : Fields) (i : ℕ) (rows : Place → ℕ) (x : Child) (q : Place) → StandsIn fs i x
+    → trees_read m h (dropped i fs) q rows ≡ parts_read m h x.kind q (rows q) ∷ trees_read m h (dropped (suc i) fs) (after m x.kind q) rows
+left_parts m h fs i rows x q e = ap (λ gs. trees_read m h gs q rows) e
 
-left_bytes : (m : RecordBatch) (cs : List Field) (i : ℕ) (rows : Place → ℕ) (x : Field) (q : Place) → i < length cs → x ≡ get_or cs i x
-    → HaveBytes m (kind_of x.dtype) q (rows q) → AllHaveBytes m (fields_of (drop (i + 1) cs)) (after m (kind_of x.dtype) q) rows → AllHaveBytes m (fields_of (drop i cs)) q rows
-left_bytes m cs i rows x q h e b c =
-    subst (λ ys. AllHaveBytes m (fields_of ys) q rows) (sym (left_child cs i x h e))
-    (subst (λ k. HaveBytes m k q (rows q) × AllHaveBytes m (fields_of (drop (i + 1) cs)) (after m k q) rows) (sym (kind_of_child x)) (b, c))
-
-pub left_fetched : (m : RecordBatch) (cs : List Field) (i : ℕ) (rows : Place → ℕ) (x : Field) (p : Place) → i < length cs → x ≡ get_or cs i x
-    → columns_fetched m (fields_of (drop i cs)) (place_in m (fields_of cs) i p) rows ≡ fetched_at_most m (kind_of x.dtype) (place_in m (fields_of cs) i p) (rows (place_in m (fields_of cs) i p)) + columns_fetched m (fields_of (drop (i + 1) cs)) (place_in m (fields_of cs) (i + 1) p) rows
-left_fetched m cs i rows x p h e =
-    let q = place_in m (fields_of cs) i p in
-    ap (λ ys. columns_fetched m (fields_of ys) q rows) (left_child cs i x h e)
-    ∙ ap (λ k. fetched_at_most m k q (rows q) + columns_fetched m (fields_of (drop (i + 1) cs)) (after m k q) rows) (kind_of_child x)
-    ∙ ap (λ z. fetched_at_most m (kind_of x.dtype) q (rows q) + columns_fetched m (fields_of (drop (i + 1) cs)) z rows) (sym (next_place_in m cs i x p h e))
+pub left_fetched : (m : RecordBatch) (fs : Fields) (i : ℕ) (rows : Place → ℕ) (x : Child) (p : Place) → StandsIn fs i x
+    → columns_fetched m (dropped i fs) (place_in m fs i p) rows ≡ fetched_at_most m x.kind (place_in m fs i p) (rows (place_in m fs i p)) + columns_fetched m (dropped (suc i) fs) (place_in m fs (suc i) p) rows
+left_fetched m fs i rows x p e =
+    let q = place_in m fs i p in
+    ap (λ gs. columns_fetched m gs q rows) e
+    ∙ ap (λ z. fetched_at_most m x.kind q (rows q) + columns_fetched m (dropped (suc i) fs) z rows) (sym (next_in m fs i x p e))
 
 -- one more was read, for so many rows
-pub next_child : (m : RecordBatch) (cs : List Field) (i n : ℕ) (rows : Place → ℕ) (p : Place) (ps : List Parts) (x : Field) (a : Parts) → i < length cs → x ≡ get_or cs i x → n ≡ rows (place_in m (fields_of cs) i p)
-    → read_faults m (kind_of x.dtype) (place_in m (fields_of cs) i p) n ≡ [] → a ≡ parts_read m (kind_of x.dtype) (place_in m (fields_of cs) i p) n → HaveBytes m (kind_of x.dtype) (place_in m (fields_of cs) i p) n
-    → ChildrenDone m cs i rows p ps → ChildrenDone m cs (i + 1) rows p (ps ++ a ∷ [])
-next_child m cs i n rows p ps x a h e w f g b d =
-    let q = place_in m (fields_of cs) i p in
-    let k = kind_of x.dtype in
-    let z = next_place_in m cs i x p h e in
-    let none : read_faults m k q (rows q) ≡ [] = subst (λ c. read_faults m k q c ≡ []) w f in
-    let same : a ≡ parts_read m k q (rows q) = g ∙ ap (parts_read m k q) w in
-    let counts : place_faults m q (after m k q) ≡ [] = sym (counts_between m k q) ∙ counts_none m k q (rows q) none in
-    let rest = child_faults m [] (fields_of (drop (i + 1) cs)) (after m k q) rows in
+pub next_child : (m : RecordBatch) (d : Dictionaries) (h : Held) (fs : Fields) (i n : ℕ) (rows : Place → ℕ) (p : Place) (ps : List Parts) (x : Child) (a : Parts) → StandsIn fs i x → n ≡ rows (place_in m fs i p)
+    → read_faults m d x.kind (place_in m fs i p) n ≡ [] → a ≡ parts_read m h x.kind (place_in m fs i p) n
+    → ChildrenDone m d h fs i rows p ps → ChildrenDone m d h fs (suc i) rows p (ps ++ a ∷ [])
+next_child m d h fs i n rows p ps x a e w f g done =
+    let q = place_in m fs i p in
+    let k = x.kind in
+    let z = next_in m fs i x p e in
+    let within = stands_within fs i x e in
+    let none : read_faults m d k q (rows q) ≡ [] = subst (λ c. read_faults m d k q c ≡ []) w f in
+    let same : a ≡ parts_read m h k q (rows q) = g ∙ ap (parts_read m h k q) w in
+    let counts : place_faults m q (after m k q) ≡ [] = sym (counts_between m k q) ∙ counts_none m d k q (rows q) none in
+    let rest = child_faults m d (dropped (suc i) fs) (after m k q) rows in
     record {
-      natural = subst (λ r. AreNatural m p r) (sym z) (natural_then m p q (after m k q) (field_behind m cs i p (omega (arith, h))).views (after_is_behind m k q).views d.natural (are_natural m q (after m k q) counts));
-      none = d.none ∙ left_faults m cs i rows x q h e ∙ ap (λ es. es ++ if_sound (view_count_faults m k q) rest) (array_none m k q (rows q) none) ∙ ap (λ es. if_sound es rest) (views_none m k q (rows q) none)
-          ∙ ap (λ r. child_faults m [] (fields_of (drop (i + 1) cs)) r rows) (sym z);
-      parts = d.parts ∙ ap (λ ys. ps ++ ys) (left_parts m cs i rows x q h e ∙ ap (λ y. y ∷ trees_read m (fields_of (drop (i + 1) cs)) (after m k q) rows) (sym same)) ∙ sym (append_assoc ps (a ∷ []) (trees_read m (fields_of (drop (i + 1) cs)) (after m k q) rows))
-          ∙ ap (λ r. (ps ++ a ∷ []) ++ trees_read m (fields_of (drop (i + 1) cs)) r rows) (sym z);
-      bytes = λ c. d.bytes (left_bytes m cs i rows x q h e (subst (λ c. HaveBytes m k q c) w b) (subst (λ r. AllHaveBytes m (fields_of (drop (i + 1) cs)) r rows) z c));
+      natural = subst (λ r. AreNatural m p r) (sym z) (natural_then m p q (after m k q) (place_behind m fs i p (omega (arith, within))).views (after_is_behind m k q).views done.natural (are_natural m q (after m k q) counts));
+      none = done.none ∙ left_faults m d fs i rows x q e ∙ ap (λ es. es ++ if_sound (view_count_faults m k q) rest) (array_none m d k q (rows q) none) ∙ ap (λ es. if_sound es rest) (views_none m d k q (rows q) none)
+          ∙ ap (λ r. child_faults m d (dropped (suc i) fs) r rows) (sym z);
+      parts = done.parts ∙ ap (λ ys. ps ++ ys) (left_parts m h fs i rows x q e ∙ ap (λ y. y ∷ trees_read m h (dropped (suc i) fs) (after m k q) rows) (sym same)) ∙ sym (append_assoc ps (a ∷ []) (trees_read m h (dropped (suc i) fs) (after m k q) rows))
+          ∙ ap (λ r. (ps ++ a ∷ []) ++ trees_read m h (dropped (suc i) fs) r rows) (sym z);
     }
 
+pub next_bytes : (m : RecordBatch) (fs : Fields) (i n : ℕ) (rows : Place → ℕ) (p : Place) (x : Child) → StandsIn fs i x → n ≡ rows (place_in m fs i p) → HaveBytes m x.kind (place_in m fs i p) n → BytesDone m fs i rows p → BytesDone m fs (suc i) rows p
+next_bytes m fs i n rows p x e w b d = λ c.
+    let q = place_in m fs i p in
+    d (subst (λ gs. AllHaveBytes m gs q rows) (sym e)
+    (subst (λ r. HaveBytes m x.kind q r) w b, subst (λ r. AllHaveBytes m (dropped (suc i) fs) r rows) (next_in m fs i x p e) c))
+
 -- what refuses the next child refuses all
-pub child_refused : (m : RecordBatch) (cs : List Field) (i n : ℕ) (rows : Place → ℕ) (p : Place) (ps : List Parts) (x : Field) (e : IpcError) → i < length cs → x ≡ get_or cs i x → n ≡ rows (place_in m (fields_of cs) i p) → ChildrenDone m cs i rows p ps
-    → Refuses e (read_faults m (kind_of x.dtype) (place_in m (fields_of cs) i p) n) → Refuses e (place_faults m p (behind m (fields_of cs) p) ++ child_faults m [] (fields_of cs) p rows)
+pub child_refused : (m : RecordBatch) (d : Dictionaries) (h : Held) (fs : Fields) (i n : ℕ) (rows : Place → ℕ) (p : Place) (ps : List Parts) (x : Child) (e : IpcError) → StandsIn fs i x → n ≡ rows (place_in m fs i p) → ChildrenDone m d h fs i rows p ps
+    → Refuses e (read_faults m d x.kind (place_in m fs i p) n) → Refuses e (place_faults m p (behind m fs p) ++ child_faults m d fs p rows)
 unfolding read_faults
-child_refused m cs i n rows p ps x e h g w d r =
-    let q = place_in m (fields_of cs) i p in
-    let k = kind_of x.dtype in
-    refuses_by (count_faults m k q) (array_faults m [] k q (rows q)) _ e
-    (λ s. refuses_left (place_faults m p (behind m (fields_of cs) p)) _ e (wider_refuses m p (behind m (fields_of cs) p) q (after m k q) e (field_behind m cs i p (omega (arith, h))) (after_is_behind m k q).views (within_fields m cs i x p h g)
+child_refused m d h fs i n rows p ps x e g w done r =
+    let q = place_in m fs i p in
+    let k = x.kind in
+    let within = stands_within fs i x g in
+    refuses_by (count_faults m k q) (array_faults m d k q (rows q)) _ e
+    (λ s. refuses_left (place_faults m p (behind m fs p)) _ e (wider_refuses m p (behind m fs p) q (after m k q) e (place_behind m fs i p (omega (arith, within))) (after_is_behind m k q).views (within_all m fs i x p g)
     (subst (λ es. Refuses e es) (counts_between m k q) s)))
-    (λ s. refuses_right (place_faults m p (behind m (fields_of cs) p)) _ e (subst (λ es. Refuses e es) (sym (d.none ∙ left_faults m cs i rows x q h g)) (refuses_left (array_faults m [] k q (rows q)) _ e s)))
-    (subst (λ c. Refuses e (count_faults m k q ++ array_faults m [] k q c)) w r)
+    (λ s. refuses_right (place_faults m p (behind m fs p)) _ e (subst (λ es. Refuses e es) (sym (done.none ∙ left_faults m d fs i rows x q g)) (refuses_left (array_faults m d k q (rows q)) _ e s)))
+    (subst (λ c. Refuses e (count_faults m k q ++ array_faults m d k q c)) w r)
 
 -- all were read
-pub all_children : (m : RecordBatch) (cs : List Field) (i : ℕ) (rows : Place → ℕ) (p : Place) (ps : List Parts) (ns : List FieldNode) (bs : List IpcBuffer) (vs : List ℤ) → length cs ≤ i → i ≤ length cs → AllAt m (place_in m (fields_of cs) i p) ns bs vs → ChildrenDone m cs i rows p ps
-    → (place_faults m p (behind m (fields_of cs) p) ++ child_faults m [] (fields_of cs) p rows ≡ []) × (forest ps ≡ forest_read m (fields_of cs) p rows)
-all_children m cs i rows p ps ns bs vs h k a d =
-    let l = last_place_in m cs i p h k in
-    let e = drop_all cs i h in
-    let q = place_in m (fields_of cs) i p in
-    let places : place_faults m p (behind m (fields_of cs) p) ≡ [] = none_missing m p (behind m (fields_of cs) p) ns bs vs (subst (λ r. AllAt m r ns bs vs) l a) (subst (λ r. AreNatural m p r) l d.natural) in
-    let children : child_faults m [] (fields_of cs) p rows ≡ [] = d.none ∙ ap (λ ys. child_faults m [] (fields_of ys) q rows) e in
-    let parts : trees_read m (fields_of cs) p rows ≡ ps = d.parts ∙ ap (λ ys. ps ++ trees_read m (fields_of ys) q rows) e ∙ append-nil ps in
-    (both_none _ _ places children, ap forest (sym parts) ∙ forest_is m (fields_of cs) p rows)
+pub all_children : (m : RecordBatch) (d : Dictionaries) (h : Held) (fs : Fields) (i : ℕ) (rows : Place → ℕ) (p : Place) (ps : List Parts) (ns : List FieldNode) (bs : List IpcBuffer) (vs : List ℤ) → width fs ≤ i → i ≤ width fs → AllAt m (place_in m fs i p) ns bs vs → ChildrenDone m d h fs i rows p ps
+    → (place_faults m p (behind m fs p) ++ child_faults m d fs p rows ≡ []) × (forest ps ≡ forest_read m h fs p rows)
+all_children m d h fs i rows p ps ns bs vs g j a done =
+    let l = last_in m fs i p g j in
+    let e = dropped_end fs i g in
+    let q = place_in m fs i p in
+    let places : place_faults m p (behind m fs p) ≡ [] = none_missing m p (behind m fs p) ns bs vs (subst (λ r. AllAt m r ns bs vs) l a) (subst (λ r. AreNatural m p r) l done.natural) in
+    let children : child_faults m d fs p rows ≡ [] = done.none ∙ ap (λ gs. child_faults m d gs q rows) e in
+    let parts : trees_read m h fs p rows ≡ ps = done.parts ∙ ap (λ gs. ps ++ trees_read m h gs q rows) e ∙ append-nil ps in
+    (both_none _ _ places children, ap forest (sym parts) ∙ forest_is m h fs p rows)
 
-pub all_bytes : (m : RecordBatch) (cs : List Field) (i : ℕ) (rows : Place → ℕ) (p : Place) (ps : List Parts) → length cs ≤ i → ChildrenDone m cs i rows p ps → AllHaveBytes m (fields_of cs) p rows
-all_bytes m cs i rows p ps h d = d.bytes (subst (λ ys. AllHaveBytes m (fields_of ys) (place_in m (fields_of cs) i p) rows) (sym (drop_all cs i h)) tt)
+pub all_bytes : (m : RecordBatch) (fs : Fields) (i : ℕ) (rows : Place → ℕ) (p : Place) → width fs ≤ i → BytesDone m fs i rows p → AllHaveBytes m fs p rows
+all_bytes m fs i rows p h d = d (subst (λ gs. AllHaveBytes m gs (place_in m fs i p) rows) (sym (dropped_end fs i h)) tt)
 
 -- the first children have the rows that are said
-abbrev pub RowsDone : RecordBatch → List Field → ℕ → (Place → ℕ) → Place → List Parts → Type 0
-RowsDone m cs i rows p ps = rows_of_each m (fields_of cs) p rows ≡ rows_each (forest ps) ++ rows_of_each m (fields_of (drop i cs)) (place_in m (fields_of cs) i p) rows
+abbrev pub RowsDone : RecordBatch → Fields → ℕ → (Place → ℕ) → Place → List Parts → Type 0
+RowsDone m fs i rows p ps = rows_of_each m fs p rows ≡ rows_each (forest ps) ++ rows_of_each m (dropped i fs) (place_in m fs i p) rows
 
-pub no_rows_done : (m : RecordBatch) (cs : List Field) (rows : Place → ℕ) (p : Place) → RowsDone m cs 0 rows p []
-no_rows_done m cs rows p = ap (λ q. rows_of_each m (fields_of cs) q rows) (sym (first_place_in m (fields_of cs) p))
+pub no_rows_done : (m : RecordBatch) (fs : Fields) (rows : Place → ℕ) (p : Place) → RowsDone m fs 0 rows p []
+no_rows_done m fs rows p = ap (λ q. rows_of_each m fs q rows) (sym (first_place_in m fs p))
 
 rows_more : (ps : List Parts) (a : Parts) (ns : List ℕ) → rows_each (forest ps) ++ rows_in a ∷ ns ≡ rows_each (forest (ps ++ a ∷ [])) ++ ns
 rows_more [] a ns = refl
 rows_more (x ∷ ps) a ns = ap (λ zs. rows_in x ∷ zs) (rows_more ps a ns)
 
-pub next_rows_done : (m : RecordBatch) (cs : List Field) (i n : ℕ) (rows : Place → ℕ) (p : Place) (ps : List Parts) (x : Field) (a : Parts) → i < length cs → x ≡ get_or cs i x → n ≡ rows (place_in m (fields_of cs) i p) → rows_in a ≡ n
-    → RowsDone m cs i rows p ps → RowsDone m cs (i + 1) rows p (ps ++ a ∷ [])
-next_rows_done m cs i n rows p ps x a h e w r d =
-    let q = place_in m (fields_of cs) i p in
-    let k = kind_of x.dtype in
-    let left : rows_of_each m (fields_of (drop i cs)) q rows ≡ rows q ∷ rows_of_each m (fields_of (drop (i + 1) cs)) (after m k q) rows =
-    ap (λ ys. rows_of_each m (fields_of ys) q rows) (left_child cs i x h e) ∙ ap (λ k. rows q ∷ rows_of_each m (fields_of (drop (i + 1) cs)) (after m k q) rows) (kind_of_child x) in
-    d ∙ ap (λ ns. rows_each (forest ps) ++ ns) (left ∙ ap (λ c. c ∷ rows_of_each m (fields_of (drop (i + 1) cs)) (after m k q) rows) (sym (r ∙ w)))
-    ∙ rows_more ps a _ ∙ ap (λ z. rows_each (forest (ps ++ a ∷ [])) ++ rows_of_each m (fields_of (drop (i + 1) cs)) z rows) (sym (next_place_in m cs i x p h e))
+pub next_rows_done : (m : RecordBatch) (fs : Fields) (i n : ℕ) (rows : Place → ℕ) (p : Place) (ps : List Parts) (x : Child) (a : Parts) → StandsIn fs i x → n ≡ rows (place_in m fs i p) → rows_in a ≡ n
+    → RowsDone m fs i rows p ps → RowsDone m fs (suc i) rows p (ps ++ a ∷ [])
+next_rows_done m fs i n rows p ps x a e w r d =
+    let q = place_in m fs i p in
+    let k = x.kind in
+    let left : rows_of_each m (dropped i fs) q rows ≡ rows q ∷ rows_of_each m (dropped (suc i) fs) (after m k q) rows = ap (λ gs. rows_of_each m gs q rows) e in
+    d ∙ ap (λ ns. rows_each (forest ps) ++ ns) (left ∙ ap (λ c. c ∷ rows_of_each m (dropped (suc i) fs) (after m k q) rows) (sym (r ∙ w)))
+    ∙ rows_more ps a _ ∙ ap (λ z. rows_each (forest (ps ++ a ∷ [])) ++ rows_of_each m (dropped (suc i) fs) z rows) (sym (next_in m fs i x p e))
 
-pub all_rows_done : (m : RecordBatch) (cs : List Field) (i : ℕ) (rows : Place → ℕ) (p : Place) (ps : List Parts) → length cs ≤ i → RowsDone m cs i rows p ps → rows_each (forest ps) ≡ rows_of_each m (fields_of cs) p rows
-all_rows_done m cs i rows p ps h d = sym (d ∙ ap (λ ys. rows_each (forest ps) ++ rows_of_each m (fields_of ys) (place_in m (fields_of cs) i p) rows) (drop_all cs i h) ∙ append-nil (rows_each (forest ps)))
+pub all_rows_done : (m : RecordBatch) (fs : Fields) (i : ℕ) (rows : Place → ℕ) (p : Place) (ps : List Parts) → width fs ≤ i → RowsDone m fs i rows p ps → rows_each (forest ps) ≡ rows_of_each m fs p rows
+all_rows_done m fs i rows p ps h d = sym (d ∙ ap (λ gs. rows_each (forest ps) ++ rows_of_each m gs (place_in m fs i p) rows) (dropped_end fs i h) ∙ append-nil (rows_each (forest ps)))
 
 -- the same rows are those of all
 pub each_same : (m : RecordBatch) (fs : Fields) (p : Place) (n : ℕ) → are_all n (rows_of_each m fs p (λ q. n)) ≡ true
@@ -325,16 +332,19 @@ each_same m none p n = refl
 each_same m (field name nullable metadata k others) p n = and_from (nat_eq n n) _ (eq-eqb n n refl) (each_same m others (after m k p) n)
 
 -- and so they are without a batch
-pub all_same : (cs : List Field) (version : MetadataVersion) (ns : List FieldNode) (bs : List IpcBuffer) (vs : List ℤ) (n : ℕ) (held : List ℕ) → ((m : RecordBatch) (p : Place) → BatchAt version m p ns bs vs → held ≡ rows_of_each m (fields_of cs) p (λ q. n)) → are_all n held ≡ true
-all_same cs version ns bs vs n held h =
+pub all_same : (fs : Fields) (version : MetadataVersion) (ns : List FieldNode) (bs : List IpcBuffer) (vs : List ℤ) (n : ℕ) (held : List ℕ) → ((m : RecordBatch) (p : Place) → BatchAt version m p ns bs vs → held ≡ rows_of_each m fs p (λ q. n)) → are_all n held ≡ true
+all_same fs version ns bs vs n held h =
     let m = only_tables version ns bs vs in
-    ap (are_all n) (h m first_place (batch_from_first version ns bs vs)) ∙ each_same m (fields_of cs) first_place n
+    ap (are_all n) (h m first_place (batch_from_first version ns bs vs)) ∙ each_same m fs first_place n
 
 -- ── what is known of the arrays without the source ──
 
 pub kinds_are : (ps : List Parts) → kinds_each (forest ps) ≡ map kind_in ps
 kinds_are [] = refl
 kinds_are (x ∷ ps) = ap (λ ks. kind_in x ∷ ks) (kinds_are ps)
+
+pub left_child : (cs : List Field) (i : ℕ) (x : Field) → i < length cs → x ≡ get_or cs i x → drop i cs ≡ x ∷ drop (i + 1) cs
+left_child cs i x h e = drop-cons cs i x h ∙ ap (λ y. y ∷ drop (suc i) cs) (sym e) ∙ ap (λ n. x ∷ drop n cs) (sym (add-one i))
 
 -- arrays of the first fields' kinds
 abbrev pub KindsDone : List Field → ℕ → List Parts → Type 0
@@ -363,35 +373,29 @@ next_sound (x ∷ ps) a h k = by (fault_in x) (fault_each (forest ps)) (fault_ea
 
 -- ── queues ──
 
-place_within : (m : RecordBatch) (cs : List Field) (i : ℕ) (p : Place) → i ≤ length cs → IsBehind (place_in m (fields_of cs) i p) (behind m (fields_of cs) p)
-place_within m [] i p h = fields_behind m none p
-place_within m (c ∷ cs) zero p h = fields_behind m (fields_of (c ∷ cs)) p
-place_within m (c ∷ cs) (suc i) p h =
-    subst (λ q. IsBehind (place_in m (fields_of cs) i (after m (child_of c).kind p)) q) (sym (behind_first m (child_of c) (fields_of cs) p)) (place_within m cs i (after m (child_of c).kind p) (omega (arith, h)))
-
 -- the queues stand at the place of a field
-abbrev pub StandAt : MetadataVersion → List Field → ℕ → List FieldNode → List FieldNode → List IpcBuffer → List IpcBuffer → List ℤ → List ℤ → Type 0
-StandAt version cs i ns ns' bs bs' vs vs' = (m : RecordBatch) (p : Place) → BatchAt version m p ns bs vs → AllAt m (place_in m (fields_of cs) i p) ns' bs' vs'
+abbrev pub StandAt : MetadataVersion → Fields → ℕ → List FieldNode → List FieldNode → List IpcBuffer → List IpcBuffer → List ℤ → List ℤ → Type 0
+StandAt version fs i ns ns' bs bs' vs vs' = (m : RecordBatch) (p : Place) → BatchAt version m p ns bs vs → AllAt m (place_in m fs i p) ns' bs' vs'
 
-pub children_taken : (cs : List Field) (i : ℕ) (version : MetadataVersion) (ns ns' : List FieldNode) (bs bs' : List IpcBuffer) (vs vs' : List ℤ) → i ≤ length cs → StandAt version cs i ns ns' bs bs' vs vs' → ShortenedByAll (fields_of cs) version ns ns' bs bs' vs vs'
-children_taken cs i version ns ns' bs bs' vs vs' h q =
+pub children_taken : (fs : Fields) (i : ℕ) (version : MetadataVersion) (ns ns' : List FieldNode) (bs bs' : List IpcBuffer) (vs vs' : List ℤ) → i ≤ width fs → StandAt version fs i ns ns' bs bs' vs vs' → ShortenedByAll fs version ns ns' bs bs' vs vs'
+children_taken fs i version ns ns' bs bs' vs vs' h q =
     let m = only_tables version ns bs vs in
     let left = q m first_place (batch_from_first version ns bs vs) in
-    let most = place_within m cs i first_place h in
+    let most = place_within m fs i first_place h in
     record {
       nodes = taken_more (all_taken _ ns ns' left.nodes.is) (omega (arith, most.nodes));
       buffers = taken_more (all_taken _ bs bs' left.buffers.is) (omega (arith, most.buffers));
       views = taken_more (all_taken _ vs vs' left.views.is) (omega (arith, most.views));
     }
 
-pub children_until : (cs : List Field) (i : ℕ) (x : Field) (version : MetadataVersion) (ns ns' ns'' : List FieldNode) (bs bs' bs'' : List IpcBuffer) (vs vs' vs'' : List ℤ) → i < length cs → x ≡ get_or cs i x → StandAt version cs i ns ns' bs bs' vs vs'
-    → ShortenedBy (kind_of x.dtype) version ns' ns'' bs' bs'' vs' vs'' → ShortenedByAll (fields_of cs) version ns ns'' bs bs'' vs vs''
-children_until cs i x version ns ns' ns'' bs bs' bs'' vs vs' vs'' h g q s =
-    let k = kind_of x.dtype in
+pub children_until : (fs : Fields) (i : ℕ) (x : Child) (version : MetadataVersion) (ns ns' ns'' : List FieldNode) (bs bs' bs'' : List IpcBuffer) (vs vs' vs'' : List ℤ) → StandsIn fs i x → StandAt version fs i ns ns' bs bs' vs vs'
+    → ShortenedBy x.kind version ns' ns'' bs' bs'' vs' vs'' → ShortenedByAll fs version ns ns'' bs bs'' vs vs''
+children_until fs i x version ns ns' ns'' bs bs' bs'' vs vs' vs'' g q s =
+    let k = x.kind in
     let m = only_tables version ns bs vs in
-    let here = place_in m (fields_of cs) i first_place in
+    let here = place_in m fs i first_place in
     let left = q m first_place (batch_from_first version ns bs vs) in
-    let most = within_fields m cs i x first_place h g in
+    let most = within_all m fs i x first_place g in
     let taken : buffers version vs' k 0 ≡ buffers version vs k here.view = ap (λ z. buffers version z k 0) left.views.is ∙ buffers_dropped version vs here.view k 0 ∙ ap (buffers version vs k) (omega arith) in
     record {
       nodes = taken_then (all_taken here.node ns ns' left.nodes.is) s.nodes (omega (arith, most.nodes));
@@ -438,65 +442,65 @@ inside_behind own p = record { nodes = omega arith; buffers = omega arith; views
 counted_counts : (m : RecordBatch) (s : Option ℕ) (fs : Fields) (p : Place) → count_faults m (counted_kind s fs) p ≡ place_faults m p (behind m fs (inside 1 p))
 counted_counts m s fs p = counts_between m (counted_kind s fs) p ∙ ap (place_faults m p) (sym (after_opens m (counted_kind s fs) 1 fs p (counted_opens m.version s fs)))
 
-counted_faults : (m : RecordBatch) (s : Option ℕ) (fs : Fields) (p : Place) (rows : ℕ) → array_faults m [] (counted_kind s fs) p rows ≡ node_faults m p rows ++ validity_faults m p rows ++ child_faults m [] fs (inside 1 p) (λ q. counted_rows s rows)
-counted_faults m None fs p rows = refl
-counted_faults m (Some size) fs p rows = refl
+counted_faults : (m : RecordBatch) (d : Dictionaries) (s : Option ℕ) (fs : Fields) (p : Place) (rows : ℕ) → array_faults m d (counted_kind s fs) p rows ≡ node_faults m p rows ++ validity_faults m p rows ++ child_faults m d fs (inside 1 p) (λ q. counted_rows s rows)
+counted_faults m d None fs p rows = refl
+counted_faults m d (Some size) fs p rows = refl
 
-pub wrapped_reads : (P : List IpcError → Type 0) (m : RecordBatch) (k l : Kind) (p : Place) (rows : ℕ) → under_extensions k ≡ l → P (read_faults m l p rows) → P (read_faults m k p rows)
+pub wrapped_reads : (P : List IpcError → Type 0) (m : RecordBatch) (d : Dictionaries) (k l : Kind) (p : Place) (rows : ℕ) → under_extensions k ≡ l → P (read_faults m d l p rows) → P (read_faults m d k p rows)
 unfolding read_faults count_faults
-wrapped_reads P m k l p rows e h = wrapped (λ k. P (read_faults m k p rows)) (λ name metadata k h. h) k l e h
+wrapped_reads P m d k l p rows e h = wrapped (λ k. P (read_faults m d k p rows)) (λ name metadata k h. h) k l e h
 
-pub among_array : (m : RecordBatch) (k : Kind) (p : Place) (rows : ℕ) (x : IpcError) → IsAmong (array_faults m [] k p rows) x → IsAmong (read_faults m k p rows) x
+pub among_array : (m : RecordBatch) (d : Dictionaries) (k : Kind) (p : Place) (rows : ℕ) (x : IpcError) → IsAmong (array_faults m d k p rows) x → IsAmong (read_faults m d k p rows) x
 unfolding read_faults
-among_array m k p rows x h = among_right (count_faults m k p) _ x h
+among_array m d k p rows x h = among_right (count_faults m k p) _ x h
 
 -- what is wrong with the top itself
-counted_own : (m : RecordBatch) (s : Option ℕ) (fs : Fields) (p : Place) (rows : ℕ) (x : IpcError) → IsAmong (node_faults m p rows ++ validity_faults m p rows) x → IsAmong (read_faults m (counted_kind s fs) p rows) x
-counted_own m s fs p rows x a =
-    among_array m (counted_kind s fs) p rows x (subst (λ es. IsAmong es x) (sym (counted_faults m s fs p rows)) (among_left (node_faults m p rows ++ validity_faults m p rows) _ x a))
+counted_own : (m : RecordBatch) (d : Dictionaries) (s : Option ℕ) (fs : Fields) (p : Place) (rows : ℕ) (x : IpcError) → IsAmong (node_faults m p rows ++ validity_faults m p rows) x → IsAmong (read_faults m d (counted_kind s fs) p rows) x
+counted_own m d s fs p rows x a =
+    among_array m d (counted_kind s fs) p rows x (subst (λ es. IsAmong es x) (sym (counted_faults m d s fs p rows)) (among_left (node_faults m p rows ++ validity_faults m p rows) _ x a))
 
-counted_top : (m : RecordBatch) (s : Option ℕ) (fs : Fields) (p : Place) (rows : ℕ) (e : IpcError) → Refuses e (head_faults m p rows) → Refuses e (read_faults m (counted_kind s fs) p rows)
-counted_top m s fs p rows e r =
+counted_top : (m : RecordBatch) (d : Dictionaries) (s : Option ℕ) (fs : Fields) (p : Place) (rows : ℕ) (e : IpcError) → Refuses e (head_faults m p rows) → Refuses e (read_faults m d (counted_kind s fs) p rows)
+counted_top m d s fs p rows e r =
     let k = counted_kind s fs in
     let within : p.buffer < (after m k p).buffer = omega (arith, (counted_opens m.version s fs).buffers m.variadic p.view) in
-    refuses_by (node_faults m p rows) _ (read_faults m k p rows) e
-    (λ t. refuses_more (node_faults m p rows) _ e (λ x a. counted_own m s fs p rows x (among_left (node_faults m p rows) (validity_faults m p rows) x a)) t)
-    (λ t. refuses_by (short_of m.buffers p.buffer) (validity_faults m p rows) (read_faults m k p rows) e
-    (λ u. refuses_more (short_of m.buffers p.buffer) _ e (λ x a. lacks_in m k p rows p.buffer x within a) u)
-    (λ u. refuses_more (validity_faults m p rows) _ e (λ x a. counted_own m s fs p rows x (among_right (node_faults m p rows) (validity_faults m p rows) x a)) u) t) r
+    refuses_by (node_faults m p rows) _ (read_faults m d k p rows) e
+    (λ t. refuses_more (node_faults m p rows) _ e (λ x a. counted_own m d s fs p rows x (among_left (node_faults m p rows) (validity_faults m p rows) x a)) t)
+    (λ t. refuses_by (short_of m.buffers p.buffer) (validity_faults m p rows) (read_faults m d k p rows) e
+    (λ u. refuses_more (short_of m.buffers p.buffer) _ e (λ x a. lacks_in m d k p rows p.buffer x within a) u)
+    (λ u. refuses_more (validity_faults m p rows) _ e (λ x a. counted_own m d s fs p rows x (among_right (node_faults m p rows) (validity_faults m p rows) x a)) u) t) r
 
-pub counted_head_refused : (m : RecordBatch) (k : Kind) (s : Option ℕ) (fs : Fields) (p : Place) (rows : ℕ) (e : IpcError) → under_extensions k ≡ counted_kind s fs → Refuses e (head_faults m p rows) → Refuses e (read_faults m k p rows)
-counted_head_refused m k s fs p rows e u r = wrapped_reads (Refuses e) m k (counted_kind s fs) p rows u (counted_top m s fs p rows e r)
+pub counted_head_refused : (m : RecordBatch) (d : Dictionaries) (k : Kind) (s : Option ℕ) (fs : Fields) (p : Place) (rows : ℕ) (e : IpcError) → under_extensions k ≡ counted_kind s fs → Refuses e (head_faults m p rows) → Refuses e (read_faults m d k p rows)
+counted_head_refused m d k s fs p rows e u r = wrapped_reads (Refuses e) m d k (counted_kind s fs) p rows u (counted_top m d s fs p rows e r)
 
-counted_children : (m : RecordBatch) (s : Option ℕ) (fs : Fields) (p : Place) (rows : ℕ) (e : IpcError) → Refuses e (place_faults m (inside 1 p) (behind m fs (inside 1 p)) ++ child_faults m [] fs (inside 1 p) (λ q. counted_rows s rows)) → Refuses e (read_faults m (counted_kind s fs) p rows)
+counted_children : (m : RecordBatch) (d : Dictionaries) (s : Option ℕ) (fs : Fields) (p : Place) (rows : ℕ) (e : IpcError) → Refuses e (place_faults m (inside 1 p) (behind m fs (inside 1 p)) ++ child_faults m d fs (inside 1 p) (λ q. counted_rows s rows)) → Refuses e (read_faults m d (counted_kind s fs) p rows)
 unfolding read_faults
-counted_children m s fs p rows e r =
+counted_children m d s fs p rows e r =
     let b = behind m fs (inside 1 p) in
     let k = counted_kind s fs in
-    refuses_by (place_faults m (inside 1 p) b) _ (read_faults m k p rows) e
+    refuses_by (place_faults m (inside 1 p) b) _ (read_faults m d k p rows) e
     (λ t. refuses_left (count_faults m k p) _ e (subst (λ es. Refuses e es) (sym (counted_counts m s fs p)) (wider_refuses m p b (inside 1 p) b e (inside_behind 1 p) (fields_behind m fs (inside 1 p)).views (behind_itself b) t)))
-    (λ t. refuses_right (count_faults m k p) _ e (subst (λ es. Refuses e es) (sym (counted_faults m s fs p rows)) (refuses_right (node_faults m p rows ++ validity_faults m p rows) _ e t))) r
+    (λ t. refuses_right (count_faults m k p) _ e (subst (λ es. Refuses e es) (sym (counted_faults m d s fs p rows)) (refuses_right (node_faults m p rows ++ validity_faults m p rows) _ e t))) r
 
-pub counted_children_refused : (m : RecordBatch) (k : Kind) (s : Option ℕ) (fs : Fields) (p : Place) (rows : ℕ) (e : IpcError) → under_extensions k ≡ counted_kind s fs → Refuses e (place_faults m (inside 1 p) (behind m fs (inside 1 p)) ++ child_faults m [] fs (inside 1 p) (λ q. counted_rows s rows)) → Refuses e (read_faults m k p rows)
-counted_children_refused m k s fs p rows e u r = wrapped_reads (Refuses e) m k (counted_kind s fs) p rows u (counted_children m s fs p rows e r)
+pub counted_children_refused : (m : RecordBatch) (d : Dictionaries) (k : Kind) (s : Option ℕ) (fs : Fields) (p : Place) (rows : ℕ) (e : IpcError) → under_extensions k ≡ counted_kind s fs → Refuses e (place_faults m (inside 1 p) (behind m fs (inside 1 p)) ++ child_faults m d fs (inside 1 p) (λ q. counted_rows s rows)) → Refuses e (read_faults m d k p rows)
+counted_children_refused m d k s fs p rows e u r = wrapped_reads (Refuses e) m d k (counted_kind s fs) p rows u (counted_children m d s fs p rows e r)
 
-counted_none : (m : RecordBatch) (s : Option ℕ) (fs : Fields) (p : Place) (rows : ℕ) (ns : List FieldNode) (bs : List IpcBuffer) (vs : List ℤ) → AllAt m (behind m fs (inside 1 p)) ns bs vs → head_faults m p rows ≡ [] → place_faults m (inside 1 p) (behind m fs (inside 1 p)) ++ child_faults m [] fs (inside 1 p) (λ q. counted_rows s rows) ≡ [] → read_faults m (counted_kind s fs) p rows ≡ []
+counted_none : (m : RecordBatch) (d : Dictionaries) (s : Option ℕ) (fs : Fields) (p : Place) (rows : ℕ) (ns : List FieldNode) (bs : List IpcBuffer) (vs : List ℤ) → AllAt m (behind m fs (inside 1 p)) ns bs vs → head_faults m p rows ≡ [] → place_faults m (inside 1 p) (behind m fs (inside 1 p)) ++ child_faults m d fs (inside 1 p) (λ q. counted_rows s rows) ≡ [] → read_faults m d (counted_kind s fs) p rows ≡ []
 unfolding read_faults
-counted_none m s fs p rows ns bs vs a h c =
+counted_none m d s fs p rows ns bs vs a h c =
     let b = behind m fs (inside 1 p) in
     let head = none_of_both (node_faults m p rows) _ h in
     let valid = none_of_both (short_of m.buffers p.buffer) _ head.1 in
     let parts = none_of_both (place_faults m (inside 1 p) b) _ c in
     both_none (count_faults m (counted_kind s fs) p) _ (counted_counts m s fs p ∙ none_missing m p b ns bs vs a (are_natural m (inside 1 p) b parts.0))
-    (counted_faults m s fs p rows ∙ both_none _ _ (both_none _ _ head.0 valid.1) parts.1)
+    (counted_faults m d s fs p rows ∙ both_none _ _ (both_none _ _ head.0 valid.1) parts.1)
 
-pub counted_well : (m : RecordBatch) (k : Kind) (s : Option ℕ) (fs : Fields) (p : Place) (rows : ℕ) (ns : List FieldNode) (bs : List IpcBuffer) (vs : List ℤ) → under_extensions k ≡ counted_kind s fs → AllAt m (behind m fs (inside 1 p)) ns bs vs → head_faults m p rows ≡ [] → place_faults m (inside 1 p) (behind m fs (inside 1 p)) ++ child_faults m [] fs (inside 1 p) (λ q. counted_rows s rows) ≡ [] → read_faults m k p rows ≡ []
-counted_well m k s fs p rows ns bs vs u a h c = wrapped_reads (λ es. es ≡ []) m k (counted_kind s fs) p rows u (counted_none m s fs p rows ns bs vs a h c)
+pub counted_well : (m : RecordBatch) (d : Dictionaries) (k : Kind) (s : Option ℕ) (fs : Fields) (p : Place) (rows : ℕ) (ns : List FieldNode) (bs : List IpcBuffer) (vs : List ℤ) → under_extensions k ≡ counted_kind s fs → AllAt m (behind m fs (inside 1 p)) ns bs vs → head_faults m p rows ≡ [] → place_faults m (inside 1 p) (behind m fs (inside 1 p)) ++ child_faults m d fs (inside 1 p) (λ q. counted_rows s rows) ≡ [] → read_faults m d k p rows ≡ []
+counted_well m d k s fs p rows ns bs vs u a h c = wrapped_reads (λ es. es ≡ []) m d k (counted_kind s fs) p rows u (counted_none m d s fs p rows ns bs vs a h c)
 
-pub counted_parts : (m : RecordBatch) (l k : Kind) (s : Option ℕ) (fs : Fields) (p : Place) (rows : ℕ) → under_extensions k ≡ counted_kind s fs → nested (counted_head s (counted_read m l p rows)) (forest_read m fs (inside 1 p) (λ q. counted_rows s rows)) ≡ parts_under l m k p rows
-counted_parts m l k s fs p rows u = wrapped (λ k. nested (counted_head s (counted_read m l p rows)) (forest_read m fs (inside 1 p) (λ q. counted_rows s rows)) ≡ parts_under l m k p rows) (λ name metadata k h. h) k (counted_kind s fs) u (by s)
+pub counted_parts : (m : RecordBatch) (h : Held) (l k : Kind) (s : Option ℕ) (fs : Fields) (p : Place) (rows : ℕ) → under_extensions k ≡ counted_kind s fs → nested (counted_head s (counted_read m l p rows)) (forest_read m h fs (inside 1 p) (λ q. counted_rows s rows)) ≡ parts_under l m h k p rows
+counted_parts m h l k s fs p rows u = wrapped (λ k. nested (counted_head s (counted_read m l p rows)) (forest_read m h fs (inside 1 p) (λ q. counted_rows s rows)) ≡ parts_under l m h k p rows) (λ name metadata k g. g) k (counted_kind s fs) u (by s)
   where
-    by : (s : Option ℕ) → nested (counted_head s (counted_read m l p rows)) (forest_read m fs (inside 1 p) (λ q. counted_rows s rows)) ≡ parts_under l m (counted_kind s fs) p rows
+    by : (s : Option ℕ) → nested (counted_head s (counted_read m l p rows)) (forest_read m h fs (inside 1 p) (λ q. counted_rows s rows)) ≡ parts_under l m h (counted_kind s fs) p rows
     by None = refl
     by (Some size) = refl
 
@@ -547,9 +551,9 @@ counted_fetched m k s fs p (suc n) u =
 
 -- ── cells ──
 
-pub tree_cells_of : (r : Result Array IpcError) (m : RecordBatch) (k : Kind) (p : Place) (rows : ℕ) → is_carried k ≡ true → IfOk r (λ _. HaveBytes m k p rows) → Answers (λ a. parts_of a) r (read_faults m k p rows) (parts_read m k p rows) → Answers (λ a. cells_in (parts_of a)) r (read_faults m k p rows) (from_on (cell m [] k p) 0 rows)
-tree_cells_of (Err e) m k p rows f b a = record { ok = tt; err = a.err }
-tree_cells_of (Ok x) m k p rows f b a = record { ok = (a.ok.0, ap cells_in a.ok.1 ∙ cells_read m [] k p rows f b (array_none m k p rows a.ok.0)); err = tt }
+pub tree_cells_of : (r : Result Array IpcError) (m : RecordBatch) (d : Dictionaries) (h : Held) (k : Kind) (p : Place) (rows : ℕ) → is_carried k ≡ true → HoldsCells d h → IfOk r (λ _. HoldsKinds h k) → IfOk r (λ _. HaveBytes m k p rows) → Answers (λ a. parts_of a) r (read_faults m d k p rows) (parts_read m h k p rows) → Answers (λ a. cells_in (parts_of a)) r (read_faults m d k p rows) (from_on (cell m d k p) 0 rows)
+tree_cells_of (Err e) m d h k p rows f c v b a = record { ok = tt; err = a.err }
+tree_cells_of (Ok x) m d h k p rows f c v b a = record { ok = (a.ok.0, ap cells_in a.ok.1 ∙ cells_read m d h k p rows c v f b (array_none m d k p rows a.ok.0)); err = tt }
 
 -- a kind without children has no tree
 pub tree_bytes : (m : RecordBatch) (k : Kind) (p : Place) (rows : ℕ) → is_leaf_kind k ≡ true → AreBytes (numbers_bytes m k p rows) → HaveBytes m k p rows
@@ -557,3 +561,8 @@ tree_bytes m k p rows is b = subst (λ (x : Type 0). x) (plain_bytes m k p rows 
 
 pub answers_to : {X Y : Type 0} → (view : X → Y) (r : Result X IpcError) (es : List IpcError) (v w : Y) → v ≡ w → Answers view r es v → Answers view r es w
 answers_to view r es v w e a = subst (λ x. Answers view r es x) e a
+
+-- and is read alike whatever was read of dictionaries
+pub leaf_reads : (m : RecordBatch) (d : Dictionaries) (k : Kind) (p : Place) (rows : ℕ) → is_leaf_kind k ≡ true → read_faults m [] k p rows ≡ read_faults m d k p rows
+unfolding read_faults
+leaf_reads m d k p rows is = ap (λ es. count_faults m k p ++ es) ((faults_told m [] k p rows is).all_told ∙ sym (faults_told m d k p rows is).all_told)

@@ -16,13 +16,11 @@ use Rattle.arrow_spec.specs.Readings.{IsAmong, Refuses}
 use Rattle.arrow_spec.specs.Kinds.{Kind, Fields, none, field, width, union}
 use Rattle.arrow_spec.specs.Schema.{are_ids}
 use Rattle.arrow_spec.specs.Counts.{RecordBatch, Place, magnitude, is_negative, after, inside, union_buffers}
-use Rattle.arrow_spec.specs.Arrays.{node_of, from_on, signed_in, has_nulls, types_buffer, id_place}
+use Rattle.arrow_spec.specs.Arrays.{Dictionaries, node_of, from_on, signed_in, has_nulls, types_buffer, id_place}
 use Rattle.arrow_spec.specs.Faults.{cause, if_sound, place_in, node_faults, numbers_faults, is_no_id, is_bad_row, some_row, dense_buffer_faults, dense_faults, union_faults, count_faults, array_faults, child_faults}
 use Rattle.arrow_spec.specs.Needed.{looked_at, looked_at_in, union_looked_at}
-use Rattle.arrow_types.specs.KindOf.{fields_of}
 use Rattle.arrow_types.specs.Physical.{under_extensions}
 use Rattle.arrow_types.specs.UnionIds.{are_right}
-use Rattle.arrow_types.specs.declared.data_type.Field.{Field}
 use Rattle.arrow_buffers.proofs.Parts.{length-from_on}
 use Rattle.arrow_arrays.specs.Heads.{tagged, is_mode, is_union, is_bad_place, has_offsets, tagged_rows, are_all, fits_places, have_ids, ids_in, number_at, child_fields}
 use Rattle.arrow_arrays.specs.Parts.{Forest, nested}
@@ -31,6 +29,8 @@ use Rattle.arrow_arrays.specs.declared.array.Array.{Array}
 use Rattle.arrow_arrays.proofs.UnionPlaces.{id_below}
 use Rattle.arrow_arrays.specs.Carried.{is_carried, are_carried}
 use Rattle.ipc_read_laws.specs.Faults.{read_faults, fetched_at_most, stated_of}
+use Rattle.ipc_read_laws.specs.Held.{Held}
+use Rattle.ipc_read_laws.specs.PlainKinds.{plain_kind}
 use Rattle.ipc_read_laws.specs.PartsRead.{parts_read, parts_under, forest_read, HaveBytes, AllHaveBytes}
 use Rattle.ipc_read_laws.proofs.Buffers.{get-told, some_row-same}
 use Rattle.ipc_read.specs.Batches.{columns_fetched}
@@ -90,40 +90,40 @@ union_top_shortened k mode fs version ns ns' bs bs' vs vs' u a b e = top_shorten
 
 -- ── what is wrong ──
 
-abbrev below : RecordBatch → UnionMode → Fields → Place → ℕ → List IpcError
-below m mode fs p rows = child_faults m [] fs (inside (union_buffers m.version mode) p) (rows_by (children_rows mode rows) m)
+abbrev below : RecordBatch → Dictionaries → UnionMode → Fields → Place → ℕ → List IpcError
+below m d mode fs p rows = child_faults m d fs (inside (union_buffers m.version mode) p) (rows_by (children_rows mode rows) m)
 
 -- what is wrong with an array of unions that has rows
-array_is : (m : RecordBatch) (mode : UnionMode) (stated : Bool) (ids : List ℤ) (fs : Fields) (p : Place) (n : ℕ) → array_faults m [] (union mode stated ids fs) p (suc n) ≡ node_faults m p (suc n) ++ union_faults m mode ids fs p (suc n) ++ below m mode fs p (suc n)
-array_is m Sparse stated ids fs p n = refl
-array_is m Dense stated ids fs p n = refl
+array_is : (m : RecordBatch) (d : Dictionaries) (mode : UnionMode) (stated : Bool) (ids : List ℤ) (fs : Fields) (p : Place) (n : ℕ) → array_faults m d (union mode stated ids fs) p (suc n) ≡ node_faults m p (suc n) ++ union_faults m mode ids fs p (suc n) ++ below m d mode fs p (suc n)
+array_is m d Sparse stated ids fs p n = refl
+array_is m d Dense stated ids fs p n = refl
 
 -- and one that has none
-array_none : (m : RecordBatch) (mode : UnionMode) (stated : Bool) (ids : List ℤ) (fs : Fields) (p : Place) → array_faults m [] (union mode stated ids fs) p 0 ≡ node_faults m p 0 ++ below m mode fs p 0
-array_none m Sparse stated ids fs p = refl
-array_none m Dense stated ids fs p = refl
+array_none : (m : RecordBatch) (d : Dictionaries) (mode : UnionMode) (stated : Bool) (ids : List ℤ) (fs : Fields) (p : Place) → array_faults m d (union mode stated ids fs) p 0 ≡ node_faults m p 0 ++ below m d mode fs p 0
+array_none m d Sparse stated ids fs p = refl
+array_none m d Dense stated ids fs p = refl
 
-node_in : (m : RecordBatch) (mode : UnionMode) (stated : Bool) (ids : List ℤ) (fs : Fields) (p : Place) (rows : ℕ) (x : IpcError) → IsAmong (node_faults m p rows) x → IsAmong (read_faults m (union mode stated ids fs) p rows) x
-node_in m mode stated ids fs p zero x a = among_array m (union mode stated ids fs) p 0 x (subst (λ es. IsAmong es x) (sym (array_none m mode stated ids fs p)) (among_left (node_faults m p 0) _ x a))
-node_in m mode stated ids fs p (suc n) x a =
-    among_array m (union mode stated ids fs) p (suc n) x (subst (λ es. IsAmong es x) (sym (array_is m mode stated ids fs p n))
+node_in : (m : RecordBatch) (d : Dictionaries) (mode : UnionMode) (stated : Bool) (ids : List ℤ) (fs : Fields) (p : Place) (rows : ℕ) (x : IpcError) → IsAmong (node_faults m p rows) x → IsAmong (read_faults m d (union mode stated ids fs) p rows) x
+node_in m d mode stated ids fs p zero x a = among_array m d (union mode stated ids fs) p 0 x (subst (λ es. IsAmong es x) (sym (array_none m d mode stated ids fs p)) (among_left (node_faults m p 0) _ x a))
+node_in m d mode stated ids fs p (suc n) x a =
+    among_array m d (union mode stated ids fs) p (suc n) x (subst (λ es. IsAmong es x) (sym (array_is m d mode stated ids fs p n))
     (among_left (node_faults m p (suc n) ++ union_faults m mode ids fs p (suc n)) _ x (among_left (node_faults m p (suc n)) _ x a)))
 
 -- where there are rows, what is wrong with the types or the offsets
-own_in : (m : RecordBatch) (mode : UnionMode) (stated : Bool) (ids : List ℤ) (fs : Fields) (p : Place) (n : ℕ) (x : IpcError) → IsAmong (union_faults m mode ids fs p (suc n)) x → IsAmong (read_faults m (union mode stated ids fs) p (suc n)) x
-own_in m mode stated ids fs p n x a =
-    among_array m (union mode stated ids fs) p (suc n) x (subst (λ es. IsAmong es x) (sym (array_is m mode stated ids fs p n))
+own_in : (m : RecordBatch) (d : Dictionaries) (mode : UnionMode) (stated : Bool) (ids : List ℤ) (fs : Fields) (p : Place) (n : ℕ) (x : IpcError) → IsAmong (union_faults m mode ids fs p (suc n)) x → IsAmong (read_faults m d (union mode stated ids fs) p (suc n)) x
+own_in m d mode stated ids fs p n x a =
+    among_array m d (union mode stated ids fs) p (suc n) x (subst (λ es. IsAmong es x) (sym (array_is m d mode stated ids fs p n))
     (among_left (node_faults m p (suc n) ++ union_faults m mode ids fs p (suc n)) _ x (among_right (node_faults m p (suc n)) _ x a)))
 
-child_in : (m : RecordBatch) (mode : UnionMode) (stated : Bool) (ids : List ℤ) (fs : Fields) (p : Place) (rows : ℕ) (x : IpcError) → IsAmong (below m mode fs p rows) x → IsAmong (read_faults m (union mode stated ids fs) p rows) x
-child_in m mode stated ids fs p zero x a = among_array m (union mode stated ids fs) p 0 x (subst (λ es. IsAmong es x) (sym (array_none m mode stated ids fs p)) (among_right (node_faults m p 0) _ x a))
-child_in m mode stated ids fs p (suc n) x a =
-    among_array m (union mode stated ids fs) p (suc n) x (subst (λ es. IsAmong es x) (sym (array_is m mode stated ids fs p n))
+child_in : (m : RecordBatch) (d : Dictionaries) (mode : UnionMode) (stated : Bool) (ids : List ℤ) (fs : Fields) (p : Place) (rows : ℕ) (x : IpcError) → IsAmong (below m d mode fs p rows) x → IsAmong (read_faults m d (union mode stated ids fs) p rows) x
+child_in m d mode stated ids fs p zero x a = among_array m d (union mode stated ids fs) p 0 x (subst (λ es. IsAmong es x) (sym (array_none m d mode stated ids fs p)) (among_right (node_faults m p 0) _ x a))
+child_in m d mode stated ids fs p (suc n) x a =
+    among_array m d (union mode stated ids fs) p (suc n) x (subst (λ es. IsAmong es x) (sym (array_is m d mode stated ids fs p n))
     (among_right (node_faults m p (suc n) ++ union_faults m mode ids fs p (suc n)) _ x a))
 
 -- a buffer of a union's own is missing
-short_in : (m : RecordBatch) (mode : UnionMode) (stated : Bool) (ids : List ℤ) (fs : Fields) (p : Place) (rows i : ℕ) (x : IpcError) → i < p.buffer + union_buffers m.version mode → IsAmong (short_of m.buffers i) x → IsAmong (read_faults m (union mode stated ids fs) p rows) x
-short_in m mode stated ids fs p rows i x h a = lacks_in m (union mode stated ids fs) p rows i x (omega (arith, h)) a
+short_in : (m : RecordBatch) (d : Dictionaries) (mode : UnionMode) (stated : Bool) (ids : List ℤ) (fs : Fields) (p : Place) (rows i : ℕ) (x : IpcError) → i < p.buffer + union_buffers m.version mode → IsAmong (short_of m.buffers i) x → IsAmong (read_faults m d (union mode stated ids fs) p rows) x
+short_in m d mode stated ids fs p rows i x h a = lacks_in m d (union mode stated ids fs) p rows i x (omega (arith, h)) a
 
 cause_second : (a b : Bool) (e x : IpcError) → IsAmong (cause (a && b) e) x → IsAmong (cause b e) x
 cause_second true b e x h = h
@@ -156,73 +156,73 @@ own_are : (m : RecordBatch) (mode : UnionMode) (ids : List ℤ) (fs : Fields) (p
 unfolding union_faults
 own_are m mode ids fs p rows = refl
 
-nulls_in : (m : RecordBatch) (mode : UnionMode) (stated : Bool) (ids : List ℤ) (fs : Fields) (p : Place) (rows : ℕ) (x : IpcError) → IsAmong (faults_where rows (cause (nat_lt p.buffer (types_buffer m p) && has_nulls m p) (Unsupported UnionNulls))) x → IsAmong (read_faults m (union mode stated ids fs) p rows) x
-nulls_in m mode stated ids fs p zero x a = absurd a
-nulls_in m mode stated ids fs p (suc n) x a = own_in m mode stated ids fs p n x (subst (λ es. IsAmong es x) (sym (own_are m mode ids fs p (suc n))) (among_left (cause (nat_lt p.buffer (types_buffer m p) && has_nulls m p) (Unsupported UnionNulls)) _ x a))
+nulls_in : (m : RecordBatch) (d : Dictionaries) (mode : UnionMode) (stated : Bool) (ids : List ℤ) (fs : Fields) (p : Place) (rows : ℕ) (x : IpcError) → IsAmong (faults_where rows (cause (nat_lt p.buffer (types_buffer m p) && has_nulls m p) (Unsupported UnionNulls))) x → IsAmong (read_faults m d (union mode stated ids fs) p rows) x
+nulls_in m d mode stated ids fs p zero x a = absurd a
+nulls_in m d mode stated ids fs p (suc n) x a = own_in m d mode stated ids fs p n x (subst (λ es. IsAmong es x) (sym (own_are m mode ids fs p (suc n))) (among_left (cause (nat_lt p.buffer (types_buffer m p) && has_nulls m p) (Unsupported UnionNulls)) _ x a))
 
-validity_in : (m : RecordBatch) (mode : UnionMode) (stated : Bool) (ids : List ℤ) (fs : Fields) (p : Place) (rows : ℕ) (x : IpcError) → IsAmong (union_validity_faults m p rows) x → IsAmong (read_faults m (union mode stated ids fs) p rows) x
-validity_in m mode stated ids fs p rows x a =
-    among_split (cause (nat_lt p.buffer (types_buffer m p) && nat_le (length m.buffers) p.buffer) (OutOfSpec out.ExpectedBuffer)) _ (read_faults m (union mode stated ids fs) p rows) x
-    (λ y b. short_in m mode stated ids fs p rows p.buffer y (first_low m p mode) (cause_second _ _ _ y b))
-    (λ y b. nulls_in m mode stated ids fs p rows y b) a
+validity_in : (m : RecordBatch) (d : Dictionaries) (mode : UnionMode) (stated : Bool) (ids : List ℤ) (fs : Fields) (p : Place) (rows : ℕ) (x : IpcError) → IsAmong (union_validity_faults m p rows) x → IsAmong (read_faults m d (union mode stated ids fs) p rows) x
+validity_in m d mode stated ids fs p rows x a =
+    among_split (cause (nat_lt p.buffer (types_buffer m p) && nat_le (length m.buffers) p.buffer) (OutOfSpec out.ExpectedBuffer)) _ (read_faults m d (union mode stated ids fs) p rows) x
+    (λ y b. short_in m d mode stated ids fs p rows p.buffer y (first_low m p mode) (cause_second _ _ _ y b))
+    (λ y b. nulls_in m d mode stated ids fs p rows y b) a
 
 -- where there are rows, what is wrong with a buffer of its own
-buffers_in : (m : RecordBatch) (mode : UnionMode) (stated : Bool) (ids : List ℤ) (fs : Fields) (p : Place) (n : ℕ) (x : IpcError) → IsAmong (buffers_bad m mode p (suc n)) x → IsAmong (read_faults m (union mode stated ids fs) p (suc n)) x
-buffers_in m mode stated ids fs p n x a =
-    own_in m mode stated ids fs p n x (subst (λ es. IsAmong es x) (sym (own_are m mode ids fs p (suc n)))
+buffers_in : (m : RecordBatch) (d : Dictionaries) (mode : UnionMode) (stated : Bool) (ids : List ℤ) (fs : Fields) (p : Place) (n : ℕ) (x : IpcError) → IsAmong (buffers_bad m mode p (suc n)) x → IsAmong (read_faults m d (union mode stated ids fs) p (suc n)) x
+buffers_in m d mode stated ids fs p n x a =
+    own_in m d mode stated ids fs p n x (subst (λ es. IsAmong es x) (sym (own_are m mode ids fs p (suc n)))
     (among_right (cause (nat_lt p.buffer (types_buffer m p) && has_nulls m p) (Unsupported UnionNulls)) _ x (among_sound (buffers_bad m mode p (suc n)) _ x a)))
 
-types_where : (m : RecordBatch) (mode : UnionMode) (stated : Bool) (ids : List ℤ) (fs : Fields) (p : Place) (rows : ℕ) (x : IpcError) → IsAmong (faults_where rows (numbers_faults m (types_buffer m p) 1 rows)) x → IsAmong (read_faults m (union mode stated ids fs) p rows) x
-types_where m mode stated ids fs p zero x a = absurd a
-types_where m mode stated ids fs p (suc n) x a = buffers_in m mode stated ids fs p n x (among_left (numbers_faults m (types_buffer m p) 1 (suc n)) _ x a)
+types_where : (m : RecordBatch) (d : Dictionaries) (mode : UnionMode) (stated : Bool) (ids : List ℤ) (fs : Fields) (p : Place) (rows : ℕ) (x : IpcError) → IsAmong (faults_where rows (numbers_faults m (types_buffer m p) 1 rows)) x → IsAmong (read_faults m d (union mode stated ids fs) p rows) x
+types_where m d mode stated ids fs p zero x a = absurd a
+types_where m d mode stated ids fs p (suc n) x a = buffers_in m d mode stated ids fs p n x (among_left (numbers_faults m (types_buffer m p) 1 (suc n)) _ x a)
 
-types_in_all : (m : RecordBatch) (mode : UnionMode) (stated : Bool) (ids : List ℤ) (fs : Fields) (p : Place) (rows : ℕ) (x : IpcError) → IsAmong (rows_faults m (types_buffer m p) 1 rows) x → IsAmong (read_faults m (union mode stated ids fs) p rows) x
-types_in_all m mode stated ids fs p rows x a =
-    among_split (short_of m.buffers (types_buffer m p)) _ (read_faults m (union mode stated ids fs) p rows) x
-    (λ y b. short_in m mode stated ids fs p rows (types_buffer m p) y (types_low m p mode) b)
-    (λ y b. types_where m mode stated ids fs p rows y b) a
+types_in_all : (m : RecordBatch) (d : Dictionaries) (mode : UnionMode) (stated : Bool) (ids : List ℤ) (fs : Fields) (p : Place) (rows : ℕ) (x : IpcError) → IsAmong (rows_faults m (types_buffer m p) 1 rows) x → IsAmong (read_faults m d (union mode stated ids fs) p rows) x
+types_in_all m d mode stated ids fs p rows x a =
+    among_split (short_of m.buffers (types_buffer m p)) _ (read_faults m d (union mode stated ids fs) p rows) x
+    (λ y b. short_in m d mode stated ids fs p rows (types_buffer m p) y (types_low m p mode) b)
+    (λ y b. types_where m d mode stated ids fs p rows y b) a
 
-places_where : (m : RecordBatch) (stated : Bool) (ids : List ℤ) (fs : Fields) (p : Place) (rows : ℕ) (x : IpcError) → IsAmong (faults_where rows (numbers_faults m (suc (types_buffer m p)) 4 rows)) x → IsAmong (read_faults m (union Dense stated ids fs) p rows) x
-places_where m stated ids fs p zero x a = absurd a
-places_where m stated ids fs p (suc n) x a = buffers_in m Dense stated ids fs p n x (among_right (numbers_faults m (types_buffer m p) 1 (suc n)) _ x a)
+places_where : (m : RecordBatch) (d : Dictionaries) (stated : Bool) (ids : List ℤ) (fs : Fields) (p : Place) (rows : ℕ) (x : IpcError) → IsAmong (faults_where rows (numbers_faults m (suc (types_buffer m p)) 4 rows)) x → IsAmong (read_faults m d (union Dense stated ids fs) p rows) x
+places_where m d stated ids fs p zero x a = absurd a
+places_where m d stated ids fs p (suc n) x a = buffers_in m d Dense stated ids fs p n x (among_right (numbers_faults m (types_buffer m p) 1 (suc n)) _ x a)
 
-places_in_all : (m : RecordBatch) (mode : UnionMode) (stated : Bool) (ids : List ℤ) (fs : Fields) (p : Place) (rows : ℕ) (x : IpcError) → IsAmong (places_faults m mode (suc (types_buffer m p)) rows) x → IsAmong (read_faults m (union mode stated ids fs) p rows) x
-places_in_all m Sparse stated ids fs p rows x a = absurd a
-places_in_all m Dense stated ids fs p rows x a =
-    among_split (short_of m.buffers (suc (types_buffer m p))) _ (read_faults m (union Dense stated ids fs) p rows) x
-    (λ y b. short_in m Dense stated ids fs p rows (suc (types_buffer m p)) y (places_low m p) b)
-    (λ y b. places_where m stated ids fs p rows y b) a
+places_in_all : (m : RecordBatch) (d : Dictionaries) (mode : UnionMode) (stated : Bool) (ids : List ℤ) (fs : Fields) (p : Place) (rows : ℕ) (x : IpcError) → IsAmong (places_faults m mode (suc (types_buffer m p)) rows) x → IsAmong (read_faults m d (union mode stated ids fs) p rows) x
+places_in_all m d Sparse stated ids fs p rows x a = absurd a
+places_in_all m d Dense stated ids fs p rows x a =
+    among_split (short_of m.buffers (suc (types_buffer m p))) _ (read_faults m d (union Dense stated ids fs) p rows) x
+    (λ y b. short_in m d Dense stated ids fs p rows (suc (types_buffer m p)) y (places_low m p) b)
+    (λ y b. places_where m d stated ids fs p rows y b) a
 
-top_in : (m : RecordBatch) (mode : UnionMode) (stated : Bool) (ids : List ℤ) (fs : Fields) (p : Place) (rows : ℕ) (x : IpcError) → IsAmong (union_parts_faults m mode p rows) x → IsAmong (read_faults m (union mode stated ids fs) p rows) x
-top_in m mode stated ids fs p rows x a =
-    let es = read_faults m (union mode stated ids fs) p rows in
-    among_split (node_faults m p rows) _ es x (λ y b. node_in m mode stated ids fs p rows y b)
-    (λ y b. among_split (union_validity_faults m p rows) _ es y (λ z c. validity_in m mode stated ids fs p rows z c)
-    (λ z c. among_split (rows_faults m (types_buffer m p) 1 rows) _ es z (λ w d. types_in_all m mode stated ids fs p rows w d) (λ w d. places_in_all m mode stated ids fs p rows w d) c) b) a
+top_in : (m : RecordBatch) (d : Dictionaries) (mode : UnionMode) (stated : Bool) (ids : List ℤ) (fs : Fields) (p : Place) (rows : ℕ) (x : IpcError) → IsAmong (union_parts_faults m mode p rows) x → IsAmong (read_faults m d (union mode stated ids fs) p rows) x
+top_in m d mode stated ids fs p rows x a =
+    let es = read_faults m d (union mode stated ids fs) p rows in
+    among_split (node_faults m p rows) _ es x (λ y b. node_in m d mode stated ids fs p rows y b)
+    (λ y b. among_split (union_validity_faults m p rows) _ es y (λ z c. validity_in m d mode stated ids fs p rows z c)
+    (λ z c. among_split (rows_faults m (types_buffer m p) 1 rows) _ es z (λ w v. types_in_all m d mode stated ids fs p rows w v) (λ w v. places_in_all m d mode stated ids fs p rows w v) c) b) a
 
-pub union_parts_refused : (m : RecordBatch) (k : Kind) (mode : UnionMode) (fs : Fields) (p : Place) (rows : ℕ) (e : IpcError) → under_extensions k ≡ union_as k mode fs → Refuses e (union_parts_faults m mode p rows) → Refuses e (read_faults m k p rows)
-union_parts_refused m k mode fs p rows e u r =
+pub union_parts_refused : (m : RecordBatch) (d : Dictionaries) (k : Kind) (mode : UnionMode) (fs : Fields) (p : Place) (rows : ℕ) (e : IpcError) → under_extensions k ≡ union_as k mode fs → Refuses e (union_parts_faults m mode p rows) → Refuses e (read_faults m d k p rows)
+union_parts_refused m d k mode fs p rows e u r =
     let l = union_as k mode fs in
-    wrapped_reads (Refuses e) m k l p rows u (refuses_more (union_parts_faults m mode p rows) (read_faults m l p rows) e (λ x a. top_in m mode (stated_in k) (ids_in k) fs p rows x a) r)
+    wrapped_reads (Refuses e) m d k l p rows u (refuses_more (union_parts_faults m mode p rows) (read_faults m d l p rows) e (λ x a. top_in m d mode (stated_in k) (ids_in k) fs p rows x a) r)
 
 union_counts : (m : RecordBatch) (k : Kind) (mode : UnionMode) (fs : Fields) (p : Place) → count_faults m (union_as k mode fs) p ≡ place_faults m p (behind m fs (inside (union_buffers m.version mode) p))
 union_counts m k mode fs p =
     let l = union_as k mode fs in
     counts_between m l p ∙ ap (place_faults m p) (sym (after_opens m l (union_buffers m.version mode) fs p (union_opens k mode fs m.version)))
 
-children_at : (m : RecordBatch) (k : Kind) (mode : UnionMode) (fs : Fields) (p : Place) (rows : ℕ) (e : IpcError) → Refuses e (place_faults m (inside (union_buffers m.version mode) p) (behind m fs (inside (union_buffers m.version mode) p)) ++ below m mode fs p rows) → Refuses e (read_faults m (union_as k mode fs) p rows)
+children_at : (m : RecordBatch) (d : Dictionaries) (k : Kind) (mode : UnionMode) (fs : Fields) (p : Place) (rows : ℕ) (e : IpcError) → Refuses e (place_faults m (inside (union_buffers m.version mode) p) (behind m fs (inside (union_buffers m.version mode) p)) ++ below m d mode fs p rows) → Refuses e (read_faults m d (union_as k mode fs) p rows)
 unfolding read_faults
-children_at m k mode fs p rows e r =
+children_at m d k mode fs p rows e r =
     let own = union_buffers m.version mode in
     let b = behind m fs (inside own p) in
     let l = union_as k mode fs in
-    refuses_by (place_faults m (inside own p) b) _ (read_faults m l p rows) e
+    refuses_by (place_faults m (inside own p) b) _ (read_faults m d l p rows) e
     (λ t. refuses_left (count_faults m l p) _ e (subst (λ es. Refuses e es) (sym (union_counts m k mode fs p)) (wider_refuses m p b (inside own p) b e (inside_behind own p) (fields_behind m fs (inside own p)).views (behind_itself b) t)))
-    (λ t. refuses_more (below m mode fs p rows) (read_faults m l p rows) e (λ x a. child_in m mode (stated_in k) (ids_in k) fs p rows x a) t) r
+    (λ t. refuses_more (below m d mode fs p rows) (read_faults m d l p rows) e (λ x a. child_in m d mode (stated_in k) (ids_in k) fs p rows x a) t) r
 
-pub union_children_refused : (m : RecordBatch) (k : Kind) (mode : UnionMode) (fs : Fields) (p : Place) (rows : ℕ) (e : IpcError) → under_extensions k ≡ union_as k mode fs
-    → Refuses e (place_faults m (inside (union_buffers m.version mode) p) (behind m fs (inside (union_buffers m.version mode) p)) ++ child_faults m [] fs (inside (union_buffers m.version mode) p) (rows_by (children_rows mode rows) m)) → Refuses e (read_faults m k p rows)
-union_children_refused m k mode fs p rows e u r = wrapped_reads (Refuses e) m k (union_as k mode fs) p rows u (children_at m k mode fs p rows e r)
+pub union_children_refused : (m : RecordBatch) (d : Dictionaries) (k : Kind) (mode : UnionMode) (fs : Fields) (p : Place) (rows : ℕ) (e : IpcError) → under_extensions k ≡ union_as k mode fs
+    → Refuses e (place_faults m (inside (union_buffers m.version mode) p) (behind m fs (inside (union_buffers m.version mode) p)) ++ child_faults m d fs (inside (union_buffers m.version mode) p) (rows_by (children_rows mode rows) m)) → Refuses e (read_faults m d k p rows)
+union_children_refused m d k mode fs p rows e u r = wrapped_reads (Refuses e) m d k (union_as k mode fs) p rows u (children_at m d k mode fs p rows e r)
 
 -- ── types and offsets ──
 
@@ -305,86 +305,93 @@ own_none m mode k fs p n held i e f h =
     own_are m mode (ids_in k) fs p (suc n)
     ∙ both_none _ _ w.1.0 (ap (λ es. if_sound es (rows_bad m mode (ids_in k) fs p (suc n))) w.1.1 ∙ both_none _ _ ids (dense_none m mode k fs p n held i e f.places))
 
-union_none : (m : RecordBatch) (mode : UnionMode) (k : Kind) (fs : Fields) (p : Place) (rows : ℕ) (held : List ℕ) → length (ids_in k) ≡ width fs → held ≡ rows_of_each m fs (inside (union_buffers m.version mode) p) (rows_by (children_rows mode rows) m)
-    → Fits k (union_top_read m mode p rows) held → union_parts_faults m mode p rows ≡ [] → below m mode fs p rows ≡ [] → array_faults m [] (union_as k mode fs) p rows ≡ []
-union_none m mode k fs p zero held i e f h c = array_none m mode (stated_in k) (ids_in k) fs p ∙ both_none _ _ (none_of_both (node_faults m p 0) _ h).0 c
-union_none m mode k fs p (suc n) held i e f h c = array_is m mode (stated_in k) (ids_in k) fs p n ∙ both_none _ _ (both_none _ _ (where_none n m mode p h).0 (own_none m mode k fs p n held i e f h)) c
+union_none : (m : RecordBatch) (d : Dictionaries) (mode : UnionMode) (k : Kind) (fs : Fields) (p : Place) (rows : ℕ) (held : List ℕ) → length (ids_in k) ≡ width fs → held ≡ rows_of_each m fs (inside (union_buffers m.version mode) p) (rows_by (children_rows mode rows) m)
+    → Fits k (union_top_read m mode p rows) held → union_parts_faults m mode p rows ≡ [] → below m d mode fs p rows ≡ [] → array_faults m d (union_as k mode fs) p rows ≡ []
+union_none m d mode k fs p zero held i e f h c = array_none m d mode (stated_in k) (ids_in k) fs p ∙ both_none _ _ (none_of_both (node_faults m p 0) _ h).0 c
+union_none m d mode k fs p (suc n) held i e f h c = array_is m d mode (stated_in k) (ids_in k) fs p n ∙ both_none _ _ (both_none _ _ (where_none n m mode p h).0 (own_none m mode k fs p n held i e f h)) c
 
-well_at : (m : RecordBatch) (k : Kind) (mode : UnionMode) (fs : Fields) (p : Place) (rows : ℕ) (held : List ℕ) (ns : List FieldNode) (bs : List IpcBuffer) (vs : List ℤ) → length (ids_in k) ≡ width fs → AllAt m (behind m fs (inside (union_buffers m.version mode) p)) ns bs vs
+well_at : (m : RecordBatch) (d : Dictionaries) (k : Kind) (mode : UnionMode) (fs : Fields) (p : Place) (rows : ℕ) (held : List ℕ) (ns : List FieldNode) (bs : List IpcBuffer) (vs : List ℤ) → length (ids_in k) ≡ width fs → AllAt m (behind m fs (inside (union_buffers m.version mode) p)) ns bs vs
     → held ≡ rows_of_each m fs (inside (union_buffers m.version mode) p) (rows_by (children_rows mode rows) m) → Fits k (union_top_read m mode p rows) held → union_parts_faults m mode p rows ≡ []
-    → place_faults m (inside (union_buffers m.version mode) p) (behind m fs (inside (union_buffers m.version mode) p)) ++ below m mode fs p rows ≡ [] → read_faults m (union_as k mode fs) p rows ≡ []
+    → place_faults m (inside (union_buffers m.version mode) p) (behind m fs (inside (union_buffers m.version mode) p)) ++ below m d mode fs p rows ≡ [] → read_faults m d (union_as k mode fs) p rows ≡ []
 unfolding read_faults
-well_at m k mode fs p rows held ns bs vs i a e f h c =
+well_at m d k mode fs p rows held ns bs vs i a e f h c =
     let own = union_buffers m.version mode in
     let b = behind m fs (inside own p) in
     let parts = none_of_both (place_faults m (inside own p) b) _ c in
-    both_none (count_faults m (union_as k mode fs) p) _ (union_counts m k mode fs p ∙ none_missing m p b ns bs vs a (are_natural m (inside own p) b parts.0)) (union_none m mode k fs p rows held i e f h parts.1)
+    both_none (count_faults m (union_as k mode fs) p) _ (union_counts m k mode fs p ∙ none_missing m p b ns bs vs a (are_natural m (inside own p) b parts.0)) (union_none m d mode k fs p rows held i e f h parts.1)
 
-pub union_well : (m : RecordBatch) (k : Kind) (mode : UnionMode) (fs : Fields) (p : Place) (rows : ℕ) (top : UnionTop) (held : List ℕ) (ns : List FieldNode) (bs : List IpcBuffer) (vs : List ℤ) → under_extensions k ≡ union_as k mode fs → is_carried k ≡ true → AllAt m (behind m fs (inside (union_buffers m.version mode) p)) ns bs vs
+pub union_well : (m : RecordBatch) (d : Dictionaries) (k : Kind) (mode : UnionMode) (fs : Fields) (p : Place) (rows : ℕ) (top : UnionTop) (held : List ℕ) (ns : List FieldNode) (bs : List IpcBuffer) (vs : List ℤ) → under_extensions k ≡ union_as k mode fs → is_carried k ≡ true → AllAt m (behind m fs (inside (union_buffers m.version mode) p)) ns bs vs
     → top ≡ union_top_read m mode p rows → held ≡ rows_of_each m fs (inside (union_buffers m.version mode) p) (rows_by (children_rows mode rows) m) → Fits k top held → union_parts_faults m mode p rows ≡ []
-    → place_faults m (inside (union_buffers m.version mode) p) (behind m fs (inside (union_buffers m.version mode) p)) ++ child_faults m [] fs (inside (union_buffers m.version mode) p) (rows_by (children_rows mode rows) m) ≡ [] → read_faults m k p rows ≡ []
-union_well m k mode fs p rows top held ns bs vs u g a t e f h c =
-    wrapped_reads (λ es. es ≡ []) m k (union_as k mode fs) p rows u
-    (well_at m k mode fs p rows held ns bs vs (ids_many (ids_in k) (width fs) (union_right k mode fs u g).0) a e (subst (λ z. Fits k z held) t f) h c)
+    → place_faults m (inside (union_buffers m.version mode) p) (behind m fs (inside (union_buffers m.version mode) p)) ++ child_faults m d fs (inside (union_buffers m.version mode) p) (rows_by (children_rows mode rows) m) ≡ [] → read_faults m d k p rows ≡ []
+union_well m d k mode fs p rows top held ns bs vs u g a t e f h c =
+    wrapped_reads (λ es. es ≡ []) m d k (union_as k mode fs) p rows u
+    (well_at m d k mode fs p rows held ns bs vs (ids_many (ids_in k) (width fs) (union_right k mode fs u g).0) a e (subst (λ z. Fits k z held) t f) h c)
 
 -- ── the array that was refused ──
 
-rows_in_all : (m : RecordBatch) (mode : UnionMode) (k : Kind) (fs : Fields) (p : Place) (n : ℕ) (x : IpcError) → union_parts_faults m mode p (suc n) ≡ [] → IsAmong (rows_bad m mode (ids_in k) fs p (suc n)) x → IsAmong (read_faults m (union_as k mode fs) p (suc n)) x
-rows_in_all m mode k fs p n x h a =
-    own_in m mode (stated_in k) (ids_in k) fs p n x (subst (λ es. IsAmong es x) (sym (own_are m mode (ids_in k) fs p (suc n)))
+rows_in_all : (m : RecordBatch) (d : Dictionaries) (mode : UnionMode) (k : Kind) (fs : Fields) (p : Place) (n : ℕ) (x : IpcError) → union_parts_faults m mode p (suc n) ≡ [] → IsAmong (rows_bad m mode (ids_in k) fs p (suc n)) x → IsAmong (read_faults m d (union_as k mode fs) p (suc n)) x
+rows_in_all m d mode k fs p n x h a =
+    own_in m d mode (stated_in k) (ids_in k) fs p n x (subst (λ es. IsAmong es x) (sym (own_are m mode (ids_in k) fs p (suc n)))
     (among_right (cause (nat_lt p.buffer (types_buffer m p) && has_nulls m p) (Unsupported UnionNulls)) _ x (subst (λ es. IsAmong (if_sound es (rows_bad m mode (ids_in k) fs p (suc n))) x) (sym (where_none n m mode p h).1.1) a)))
 
-type_refused : (m : RecordBatch) (mode : UnionMode) (k : Kind) (fs : Fields) (p : Place) (rows : ℕ) → union_parts_faults m mode p rows ≡ [] → have_ids (ids_in k) (types_in m (types_buffer m p) rows) ≡ false → IsAmong (read_faults m (union_as k mode fs) p rows) (OutOfSpec out.InvalidUnion)
-type_refused m mode k fs p zero h f = cc
-type_refused m mode k fs p (suc n) h f =
-    rows_in_all m mode k fs p n _ h (among_left (cause (ids_bad m (ids_in k) p (suc n)) (OutOfSpec out.InvalidUnion)) _ _ (among_cause _ _ (not_true _ _ (ids_are m (ids_in k) p (suc n)) f)))
+type_refused : (m : RecordBatch) (d : Dictionaries) (mode : UnionMode) (k : Kind) (fs : Fields) (p : Place) (rows : ℕ) → union_parts_faults m mode p rows ≡ [] → have_ids (ids_in k) (types_in m (types_buffer m p) rows) ≡ false → IsAmong (read_faults m d (union_as k mode fs) p rows) (OutOfSpec out.InvalidUnion)
+type_refused m d mode k fs p zero h f = cc
+type_refused m d mode k fs p (suc n) h f =
+    rows_in_all m d mode k fs p n _ h (among_left (cause (ids_bad m (ids_in k) p (suc n)) (OutOfSpec out.InvalidUnion)) _ _ (among_cause _ _ (not_true _ _ (ids_are m (ids_in k) p (suc n)) f)))
 
-place_refused : (m : RecordBatch) (mode : UnionMode) (k : Kind) (fs : Fields) (p : Place) (rows : ℕ) (held : List ℕ) → length (ids_in k) ≡ width fs → held ≡ rows_of_each m fs (inside (union_buffers m.version mode) p) (rows_by (children_rows mode rows) m) → union_parts_faults m mode p rows ≡ []
-    → fits_places (ids_in k) (types_in m (types_buffer m p) rows) (places_in m mode (suc (types_buffer m p)) rows) held ≡ false → IsAmong (read_faults m (union_as k mode fs) p rows) (OutOfSpec out.InvalidOffsets)
-place_refused m Sparse k fs p rows held i e h f = cc
-place_refused m Dense k fs p zero held i e h f = cc
-place_refused m Dense k fs p (suc n) held i e h f =
-    rows_in_all m Dense k fs p n _ h (among_right (cause (ids_bad m (ids_in k) p (suc n)) (OutOfSpec out.InvalidUnion)) _ _ (among_cause _ _ (not_true _ _ (places_are m (ids_in k) fs p (suc n) i)
+place_refused : (m : RecordBatch) (d : Dictionaries) (mode : UnionMode) (k : Kind) (fs : Fields) (p : Place) (rows : ℕ) (held : List ℕ) → length (ids_in k) ≡ width fs → held ≡ rows_of_each m fs (inside (union_buffers m.version mode) p) (rows_by (children_rows mode rows) m) → union_parts_faults m mode p rows ≡ []
+    → fits_places (ids_in k) (types_in m (types_buffer m p) rows) (places_in m mode (suc (types_buffer m p)) rows) held ≡ false → IsAmong (read_faults m d (union_as k mode fs) p rows) (OutOfSpec out.InvalidOffsets)
+place_refused m d Sparse k fs p rows held i e h f = cc
+place_refused m d Dense k fs p zero held i e h f = cc
+place_refused m d Dense k fs p (suc n) held i e h f =
+    rows_in_all m d Dense k fs p n _ h (among_right (cause (ids_bad m (ids_in k) p (suc n)) (OutOfSpec out.InvalidUnion)) _ _ (among_cause _ _ (not_true _ _ (places_are m (ids_in k) fs p (suc n) i)
     (ap (fits_places (ids_in k) (types_in m (types_buffer m p) (suc n)) (places_in m Dense (suc (types_buffer m p)) (suc n))) (sym e) ∙ f))))
 
 -- why an array of these parts is not made
 abbrev pub WhyRefused : Kind → UnionTop → List ℕ → IpcError → Type 0
 WhyRefused k top held e = (e ≡ Memory) ⊎ (((e ≡ OutOfSpec out.InvalidOffsets) × (fits_places (ids_in k) top.types top.offsets held ≡ false)) ⊎ ((e ≡ OutOfSpec out.InvalidUnion) × (have_ids (ids_in k) top.types ≡ false)))
 
-made_refused : (m : RecordBatch) (mode : UnionMode) (k : Kind) (fs : Fields) (p : Place) (rows : ℕ) (held : List ℕ) (e : IpcError) → length (ids_in k) ≡ width fs → held ≡ rows_of_each m fs (inside (union_buffers m.version mode) p) (rows_by (children_rows mode rows) m) → union_parts_faults m mode p rows ≡ []
-    → WhyRefused k (union_top_read m mode p rows) held e → Refuses e (read_faults m (union_as k mode fs) p rows)
-made_refused m mode k fs p rows held e i g h (inl x) = memory_refuses e _ x
-made_refused m mode k fs p rows held e i g h (inr (inl x)) = subst (λ f. Refuses f (read_faults m (union_as k mode fs) p rows)) (sym x.0) (place_refused m mode k fs p rows held i g h x.1)
-made_refused m mode k fs p rows held e i g h (inr (inr x)) = subst (λ f. Refuses f (read_faults m (union_as k mode fs) p rows)) (sym x.0) (type_refused m mode k fs p rows h x.1)
+made_refused : (m : RecordBatch) (d : Dictionaries) (mode : UnionMode) (k : Kind) (fs : Fields) (p : Place) (rows : ℕ) (held : List ℕ) (e : IpcError) → length (ids_in k) ≡ width fs → held ≡ rows_of_each m fs (inside (union_buffers m.version mode) p) (rows_by (children_rows mode rows) m) → union_parts_faults m mode p rows ≡ []
+    → WhyRefused k (union_top_read m mode p rows) held e → Refuses e (read_faults m d (union_as k mode fs) p rows)
+made_refused m d mode k fs p rows held e i g h (inl x) = memory_refuses e _ x
+made_refused m d mode k fs p rows held e i g h (inr (inl x)) = subst (λ f. Refuses f (read_faults m d (union_as k mode fs) p rows)) (sym x.0) (place_refused m d mode k fs p rows held i g h x.1)
+made_refused m d mode k fs p rows held e i g h (inr (inr x)) = subst (λ f. Refuses f (read_faults m d (union_as k mode fs) p rows)) (sym x.0) (type_refused m d mode k fs p rows h x.1)
 
-pub union_refused : (m : RecordBatch) (k : Kind) (mode : UnionMode) (fs : Fields) (p : Place) (rows : ℕ) (top : UnionTop) (held : List ℕ) (e : IpcError) → under_extensions k ≡ union_as k mode fs → is_carried k ≡ true
-    → top ≡ union_top_read m mode p rows → held ≡ rows_of_each m fs (inside (union_buffers m.version mode) p) (rows_by (children_rows mode rows) m) → union_parts_faults m mode p rows ≡ [] → WhyRefused k top held e → Refuses e (read_faults m k p rows)
-union_refused m k mode fs p rows top held e u g t w h y =
-    wrapped_reads (Refuses e) m k (union_as k mode fs) p rows u
-    (made_refused m mode k fs p rows held e (ids_many (ids_in k) (width fs) (union_right k mode fs u g).0) w h (subst (λ z. WhyRefused k z held e) t y))
+pub union_refused : (m : RecordBatch) (d : Dictionaries) (k : Kind) (mode : UnionMode) (fs : Fields) (p : Place) (rows : ℕ) (top : UnionTop) (held : List ℕ) (e : IpcError) → under_extensions k ≡ union_as k mode fs → is_carried k ≡ true
+    → top ≡ union_top_read m mode p rows → held ≡ rows_of_each m fs (inside (union_buffers m.version mode) p) (rows_by (children_rows mode rows) m) → union_parts_faults m mode p rows ≡ [] → WhyRefused k top held e → Refuses e (read_faults m d k p rows)
+union_refused m d k mode fs p rows top held e u g t w h y =
+    wrapped_reads (Refuses e) m d k (union_as k mode fs) p rows u
+    (made_refused m d mode k fs p rows held e (ids_many (ids_in k) (width fs) (union_right k mode fs u g).0) w h (subst (λ z. WhyRefused k z held e) t y))
 
 -- ── the array ──
 
-pub union_parts : (m : RecordBatch) (l k : Kind) (mode : UnionMode) (fs : Fields) (p : Place) (rows : ℕ) (top : UnionTop) (cs : Forest) → under_extensions k ≡ union_as k mode fs → top ≡ union_top_read m mode p rows → cs ≡ forest_read m fs (inside (union_buffers m.version mode) p) (rows_by (children_rows mode rows) m)
-    → nested (tagged (tagged_by l top)) cs ≡ parts_under l m k p rows
-union_parts m l k mode fs p rows top cs u t f =
+pub union_parts : (m : RecordBatch) (hs : Held) (l k : Kind) (mode : UnionMode) (fs : Fields) (p : Place) (rows : ℕ) (top : UnionTop) (cs : Forest) → under_extensions k ≡ union_as k mode fs → top ≡ union_top_read m mode p rows → cs ≡ forest_read m hs fs (inside (union_buffers m.version mode) p) (rows_by (children_rows mode rows) m)
+    → nested (tagged (tagged_by l top)) cs ≡ parts_under l m hs k p rows
+union_parts m hs l k mode fs p rows top cs u t f =
     ap (λ z. nested (tagged (tagged_by l z)) cs) t ∙ ap (nested (tagged (tagged_by l (union_top_read m mode p rows)))) f
-    ∙ wrapped (λ j. nested (tagged (tagged_by l (union_top_read m mode p rows))) (forest_read m fs (inside (union_buffers m.version mode) p) (rows_by (children_rows mode rows) m)) ≡ parts_under l m j p rows) (λ name metadata j h. h) k (union_as k mode fs) u (by mode rows)
+    ∙ wrapped (λ j. nested (tagged (tagged_by l (union_top_read m mode p rows))) (forest_read m hs fs (inside (union_buffers m.version mode) p) (rows_by (children_rows mode rows) m)) ≡ parts_under l m hs j p rows) (λ name metadata j h. h) k (union_as k mode fs) u (by mode rows)
   where
-    by : (mode : UnionMode) (rows : ℕ) → nested (tagged (tagged_by l (union_top_read m mode p rows))) (forest_read m fs (inside (union_buffers m.version mode) p) (rows_by (children_rows mode rows) m)) ≡ parts_under l m (union_as k mode fs) p rows
+    by : (mode : UnionMode) (rows : ℕ) → nested (tagged (tagged_by l (union_top_read m mode p rows))) (forest_read m hs fs (inside (union_buffers m.version mode) p) (rows_by (children_rows mode rows) m)) ≡ parts_under l m hs (union_as k mode fs) p rows
     by Sparse rows = refl
     by Dense zero = refl
     by Dense (suc n) = refl
 
 -- the answer of the call that makes it
-pub union_made : (r : Result Array IpcError) (m : RecordBatch) (k : Kind) (mode : UnionMode) (fs : Fields) (p : Place) (rows : ℕ) (top : UnionTop) (held : List ℕ) (cs : Forest) (ns : List FieldNode) (bs : List IpcBuffer) (vs : List ℤ) → under_extensions k ≡ union_as k mode fs → is_carried k ≡ true
+pub union_made : (r : Result Array IpcError) (m : RecordBatch) (d : Dictionaries) (hs : Held) (l k : Kind) (mode : UnionMode) (fs : Fields) (p : Place) (rows : ℕ) (top : UnionTop) (held : List ℕ) (cs : Forest) (ns : List FieldNode) (bs : List IpcBuffer) (vs : List ℤ) → under_extensions k ≡ union_as k mode fs → is_carried k ≡ true → ids_in l ≡ ids_in k → plain_kind k ≡ l
     → AllAt m (behind m fs (inside (union_buffers m.version mode) p)) ns bs vs → top ≡ union_top_read m mode p rows → held ≡ rows_of_each m fs (inside (union_buffers m.version mode) p) (rows_by (children_rows mode rows) m) → union_parts_faults m mode p rows ≡ []
-    → place_faults m (inside (union_buffers m.version mode) p) (behind m fs (inside (union_buffers m.version mode) p)) ++ child_faults m [] fs (inside (union_buffers m.version mode) p) (rows_by (children_rows mode rows) m) ≡ []
-    → cs ≡ forest_read m fs (inside (union_buffers m.version mode) p) (rows_by (children_rows mode rows) m)
-    → IfOk r (λ a. parts_of a ≡ nested (tagged (tagged_by k top)) cs) → IfOk r (λ _. fits_places (ids_in k) top.types top.offsets held ≡ true) → IfOk r (λ _. have_ids (ids_in k) top.types ≡ true) → IfErr r (λ e. WhyRefused k top held e)
-    → Answers (λ a. parts_of a) r (read_faults m k p rows) (parts_read m k p rows)
-union_made (Ok x) m k mode fs p rows top held cs ns bs vs u g a t w h c f made places ids y = record { ok = (union_well m k mode fs p rows top held ns bs vs u g a t w (record { places = places; ids = ids }) h c, made ∙ union_parts m k k mode fs p rows top cs u t f); err = tt }
-union_made (Err e) m k mode fs p rows top held cs ns bs vs u g a t w h c f made places ids y = record { ok = tt; err = union_refused m k mode fs p rows top held e u g t w h y }
+    → place_faults m (inside (union_buffers m.version mode) p) (behind m fs (inside (union_buffers m.version mode) p)) ++ child_faults m d fs (inside (union_buffers m.version mode) p) (rows_by (children_rows mode rows) m) ≡ []
+    → cs ≡ forest_read m hs fs (inside (union_buffers m.version mode) p) (rows_by (children_rows mode rows) m)
+    → IfOk r (λ a. parts_of a ≡ nested (tagged (tagged_by l top)) cs) → IfOk r (λ _. fits_places (ids_in l) top.types top.offsets held ≡ true) → IfOk r (λ _. have_ids (ids_in l) top.types ≡ true) → IfErr r (λ e. WhyRefused l top held e)
+    → Answers (λ a. parts_of a) r (read_faults m d k p rows) (parts_read m hs k p rows)
+union_made (Ok x) m d hs l k mode fs p rows top held cs ns bs vs u g same plain a t w h c f made places ids y = record {
+  ok = (
+    union_well m d k mode fs p rows top held ns bs vs u g a t w (record { places = subst (λ z. fits_places z top.types top.offsets held ≡ true) same places; ids = subst (λ z. have_ids z top.types ≡ true) same ids }) h c,
+    made ∙ union_parts m hs l k mode fs p rows top cs u t f ∙ ap (λ z. parts_under z m hs k p rows) (sym plain),
+  );
+  err = tt;
+}
+union_made (Err e) m d hs l k mode fs p rows top held cs ns bs vs u g same plain a t w h c f made places ids y =
+    record { ok = tt; err = union_refused m d k mode fs p rows top held e u g t w h (subst (λ z. (e ≡ Memory) ⊎ (((e ≡ OutOfSpec out.InvalidOffsets) × (fits_places z top.types top.offsets held ≡ false)) ⊎ ((e ≡ OutOfSpec out.InvalidUnion) × (have_ids z top.types ≡ false)))) same y) }
 
 pub union_bytes : (m : RecordBatch) (k : Kind) (mode : UnionMode) (fs : Fields) (p : Place) (rows : ℕ) → under_extensions k ≡ union_as k mode fs → AllHaveBytes m fs (inside (union_buffers m.version mode) p) (rows_by (children_rows mode rows) m) → HaveBytes m k p rows
 union_bytes m k mode fs p rows u b = wrapped (λ j. HaveBytes m j p rows) (λ name metadata j h. h) k (union_as k mode fs) u (by mode rows b)
@@ -395,12 +402,12 @@ union_bytes m k mode fs p rows u b = wrapped (λ j. HaveBytes m j p rows) (λ na
     by Dense (suc n) b = b
 
 -- its children have the rows that are asked
-pub union_rows : (mode : UnionMode) (cs : List Field) (version : MetadataVersion) (ns : List FieldNode) (bs : List IpcBuffer) (vs : List ℤ) (rows : ℕ) (types : List ℤ) (offsets : Option (List ℤ)) (held : List ℕ) → has_offsets offsets ≡ is_dense mode → length types ≡ rows → IfSome offsets (λ xs. length xs ≡ rows)
-    → ((m : RecordBatch) (p : Place) → BatchAt version m p ns bs vs → held ≡ rows_of_each m (fields_of cs) p (rows_by (children_rows mode rows) m)) → tagged_rows offsets (length types) held ≡ true
-union_rows Sparse cs version ns bs vs rows types None held d t o h = ap (λ n. are_all n held) t ∙ all_same cs version ns bs vs rows held h
-union_rows Sparse cs version ns bs vs rows types (Some xs) held d t o h = cc
-union_rows Dense cs version ns bs vs rows types None held d t o h = cc
-union_rows Dense cs version ns bs vs rows types (Some xs) held d t o h = eq-eqb (length xs) (length types) (o ∙ sym t)
+pub union_rows : (mode : UnionMode) (fs : Fields) (version : MetadataVersion) (ns : List FieldNode) (bs : List IpcBuffer) (vs : List ℤ) (rows : ℕ) (types : List ℤ) (offsets : Option (List ℤ)) (held : List ℕ) → has_offsets offsets ≡ is_dense mode → length types ≡ rows → IfSome offsets (λ xs. length xs ≡ rows)
+    → ((m : RecordBatch) (p : Place) → BatchAt version m p ns bs vs → held ≡ rows_of_each m fs p (rows_by (children_rows mode rows) m)) → tagged_rows offsets (length types) held ≡ true
+union_rows Sparse fs version ns bs vs rows types None held d t o h = ap (λ n. are_all n held) t ∙ all_same fs version ns bs vs rows held h
+union_rows Sparse fs version ns bs vs rows types (Some xs) held d t o h = cc
+union_rows Dense fs version ns bs vs rows types None held d t o h = cc
+union_rows Dense fs version ns bs vs rows types (Some xs) held d t o h = eq-eqb (length xs) (length types) (o ∙ sym t)
 
 -- ── what is fetched ──
 

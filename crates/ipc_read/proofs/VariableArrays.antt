@@ -107,7 +107,7 @@ variable_binary m k p rows true h =
 
 -- ── what is refused of them ──
 
-node_refused : (m : RecordBatch) (k : Kind) (p : Place) (rows : ℕ) (o : Offsets) (more : List IpcError) (e : IpcError) → VariableArray m k p rows o more → Refuses e (node_faults m p rows) → Refuses e (read_faults m k p rows)
+node_refused : (m : RecordBatch) (k : Kind) (p : Place) (rows : ℕ) (o : Offsets) (more : List IpcError) (e : IpcError) → VariableArray m k p rows o more → Refuses e (node_faults m p rows) → Refuses e (read_faults m [] k p rows)
 node_refused m k p rows o more e f h = refused_in m k p rows e (subst (λ es. Refuses e es) (sym f.faults) (refuses_left (node_faults m p rows) _ e h))
 
 end_of : (m : RecordBatch) (k : Kind) (p : Place) (rows : ℕ) (o : Offsets) (more : List IpcError) → VariableArray m k p rows o more → (after m k p).buffer ≡ p.buffer + 3
@@ -130,18 +130,18 @@ of_values : (m : RecordBatch) (p : Place) (rows : ℕ) (o : Offsets) (x : IpcErr
 of_values m p zero o x h = absurd h
 of_values m p (suc n) o x h = among_right (validity_faults m p (suc n) ++ offsets_buffer_faults m o (p.buffer + 1) (suc n)) _ x h
 
-validity_refused : (m : RecordBatch) (k : Kind) (p : Place) (rows : ℕ) (o : Offsets) (more : List IpcError) (e : IpcError) → VariableArray m k p rows o more → Refuses e (short_of m.buffers p.buffer ++ validity_faults m p rows) → Refuses e (read_faults m k p rows)
+validity_refused : (m : RecordBatch) (k : Kind) (p : Place) (rows : ℕ) (o : Offsets) (more : List IpcError) (e : IpcError) → VariableArray m k p rows o more → Refuses e (short_of m.buffers p.buffer ++ validity_faults m p rows) → Refuses e (read_faults m [] k p rows)
 validity_refused m k p rows o more e f h = lacks_or m k p rows p.buffer e _ (omega (arith, end_of m k p rows o more f)) (λ x a. parts_among m k p rows o more x f (of_validity m p rows o x a)) h
 
-offsets_refused : (m : RecordBatch) (k : Kind) (p : Place) (rows : ℕ) (o : Offsets) (more : List IpcError) (e : IpcError) → VariableArray m k p rows o more → Refuses e (short_of m.buffers (p.buffer + 1) ++ faults_where rows (offsets_buffer_faults m o (p.buffer + 1) rows)) → Refuses e (read_faults m k p rows)
+offsets_refused : (m : RecordBatch) (k : Kind) (p : Place) (rows : ℕ) (o : Offsets) (more : List IpcError) (e : IpcError) → VariableArray m k p rows o more → Refuses e (short_of m.buffers (p.buffer + 1) ++ faults_where rows (offsets_buffer_faults m o (p.buffer + 1) rows)) → Refuses e (read_faults m [] k p rows)
 offsets_refused m k p rows o more e f h = lacks_or m k p rows (p.buffer + 1) e _ (omega (arith, end_of m k p rows o more f)) (λ x a. parts_among m k p rows o more x f (of_offsets m p rows o x a)) h
 
-values_refused : (m : RecordBatch) (k : Kind) (p : Place) (rows : ℕ) (o : Offsets) (more : List IpcError) (e : IpcError) → VariableArray m k p rows o more → Refuses e (short_of m.buffers (p.buffer + 2) ++ faults_where rows (range_faults m (p.buffer + 2))) → Refuses e (read_faults m k p rows)
+values_refused : (m : RecordBatch) (k : Kind) (p : Place) (rows : ℕ) (o : Offsets) (more : List IpcError) (e : IpcError) → VariableArray m k p rows o more → Refuses e (short_of m.buffers (p.buffer + 2) ++ faults_where rows (range_faults m (p.buffer + 2))) → Refuses e (read_faults m [] k p rows)
 values_refused m k p rows o more e f h = lacks_or m k p rows (p.buffer + 2) e _ (omega (arith, end_of m k p rows o more f)) (λ x a. parts_among m k p rows o more x f (of_values m p rows o x a)) h
 
-pub parts_refused : (m : RecordBatch) (k : Kind) (p : Place) (rows : ℕ) (o : Offsets) (more : List IpcError) (e : IpcError) → VariableArray m k p rows o more → Refuses e (variable_faults m p rows o) → Refuses e (read_faults m k p rows)
+pub parts_refused : (m : RecordBatch) (k : Kind) (p : Place) (rows : ℕ) (o : Offsets) (more : List IpcError) (e : IpcError) → VariableArray m k p rows o more → Refuses e (variable_faults m p rows o) → Refuses e (read_faults m [] k p rows)
 parts_refused m k p rows o more e f h =
-    let all = read_faults m k p rows in
+    let all = read_faults m [] k p rows in
     refuses_by (head_faults m p rows) _ all e
     (λ x. refuses_by (node_faults m p rows) _ all e (node_refused m k p rows o more e f) (validity_refused m k p rows o more e f) x)
     (λ x. refuses_by (short_of m.buffers (p.buffer + 1) ++ faults_where rows (offsets_buffer_faults m o (p.buffer + 1) rows)) _ all e (offsets_refused m k p rows o more e f) (values_refused m k p rows o more e f) x) h
@@ -193,7 +193,7 @@ offsets_are m p n o a r = offsets-read m o p (suc n) r.values ∙ ap (λ x. caus
 bad_offsets : (b : Bool) (e : IpcError) → b ≡ false → IsAmong (cause (not b) e) e
 bad_offsets b e h = among_cause (not b) e (rw h refl)
 
-contents_refused : (m : RecordBatch) (k : Kind) (p : Place) (rows : ℕ) (o : Offsets) (more : List IpcError) (a : Variable) → VariableArray m k p rows o more → WasRead m p rows o a → are_offsets a.offsets (length a.values) ≡ false → Refuses (OutOfSpec kinds.InvalidOffsets) (read_faults m k p rows)
+contents_refused : (m : RecordBatch) (k : Kind) (p : Place) (rows : ℕ) (o : Offsets) (more : List IpcError) (a : Variable) → VariableArray m k p rows o more → WasRead m p rows o a → are_offsets a.offsets (length a.values) ≡ false → Refuses (OutOfSpec kinds.InvalidOffsets) (read_faults m [] k p rows)
 contents_refused m k p zero o more a f r h = let g = rw (r.is_offsets, r.is_values) at h in cc
 contents_refused m k p (suc n) o more a f r h =
     refused_in m k p (suc n) (OutOfSpec kinds.InvalidOffsets)
@@ -205,7 +205,7 @@ contents_refused m k p (suc n) o more a f r h =
 contents_none : (m : RecordBatch) (p : Place) (n : ℕ) (o : Offsets) (more : List IpcError) (a : Variable) → WasRead m p (suc n) o a → are_offsets a.offsets (length a.values) ≡ true → more ≡ [] → if_sound (if_sound (parts_of m o p (suc n)) (offsets_at m o p (suc n))) more ≡ []
 contents_none m p n o more a r h z = rw (parts_none m p n o a r, offsets_are m p n o a r, h) z
 
-variable_fine : (m : RecordBatch) (k : Kind) (p : Place) (rows : ℕ) (o : Offsets) (more : List IpcError) (ns : List FieldNode) (bs : List IpcBuffer) (a : Variable) → VariableArray m k p rows o more → IsWithin m p → Left m.nodes (suc p.node) ns → Left m.buffers (p.buffer + 3) bs → node_faults m p rows ≡ [] → WasRead m p rows o a → are_offsets a.offsets (length a.values) ≡ true → more ≡ [] → read_faults m k p rows ≡ []
+variable_fine : (m : RecordBatch) (k : Kind) (p : Place) (rows : ℕ) (o : Offsets) (more : List IpcError) (ns : List FieldNode) (bs : List IpcBuffer) (a : Variable) → VariableArray m k p rows o more → IsWithin m p → Left m.nodes (suc p.node) ns → Left m.buffers (p.buffer + 3) bs → node_faults m p rows ≡ [] → WasRead m p rows o a → are_offsets a.offsets (length a.values) ≡ true → more ≡ [] → read_faults m [] k p rows ≡ []
 variable_fine m k p zero o more ns bs a f w n b x r h z = fine_in m k f.layout p zero f.counted n.within (omega (arith, b.within, f.three)) w.views (f.faults ∙ both_none (node_faults m p zero) [] x refl)
 variable_fine m k p (suc q) o more ns bs a f w n b x r h z = fine_in m k f.layout p (suc q) f.counted n.within (omega (arith, b.within, f.three)) w.views (f.faults ∙ both_none (node_faults m p (suc q)) _ x (contents_none m p q o more a r h z))
 
@@ -220,7 +220,7 @@ variable_same m k p (suc n) o a e r = all a k _ _ _ e r.is_offsets r.is_values r
 
 -- an array of parts that are all well, which is made or refused
 pub variable_made : (m : RecordBatch) (k : Kind) (p : Place) (rows : ℕ) (o : Offsets) (more : List IpcError) (ns : List FieldNode) (bs : List IpcBuffer) (a : Variable) (r : Result Variable IpcError) → VariableArray m k p rows o more → IsWithin m p → Left m.nodes (suc p.node) ns → Left m.buffers (p.buffer + 3) bs → node_faults m p rows ≡ [] → WasRead m p rows o a → a.kind ≡ k
-    → IfOk r (λ x. x ≡ a) → IfOk r (λ x. are_offsets a.offsets (length a.values) ≡ true) → IfOk r (λ x. more ≡ []) → IfErr r (λ e. Refuses e (read_faults m k p rows)) → Answers (λ x. x) r (read_faults m k p rows) (variable_read m k o p rows)
+    → IfOk r (λ x. x ≡ a) → IfOk r (λ x. are_offsets a.offsets (length a.values) ≡ true) → IfOk r (λ x. more ≡ []) → IfErr r (λ e. Refuses e (read_faults m [] k p rows)) → Answers (λ x. x) r (read_faults m [] k p rows) (variable_read m k o p rows)
 variable_made m k p rows o more ns bs a (Ok x) f w n b node read e is sound none err = record { ok = (variable_fine m k p rows o more ns bs a f w n b node read sound none, is ∙ variable_same m k p rows o a e read); err = tt }
 variable_made m k p rows o more ns bs a (Err x) f w n b node read e is sound none err = record { ok = tt; err = err }
 
@@ -303,7 +303,7 @@ no_texts : (values : List ℕ) (v : Option (List Bool)) → has_bad_text (pos 0 
 unfolding has_bad_text
 no_texts values v = refl
 
-texts_refused : (m : RecordBatch) (k : Kind) (p : Place) (rows : ℕ) (o : Offsets) (a : Variable) → VariableArray m k p rows o (texts_at m o p rows) → WasRead m p rows o a → are_offsets a.offsets (length a.values) ≡ true → has_bad_text a.offsets a.values a.validity ≡ true → Refuses (OutOfSpec kinds.InvalidUtf8) (read_faults m k p rows)
+texts_refused : (m : RecordBatch) (k : Kind) (p : Place) (rows : ℕ) (o : Offsets) (a : Variable) → VariableArray m k p rows o (texts_at m o p rows) → WasRead m p rows o a → are_offsets a.offsets (length a.values) ≡ true → has_bad_text a.offsets a.values a.validity ≡ true → Refuses (OutOfSpec kinds.InvalidUtf8) (read_faults m [] k p rows)
 texts_refused m k p zero o a f r s h = let g = rw (r.is_offsets, no_texts a.values a.validity) at h in cc
 texts_refused m k p (suc n) o a f r s h =
     let offs : offsets_at m o p (suc n) ≡ [] = offsets_are m p n o a r ∙ ap (λ b. cause (not b) (OutOfSpec kinds.InvalidOffsets)) s in
@@ -327,12 +327,12 @@ pub more_fine : (t : Bool) (m : RecordBatch) (p : Place) (rows : ℕ) (o : Offse
 more_fine false m p rows o a r h = refl
 more_fine true m p rows o a r h = texts_fine m p rows o a r h
 
-bad_refused : (t : Bool) (m : RecordBatch) (k : Kind) (p : Place) (rows : ℕ) (o : Offsets) (a : Variable) → VariableArray m k p rows o (more_at t m o p rows) → WasRead m p rows o a → are_offsets a.offsets (length a.values) ≡ true → (t && has_bad_text a.offsets a.values a.validity) ≡ true → Refuses (OutOfSpec kinds.InvalidUtf8) (read_faults m k p rows)
+bad_refused : (t : Bool) (m : RecordBatch) (k : Kind) (p : Place) (rows : ℕ) (o : Offsets) (a : Variable) → VariableArray m k p rows o (more_at t m o p rows) → WasRead m p rows o a → are_offsets a.offsets (length a.values) ≡ true → (t && has_bad_text a.offsets a.values a.validity) ≡ true → Refuses (OutOfSpec kinds.InvalidUtf8) (read_faults m [] k p rows)
 bad_refused false m k p rows o a f r s h = cc
 bad_refused true m k p rows o a f r s h = texts_refused m k p rows o a f r s h
 
 pub make_refused : (t : Bool) (m : RecordBatch) (k : Kind) (p : Place) (rows : ℕ) (o : Offsets) (a : Variable) (e : IpcError) → VariableArray m k p rows o (more_at t m o p rows) → WasRead m p rows o a
-    → (e ≡ Memory) ⊎ (((e ≡ OutOfSpec kinds.InvalidOffsets) × (are_offsets a.offsets (length a.values) ≡ false)) ⊎ ((e ≡ OutOfSpec kinds.InvalidUtf8) × ((are_offsets a.offsets (length a.values) ≡ true) × ((t && has_bad_text a.offsets a.values a.validity) ≡ true)))) → Refuses e (read_faults m k p rows)
-make_refused t m k p rows o a e f r (inl h) = memory_refuses e (read_faults m k p rows) h
-make_refused t m k p rows o a e f r (inr (inl h)) = subst (λ x. Refuses x (read_faults m k p rows)) (sym h.0) (contents_refused m k p rows o _ a f r h.1)
-make_refused t m k p rows o a e f r (inr (inr h)) = subst (λ x. Refuses x (read_faults m k p rows)) (sym h.0) (bad_refused t m k p rows o a f r h.1.0 h.1.1)
+    → (e ≡ Memory) ⊎ (((e ≡ OutOfSpec kinds.InvalidOffsets) × (are_offsets a.offsets (length a.values) ≡ false)) ⊎ ((e ≡ OutOfSpec kinds.InvalidUtf8) × ((are_offsets a.offsets (length a.values) ≡ true) × ((t && has_bad_text a.offsets a.values a.validity) ≡ true)))) → Refuses e (read_faults m [] k p rows)
+make_refused t m k p rows o a e f r (inl h) = memory_refuses e (read_faults m [] k p rows) h
+make_refused t m k p rows o a e f r (inr (inl h)) = subst (λ x. Refuses x (read_faults m [] k p rows)) (sym h.0) (contents_refused m k p rows o _ a f r h.1)
+make_refused t m k p rows o a e f r (inr (inr h)) = subst (λ x. Refuses x (read_faults m [] k p rows)) (sym h.0) (bad_refused t m k p rows o a f r h.1.0 h.1.1)

@@ -158,10 +158,10 @@ counts_same t m k p rows f = ap (λ n. cause (nat_lt (length m.variadic) (p.view
 
 -- ── what is refused of them ──
 
-pub node_refused : (t : Bool) (m : RecordBatch) (k : Kind) (p : Place) (rows : ℕ) (e : IpcError) → ViewArray t m k p rows → Refuses e (node_faults m p rows) → Refuses e (read_faults m k p rows)
+pub node_refused : (t : Bool) (m : RecordBatch) (k : Kind) (p : Place) (rows : ℕ) (e : IpcError) → ViewArray t m k p rows → Refuses e (node_faults m p rows) → Refuses e (read_faults m [] k p rows)
 node_refused t m k p rows e f h = refused_in m k p rows e (subst (λ es. Refuses e es) (sym f.faults) (refuses_left (node_faults m p rows) _ e h))
 
-pub count_refused : (t : Bool) (m : RecordBatch) (k : Kind) (p : Place) (rows : ℕ) (e : IpcError) → ViewArray t m k p rows → Refuses e (view_count_faults m binary_view p) → Refuses e (read_faults m k p rows)
+pub count_refused : (t : Bool) (m : RecordBatch) (k : Kind) (p : Place) (rows : ℕ) (e : IpcError) → ViewArray t m k p rows → Refuses e (view_count_faults m binary_view p) → Refuses e (read_faults m [] k p rows)
 unfolding read_faults count_faults
 count_refused t m k p rows e f h = refuses_left (count_faults m k p) _ e (refuses_right (counts_faults m (after m k p)) _ e (subst (λ es. Refuses e es) (sym (counts_same t m k p rows f)) h))
 
@@ -209,29 +209,29 @@ or_true : (a b : Bool) → b ≡ true → (a || b) ≡ true
 or_true true b h = refl
 or_true false b h = h
 
-lacks_data : (t : Bool) (m : RecordBatch) (k : Kind) (p : Place) (rows : ℕ) (x : IpcError) → ViewArray t m k p rows → nat_lt (length m.buffers) (p.buffer + 2 + count_at m p.view) ≡ true → IsAmong (OutOfSpec kinds.ExpectedBuffer ∷ []) x → IsAmong (read_faults m k p rows) x
+lacks_data : (t : Bool) (m : RecordBatch) (k : Kind) (p : Place) (rows : ℕ) (x : IpcError) → ViewArray t m k p rows → nat_lt (length m.buffers) (p.buffer + 2 + count_at m p.view) ≡ true → IsAmong (OutOfSpec kinds.ExpectedBuffer ∷ []) x → IsAmong (read_faults m [] k p rows) x
 unfolding read_faults count_faults
 lacks_data t m k p rows x f e a =
     let o = or_true (nat_lt (length m.nodes) (after m k p).node) (nat_lt (length m.buffers) (after m k p).buffer) (ap (nat_lt (length m.buffers)) (end_of t m k p rows f) ∙ e) in
     among_left (count_faults m k p) _ x (among_left (counts_faults m (after m k p)) _ x (subst (λ b. IsAmong (cause b (OutOfSpec kinds.ExpectedBuffer)) x) (sym o) a))
 
-data_among : (t : Bool) (m : RecordBatch) (k : Kind) (p : Place) (rows : ℕ) (x : IpcError) → ViewArray t m k p rows → view_count_faults m binary_view p ≡ [] → (b : Bool) → nat_lt (length m.buffers) (p.buffer + 2 + count_at m p.view) ≡ b → IsAmong (if_sound (cause b (OutOfSpec kinds.ExpectedBuffer)) (faults_where rows (ranges_faults m (p.buffer + 2) (count_at m p.view)))) x → IsAmong (read_faults m k p rows) x
+data_among : (t : Bool) (m : RecordBatch) (k : Kind) (p : Place) (rows : ℕ) (x : IpcError) → ViewArray t m k p rows → view_count_faults m binary_view p ≡ [] → (b : Bool) → nat_lt (length m.buffers) (p.buffer + 2 + count_at m p.view) ≡ b → IsAmong (if_sound (cause b (OutOfSpec kinds.ExpectedBuffer)) (faults_where rows (ranges_faults m (p.buffer + 2) (count_at m p.view)))) x → IsAmong (read_faults m [] k p rows) x
 unfolding read_faults
 data_among t m k p rows x f c true e a = lacks_data t m k p rows x f e a
 data_among t m k p rows x f c false e a = among_right (count_faults m k p) _ x (parts_among t m k p rows x f (of_ranges m p rows x c e a))
 
-pub order_refused : (t : Bool) (m : RecordBatch) (k : Kind) (p : Place) (rows : ℕ) (b : Bool) → ViewArray t m k p rows → m.order ≡ order_by b → (nat_lt 0 rows && not b) ≡ true → IsAmong (read_faults m k p rows) (Unsupported features.ViewBigEndian)
+pub order_refused : (t : Bool) (m : RecordBatch) (k : Kind) (p : Place) (rows : ℕ) (b : Bool) → ViewArray t m k p rows → m.order ≡ order_by b → (nat_lt 0 rows && not b) ≡ true → IsAmong (read_faults m [] k p rows) (Unsupported features.ViewBigEndian)
 unfolding read_faults
 order_refused t m k p rows b f o h = among_right (count_faults m k p) _ _ (parts_among t m k p rows _ f (of_order m p rows b o h))
 
-pub validity_refused : (t : Bool) (m : RecordBatch) (k : Kind) (p : Place) (rows : ℕ) (e : IpcError) → ViewArray t m k p rows → Refuses e (short_of m.buffers p.buffer ++ validity_faults m p rows) → Refuses e (read_faults m k p rows)
+pub validity_refused : (t : Bool) (m : RecordBatch) (k : Kind) (p : Place) (rows : ℕ) (e : IpcError) → ViewArray t m k p rows → Refuses e (short_of m.buffers p.buffer ++ validity_faults m p rows) → Refuses e (read_faults m [] k p rows)
 validity_refused t m k p rows e f h = lacks_or m k p rows p.buffer e _ (omega (arith, end_of t m k p rows f)) (λ x a. parts_among t m k p rows x f (of_validity m p rows x a)) h
 
-pub views_refused : (t : Bool) (m : RecordBatch) (k : Kind) (p : Place) (rows : ℕ) (e : IpcError) → ViewArray t m k p rows → Refuses e (short_of m.buffers (p.buffer + 1) ++ faults_where rows (numbers_faults m (p.buffer + 1) 16 rows)) → Refuses e (read_faults m k p rows)
+pub views_refused : (t : Bool) (m : RecordBatch) (k : Kind) (p : Place) (rows : ℕ) (e : IpcError) → ViewArray t m k p rows → Refuses e (short_of m.buffers (p.buffer + 1) ++ faults_where rows (numbers_faults m (p.buffer + 1) 16 rows)) → Refuses e (read_faults m [] k p rows)
 views_refused t m k p rows e f h = lacks_or m k p rows (p.buffer + 1) e _ (omega (arith, end_of t m k p rows f)) (λ x a. parts_among t m k p rows x f (of_views m p rows x a)) h
 
-pub data_refused : (t : Bool) (m : RecordBatch) (k : Kind) (p : Place) (rows count : ℕ) (e : IpcError) → ViewArray t m k p rows → view_count_faults m binary_view p ≡ [] → count ≡ count_at m p.view → Refuses e (data_causes m (p.buffer + 2) rows count) → Refuses e (read_faults m k p rows)
-data_refused t m k p rows count e f c n h = refuses_more (data_causes m (p.buffer + 2) rows (count_at m p.view)) (read_faults m k p rows) e (λ x a. data_among t m k p rows x f c _ refl a) (subst (λ n. Refuses e (data_causes m (p.buffer + 2) rows n)) n h)
+pub data_refused : (t : Bool) (m : RecordBatch) (k : Kind) (p : Place) (rows count : ℕ) (e : IpcError) → ViewArray t m k p rows → view_count_faults m binary_view p ≡ [] → count ≡ count_at m p.view → Refuses e (data_causes m (p.buffer + 2) rows count) → Refuses e (read_faults m [] k p rows)
+data_refused t m k p rows count e f c n h = refuses_more (data_causes m (p.buffer + 2) rows (count_at m p.view)) (read_faults m [] k p rows) e (λ x a. data_among t m k p rows x f c _ refl a) (subst (λ n. Refuses e (data_causes m (p.buffer + 2) rows n)) n h)
 
 pub view_next : (t : Bool) (m : RecordBatch) (k : Kind) (p : Place) (rows count : ℕ) (ns : List FieldNode) (bs : List IpcBuffer) (vs : List ℤ) → ViewArray t m k p rows → count ≡ count_at m p.view → Left m.nodes (suc p.node) ns → Left m.buffers (p.buffer + 2 + count) bs → Left m.variadic (suc p.view) vs → AllAt m (after m k p) ns bs vs
 view_next t m k p rows count ns bs vs f e n b v = record {
@@ -345,14 +345,14 @@ no_some : {A : Type 0} → (o : Option A) (x : A) → o ≡ None → o ≡ Some 
 no_some o x h k = let e = sym h ∙ k in cc
 
 pub make_refused : (t : Bool) (m : RecordBatch) (k : Kind) (p : Place) (rows count : ℕ) (b : Bool) (a : Views) (e : IpcError) → ViewArray t m k p rows → a.kind ≡ k → WasRead m p rows count b a
-    → (e ≡ Memory) ⊎ (((e ≡ OutOfSpec kinds.InvalidUtf8) × (view_fault t true a ≡ Some Utf8)) ⊎ ((e ≡ OutOfSpec kinds.InvalidView) × (view_fault t true a ≡ Some View))) → Refuses e (read_faults m k p rows)
-make_refused t m k p rows count b a e f s r (inl h) = memory_refuses e (read_faults m k p rows) h
+    → (e ≡ Memory) ⊎ (((e ≡ OutOfSpec kinds.InvalidUtf8) × (view_fault t true a ≡ Some Utf8)) ⊎ ((e ≡ OutOfSpec kinds.InvalidView) × (view_fault t true a ≡ Some View))) → Refuses e (read_faults m [] k p rows)
+make_refused t m k p rows count b a e f s r (inl h) = memory_refuses e (read_faults m [] k p rows) h
 make_refused t m k p zero count b a e f s r (inr (inl h)) = absurd (no_some (view_fault t true a) Utf8 (none_found t m k p count b a s r) h.1)
 make_refused t m k p zero count b a e f s r (inr (inr h)) = absurd (no_some (view_fault t true a) View (none_found t m k p count b a s r) h.1)
 make_refused t m k p (suc n) count b a e f s r (inr (inl h)) =
-    subst (λ x. Refuses x (read_faults m k p (suc n))) (sym h.0) (refused_in m k p (suc n) (OutOfSpec kinds.InvalidUtf8) (bad_among t m k p n count b a _ f r (told_text t _ _ (sym (found_is t m k p n count b a s r) ∙ h.1))))
+    subst (λ x. Refuses x (read_faults m [] k p (suc n))) (sym h.0) (refused_in m k p (suc n) (OutOfSpec kinds.InvalidUtf8) (bad_among t m k p n count b a _ f r (told_text t _ _ (sym (found_is t m k p n count b a s r) ∙ h.1))))
 make_refused t m k p (suc n) count b a e f s r (inr (inr h)) =
-    subst (λ x. Refuses x (read_faults m k p (suc n))) (sym h.0) (refused_in m k p (suc n) (OutOfSpec kinds.InvalidView) (bad_among t m k p n count b a _ f r (told_view t _ _ (sym (found_is t m k p n count b a s r) ∙ h.1))))
+    subst (λ x. Refuses x (read_faults m [] k p (suc n))) (sym h.0) (refused_in m k p (suc n) (OutOfSpec kinds.InvalidView) (bad_among t m k p n count b a _ f r (told_view t _ _ (sym (found_is t m k p n count b a s r) ∙ h.1))))
 
 -- ── where nothing is wrong ──
 
@@ -371,13 +371,13 @@ counts_none t m k p rows count f e n b c =
     or_false false v h k = k
     or_false true v h k = cc
 
-view_fine : (t : Bool) (m : RecordBatch) (k : Kind) (p : Place) (rows count : ℕ) (b : Bool) (ns : List FieldNode) (bs : List IpcBuffer) (a : Views) → ViewArray t m k p rows → Left m.nodes (suc p.node) ns → Left m.buffers (p.buffer + 2 + count) bs → node_faults m p rows ≡ [] → a.kind ≡ k → WasRead m p rows count b a → view_fault t true a ≡ None → read_faults m k p rows ≡ []
+view_fine : (t : Bool) (m : RecordBatch) (k : Kind) (p : Place) (rows count : ℕ) (b : Bool) (ns : List FieldNode) (bs : List IpcBuffer) (a : Views) → ViewArray t m k p rows → Left m.nodes (suc p.node) ns → Left m.buffers (p.buffer + 2 + count) bs → node_faults m p rows ≡ [] → a.kind ≡ k → WasRead m p rows count b a → view_fault t true a ≡ None → read_faults m [] k p rows ≡ []
 unfolding read_faults
 view_fine t m k p rows count b ns bs a f n l x s r h = both_none (count_faults m k p) _ (counts_none t m k p rows count f r.is_count n.within l.within r.counts) (f.faults ∙ both_none (node_faults m p rows) _ x (contents_none t m k p rows count b a s r h))
 
 -- an array of parts that are all well, which is made or refused
 pub view_made : (t : Bool) (m : RecordBatch) (k : Kind) (p : Place) (rows count : ℕ) (b : Bool) (ns : List FieldNode) (bs : List IpcBuffer) (a : Views) (r : Result Views IpcError) → ViewArray t m k p rows → Left m.nodes (suc p.node) ns → Left m.buffers (p.buffer + 2 + count) bs → node_faults m p rows ≡ [] → a.kind ≡ k → WasRead m p rows count b a
-    → IfOk r (λ x. x ≡ a) → IfOk r (λ x. view_fault t true a ≡ None) → IfErr r (λ e. Refuses e (read_faults m k p rows)) → Answers (λ x. x) r (read_faults m k p rows) (views_read m k p rows)
+    → IfOk r (λ x. x ≡ a) → IfOk r (λ x. view_fault t true a ≡ None) → IfErr r (λ e. Refuses e (read_faults m [] k p rows)) → Answers (λ x. x) r (read_faults m [] k p rows) (views_read m k p rows)
 view_made t m k p rows count b ns bs a (Ok x) f n l node e read is sound err = record { ok = (view_fine t m k p rows count b ns bs a f n l node e read sound, is ∙ views_same m k p rows count b a e read); err = tt }
 view_made t m k p rows count b ns bs a (Err x) f n l node e read is sound err = record { ok = tt; err = err }
 

@@ -4,7 +4,8 @@ use Rattle.arrow_spec.specs.Readings.{Reading, free_of, ◌>>=◌}
 use Rattle.arrow_spec.specs.Flat.{Order, order_by}
 use Rattle.arrow_spec.specs.Columns.{is_chosen, columns_at}
 use Rattle.arrow_spec.specs.Cells.{Cell}
-use Rattle.arrow_spec.specs.Kinds.{Kind, Fields, none, field, width, «list», struct, fixed_size_list, extension}
+use Rattle.arrow_spec.specs.Arrays.{Dictionaries}
+use Rattle.arrow_spec.specs.Kinds.{Kind, Fields, none, field, width, «list», struct, fixed_size_list, dictionary, extension}
 use Rattle.arrow_spec.specs.Kinds as kind
 use Rattle.arrow_spec.specs.Schema.{first_is_struct_of_two}
 use Rattle.arrow_spec.specs.Messages.{BatchHeader}
@@ -17,7 +18,7 @@ use Rattle.arrow_spec.specs.declared.message.FieldNode.{FieldNode}
 use Rattle.arrow_spec.specs.declared.message.IpcBuffer.{IpcBuffer}
 use Rattle.arrow_types.specs.Physical.{physical_of}
 use Rattle.arrow_types.specs.UnionIds.{are_right}
-use Rattle.arrow_types.specs.Schemas.{Keyed}
+use Rattle.arrow_types.specs.Schemas.{Keyed, fields_in}
 use Rattle.arrow_types.specs.declared.physical.PhysicalType.{PhysicalType}
 use Rattle.arrow_types.specs.declared.physical.PhysicalType.TheVariants.{FixedSizeBinary, Primitive}
 use Rattle.arrow_types.specs.declared.physical.PrimitiveType.{PrimitiveType}
@@ -29,20 +30,23 @@ use Rattle.arrow_spec.specs.declared.error.Feature.TheVariants as features
 use Rattle.arrow_buffers.specs.Layouts.{binary_size}
 use Rattle.arrow_arrays.specs.Parts.{Parts, cells_in}
 use Rattle.arrow_arrays.specs.Batches.{Batch}
+use Rattle.ipc_read_laws.specs.Held.{Held}
 use Rattle.ipc_read_laws.specs.PartsRead.{parts_read}
 use Rattle.ipc_read_laws.specs.Faults.{stated_of, fetched_at_most}
 use Rattle.arrow_arrays.specs.Carried.{is_carried}
+use Rattle.ipc_fields.specs.IpcFields.{ids_of, fields_with}
+use Rattle.ipc_fields.specs.declared.ipc_field.IpcField.{IpcField}
 use Rattle.ipc_read.specs.Skips.{is_plain_layout}
 use Rattle.ipc_read.specs.Projection.{kept, chosen}
 
 -- ── the columns ──
 
--- columns of a layout without children may be read or refused: no keys of a dictionary, and no byte strings of size 0
+-- columns of a layout without children may be read or refused: no byte strings of size 0
 abbrev pub is_column_layout : PhysicalType → ℕ → Bool
 is_column_layout FixedSizeBinary size = nat_lt 0 size
 is_column_layout layout size = is_plain_layout layout
 
--- columns of the kind may be read or refused: the same of each kind in it; lists and maps have one child, maps a struct of two, sizes are above 0, and the ids of unions are right
+-- columns of the kind may be read or refused: the same of each kind in it, a dictionary's values' too; lists and maps have one child, maps a struct of two, sizes are above 0, and the ids of unions are right
 abbrev mutual
   pub is_column_kind : Kind → Bool
   is_column_kind («list» o fs) = nat_eq (width fs) 1 && are_column_fields fs
@@ -50,6 +54,7 @@ abbrev mutual
   is_column_kind (fixed_size_list size fs) = (nat_eq (width fs) 1 && nat_lt 0 size) && are_column_fields fs
   is_column_kind (struct fs) = are_column_fields fs
   is_column_kind (kind.union mode stated ids fs) = are_right ids (width fs) && are_column_fields fs
+  is_column_kind (dictionary t ordered id k) = is_column_kind k
   is_column_kind (extension name metadata k) = is_column_kind k
   is_column_kind k = is_column_layout (physical_of k) (binary_size k)
 
@@ -88,17 +93,17 @@ pub record IsFieldAt (s : List Keyed) (i : ℕ) (f : Field) : Type 0 where
 -- ── the batch ──
 
 -- the cells of the columns that are asked for, each as far as its first few rows go
-abbrev pub cells_asked : RecordBatch → Option (List ℕ) → Fields → ℕ → ℕ → Reading (List (List Cell))
-cells_asked m asked fs rows few = columns_at m [] asked fs 0 first_place rows few >>= λ all. Ok (chosen asked 0 all)
+abbrev pub cells_asked : RecordBatch → Dictionaries → Option (List ℕ) → Fields → ℕ → ℕ → Reading (List (List Cell))
+cells_asked m d asked fs rows few = columns_at m d asked fs 0 first_place rows few >>= λ all. Ok (chosen asked 0 all)
 
--- some columns of some fields, where no dictionary is held
-abbrev pub columns_asked : Option (List ℕ) → Order → Fields → ℕ → Asked
-columns_asked columns order fs most = record { order = order; fields = fs; columns = columns; dictionaries = []; most = most }
+-- some columns of some fields, where these dictionaries were read
+abbrev pub columns_asked : Option (List ℕ) → Order → Fields → Dictionaries → ℕ → Asked
+columns_asked columns order fs d most = record { order = order; fields = fs; columns = columns; dictionaries = d; most = most }
 
 -- what the columns asked for of a batch mean, as far as its first rows go, where a limit is set; their kinds are looked at first
-abbrev pub batch_reading : Option (List ℕ) → Option ℕ → Bool → Fields → ℕ → MetadataVersion → BatchHeader → List ℕ → Reading TableBatch
-batch_reading columns limit is_little_endian fs most version tables body =
-    free_of (chosen_floats columns fs 0) >>= λ readable. batch_of_tables to_read (columns_asked columns (order_by is_little_endian) fs most) version [] tables body limit
+abbrev pub batch_reading : Option (List ℕ) → Option ℕ → Bool → Fields → Dictionaries → ℕ → MetadataVersion → BatchHeader → List ℕ → Reading TableBatch
+batch_reading columns limit is_little_endian fs d most version tables body =
+    free_of (chosen_floats columns fs 0) >>= λ readable. batch_of_tables to_read (columns_asked columns (order_by is_little_endian) fs d most) version [] tables body limit
 
 -- the batch as a table has it
 abbrev pub table_in : ℕ → List Parts → TableBatch
@@ -121,10 +126,18 @@ pub record MayBeRead (tables : BatchHeader) (most rows : ℕ) : Type 0 where
   pub few : lengths_sum tables.buffers ≤ most
 
 -- the parts of the columns that are asked for, which stand from a place on, the first having number c
-abbrev pub chosen_read : RecordBatch → Option (List ℕ) → Fields → ℕ → Place → ℕ → List Parts
-chosen_read m asked none c p rows = []
-chosen_read m asked (field name nullable metadata k others) c p rows =
-    kept (is_chosen asked c) (parts_read m k p rows) (chosen_read m asked others (suc c) (after m k p) rows)
+abbrev pub chosen_read : RecordBatch → Held → Option (List ℕ) → Fields → ℕ → Place → ℕ → List Parts
+chosen_read m h asked none c p rows = []
+chosen_read m h asked (field name nullable metadata k others) c p rows =
+    kept (is_chosen asked c) (parts_read m h k p rows) (chosen_read m h asked others (suc c) (after m k p) rows)
+
+-- the kinds of keyed fields
+abbrev pub kinds_of : List Keyed → List Kind
+kinds_of s = map (λ p. p.1.kind) s
+
+-- the columns of some keyed fields, with the ids of their IPC fields
+abbrev pub schema_fields : List Keyed → List IpcField → Fields
+schema_fields s fields = fields_with (fields_in s) (ids_of fields)
 
 -- ── what is fetched ──
 

@@ -6,8 +6,10 @@ pub mod Lists
 pub mod CountedArrays
 pub mod ChildRows
 pub mod Unions
+pub mod Held
 pub mod Readers
 pub mod Skips
 pub mod Readings
 pub mod Projection
 pub mod Batches
+pub mod DictionaryBatches

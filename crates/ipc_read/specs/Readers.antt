@@ -1,13 +1,15 @@
 -- What the readers of buffers and of columns stand on, what they take and give, and what they keep.
-use Rattle.std.specs.Prelude.{◌≡◌, ℕ, suc, ◌+◌, ◌^◌, ◌<◌, ◌≤◌, Bool, List, Option, Result, IfOk, IfErr, ℤ}
+use Rattle.std.specs.Prelude.{◌≡◌, ℕ, suc, ◌+◌, ◌^◌, ◌<◌, ◌≤◌, Bool, List, [], Option, Result, IfOk, IfErr, ℤ}
 use Rattle.arrow_spec.specs.declared.error.IpcError.{IpcError}
 use Rattle.arrow_spec.specs.declared.message.FieldNode.{FieldNode}
 use Rattle.arrow_spec.specs.declared.message.IpcBuffer.{IpcBuffer}
 use Rattle.arrow_spec.specs.declared.message.MetadataVersion.{MetadataVersion}
 use Rattle.arrow_spec.specs.Kinds.{Kind, Fields}
 use Rattle.arrow_spec.specs.Counts.{RecordBatch, Place, nodes_of, buffers_of, views_of, after}
+use Rattle.arrow_spec.specs.Arrays.{Dictionaries}
 use Rattle.ipc_io.specs.Outside.{SourceKept}
 use Rattle.ipc_read_laws.specs.Faults.{read_faults, fetched_at_most}
+use Rattle.ipc_read_laws.specs.Held.{Held, HoldsCells}
 use Rattle.ipc_read.specs.declared.body.Body.{Body}
 use Rattle.ipc_read.specs.declared.readers.BufferReader.{BufferReader}
 use Rattle.ipc_read.specs.declared.readers.ColumnReader.{ColumnReader}
@@ -66,13 +68,13 @@ ColumnTaken k ns ns' bs bs' vs vs' result = IfOk result (λ _. (m : RecordBatch)
 abbrev pub LeafGiven : {X Y : Type 0} → Option (List ℕ) → Body → Bool → List FieldNode → List IpcBuffer → (X → Y) → Result X IpcError → Kind → ℕ
     → (RecordBatch → Place → Y) → Type 0
 LeafGiven content body is_little_endian ns bs view result k rows value =
-    (m : RecordBatch) (p : Place) → At m p ns bs → Known content body is_little_endian m → Answers view result (read_faults m k p rows) (value m p)
+    (m : RecordBatch) (p : Place) → At m p ns bs → Known content body is_little_endian m → Answers view result (read_faults m [] k p rows) (value m p)
 
 abbrev pub ColumnGiven : {X Y : Type 0} → Option (List ℕ) → Body → Bool → List FieldNode → List IpcBuffer → List ℤ → (X → Y) → Result X IpcError
     → Kind → ℕ → (RecordBatch → Place → Y) → Type 0
 ColumnGiven content body is_little_endian ns bs vs view result k rows value =
     (m : RecordBatch) (p : Place) → AllAt m p ns bs vs → Known content body is_little_endian m
-    → Answers view result (read_faults m k p rows) (value m p)
+    → Answers view result (read_faults m [] k p rows) (value m p)
 
 -- at most the buffers that are looked at are fetched
 abbrev pub LeafFetched : Kind → List FieldNode → List IpcBuffer → ℕ → ℕ → ℕ → Type 0
@@ -96,12 +98,19 @@ abbrev pub TreeTaken : {X : Type 0} → Kind → MetadataVersion → List FieldN
 TreeTaken k version ns ns' bs bs' vs vs' result =
     IfOk result (λ _. (m : RecordBatch) (p : Place) → BatchAt version m p ns bs vs → AllAt m (after m k p) ns' bs' vs')
 
--- it gives a value or refusals
-abbrev pub TreeGiven : {X Y : Type 0} → Option (List ℕ) → Body → Bool → MetadataVersion → List FieldNode → List IpcBuffer → List ℤ → (X → Y)
-    → Result X IpcError → Kind → ℕ → (RecordBatch → Place → Y) → Type 0
-TreeGiven content body is_little_endian version ns bs vs view result k rows value =
-    (m : RecordBatch) (p : Place) → BatchAt version m p ns bs vs → Known content body is_little_endian m
-    → Answers view result (read_faults m k p rows) (value m p)
+-- it gives a value or refusals, whatever was read of the dictionaries that are held
+abbrev pub TreeGiven : {X Y : Type 0} → Option (List ℕ) → Body → Bool → MetadataVersion → List FieldNode → List IpcBuffer → List ℤ → Held → (X → Y)
+    → Result X IpcError → Kind → ℕ → (RecordBatch → Dictionaries → Place → Y) → Type 0
+TreeGiven content body is_little_endian version ns bs vs h view result k rows value =
+    (m : RecordBatch) (d : Dictionaries) (p : Place) → BatchAt version m p ns bs vs → Known content body is_little_endian m → HoldsCells d h
+    → Answers view result (read_faults m d k p rows) (value m d p)
+
+-- the same of keys of dictionaries, which stand in nodes and buffers alone
+abbrev pub KeysGiven : {X Y : Type 0} → Option (List ℕ) → Body → Bool → List FieldNode → List IpcBuffer → Held → (X → Y)
+    → Result X IpcError → Kind → ℕ → (RecordBatch → Dictionaries → Place → Y) → Type 0
+KeysGiven content body is_little_endian ns bs h view result k rows value =
+    (m : RecordBatch) (d : Dictionaries) (p : Place) → At m p ns bs → Known content body is_little_endian m → HoldsCells d h
+    → Answers view result (read_faults m d k p rows) (value m d p)
 
 -- at most the buffers that are looked at are fetched
 abbrev pub TreeFetched : Kind → MetadataVersion → List FieldNode → List IpcBuffer → List ℤ → ℕ → ℕ → ℕ → Type 0
@@ -221,11 +230,16 @@ abbrev pub TakesTree : {S X : Type 0} → Kind → ColumnReader S → ColumnRead
 TakesTree k r r' result = TreeTaken k r.version r.nodes.now.items r'.nodes.now.items r.buffers.queue.now.items r'.buffers.queue.now.items
     r.variadic.now.items r'.variadic.now.items result
 
-abbrev pub GivesTree : {S X Y : Type 0} → (S → Option (List ℕ)) → ColumnReader S → (X → Y) → Result X IpcError → Kind → ℕ
-    → (RecordBatch → Place → Y) → Type 0
-GivesTree content_of r view result k rows value =
+abbrev pub GivesTree : {S X Y : Type 0} → (S → Option (List ℕ)) → ColumnReader S → Held → (X → Y) → Result X IpcError → Kind → ℕ
+    → (RecordBatch → Dictionaries → Place → Y) → Type 0
+GivesTree content_of r h view result k rows value =
     TreeGiven (content_of r.buffers.source.now) r.buffers.body r.buffers.is_little_endian r.version r.nodes.now.items r.buffers.queue.now.items
-    r.variadic.now.items view result k rows value
+    r.variadic.now.items h view result k rows value
+
+abbrev pub GivesKeys : {S X Y : Type 0} → (S → Option (List ℕ)) → ColumnReader S → Held → (X → Y) → Result X IpcError → Kind → ℕ
+    → (RecordBatch → Dictionaries → Place → Y) → Type 0
+GivesKeys content_of r h view result k rows value =
+    KeysGiven (content_of r.buffers.source.now) r.buffers.body r.buffers.is_little_endian r.nodes.now.items r.buffers.queue.now.items h view result k rows value
 
 abbrev pub FetchesTree : {S : Type 0} → (S → ℕ) → Kind → ColumnReader S → ColumnReader S → ℕ → Type 0
 FetchesTree fetched_of k r r' rows = TreeFetched k r.version r.nodes.now.items r.buffers.queue.now.items r.variadic.now.items rows

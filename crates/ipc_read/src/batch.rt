@@ -3,11 +3,10 @@ ghost use Rattle.std.specs.Prelude.{◌≡◌, ℕ, ◌+◌, ◌^◌, ◌<◌, �
 ghost use Rattle.std.specs.Rc.{rc_value};
 ghost use Rattle.arrow_spec.specs.Readings.{Gives};
 ghost use Rattle.arrow_spec.specs.Counts.{RecordBatch as Batch, Place, first_place, after, magnitude};
-ghost use Rattle.arrow_spec.specs.Arrays.{from_on};
+ghost use Rattle.arrow_spec.specs.Arrays.{from_on, Dictionaries as History};
 ghost use Rattle.arrow_spec.specs.ArrayCells.{cell};
 ghost use Rattle.arrow_spec.specs.Faults.{column_faults, count_faults};
 ghost use Rattle.arrow_types.specs.KindOf.{kind_of};
-ghost use Rattle.arrow_types.specs.Schemas.{fields_in};
 ghost use Rattle.arrow_arrays.specs.Batches.{have_rows};
 ghost use Rattle.arrow_spec.specs.Flat.{order_by};
 ghost use Rattle.arrow_arrays.specs.Carried.{is_carried};
@@ -16,7 +15,9 @@ ghost use Rattle.arrow_arrays.specs.PartsOf.{parts_of, all_parts_of};
 ghost use Rattle.ipc_read_laws.specs.Faults.{fetched_at_most};
 ghost use Rattle.ipc_read_laws.specs.PartsRead.{parts_read};
 ghost use Rattle.ipc_schema.specs.Views.{header_of};
-ghost use Rattle.ipc_read.specs.Batches.{AreQueuesOf, table_in, are_column_kinds, are_carried_kinds, batch_reading, table_of, batch_fetched, cells_asked, chosen_fetched, chosen_read};
+ghost use Rattle.ipc_read.specs.Batches.{AreQueuesOf, table_in, are_column_kinds, are_carried_kinds, batch_reading, table_of, batch_fetched, cells_asked, chosen_fetched, chosen_read, kinds_of, schema_fields};
+ghost use Rattle.ipc_read.specs.Held.{held_in, column_kind};
+ghost use Rattle.ipc_read_laws.specs.Held.{HoldsCells, HasKinds, HasFields};
 ghost use Rattle.ipc_read.specs.Projection.{are_columns, are_rising, chosen, columns_of};
 ghost use Rattle.arrow_spec.specs.Files.{record_batch_of, share};
 ghost use Rattle.ipc_read.specs.Readers.{TreeAt, KnownTo, Readable, CanRead, KeepsQueues, KeepsSource, FailsToReadColumn, HasReadCause, TakesTree, FetchesTree};
@@ -25,15 +26,16 @@ ghost use Rattle.ipc_read.specs.Sources.{Answers, Inside, BodyReadCause, bytes_i
 ghost use Rattle.ipc_io.specs.Outside.{SourceKept};
 
 use crate::Body;
+use crate::dictionaries::Dictionaries;
 use crate::projection::{chosen_schema, is_chosen};
 use crate::readers::{BufferReader, ColumnReader};
-use crate::reading::Dictionaries;
 use crate::skips::skip;
 use crate::tables::{check_kinds, check_node, field_at, queues_of, row_count};
 use arrow_arrays::{Array, RecordBatch};
 use arrow_spec::{FieldNode, IpcError, MetadataVersion};
 use arrow_types::{ArrowDataType, ArrowSchema, ArrowSchemaRef};
-use ipc_fields::IpcSchema;
+use ipc_fields::uses::{fields_at, id_at};
+use ipc_fields::{IpcField, IpcSchema};
 use ipc_schema::{BatchHeader, Source};
 use std::alloc::Global;
 use std::collections::VecDeque;
@@ -70,21 +72,25 @@ impl<'n, 'a, S: Source> ColumnReader<'n, 'a, S> {
     fn read_column(
         &mut self,
         dtype: &ArrowDataType,
+        id: Option<i64>,
+        fields: &[IpcField],
+        dictionaries: &Dictionaries,
         rows: usize,
         few: usize,
     ) -> Result<Array, IpcError>
         requires held { is_carried (kind_of dtype.now) ≡ true }
+        requires kinds { HasKinds (held_in dictionaries.now) (column_kind dtype.now id fields.now) }
         requires readable { CanRead S.content self.old.buffers }
-        ensures takes { TakesTree (kind_of dtype.now) self.old self.new result }
-        ensures parts { (m : Batch) (p : Place) → TreeAt m p self.old → KnownTo S.content self.old.buffers m → Answers (λ a. parts_of a) result (column_faults m [] (kind_of dtype.now) p rows few) (parts_read m (kind_of dtype.now) p few) }
-        ensures cells { (m : Batch) (p : Place) → TreeAt m p self.old → KnownTo S.content self.old.buffers m → Answers (λ a. cells_in (parts_of a)) result (column_faults m [] (kind_of dtype.now) p rows few) (from_on (cell m [] (kind_of dtype.now) p) 0 few) }
-        ensures shape { IfOk result (λ a. (kind_in (parts_of a) ≡ (kind_of dtype.now)) × (rows_in (parts_of a) ≡ few)) }
+        ensures takes { TakesTree (column_kind dtype.now id fields.now) self.old self.new result }
+        ensures parts { (m : Batch) (d : History) (p : Place) → TreeAt m p self.old → KnownTo S.content self.old.buffers m → HoldsCells d (held_in dictionaries.now) → Answers (λ a. parts_of a) result (column_faults m d (column_kind dtype.now id fields.now) p rows few) (parts_read m (held_in dictionaries.now) (column_kind dtype.now id fields.now) p few) }
+        ensures cells { (m : Batch) (d : History) (p : Place) → TreeAt m p self.old → KnownTo S.content self.old.buffers m → HoldsCells d (held_in dictionaries.now) → Answers (λ a. cells_in (parts_of a)) result (column_faults m d (column_kind dtype.now id fields.now) p rows few) (from_on (cell m d (column_kind dtype.now id fields.now) p) 0 few) }
+        ensures shape { IfOk result (λ a. (kind_in (parts_of a) ≡ kind_of dtype.now) × (rows_in (parts_of a) ≡ few)) }
         ensures cause { FailsToReadColumn S.faults self.old self.new result }
         ensures keeps { KeepsQueues S.content S.faults S.references self.old self.new }
-        ensures fetched { FetchesTree S.fetched (kind_of dtype.now) self.old self.new few }
+        ensures fetched { FetchesTree S.fetched (column_kind dtype.now id fields.now) self.old self.new few }
     {
         check_node(self.nodes, rows)?;
-        self.read_array(dtype, few)
+        self.read_array(dtype, id, fields, dictionaries, few)
     }
 
     /// A column that is not asked for is passed over.
@@ -103,20 +109,24 @@ impl<'n, 'a, S: Source> ColumnReader<'n, 'a, S> {
     fn read_columns(
         &mut self,
         schema: &ArrowSchema,
+        fields: &[IpcField],
         projection: Option<&[usize]>,
+        dictionaries: &Dictionaries,
         rows: usize,
         few: usize,
     ) -> Result<Vec<Array>, IpcError>
         requires rising { are_rising (columns_of projection) ≡ true }
         requires held { are_carried_kinds (columns_of projection) 0 schema.now ≡ true }
+        requires kinds { HasFields (held_in dictionaries.now) (schema_fields schema.now fields.now) }
         requires readable { CanRead S.content self.old.buffers }
-        ensures gives { (m : Batch) → TreeAt m first_place self.old → KnownTo S.content self.old.buffers m → Gives (λ v. map cells_in (all_parts_of v.items)) result (cells_asked m (columns_of projection.entry) (fields_in schema.now) rows few) }
-        ensures parts { IfOk result (λ v. (m : Batch) → TreeAt m first_place self.old → KnownTo S.content self.old.buffers m → all_parts_of v.items ≡ chosen_read m (columns_of projection.entry) (fields_in schema.now) 0 first_place few) }
+        ensures gives { (m : Batch) (d : History) → TreeAt m first_place self.old → KnownTo S.content self.old.buffers m → HoldsCells d (held_in dictionaries.now) → Gives (λ v. map cells_in (all_parts_of v.items)) result (cells_asked m d (columns_of projection.entry) (schema_fields schema.now fields.now) rows few) }
+        ensures parts { IfOk result (λ v. (m : Batch) (d : History) → TreeAt m first_place self.old → KnownTo S.content self.old.buffers m → HoldsCells d (held_in dictionaries.now) → all_parts_of v.items ≡ chosen_read m (held_in dictionaries.now) (columns_of projection.entry) (schema_fields schema.now fields.now) 0 first_place few) }
         ensures shape { IfOk result (λ v. have_rows few (all_parts_of v.items) ≡ true) }
         ensures count { IfOk result (λ v. length v.items ≡ length (chosen (columns_of projection.entry) 0 schema.now)) }
+        ensures kinds { IfOk result (λ v. map kind_in (all_parts_of v.items) ≡ chosen (columns_of projection.entry) 0 (kinds_of schema.now)) }
         ensures cause { FailsToReadColumn S.faults self.old self.new result }
         ensures keeps { KeepsQueues S.content S.faults S.references self.old self.new }
-        ensures fetched { (m : Batch) → TreeAt m first_place self.old → S.fetched self.new.buffers.source.now ≤ S.fetched self.old.buffers.source.now + chosen_fetched m (columns_of projection.entry) (fields_in schema.now) 0 first_place few }
+        ensures fetched { (m : Batch) → TreeAt m first_place self.old → S.fetched self.new.buffers.source.now ≤ S.fetched self.old.buffers.source.now + chosen_fetched m (columns_of projection.entry) (schema_fields schema.now fields.now) 0 first_place few }
     {
         let mut arrays = Vec::new(self.buffers.alloc);
         for i in 0..schema.len() {
@@ -125,7 +135,14 @@ impl<'n, 'a, S: Source> ColumnReader<'n, 'a, S> {
                 self.pass_column(&field.dtype)?;
                 continue;
             }
-            let array = self.read_column(&field.dtype, rows, few)?;
+            let array = self.read_column(
+                &field.dtype,
+                id_at(fields, i),
+                fields_at(fields, i),
+                dictionaries,
+                rows,
+                few,
+            )?;
             arrays.push(array)?;
         }
         Ok(arrays)
@@ -136,37 +153,41 @@ impl<'n, 'a, S: Source> ColumnReader<'n, 'a, S> {
         &mut self,
         header: &BatchHeader,
         schema: &ArrowSchema,
+        fields: &[IpcField],
         projection: Option<&[usize]>,
         limit: Option<usize>,
+        dictionaries: &Dictionaries,
         size: u64,
     ) -> Result<(usize, Vec<Array>), IpcError>
         requires columns { are_column_kinds (columns_of projection) 0 schema.now ≡ true }
+        requires kinds { HasFields (held_in dictionaries.now) (schema_fields schema.now fields.now) }
         requires rising { are_rising (columns_of projection) ≡ true }
         requires range { are_columns (columns_of projection) (length schema.now) ≡ true }
         requires queues { AreQueuesOf (header_of header.now) self.old.nodes.now.items self.old.buffers.queue.now.items self.old.variadic.now.items }
         requires readable { CanRead S.content self.old.buffers }
-        ensures gives { IfSome (S.content self.old.buffers.source.now) (λ b. Gives (λ r. table_in r.0 (all_parts_of r.1.items)) result (batch_reading (columns_of projection.entry) limit self.old.buffers.is_little_endian (fields_in schema.now) size self.old.version (header_of header.now) (bytes_in self.old.buffers.body b))) }
-        ensures parts { IfOk result (λ r. IfSome (S.content self.old.buffers.source.now) (λ b. all_parts_of r.1.items ≡ chosen_read (record_batch_of (order_by self.old.buffers.is_little_endian) self.old.version (header_of header.now) (bytes_in self.old.buffers.body b)) (columns_of projection.entry) (fields_in schema.now) 0 first_place r.0)) }
+        ensures gives { IfSome (S.content self.old.buffers.source.now) (λ b. (d : History) → HoldsCells d (held_in dictionaries.now) → Gives (λ r. table_in r.0 (all_parts_of r.1.items)) result (batch_reading (columns_of projection.entry) limit self.old.buffers.is_little_endian (schema_fields schema.now fields.now) d size self.old.version (header_of header.now) (bytes_in self.old.buffers.body b))) }
+        ensures parts { IfOk result (λ r. IfSome (S.content self.old.buffers.source.now) (λ b. (d : History) → HoldsCells d (held_in dictionaries.now) → all_parts_of r.1.items ≡ chosen_read (record_batch_of (order_by self.old.buffers.is_little_endian) self.old.version (header_of header.now) (bytes_in self.old.buffers.body b)) (held_in dictionaries.now) (columns_of projection.entry) (schema_fields schema.now fields.now) 0 first_place r.0)) }
         ensures shape { IfOk result (λ r. have_rows r.0 (all_parts_of r.1.items) ≡ true) }
         ensures count { IfOk result (λ r. length r.1.items ≡ length (chosen (columns_of projection.entry) 0 schema.now)) }
+        ensures kinds { IfOk result (λ r. map kind_in (all_parts_of r.1.items) ≡ chosen (columns_of projection.entry) 0 (kinds_of schema.now)) }
         ensures height { IfOk result (λ r. r.0 ≡ share limit (magnitude header.now.length)) }
         ensures cause { FailsToReadColumn S.faults self.old self.new result }
         ensures keeps { KeepsQueues S.content S.faults S.references self.old self.new }
-        ensures fetched { (bytes : List ℕ) → S.fetched self.new.buffers.source.now ≤ S.fetched self.old.buffers.source.now + batch_fetched (record_batch_of (order_by self.old.buffers.is_little_endian) self.old.version (header_of header.now) bytes) (columns_of projection.entry) (fields_in schema.now) (share limit (magnitude header.now.length)) }
+        ensures fetched { (bytes : List ℕ) → S.fetched self.new.buffers.source.now ≤ S.fetched self.old.buffers.source.now + batch_fetched (record_batch_of (order_by self.old.buffers.is_little_endian) self.old.version (header_of header.now) bytes) (columns_of projection.entry) (schema_fields schema.now fields.now) (share limit (magnitude header.now.length)) }
     {
         check_kinds(schema, projection)?;
         let rows = row_count(header, size)?;
         let few = first_rows(rows, limit);
-        let arrays = self.read_columns(schema, projection, rows, few)?;
+        let arrays = self.read_columns(schema, fields, projection, dictionaries, rows, few)?;
         Ok((few, arrays))
     }
 }
 
 /// Reads a record batch whose body stands in a place of the source: the columns whose numbers are asked for, which
 /// rise, or all, as far as their first `limit` rows go, or whole. The other columns are passed over. The lengths of
-/// all buffers together are at most `size`. In the columns' kinds stand no dictionaries; the IPC schema has a field
-/// for each field. The call goes as deep as the types' trees; the schema of the batch is shared where all columns are
-/// asked for.
+/// all buffers together are at most `size`. The IPC schema has a field for each field, with the ids of its dictionaries;
+/// the parts that are held under the id of a dictionary are of its values' type. The call goes as deep as the types' trees;
+/// the schema of the batch is shared where all columns are asked for.
 ///
 /// # Errors
 ///
@@ -191,20 +212,22 @@ pub fn read_record_batch<S: Source>(
     requires range { are_columns (columns_of projection) (length (rc_value schema.now)) ≡ true }
     requires columns { are_column_kinds (columns_of projection) 0 (rc_value schema.now) ≡ true }
     requires fields { length ipc_schema.now.fields.items ≡ length (rc_value schema.now) }
+    requires kinds { HasFields (held_in dictionaries.now) (schema_fields (rc_value schema.now) ipc_schema.now.fields.items) }
     requires room { body.offset + body.length < 2 ^ 63 }
     requires inside { Inside (S.content source.old) body }
 
     // The batch is what its columns' kinds, its tables and its body mean, or a refusal of theirs.
-    ensures gives { IfSome (S.content source.old) (λ b. Gives table_of result (batch_reading (columns_of projection.entry) limit ipc_schema.now.is_little_endian (fields_in (rc_value schema.now)) size version (header_of header.now) (bytes_in body b))) }
+    ensures gives { IfSome (S.content source.old) (λ b. (d : History) → HoldsCells d (held_in dictionaries.now) → Gives table_of result (batch_reading (columns_of projection.entry) limit ipc_schema.now.is_little_endian (schema_fields (rc_value schema.now) ipc_schema.now.fields.items) d size version (header_of header.now) (bytes_in body b))) }
 
     // Also under null rows each column has the values of its buffers.
-    ensures parts { IfOk result (λ x. IfSome (S.content source.old) (λ b. x.arrays ≡ chosen_read (record_batch_of (order_by ipc_schema.now.is_little_endian) version (header_of header.now) (bytes_in body b)) (columns_of projection.entry) (fields_in (rc_value schema.now)) 0 first_place x.height)) }
+    ensures parts { IfOk result (λ x. IfSome (S.content source.old) (λ b. (d : History) → HoldsCells d (held_in dictionaries.now) → x.arrays ≡ chosen_read (record_batch_of (order_by ipc_schema.now.is_little_endian) version (header_of header.now) (bytes_in body b)) (held_in dictionaries.now) (columns_of projection.entry) (schema_fields (rc_value schema.now) ipc_schema.now.fields.items) 0 first_place x.height)) }
     ensures schema { IfOk result (λ x. x.schema ≡ chosen (columns_of projection.entry) 0 (rc_value schema.now)) }
     ensures height { IfOk result (λ x. x.height ≡ share limit (magnitude header.now.length)) }
+    ensures kinds { IfOk result (λ x. map kind_in x.arrays ≡ chosen (columns_of projection.entry) 0 (kinds_of (rc_value schema.now))) }
     ensures cause { IfErr result (λ e. BodyReadCause e (S.faults source.old) (S.faults source.new)) }
 
     // A validity is fetched only where there are rows and nulls, and other buffers only where there are rows.
-    ensures fetched { (bytes : List ℕ) → S.fetched source.new ≤ S.fetched source.old + batch_fetched (record_batch_of (order_by ipc_schema.now.is_little_endian) version (header_of header.now) bytes) (columns_of projection.entry) (fields_in (rc_value schema.now)) (share limit (magnitude header.now.length)) }
+    ensures fetched { (bytes : List ℕ) → S.fetched source.new ≤ S.fetched source.old + batch_fetched (record_batch_of (order_by ipc_schema.now.is_little_endian) version (header_of header.now) bytes) (columns_of projection.entry) (schema_fields (rc_value schema.now) ipc_schema.now.fields.items) (share limit (magnitude header.now.length)) }
     ensures kept { SourceKept S.content S.faults S.references source.old source.new }
 {
     let queues = queues_of(alloc, header)?;
@@ -221,7 +244,15 @@ pub fn read_record_batch<S: Source>(
         },
         version,
     };
-    let columns = reader.read_arrays(header, schema, projection, limit, size)?;
+    let columns = reader.read_arrays(
+        header,
+        schema,
+        ipc_schema.fields.as_slice(),
+        projection,
+        limit,
+        dictionaries,
+        size,
+    )?;
     let schema = chosen_schema(alloc, schema, projection)?;
     let (rows, arrays) = columns;
     Ok(RecordBatch::new(rows, schema, arrays))

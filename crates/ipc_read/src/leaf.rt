@@ -1,5 +1,5 @@
 //! Arrays of values of one width (Arrow Columnar Format, "Fixed-size Primitive Layout", "Null Layout").
-ghost use Rattle.std.specs.Prelude.{◌≡◌, ◌⊎◌, length, ℕ, ◌+◌, ◌^◌, ◌<◌, ◌≤◌, true, IfOk, IfErr, List, ℤ};
+ghost use Rattle.std.specs.Prelude.{◌≡◌, ◌⊎◌, length, [], ℕ, ◌+◌, ◌^◌, ◌<◌, ◌≤◌, true, IfOk, IfErr, List, ℤ};
 ghost use Rattle.arrow_spec.specs.Counts.{RecordBatch as Batch, Place, after};
 ghost use Rattle.arrow_types.specs.KindOf.{kind_of};
 ghost use Rattle.arrow_types.specs.Physical.{physical_of};
@@ -41,7 +41,7 @@ pub fn read_null(
     requires kind { is_null (physical_of (kind_of dtype.now)) ≡ true }
     ensures queue { IfOk result (λ _. (m : Batch) (p : Place) → NodesAt m p nodes.old.items → NodesAt m (after m (kind_of dtype.now) p) nodes.new.items) }
     ensures shape { IfOk result (λ a. (a.kind ≡ kind_of dtype.now) × (a.rows ≡ rows)) }
-    ensures gives { (m : Batch) (p : Place) → NodesAt m p nodes.old.items → Answers (λ a. a) result (read_faults m (kind_of dtype.now) p rows) (record { kind = kind_of dtype.now; rows = rows }) }
+    ensures gives { (m : Batch) (p : Place) → NodesAt m p nodes.old.items → Answers (λ a. a) result (read_faults m [] (kind_of dtype.now) p rows) (record { kind = kind_of dtype.now; rows = rows }) }
     ensures shortened { (version : MetadataVersion) (bs : List IpcBuffer) (vs : List ℤ) → ShortenedBy (kind_of dtype.now) version nodes.old.items nodes.new.items bs bs vs vs }
     ensures refusal { IfErr result (λ e. IsRefusal e ⊎ (e ≡ Memory)) }
     ensures cause { (n : ℕ) → IfErr result (λ e. BodyReadCause e n n) }

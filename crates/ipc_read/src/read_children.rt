@@ -10,13 +10,16 @@ ghost use Rattle.arrow_arrays.specs.Parts.{kind_in, rows_in, cells_in, fault_in}
 ghost use Rattle.arrow_arrays.specs.PartsOf.{parts_of};
 ghost use Rattle.arrow_arrays.specs.declared.array.Array.TheVariants as arrays;
 ghost use Rattle.ipc_io.specs.Outside.{SourceKept};
+ghost use Rattle.ipc_read_laws.specs.Held.{HasKinds};
 ghost use Rattle.ipc_read_laws.specs.PartsRead.{parts_read};
+ghost use Rattle.ipc_read.specs.Held.{held_in, field_kind};
 ghost use Rattle.ipc_read.specs.Queues.{ShortenedBy};
 ghost use Rattle.ipc_read.specs.Readers.{Readable, HasReadCause, TreeTaken, TreeGiven, TreeFetched};
 ghost use Rattle.ipc_read.specs.Readings.{is_of_lists};
 
 use crate::Body;
-use crate::reading::{Dictionaries, read_next};
+use crate::dictionaries::Dictionaries;
+use crate::reading::read_next;
 use arrow_arrays::{Array, FixedSizeListArray, ListArray, MapArray, StructArray, UnionArray};
 use arrow_spec::{FieldNode, IpcBuffer, IpcError, MetadataVersion};
 use arrow_types::ArrowDataType;
@@ -94,17 +97,16 @@ fn into_union(array: Array) -> UnionArray
 ///
 /// # Errors
 ///
-/// `Unsupported(ViewBigEndian)` and `Unsupported(UnionNulls)` as `read` has them; `OutOfSpec` where the node, a buffer or a
-/// view count is missing or damaged; `ReadFault`, `Memory`.
+/// As `read`.
 pub fn read_list<S: Source>(
     alloc: Global,
     nodes: &mut VecDeque<FieldNode>,
     variadic: &mut VecDeque<i64>,
     dtype: &ArrowDataType,
-    _ipc_field: &IpcField,
+    ipc_field: &IpcField,
     buffers: &mut VecDeque<IpcBuffer>,
     source: &mut S,
-    _dictionaries: &Dictionaries,
+    dictionaries: &Dictionaries,
     body: Body,
     is_little_endian: bool,
     rows: usize,
@@ -113,23 +115,27 @@ pub fn read_list<S: Source>(
 ) -> Result<ListArray, IpcError>
     requires kind { is_of_lists (physical_of (kind_of dtype.now)) ≡ true }
     requires held { is_carried (kind_of dtype.now) ≡ true }
+    requires kinds { HasKinds (held_in dictionaries.now) (field_kind dtype.now ipc_field.now) }
     requires readable { Readable (S.content source.old) body }
-    ensures queues { TreeTaken (kind_of dtype.now) version nodes.old.items nodes.new.items buffers.old.items buffers.new.items variadic.old.items variadic.new.items result }
-    ensures parts { TreeGiven (S.content source.old) body is_little_endian version nodes.old.items buffers.old.items variadic.old.items (λ a. parts_of (arrays.List a)) result (kind_of dtype.now) rows (λ m p. parts_read m (kind_of dtype.now) p rows) }
-    ensures shortened { ShortenedBy (kind_of dtype.now) version nodes.old.items nodes.new.items buffers.old.items buffers.new.items variadic.old.items variadic.new.items }
-    ensures shape { IfOk result (λ a. (kind_in (parts_of (arrays.List a)) ≡ (kind_of dtype.now)) × (rows_in (parts_of (arrays.List a)) ≡ rows)) }
+    ensures queues { TreeTaken (field_kind dtype.now ipc_field.now) version nodes.old.items nodes.new.items buffers.old.items buffers.new.items variadic.old.items variadic.new.items result }
+    ensures parts { TreeGiven (S.content source.old) body is_little_endian version nodes.old.items buffers.old.items variadic.old.items (held_in dictionaries.now) (λ a. parts_of (arrays.List a)) result (field_kind dtype.now ipc_field.now) rows (λ m d p. parts_read m (held_in dictionaries.now) (field_kind dtype.now ipc_field.now) p rows) }
+    ensures shortened { ShortenedBy (field_kind dtype.now ipc_field.now) version nodes.old.items nodes.new.items buffers.old.items buffers.new.items variadic.old.items variadic.new.items }
+    ensures shape { IfOk result (λ a. (kind_in (parts_of (arrays.List a)) ≡ kind_of dtype.now) × (rows_in (parts_of (arrays.List a)) ≡ rows)) }
     ensures cause { HasReadCause (S.faults source.old) (S.faults source.new) result }
     ensures kept { SourceKept S.content S.faults S.references source.old source.new }
-    ensures fetched { TreeFetched (kind_of dtype.now) version nodes.old.items buffers.old.items variadic.old.items rows (S.fetched source.old) (S.fetched source.new) }
-    ensures cells { TreeGiven (S.content source.old) body is_little_endian version nodes.old.items buffers.old.items variadic.old.items (λ a. cells_in (parts_of (arrays.List a))) result (kind_of dtype.now) rows (λ m p. from_on (cell m [] (kind_of dtype.now) p) 0 rows) }
+    ensures fetched { TreeFetched (field_kind dtype.now ipc_field.now) version nodes.old.items buffers.old.items variadic.old.items rows (S.fetched source.old) (S.fetched source.new) }
+    ensures cells { TreeGiven (S.content source.old) body is_little_endian version nodes.old.items buffers.old.items variadic.old.items (held_in dictionaries.now) (λ a. cells_in (parts_of (arrays.List a))) result (field_kind dtype.now ipc_field.now) rows (λ m d p. from_on (cell m d (field_kind dtype.now ipc_field.now) p) 0 rows) }
 {
     let array = read_next(
         alloc,
         nodes,
         variadic,
         dtype,
+        ipc_field.dictionary_id,
+        ipc_field.fields.as_slice(),
         buffers,
         source,
+        dictionaries,
         body,
         is_little_endian,
         rows,
@@ -143,17 +149,16 @@ pub fn read_list<S: Source>(
 ///
 /// # Errors
 ///
-/// `Unsupported(ViewBigEndian)` and `Unsupported(UnionNulls)` as `read` has them; `OutOfSpec` where the node, a buffer or a
-/// view count is missing or damaged; `ReadFault`, `Memory`.
+/// As `read`.
 pub fn read_fixed_size_list<S: Source>(
     alloc: Global,
     nodes: &mut VecDeque<FieldNode>,
     variadic: &mut VecDeque<i64>,
     dtype: &ArrowDataType,
-    _ipc_field: &IpcField,
+    ipc_field: &IpcField,
     buffers: &mut VecDeque<IpcBuffer>,
     source: &mut S,
-    _dictionaries: &Dictionaries,
+    dictionaries: &Dictionaries,
     body: Body,
     is_little_endian: bool,
     rows: usize,
@@ -162,23 +167,27 @@ pub fn read_fixed_size_list<S: Source>(
 ) -> Result<FixedSizeListArray, IpcError>
     requires kind { physical_of (kind_of dtype.now) ≡ physical.FixedSizeList }
     requires held { is_carried (kind_of dtype.now) ≡ true }
+    requires kinds { HasKinds (held_in dictionaries.now) (field_kind dtype.now ipc_field.now) }
     requires readable { Readable (S.content source.old) body }
-    ensures queues { TreeTaken (kind_of dtype.now) version nodes.old.items nodes.new.items buffers.old.items buffers.new.items variadic.old.items variadic.new.items result }
-    ensures parts { TreeGiven (S.content source.old) body is_little_endian version nodes.old.items buffers.old.items variadic.old.items (λ a. parts_of (arrays.FixedSizeList a)) result (kind_of dtype.now) rows (λ m p. parts_read m (kind_of dtype.now) p rows) }
-    ensures shortened { ShortenedBy (kind_of dtype.now) version nodes.old.items nodes.new.items buffers.old.items buffers.new.items variadic.old.items variadic.new.items }
-    ensures shape { IfOk result (λ a. (kind_in (parts_of (arrays.FixedSizeList a)) ≡ (kind_of dtype.now)) × (rows_in (parts_of (arrays.FixedSizeList a)) ≡ rows)) }
+    ensures queues { TreeTaken (field_kind dtype.now ipc_field.now) version nodes.old.items nodes.new.items buffers.old.items buffers.new.items variadic.old.items variadic.new.items result }
+    ensures parts { TreeGiven (S.content source.old) body is_little_endian version nodes.old.items buffers.old.items variadic.old.items (held_in dictionaries.now) (λ a. parts_of (arrays.FixedSizeList a)) result (field_kind dtype.now ipc_field.now) rows (λ m d p. parts_read m (held_in dictionaries.now) (field_kind dtype.now ipc_field.now) p rows) }
+    ensures shortened { ShortenedBy (field_kind dtype.now ipc_field.now) version nodes.old.items nodes.new.items buffers.old.items buffers.new.items variadic.old.items variadic.new.items }
+    ensures shape { IfOk result (λ a. (kind_in (parts_of (arrays.FixedSizeList a)) ≡ kind_of dtype.now) × (rows_in (parts_of (arrays.FixedSizeList a)) ≡ rows)) }
     ensures cause { HasReadCause (S.faults source.old) (S.faults source.new) result }
     ensures kept { SourceKept S.content S.faults S.references source.old source.new }
-    ensures fetched { TreeFetched (kind_of dtype.now) version nodes.old.items buffers.old.items variadic.old.items rows (S.fetched source.old) (S.fetched source.new) }
-    ensures cells { TreeGiven (S.content source.old) body is_little_endian version nodes.old.items buffers.old.items variadic.old.items (λ a. cells_in (parts_of (arrays.FixedSizeList a))) result (kind_of dtype.now) rows (λ m p. from_on (cell m [] (kind_of dtype.now) p) 0 rows) }
+    ensures fetched { TreeFetched (field_kind dtype.now ipc_field.now) version nodes.old.items buffers.old.items variadic.old.items rows (S.fetched source.old) (S.fetched source.new) }
+    ensures cells { TreeGiven (S.content source.old) body is_little_endian version nodes.old.items buffers.old.items variadic.old.items (held_in dictionaries.now) (λ a. cells_in (parts_of (arrays.FixedSizeList a))) result (field_kind dtype.now ipc_field.now) rows (λ m d p. from_on (cell m d (field_kind dtype.now ipc_field.now) p) 0 rows) }
 {
     let array = read_next(
         alloc,
         nodes,
         variadic,
         dtype,
+        ipc_field.dictionary_id,
+        ipc_field.fields.as_slice(),
         buffers,
         source,
+        dictionaries,
         body,
         is_little_endian,
         rows,
@@ -192,17 +201,16 @@ pub fn read_fixed_size_list<S: Source>(
 ///
 /// # Errors
 ///
-/// `Unsupported(ViewBigEndian)` and `Unsupported(UnionNulls)` as `read` has them; `OutOfSpec` where the node, a buffer or a
-/// view count is missing or damaged; `ReadFault`, `Memory`.
+/// As `read`.
 pub fn read_struct<S: Source>(
     alloc: Global,
     nodes: &mut VecDeque<FieldNode>,
     variadic: &mut VecDeque<i64>,
     dtype: &ArrowDataType,
-    _ipc_field: &IpcField,
+    ipc_field: &IpcField,
     buffers: &mut VecDeque<IpcBuffer>,
     source: &mut S,
-    _dictionaries: &Dictionaries,
+    dictionaries: &Dictionaries,
     body: Body,
     is_little_endian: bool,
     rows: usize,
@@ -211,23 +219,27 @@ pub fn read_struct<S: Source>(
 ) -> Result<StructArray, IpcError>
     requires kind { physical_of (kind_of dtype.now) ≡ physical.Struct }
     requires held { is_carried (kind_of dtype.now) ≡ true }
+    requires kinds { HasKinds (held_in dictionaries.now) (field_kind dtype.now ipc_field.now) }
     requires readable { Readable (S.content source.old) body }
-    ensures queues { TreeTaken (kind_of dtype.now) version nodes.old.items nodes.new.items buffers.old.items buffers.new.items variadic.old.items variadic.new.items result }
-    ensures parts { TreeGiven (S.content source.old) body is_little_endian version nodes.old.items buffers.old.items variadic.old.items (λ a. parts_of (arrays.Struct a)) result (kind_of dtype.now) rows (λ m p. parts_read m (kind_of dtype.now) p rows) }
-    ensures shortened { ShortenedBy (kind_of dtype.now) version nodes.old.items nodes.new.items buffers.old.items buffers.new.items variadic.old.items variadic.new.items }
-    ensures shape { IfOk result (λ a. (kind_in (parts_of (arrays.Struct a)) ≡ (kind_of dtype.now)) × (rows_in (parts_of (arrays.Struct a)) ≡ rows)) }
+    ensures queues { TreeTaken (field_kind dtype.now ipc_field.now) version nodes.old.items nodes.new.items buffers.old.items buffers.new.items variadic.old.items variadic.new.items result }
+    ensures parts { TreeGiven (S.content source.old) body is_little_endian version nodes.old.items buffers.old.items variadic.old.items (held_in dictionaries.now) (λ a. parts_of (arrays.Struct a)) result (field_kind dtype.now ipc_field.now) rows (λ m d p. parts_read m (held_in dictionaries.now) (field_kind dtype.now ipc_field.now) p rows) }
+    ensures shortened { ShortenedBy (field_kind dtype.now ipc_field.now) version nodes.old.items nodes.new.items buffers.old.items buffers.new.items variadic.old.items variadic.new.items }
+    ensures shape { IfOk result (λ a. (kind_in (parts_of (arrays.Struct a)) ≡ kind_of dtype.now) × (rows_in (parts_of (arrays.Struct a)) ≡ rows)) }
     ensures cause { HasReadCause (S.faults source.old) (S.faults source.new) result }
     ensures kept { SourceKept S.content S.faults S.references source.old source.new }
-    ensures fetched { TreeFetched (kind_of dtype.now) version nodes.old.items buffers.old.items variadic.old.items rows (S.fetched source.old) (S.fetched source.new) }
-    ensures cells { TreeGiven (S.content source.old) body is_little_endian version nodes.old.items buffers.old.items variadic.old.items (λ a. cells_in (parts_of (arrays.Struct a))) result (kind_of dtype.now) rows (λ m p. from_on (cell m [] (kind_of dtype.now) p) 0 rows) }
+    ensures fetched { TreeFetched (field_kind dtype.now ipc_field.now) version nodes.old.items buffers.old.items variadic.old.items rows (S.fetched source.old) (S.fetched source.new) }
+    ensures cells { TreeGiven (S.content source.old) body is_little_endian version nodes.old.items buffers.old.items variadic.old.items (held_in dictionaries.now) (λ a. cells_in (parts_of (arrays.Struct a))) result (field_kind dtype.now ipc_field.now) rows (λ m d p. from_on (cell m d (field_kind dtype.now ipc_field.now) p) 0 rows) }
 {
     let array = read_next(
         alloc,
         nodes,
         variadic,
         dtype,
+        ipc_field.dictionary_id,
+        ipc_field.fields.as_slice(),
         buffers,
         source,
+        dictionaries,
         body,
         is_little_endian,
         rows,
@@ -241,17 +253,16 @@ pub fn read_struct<S: Source>(
 ///
 /// # Errors
 ///
-/// `Unsupported(ViewBigEndian)` and `Unsupported(UnionNulls)` as `read` has them; `OutOfSpec` where the node, a buffer or a
-/// view count is missing or damaged; `ReadFault`, `Memory`.
+/// As `read`.
 pub fn read_map<S: Source>(
     alloc: Global,
     nodes: &mut VecDeque<FieldNode>,
     variadic: &mut VecDeque<i64>,
     dtype: &ArrowDataType,
-    _ipc_field: &IpcField,
+    ipc_field: &IpcField,
     buffers: &mut VecDeque<IpcBuffer>,
     source: &mut S,
-    _dictionaries: &Dictionaries,
+    dictionaries: &Dictionaries,
     body: Body,
     is_little_endian: bool,
     rows: usize,
@@ -260,23 +271,27 @@ pub fn read_map<S: Source>(
 ) -> Result<MapArray, IpcError>
     requires kind { physical_of (kind_of dtype.now) ≡ physical.Map }
     requires held { is_carried (kind_of dtype.now) ≡ true }
+    requires kinds { HasKinds (held_in dictionaries.now) (field_kind dtype.now ipc_field.now) }
     requires readable { Readable (S.content source.old) body }
-    ensures queues { TreeTaken (kind_of dtype.now) version nodes.old.items nodes.new.items buffers.old.items buffers.new.items variadic.old.items variadic.new.items result }
-    ensures parts { TreeGiven (S.content source.old) body is_little_endian version nodes.old.items buffers.old.items variadic.old.items (λ a. parts_of (arrays.Map a)) result (kind_of dtype.now) rows (λ m p. parts_read m (kind_of dtype.now) p rows) }
-    ensures shortened { ShortenedBy (kind_of dtype.now) version nodes.old.items nodes.new.items buffers.old.items buffers.new.items variadic.old.items variadic.new.items }
-    ensures shape { IfOk result (λ a. (kind_in (parts_of (arrays.Map a)) ≡ (kind_of dtype.now)) × (rows_in (parts_of (arrays.Map a)) ≡ rows)) }
+    ensures queues { TreeTaken (field_kind dtype.now ipc_field.now) version nodes.old.items nodes.new.items buffers.old.items buffers.new.items variadic.old.items variadic.new.items result }
+    ensures parts { TreeGiven (S.content source.old) body is_little_endian version nodes.old.items buffers.old.items variadic.old.items (held_in dictionaries.now) (λ a. parts_of (arrays.Map a)) result (field_kind dtype.now ipc_field.now) rows (λ m d p. parts_read m (held_in dictionaries.now) (field_kind dtype.now ipc_field.now) p rows) }
+    ensures shortened { ShortenedBy (field_kind dtype.now ipc_field.now) version nodes.old.items nodes.new.items buffers.old.items buffers.new.items variadic.old.items variadic.new.items }
+    ensures shape { IfOk result (λ a. (kind_in (parts_of (arrays.Map a)) ≡ kind_of dtype.now) × (rows_in (parts_of (arrays.Map a)) ≡ rows)) }
     ensures cause { HasReadCause (S.faults source.old) (S.faults source.new) result }
     ensures kept { SourceKept S.content S.faults S.references source.old source.new }
-    ensures fetched { TreeFetched (kind_of dtype.now) version nodes.old.items buffers.old.items variadic.old.items rows (S.fetched source.old) (S.fetched source.new) }
-    ensures cells { TreeGiven (S.content source.old) body is_little_endian version nodes.old.items buffers.old.items variadic.old.items (λ a. cells_in (parts_of (arrays.Map a))) result (kind_of dtype.now) rows (λ m p. from_on (cell m [] (kind_of dtype.now) p) 0 rows) }
+    ensures fetched { TreeFetched (field_kind dtype.now ipc_field.now) version nodes.old.items buffers.old.items variadic.old.items rows (S.fetched source.old) (S.fetched source.new) }
+    ensures cells { TreeGiven (S.content source.old) body is_little_endian version nodes.old.items buffers.old.items variadic.old.items (held_in dictionaries.now) (λ a. cells_in (parts_of (arrays.Map a))) result (field_kind dtype.now ipc_field.now) rows (λ m d p. from_on (cell m d (field_kind dtype.now ipc_field.now) p) 0 rows) }
 {
     let array = read_next(
         alloc,
         nodes,
         variadic,
         dtype,
+        ipc_field.dictionary_id,
+        ipc_field.fields.as_slice(),
         buffers,
         source,
+        dictionaries,
         body,
         is_little_endian,
         rows,
@@ -290,17 +305,16 @@ pub fn read_map<S: Source>(
 ///
 /// # Errors
 ///
-/// `Unsupported(ViewBigEndian)` and `Unsupported(UnionNulls)` as `read` has them; `OutOfSpec` where the node, a buffer or a
-/// view count is missing or damaged; `ReadFault`, `Memory`.
+/// As `read`.
 pub fn read_union<S: Source>(
     alloc: Global,
     nodes: &mut VecDeque<FieldNode>,
     variadic: &mut VecDeque<i64>,
     dtype: &ArrowDataType,
-    _ipc_field: &IpcField,
+    ipc_field: &IpcField,
     buffers: &mut VecDeque<IpcBuffer>,
     source: &mut S,
-    _dictionaries: &Dictionaries,
+    dictionaries: &Dictionaries,
     body: Body,
     is_little_endian: bool,
     rows: usize,
@@ -309,23 +323,27 @@ pub fn read_union<S: Source>(
 ) -> Result<UnionArray, IpcError>
     requires kind { physical_of (kind_of dtype.now) ≡ physical.Union }
     requires held { is_carried (kind_of dtype.now) ≡ true }
+    requires kinds { HasKinds (held_in dictionaries.now) (field_kind dtype.now ipc_field.now) }
     requires readable { Readable (S.content source.old) body }
-    ensures queues { TreeTaken (kind_of dtype.now) version nodes.old.items nodes.new.items buffers.old.items buffers.new.items variadic.old.items variadic.new.items result }
-    ensures parts { TreeGiven (S.content source.old) body is_little_endian version nodes.old.items buffers.old.items variadic.old.items (λ a. parts_of (arrays.Union a)) result (kind_of dtype.now) rows (λ m p. parts_read m (kind_of dtype.now) p rows) }
-    ensures shortened { ShortenedBy (kind_of dtype.now) version nodes.old.items nodes.new.items buffers.old.items buffers.new.items variadic.old.items variadic.new.items }
-    ensures shape { IfOk result (λ a. (kind_in (parts_of (arrays.Union a)) ≡ (kind_of dtype.now)) × (rows_in (parts_of (arrays.Union a)) ≡ rows)) }
+    ensures queues { TreeTaken (field_kind dtype.now ipc_field.now) version nodes.old.items nodes.new.items buffers.old.items buffers.new.items variadic.old.items variadic.new.items result }
+    ensures parts { TreeGiven (S.content source.old) body is_little_endian version nodes.old.items buffers.old.items variadic.old.items (held_in dictionaries.now) (λ a. parts_of (arrays.Union a)) result (field_kind dtype.now ipc_field.now) rows (λ m d p. parts_read m (held_in dictionaries.now) (field_kind dtype.now ipc_field.now) p rows) }
+    ensures shortened { ShortenedBy (field_kind dtype.now ipc_field.now) version nodes.old.items nodes.new.items buffers.old.items buffers.new.items variadic.old.items variadic.new.items }
+    ensures shape { IfOk result (λ a. (kind_in (parts_of (arrays.Union a)) ≡ kind_of dtype.now) × (rows_in (parts_of (arrays.Union a)) ≡ rows)) }
     ensures cause { HasReadCause (S.faults source.old) (S.faults source.new) result }
     ensures kept { SourceKept S.content S.faults S.references source.old source.new }
-    ensures fetched { TreeFetched (kind_of dtype.now) version nodes.old.items buffers.old.items variadic.old.items rows (S.fetched source.old) (S.fetched source.new) }
-    ensures cells { TreeGiven (S.content source.old) body is_little_endian version nodes.old.items buffers.old.items variadic.old.items (λ a. cells_in (parts_of (arrays.Union a))) result (kind_of dtype.now) rows (λ m p. from_on (cell m [] (kind_of dtype.now) p) 0 rows) }
+    ensures fetched { TreeFetched (field_kind dtype.now ipc_field.now) version nodes.old.items buffers.old.items variadic.old.items rows (S.fetched source.old) (S.fetched source.new) }
+    ensures cells { TreeGiven (S.content source.old) body is_little_endian version nodes.old.items buffers.old.items variadic.old.items (held_in dictionaries.now) (λ a. cells_in (parts_of (arrays.Union a))) result (field_kind dtype.now ipc_field.now) rows (λ m d p. from_on (cell m d (field_kind dtype.now ipc_field.now) p) 0 rows) }
 {
     let array = read_next(
         alloc,
         nodes,
         variadic,
         dtype,
+        ipc_field.dictionary_id,
+        ipc_field.fields.as_slice(),
         buffers,
         source,
+        dictionaries,
         body,
         is_little_endian,
         rows,

@@ -12,12 +12,15 @@ ghost use Rattle.arrow_spec.specs.Laws.{AreBytes};
 ghost use Rattle.arrow_spec.specs.Arrays.{from_on};
 ghost use Rattle.arrow_spec.specs.ArrayCells.{cell};
 ghost use Rattle.arrow_arrays.specs.Carried.{is_carried};
+ghost use Rattle.ipc_read_laws.specs.Held.{HasKinds};
+ghost use Rattle.ipc_read.specs.Held.{held_in, column_kind, field_kind};
 ghost use Rattle.ipc_read.specs.Readings.{is_of_values, is_of_views};
 ghost use Rattle.ipc_read.specs.Queues.{ShortenedBy};
 ghost use Rattle.ipc_read.specs.Readers.{LeafAt, QueuesAt, KnownTo, Readable, HasReadCause, TreeTaken, TreeGiven, TreeFetched, CanRead, KeepsQueues, FailsToReadColumn, TakesLeaf, GivesLeaf, FetchesLeaf, ShortensLeaf, TakesColumn, GivesColumn, FetchesColumn, ShortensColumn};
 ghost use Rattle.ipc_io.specs.Outside.{SourceKept};
 
 use crate::Body;
+use crate::dictionaries::Dictionaries;
 use crate::leaf::read_null;
 use crate::readers::{BufferReader, ColumnReader};
 use arrow_arrays::Array;
@@ -27,10 +30,7 @@ use arrow_types::{ArrowDataType, Field, PhysicalType, PrimitiveType, days_ms, mo
 use ipc_fields::IpcField;
 use ipc_schema::Source;
 use std::alloc::Global;
-use std::collections::{BTreeMap, VecDeque};
-
-/// The values of dictionaries, by their ids.
-pub type Dictionaries = BTreeMap<i64, Array>;
+use std::collections::VecDeque;
 
 impl<'n, 'a, S: Source> ColumnReader<'n, 'a, S> {
     /// An array of nulls.
@@ -214,23 +214,27 @@ pub(crate) fn read_next<S: Source>(
     nodes: &mut VecDeque<FieldNode>,
     variadic: &mut VecDeque<i64>,
     dtype: &ArrowDataType,
+    id: Option<i64>,
+    fields: &[IpcField],
     buffers: &mut VecDeque<IpcBuffer>,
     source: &mut S,
+    dictionaries: &Dictionaries,
     body: Body,
     is_little_endian: bool,
     rows: usize,
     version: MetadataVersion,
 ) -> Result<Array, IpcError>
     requires held { is_carried (kind_of dtype.now) ≡ true }
+    requires kinds { HasKinds (held_in dictionaries.now) (column_kind dtype.now id fields.now) }
     requires readable { Readable (S.content source.old) body }
-    ensures queues { TreeTaken (kind_of dtype.now) version nodes.old.items nodes.new.items buffers.old.items buffers.new.items variadic.old.items variadic.new.items result }
-    ensures parts { TreeGiven (S.content source.old) body is_little_endian version nodes.old.items buffers.old.items variadic.old.items (λ a. parts_of a) result (kind_of dtype.now) rows (λ m p. parts_read m (kind_of dtype.now) p rows) }
-    ensures shortened { ShortenedBy (kind_of dtype.now) version nodes.old.items nodes.new.items buffers.old.items buffers.new.items variadic.old.items variadic.new.items }
-    ensures shape { IfOk result (λ a. (kind_in (parts_of a) ≡ (kind_of dtype.now)) × (rows_in (parts_of a) ≡ rows)) }
+    ensures queues { TreeTaken (column_kind dtype.now id fields.now) version nodes.old.items nodes.new.items buffers.old.items buffers.new.items variadic.old.items variadic.new.items result }
+    ensures parts { TreeGiven (S.content source.old) body is_little_endian version nodes.old.items buffers.old.items variadic.old.items (held_in dictionaries.now) (λ a. parts_of a) result (column_kind dtype.now id fields.now) rows (λ m d p. parts_read m (held_in dictionaries.now) (column_kind dtype.now id fields.now) p rows) }
+    ensures shortened { ShortenedBy (column_kind dtype.now id fields.now) version nodes.old.items nodes.new.items buffers.old.items buffers.new.items variadic.old.items variadic.new.items }
+    ensures shape { IfOk result (λ a. (kind_in (parts_of a) ≡ kind_of dtype.now) × (rows_in (parts_of a) ≡ rows)) }
     ensures cause { HasReadCause (S.faults source.old) (S.faults source.new) result }
     ensures kept { SourceKept S.content S.faults S.references source.old source.new }
-    ensures fetched { TreeFetched (kind_of dtype.now) version nodes.old.items buffers.old.items variadic.old.items rows (S.fetched source.old) (S.fetched source.new) }
-    ensures cells { TreeGiven (S.content source.old) body is_little_endian version nodes.old.items buffers.old.items variadic.old.items (λ a. cells_in (parts_of a)) result (kind_of dtype.now) rows (λ m p. from_on (cell m [] (kind_of dtype.now) p) 0 rows) }
+    ensures fetched { TreeFetched (column_kind dtype.now id fields.now) version nodes.old.items buffers.old.items variadic.old.items rows (S.fetched source.old) (S.fetched source.new) }
+    ensures cells { TreeGiven (S.content source.old) body is_little_endian version nodes.old.items buffers.old.items variadic.old.items (held_in dictionaries.now) (λ a. cells_in (parts_of a)) result (column_kind dtype.now id fields.now) rows (λ m d p. from_on (cell m d (column_kind dtype.now id fields.now) p) 0 rows) }
 {
     let mut reader = ColumnReader {
         nodes,
@@ -244,25 +248,28 @@ pub(crate) fn read_next<S: Source>(
         },
         version,
     };
-    reader.read_array(dtype, rows)
+    reader.read_array(dtype, id, fields, dictionaries, rows)
 }
 
 /// The next array, as far as its first rows go, with its children. The type is one of those that `is_carried` tells:
-/// in it stand no dictionaries, no floats and no decimals of 256 bits, and no size is 0. The call goes as deep as the type's tree.
+/// in it stand no floats and no decimals of 256 bits, and no size is 0. The IPC field has the ids of the type's
+/// dictionaries: an id that is not there is 0. The parts that are held under the id of a dictionary are of its values' type;
+/// those of dictionaries inside others' values are not looked up. The call goes as deep as the type's tree.
 ///
 /// # Errors
 ///
-/// `Unsupported(ViewBigEndian)` for views in big-endian order, `Unsupported(UnionNulls)` for unions before V5 that have nulls of their own; `OutOfSpec` where the node, a buffer or a view count is
-/// missing or damaged; `ReadFault`, `Memory`.
+/// `Unsupported(ViewBigEndian)` for views in big-endian order, `Unsupported(UnionNulls)` for unions before V5 that have nulls
+/// of their own; `OutOfSpec` where the node, a buffer or a view count is missing or damaged, `InvalidKey` and `InvalidId` as
+/// `read_dictionary` has them; `ReadFault`, `Memory`.
 pub fn read<S: Source>(
     alloc: Global,
     nodes: &mut VecDeque<FieldNode>,
     variadic: &mut VecDeque<i64>,
     field: &Field,
-    _ipc_field: &IpcField,
+    ipc_field: &IpcField,
     buffers: &mut VecDeque<IpcBuffer>,
     source: &mut S,
-    _dictionaries: &Dictionaries,
+    dictionaries: &Dictionaries,
     body: Body,
     is_little_endian: bool,
     rows: usize,
@@ -270,23 +277,27 @@ pub fn read<S: Source>(
     scratch: &mut Vec<u8>,
 ) -> Result<Array, IpcError>
     requires held { is_carried (kind_of field.now.dtype) ≡ true }
+    requires kinds { HasKinds (held_in dictionaries.now) (field_kind field.now.dtype ipc_field.now) }
     requires readable { Readable (S.content source.old) body }
-    ensures queues { TreeTaken (kind_of field.now.dtype) version nodes.old.items nodes.new.items buffers.old.items buffers.new.items variadic.old.items variadic.new.items result }
-    ensures parts { TreeGiven (S.content source.old) body is_little_endian version nodes.old.items buffers.old.items variadic.old.items (λ a. parts_of a) result (kind_of field.now.dtype) rows (λ m p. parts_read m (kind_of field.now.dtype) p rows) }
-    ensures shortened { ShortenedBy (kind_of field.now.dtype) version nodes.old.items nodes.new.items buffers.old.items buffers.new.items variadic.old.items variadic.new.items }
-    ensures shape { IfOk result (λ a. (kind_in (parts_of a) ≡ (kind_of field.now.dtype)) × (rows_in (parts_of a) ≡ rows)) }
+    ensures queues { TreeTaken (field_kind field.now.dtype ipc_field.now) version nodes.old.items nodes.new.items buffers.old.items buffers.new.items variadic.old.items variadic.new.items result }
+    ensures parts { TreeGiven (S.content source.old) body is_little_endian version nodes.old.items buffers.old.items variadic.old.items (held_in dictionaries.now) (λ a. parts_of a) result (field_kind field.now.dtype ipc_field.now) rows (λ m d p. parts_read m (held_in dictionaries.now) (field_kind field.now.dtype ipc_field.now) p rows) }
+    ensures shortened { ShortenedBy (field_kind field.now.dtype ipc_field.now) version nodes.old.items nodes.new.items buffers.old.items buffers.new.items variadic.old.items variadic.new.items }
+    ensures shape { IfOk result (λ a. (kind_in (parts_of a) ≡ kind_of field.now.dtype) × (rows_in (parts_of a) ≡ rows)) }
     ensures cause { HasReadCause (S.faults source.old) (S.faults source.new) result }
     ensures kept { SourceKept S.content S.faults S.references source.old source.new }
-    ensures fetched { TreeFetched (kind_of field.now.dtype) version nodes.old.items buffers.old.items variadic.old.items rows (S.fetched source.old) (S.fetched source.new) }
-    ensures cells { TreeGiven (S.content source.old) body is_little_endian version nodes.old.items buffers.old.items variadic.old.items (λ a. cells_in (parts_of a)) result (kind_of field.now.dtype) rows (λ m p. from_on (cell m [] (kind_of field.now.dtype) p) 0 rows) }
+    ensures fetched { TreeFetched (field_kind field.now.dtype ipc_field.now) version nodes.old.items buffers.old.items variadic.old.items rows (S.fetched source.old) (S.fetched source.new) }
+    ensures cells { TreeGiven (S.content source.old) body is_little_endian version nodes.old.items buffers.old.items variadic.old.items (held_in dictionaries.now) (λ a. cells_in (parts_of a)) result (field_kind field.now.dtype ipc_field.now) rows (λ m d p. from_on (cell m d (field_kind field.now.dtype ipc_field.now) p) 0 rows) }
 {
     read_next(
         alloc,
         nodes,
         variadic,
         &field.dtype,
+        ipc_field.dictionary_id,
+        ipc_field.fields.as_slice(),
         buffers,
         source,
+        dictionaries,
         body,
         is_little_endian,
         rows,

@@ -92,6 +92,20 @@ pub fn skip_primitive(
     skip_parts(nodes, buffers, 2)
 }
 
+/// Passes over an array of a dictionary: a node, a validity and keys.
+///
+/// # Errors
+///
+/// `ExpectedBuffer` where the node or a buffer is missing.
+pub fn skip_dictionary(
+    nodes: &mut VecDeque<FieldNode>,
+    buffers: &mut VecDeque<IpcBuffer>,
+) -> Result<(), IpcError>
+    ensures { PassesParts 2 nodes.old.items nodes.new.items buffers.old.items buffers.new.items result }
+{
+    skip_parts(nodes, buffers, 2)
+}
+
 /// Passes over an array of byte strings between offsets: a node, a validity, offsets and bytes.
 ///
 /// # Errors
@@ -169,7 +183,8 @@ fn skip_childless(
     match dtype.to_physical_type() {
         PhysicalType::Null => skip_null(nodes),
         PhysicalType::Boolean => skip_boolean(nodes, buffers),
-        PhysicalType::Primitive(_) | PhysicalType::Dictionary(_) => skip_primitive(nodes, buffers),
+        PhysicalType::Primitive(_) => skip_primitive(nodes, buffers),
+        PhysicalType::Dictionary(_) => skip_dictionary(nodes, buffers),
         PhysicalType::Binary | PhysicalType::LargeBinary => skip_binary(nodes, buffers),
         PhysicalType::Utf8 | PhysicalType::LargeUtf8 => skip_utf8(nodes, buffers),
         PhysicalType::FixedSizeBinary => skip_fixed_size_binary(nodes, buffers),

@@ -5,6 +5,7 @@ ghost use Rattle.arrow_spec.specs.Flat.{Order};
 ghost use Rattle.arrow_spec.specs.Kinds.{Fields};
 ghost use Rattle.arrow_spec.specs.declared.message.MetadataVersion.{MetadataVersion};
 ghost use Rattle.arrow_spec.specs.declared.error.IpcError.TheVariants.{Memory};
+ghost use Rattle.arrow_spec.specs.Arrays.{Dictionaries as History};
 ghost use Rattle.arrow_spec.specs.Counts.{RecordBatch as Batch};
 ghost use Rattle.arrow_spec.specs.Faults.{top_node_faults};
 ghost use Rattle.arrow_spec.specs.Features.{float_faults, floats_in, chosen_floats};
@@ -20,6 +21,7 @@ ghost use Rattle.ipc_read.specs.Skips.{IsDamage, is_plain_kind};
 ghost use Rattle.ipc_read.specs.Sources.{Answers, IsRefusal};
 
 use crate::children::counted_fields;
+use crate::dictionaries::dictionary_types;
 use crate::integers::{is_negative, magnitude};
 use crate::lists::list_child;
 use crate::projection::is_chosen;
@@ -55,7 +57,7 @@ fn lengths_sum(buffers: &[IpcBuffer]) -> u128
 /// The rows of a batch, of which the buffers' lengths are together at most `most`.
 pub(crate) fn row_count(header: &BatchHeader, most: u64) -> Result<usize, IpcError>
     ensures rows { IfOk result (MayBeRead (header_of header.now) most) }
-    ensures err { IfErr result (λ e. (columns : Option (List ℕ)) (limit : Option ℕ) (order : Order) (fs : Fields) (version : MetadataVersion) (bytes : List ℕ) → Refuses e (refusals (batch_of_tables to_read (columns_asked columns order fs most) version [] (header_of header.now) bytes limit))) }
+    ensures err { IfErr result (λ e. (columns : Option (List ℕ)) (limit : Option ℕ) (order : Order) (fs : Fields) (d : History) (version : MetadataVersion) (bytes : List ℕ) → Refuses e (refusals (batch_of_tables to_read (columns_asked columns order fs d most) version [] (header_of header.now) bytes limit))) }
     ensures cause { IfErr result IsRefusal }
     ensures small { IfOk result (λ n. n < 2 ^ 63) }
 {
@@ -120,7 +122,7 @@ fn unread_numbers(primitive: PrimitiveType) -> Option<Feature>
     }
 }
 
-/// Floats and decimals of 256 bits are not read, nor lists, maps, structs and unions of them.
+/// Floats and decimals of 256 bits are not read, nor lists, maps, structs, unions and dictionaries of them.
 #[cycle(check)]
 fn check_kind(dtype: &ArrowDataType) -> Result<(), IpcError>
     requires column { is_column_kind (kind_of dtype.now) ≡ true }
@@ -133,7 +135,10 @@ fn check_kind(dtype: &ArrowDataType) -> Result<(), IpcError>
             Some((child, _)) => check_kind(&child.dtype),
             None => match union_fields(dtype) {
                 Some((children, _)) => check_children(children),
-                None => check_plain(dtype),
+                None => match dictionary_types(dtype) {
+                    Some((_, values)) => check_kind(values),
+                    None => check_plain(dtype),
+                },
             },
         },
     }

@@ -10,8 +10,11 @@ pub mod SoundLaws
 pub mod CellLaws
 pub mod WrittenLaws
 pub mod LayoutLaws
+pub mod PlainKinds
+pub mod PlainTypes
 pub mod Labels
 pub mod Trees
+pub mod Keys
 pub mod Unions
 pub mod TreesSound
 pub mod TreesCells

@@ -1,5 +1,5 @@
 -- Parts that are read make an array where nothing is wrong with them: what is found in them, layout by layout.
-use Rattle.std.proofs.Common.{◌≡◌, ℕ, suc, ◌+◌, ◌*◌, ◌%◌, ◌<◌, ◌≤◌, List, [], ◌++◌, Bool, true, false, Some, None, length, nat_lt, nat_eq, not, ◌&&◌, refl, sym, ap, arith}
+use Rattle.std.proofs.Common.{◌≡◌, ℕ, suc, ◌+◌, ◌*◌, ◌%◌, ◌<◌, ◌≤◌, List, [], ◌++◌, Bool, true, Some, None, length, nat_lt, nat_eq, not, ◌&&◌, refl, sym, ap, arith}
 use Rattle.std.specs.Prelude.{if◌then◌else◌}
 use Rattle.std.proofs.lemmas.Bool.{eq-eqb, ltb-true}
 use Rattle.std.proofs.Math.Nat.{mul-mod_right}
@@ -21,6 +21,7 @@ use Rattle.arrow_buffers.specs.Variable.{are_offsets, has_bad_text, variable_fau
 use Rattle.arrow_buffers.specs.Views.{has_bad_view, has_bad_view_text, view_fault}
 use Rattle.arrow_buffers.proofs.Parts.{length-from_on}
 use Rattle.arrow_arrays.specs.LeafParts.{numbers, leaf_fault_in, number_size}
+use Rattle.arrow_arrays.proofs.NoRows.{variable_sound, view_sound}
 use Rattle.ipc_read_laws.specs.PartsRead.{validity_read, primitive_read, fixed_read, variable_read, views_read, bytes_of_rows, number_read, item_bytes}
 use Rattle.ipc_read_laws.proofs.Buffers.{numbers_held, all-from_on}
 use Rattle.ipc_read_laws.proofs.Validities.{has_rows-read}
@@ -72,9 +73,7 @@ variable_fault-read is_text suits m l o p n s = rw (s, rows-told m o (p.buffer +
 
 -- where there are no rows
 pub variable_fault-none : (is_text suits : Bool) (m : RecordBatch) (l : Kind) (o : Offsets) (p : Place) → suits ≡ true → variable_fault is_text suits (variable_read m l o p 0) ≡ None
-unfolding has_bad_text
-variable_fault-none true suits m l o p s = rw s refl
-variable_fault-none false suits m l o p s = rw s refl
+variable_fault-none is_text suits m l o p s = variable_sound is_text suits l s
 
 -- ── views ──
 
@@ -105,6 +104,4 @@ view_fault-read is_text suits m l p n s h =
     rw (s, eq-eqb _ _ whole, count, has_rows-read m p (suc n)) refl
 
 pub view_fault-none : (is_text suits : Bool) (m : RecordBatch) (l : Kind) (p : Place) → suits ≡ true → view_fault is_text suits (views_read m l p 0) ≡ None
-unfolding has_bad_view has_bad_view_text
-view_fault-none true suits m l p s = rw s refl
-view_fault-none false suits m l p s = rw s refl
+view_fault-none is_text suits m l p s = view_sound is_text suits l s

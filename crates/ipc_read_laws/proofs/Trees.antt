@@ -2,6 +2,7 @@
 use Rattle.std.proofs.Common.{◌≡◌, ℕ, zero, suc, ◌+◌, ◌<◌, ◌&&◌, List, [], ◌∷◌, length, Bool, true, Option, None, ℤ, nat_eq, nat_lt, refl, sym, ap, ◌∙◌, arith}
 use Rattle.std.specs.Prelude.{slice_index_or}
 use Rattle.std.proofs.lemmas.Bool.{and_parts, and_from, eqb-true, eq-eqb}
+use Rattle.arrow_spec.specs.declared.types.IntegerType.{IntegerType}
 use Rattle.arrow_spec.specs.declared.types.UnionMode.{UnionMode}
 use Rattle.arrow_spec.specs.Kinds as kind
 use Rattle.arrow_spec.specs.Kinds.{Kind, Fields, Metadata, Offsets, width, none, field}
@@ -21,7 +22,7 @@ use Rattle.arrow_arrays.specs.Parts.{Parts, Forest, kind_in, rows_in, fault_in, 
 use Rattle.arrow_arrays.specs.Carried.{is_carried, are_carried}
 use Rattle.ipc_read_laws.proofs.Buffers.{get-told}
 
--- what holds of kinds without children, of each top over fields of which it holds, and of an extension where it holds of the kind below
+-- what holds of kinds without children, of each top over fields of which it holds, and of a dictionary and an extension where it holds of the kind below
 pub record TreeCases (P : Kind → Type 0) (Q : Fields → Type 0) : Type 0 where
   pub on_leaf : (k : Kind) → is_leaf_kind k ≡ true → P k
   pub on_list : (o : Offsets) (fs : Fields) → width fs ≡ 1 → Q fs → P (kind.«list» o fs)
@@ -29,6 +30,7 @@ pub record TreeCases (P : Kind → Type 0) (Q : Fields → Type 0) : Type 0 wher
   pub on_sized : (size : ℕ) (fs : Fields) → width fs ≡ 1 → nat_lt 0 size ≡ true → Q fs → P (kind.fixed_size_list size fs)
   pub on_struct : (fs : Fields) → Q fs → P (kind.struct fs)
   pub on_union : (mode : UnionMode) (stated : Bool) (ids : List ℤ) (fs : Fields) → are_right ids (width fs) ≡ true → Q fs → P (kind.union mode stated ids fs)
+  pub on_dictionary : (t : IntegerType) (ordered : Bool) (id : ℤ) (k : Kind) → is_carried k ≡ true → P k → P (kind.dictionary t ordered id k)
   pub on_extension : (name : List ℕ) (metadata : Option (List ℕ)) (k : Kind) → P k → P (kind.extension name metadata k)
   pub on_none : Q none
   pub on_field : (name : List ℕ) (nullable : Bool) (metadata : Metadata) (k : Kind) (others : Fields) → is_carried k ≡ true → P k → Q others → Q (field name nullable metadata k others)
@@ -50,6 +52,7 @@ mutual
   by_tree P Q c (kind.union mode stated ids fs) h =
       let a = and_parts (are_right ids (width fs)) (are_carried fs) h in
       c.on_union mode stated ids fs a.0 (by_fields P Q c fs a.1)
+  by_tree P Q c (kind.dictionary t ordered id k) h = c.on_dictionary t ordered id k h (by_tree P Q c k h)
   by_tree P Q c (kind.extension name metadata k) h = c.on_extension name metadata k (by_tree P Q c k h)
   by_tree P Q c k h = c.on_leaf k h
 

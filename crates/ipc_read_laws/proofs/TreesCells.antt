@@ -19,13 +19,16 @@ use Rattle.arrow_arrays.specs.Heads.{sized, structured, list_size, first_of, row
 use Rattle.arrow_arrays.specs.LeafKinds.{is_leaf_kind}
 use Rattle.arrow_arrays.specs.Parts.{cells_in, cells_each}
 use Rattle.arrow_arrays.specs.Carried.{is_carried}
+use Rattle.ipc_read_laws.specs.Held.{Held, HoldsCells, HoldsKinds, HoldsFields}
+use Rattle.ipc_read_laws.specs.PlainKinds.{plain_kind}
 use Rattle.ipc_read_laws.specs.PartsRead.{parts_under, forest_read, listed_read, counted_read, validity_read, numbers_bytes, HaveBytes, AllHaveBytes}
 use Rattle.ipc_read_laws.specs.Laws.{CellsAreRead}
 use Rattle.ipc_read_laws.proofs.Buffers.{get-told}
 use Rattle.ipc_read_laws.proofs.OffsetsRead.{offsets_told, rows-told, place-told}
 use Rattle.ipc_read_laws.proofs.CellLaws.{masked_same, cells_under}
-use Rattle.ipc_read_laws.proofs.Labels.{Label, label_itself, label_like, label_size}
+use Rattle.ipc_read_laws.proofs.Labels.{Label, label_plain, label_like, label_size}
 use Rattle.ipc_read_laws.proofs.Trees.{by_tree, cells_told}
+use Rattle.ipc_read_laws.proofs.Keys.{dictionary_cells}
 use Rattle.ipc_read_laws.proofs.Unions.{child_rows, children_at, union_under, union_bytes, union_children, union_cells}
 use Rattle.ipc_read_laws.proofs.TreesSound.{plain_under, list_children, map_is_list}
 
@@ -95,10 +98,10 @@ struct_cells m d l fs p rows css e =
 -- ── every kind ──
 
 abbrev pub KindCells : Kind → Type 0
-KindCells k = (l : Kind) → Label l k → (m : RecordBatch) (d : Dictionaries) (p : Place) (rows : ℕ) → HaveBytes m k p rows → array_faults m d k p rows ≡ [] → cells_in (parts_under l m k p rows) ≡ from_on (cell m d k p) 0 rows
+KindCells k = (l : Kind) → Label l k → (m : RecordBatch) (d : Dictionaries) (h : Held) (p : Place) (rows : ℕ) → HoldsCells d h → HoldsKinds h k → HaveBytes m k p rows → array_faults m d k p rows ≡ [] → cells_in (parts_under l m h k p rows) ≡ from_on (cell m d k p) 0 rows
 
 abbrev pub FieldsCells : Fields → Type 0
-FieldsCells fs = (m : RecordBatch) (d : Dictionaries) (p : Place) (rows : Place → ℕ) → AllHaveBytes m fs p rows → child_faults m d fs p rows ≡ [] → cells_each (forest_read m fs p rows) ≡ cells_told m d fs p rows
+FieldsCells fs = (m : RecordBatch) (d : Dictionaries) (h : Held) (p : Place) (rows : Place → ℕ) → HoldsCells d h → HoldsFields h fs → AllHaveBytes m fs p rows → child_faults m d fs p rows ≡ [] → cells_each (forest_read m h fs p rows) ≡ cells_told m d fs p rows
 
 -- a kind without children has no tree
 pub plain_bytes : (m : RecordBatch) (k : Kind) (p : Place) (rows : ℕ) → is_leaf_kind k ≡ true → AreBytes (numbers_bytes m k p rows) ≡ HaveBytes m k p rows
@@ -108,36 +111,38 @@ plain_bytes m (kind.map sorted fs) p rows h = cc
 plain_bytes m (kind.fixed_size_list size fs) p rows h = cc
 plain_bytes m (kind.struct fs) p rows h = cc
 plain_bytes m (kind.union mode stated ids fs) p rows h = cc
+plain_bytes m (kind.dictionary t ordered id k) p rows h = cc
 plain_bytes m (kind.extension name metadata k) p rows h = plain_bytes m k p rows h
 plain_bytes m k p rows h = refl
 
 leaf_cells : (k : Kind) → is_leaf_kind k ≡ true → KindCells k
-leaf_cells k is l e m d p rows b h =
-    ap cells_in (sym (plain_under l m k p rows is))
-    ∙ cells_under m d k l p rows is (label_like l k e) (subst (λ (x : Type 0). x) (sym (plain_bytes m k p rows is)) b) h
+leaf_cells k is l e m d h p rows c v b fine =
+    ap cells_in (sym (plain_under l m h k p rows is))
+    ∙ cells_under m d k l p rows is (label_like l k e) (subst (λ (x : Type 0). x) (sym (plain_bytes m k p rows is)) b) fine
 
 field_cells : (name : List ℕ) (nullable : Bool) (metadata : Metadata) (k : Kind) (others : Fields) → is_carried k ≡ true → KindCells k → FieldsCells others → FieldsCells (field name nullable metadata k others)
-field_cells name nullable metadata k others carried f g m d p rows b h =
-    let x = f k (label_itself k) m d p (rows p) b.0 (none_first _ _ h) in
-    let y = g m d (after m k p) rows b.1 (sound_second (view_count_faults m k p) _ (none_second (array_faults m d k p (rows p)) _ h)) in
+field_cells name nullable metadata k others carried f g m d h p rows c v b fine =
+    let x = f (plain_kind k) (label_plain k) m d h p (rows p) c v.0 b.0 (none_first _ _ fine) in
+    let y = g m d h (after m k p) rows c v.1 b.1 (sound_second (view_count_faults m k p) _ (none_second (array_faults m d k p (rows p)) _ fine)) in
     rw (x, y) refl
 
 pub tree_cells : (k : Kind) → is_carried k ≡ true → KindCells k
 tree_cells = by_tree KindCells FieldsCells (record {
   on_leaf = leaf_cells;
-  on_list = λ o fs w g l e m d p rows b h. list_cells m d l o fs p rows _ w (g m d (inside 2 p) (λ q. offset_read m o p rows) b (list_children m d o fs p rows h)) h;
-  on_map = λ sorted fs w two g l e m d p rows b h.
-      let k : array_faults m d (kind.«list» small fs) p rows ≡ [] = sym (map_is_list m d sorted fs p rows) ∙ h in
-      list_cells m d l small fs p rows _ w (g m d (inside 2 p) (λ q. offset_read m small p rows) b (list_children m d small fs p rows k)) k;
-  on_sized = λ size fs w s g l e m d p rows b h. sized_cells m d l size fs p rows _ (label_size l (kind.fixed_size_list size fs) e) w (g m d (inside 1 p) (λ q. size * rows) b (none_second _ _ h));
-  on_struct = λ fs g l e m d p rows b h. struct_cells m d l fs p rows _ (g m d (inside 1 p) (λ q. rows) b (none_second _ _ h));
-  on_union = λ mode stated ids fs right g l e m d p rows b h.
-      ap cells_in (sym (union_under l m mode stated ids fs p rows))
-      ∙ union_cells m d l mode stated ids fs p rows _ e right h (g m d (children_at m mode p) (λ q. child_rows m mode rows q) (union_bytes m mode stated ids fs p rows b) (union_children m d mode stated ids fs p rows h));
-  on_extension = λ name metadata k f l e m d p rows b h. f l (record { under = e.under }) m d p rows b h;
-  on_none = λ m d p rows b h. refl;
+  on_list = λ o fs w g l e m d h p rows c v b fine. list_cells m d l o fs p rows _ w (g m d h (inside 2 p) (λ q. offset_read m o p rows) c v b (list_children m d o fs p rows fine)) fine;
+  on_map = λ sorted fs w two g l e m d h p rows c v b fine.
+      let k : array_faults m d (kind.«list» small fs) p rows ≡ [] = sym (map_is_list m d sorted fs p rows) ∙ fine in
+      list_cells m d l small fs p rows _ w (g m d h (inside 2 p) (λ q. offset_read m small p rows) c v b (list_children m d small fs p rows k)) k;
+  on_sized = λ size fs w s g l e m d h p rows c v b fine. sized_cells m d l size fs p rows _ (label_size l (kind.fixed_size_list size fs) e) w (g m d h (inside 1 p) (λ q. size * rows) c v b (none_second _ _ fine));
+  on_struct = λ fs g l e m d h p rows c v b fine. struct_cells m d l fs p rows _ (g m d h (inside 1 p) (λ q. rows) c v b (none_second _ _ fine));
+  on_union = λ mode stated ids fs right g l e m d h p rows c v b fine.
+      ap cells_in (sym (union_under l m h mode stated ids fs p rows))
+      ∙ union_cells m d l mode stated ids fs p rows _ e right fine (g m d h (children_at m mode p) (λ q. child_rows m mode rows q) c v (union_bytes m mode stated ids fs p rows b) (union_children m d mode stated ids fs p rows fine));
+  on_dictionary = λ t ordered id k carried f l e m d h p rows c v b fine. dictionary_cells m d h l t ordered id k p rows carried c;
+  on_extension = λ name metadata k f l e m d h p rows c v b fine. f l (record { under = e.under }) m d h p rows c v b fine;
+  on_none = λ m d h p rows c v b fine. refl;
   on_field = field_cells;
 })
 
 pub cells_read : CellsAreRead
-cells_read m d k p rows carried b h = tree_cells k carried k (label_itself k) m d p rows b h
+cells_read m d h k p rows c v carried b fine = tree_cells k carried (plain_kind k) (label_plain k) m d h p rows c v b fine

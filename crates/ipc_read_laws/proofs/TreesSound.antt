@@ -15,15 +15,20 @@ use Rattle.arrow_buffers.specs.Variable.{are_offsets, variable_rows}
 use Rattle.arrow_arrays.specs.Heads.{listed, mapped, sized, structured, head_fault, is_list, is_map, is_sized, is_struct, list_size, child_fields, are_all, first_or_0}
 use Rattle.arrow_arrays.specs.LeafKinds.{is_leaf_kind}
 use Rattle.arrow_arrays.specs.Parts.{Forest, nested, kinds_each, rows_each}
+use Rattle.arrow_arrays.proofs.EmptyParts.{list_itself, sized_itself}
 use Rattle.arrow_arrays.proofs.HeadSliced.{sound_head}
 use Rattle.arrow_arrays.specs.Carried.{is_carried}
-use Rattle.ipc_read_laws.specs.PartsRead.{parts_in, parts_under, forest_read, listed_read, counted_read}
+use Rattle.ipc_read_laws.specs.Held.{Held, HoldsCells, HoldsKinds, HoldsFields}
+use Rattle.ipc_read_laws.specs.PlainKinds.{plain_kind, plain_fields}
+use Rattle.ipc_read_laws.specs.PartsRead.{parts_in, plain_read, parts_under, parts_read, forest_read, listed_read, counted_read}
 use Rattle.ipc_read_laws.specs.Laws.{PartsAreSound}
 use Rattle.ipc_read_laws.proofs.Validities.{has_rows-read}
 use Rattle.ipc_read_laws.proofs.OffsetsRead.{offsets_told, offsets_bad, offsets-bad, rows-told}
 use Rattle.ipc_read_laws.proofs.SoundLaws.{sound_under, kind_under, rows_under}
-use Rattle.ipc_read_laws.proofs.Labels.{Label, label_itself, label_like, label_fields, label_size, label_list, label_map, label_sized, label_struct}
+use Rattle.ipc_read_laws.proofs.Labels.{Label, label_plain, label_like, label_fields, label_size, label_list, label_map, label_sized, label_struct}
 use Rattle.ipc_read_laws.proofs.Trees.{TreeCases, by_tree, by_fields, rows_told, told_all, told_length, told_first, SoundAs, ForestSound, both_none, suited, same_kind}
+use Rattle.ipc_read_laws.proofs.PlainKinds.{plain_itself, no_dictionaries}
+use Rattle.ipc_read_laws.proofs.Keys.{dictionary_sound}
 use Rattle.ipc_read_laws.proofs.Unions.{child_rows, children_at, union_under, union_children, union_sound}
 
 -- ── lists and maps ──
@@ -56,15 +61,11 @@ list_width : (m : RecordBatch) (l : Kind) (o : Offsets) (p : Place) (rows : ℕ)
 list_width m l o p zero = refl
 list_width m l o p (suc n) = refl
 
-list_itself : (o : Offsets) (fs : Fields) → is_list o (kind.«list» o fs) ≡ true
-list_itself small fs = refl
-list_itself large fs = refl
-
 -- lists, or maps, over sound children are sound
 first_rows : (m : RecordBatch) (fs : Fields) (q : Place) (n : ℕ) (cs : Forest) → width fs ≡ 1 → rows_each cs ≡ rows_told m fs q (λ q. n) → (nat_eq (length (rows_each cs)) 1 ≡ true) × (first_or_0 (rows_each cs) ≡ n)
 first_rows m fs q n cs w r = (ap (λ ns. nat_eq (length ns) 1) r ∙ eq-eqb _ 1 (told_length m fs q (λ q. n) ∙ w), ap first_or_0 r ∙ told_first m fs q n w)
 
-pub list_sound : (m : RecordBatch) (l : Kind) (o : Offsets) (fs : Fields) (p : Place) (rows : ℕ) (cs : Forest) → is_list o l ≡ true → child_fields l ≡ fs → width fs ≡ 1 → ForestSound fs (rows_told m fs (inside 2 p) (λ q. offset_read m o p rows)) cs
+pub list_sound : (m : RecordBatch) (l : Kind) (o : Offsets) (fs : Fields) (p : Place) (rows : ℕ) (cs : Forest) → is_list o l ≡ true → child_fields l ≡ plain_fields fs → width fs ≡ 1 → ForestSound (plain_fields fs) (rows_told m fs (inside 2 p) (λ q. offset_read m o p rows)) cs
     → are_offsets (listed_read m l o p rows).offsets (offset_read m o p rows) ≡ true → SoundAs l rows (nested (listed (listed_read m l o p rows)) cs)
 list_sound m l o fs p rows cs s f w c a =
     let r = first_rows m fs (inside 2 p) (offset_read m o p rows) cs w c.rows in
@@ -74,7 +75,7 @@ list_sound m l o fs p rows cs s f w c a =
       kind_is = list_kind m l o p rows;
       rows_are = list_rows m l o p rows;
       none = both_none (head_fault h (kinds_each cs) (rows_each cs)) _ (sound_head h (kinds_each cs) (rows_each cs) (record {
-        suits = suited h _ l fs (kinds_each cs) (list_kind m l o p rows) suit f c.kinds;
+        suits = suited h _ l (plain_fields fs) (kinds_each cs) (list_kind m l o p rows) suit f c.kinds;
         valid = list_valid m l o p rows;
         rows = r.0;
         offsets = ap (are_offsets (listed_read m l o p rows).offsets) r.1 ∙ a;
@@ -83,7 +84,7 @@ list_sound m l o fs p rows cs s f w c a =
       })) c.none;
     }
 
-pub map_sound : (m : RecordBatch) (l : Kind) (fs : Fields) (p : Place) (rows : ℕ) (cs : Forest) → is_map small l ≡ true → child_fields l ≡ fs → width fs ≡ 1 → ForestSound fs (rows_told m fs (inside 2 p) (λ q. offset_read m small p rows)) cs
+pub map_sound : (m : RecordBatch) (l : Kind) (fs : Fields) (p : Place) (rows : ℕ) (cs : Forest) → is_map small l ≡ true → child_fields l ≡ plain_fields fs → width fs ≡ 1 → ForestSound (plain_fields fs) (rows_told m fs (inside 2 p) (λ q. offset_read m small p rows)) cs
     → are_offsets (listed_read m l small p rows).offsets (offset_read m small p rows) ≡ true → SoundAs l rows (nested (mapped (listed_read m l small p rows)) cs)
 map_sound m l fs p rows cs s f w c a =
     let r = first_rows m fs (inside 2 p) (offset_read m small p rows) cs w c.rows in
@@ -93,7 +94,7 @@ map_sound m l fs p rows cs s f w c a =
       kind_is = list_kind m l small p rows;
       rows_are = list_rows m l small p rows;
       none = both_none (head_fault h (kinds_each cs) (rows_each cs)) _ (sound_head h (kinds_each cs) (rows_each cs) (record {
-        suits = suited h _ l fs (kinds_each cs) (list_kind m l small p rows) suit f c.kinds;
+        suits = suited h _ l (plain_fields fs) (kinds_each cs) (list_kind m l small p rows) suit f c.kinds;
         valid = list_valid m l small p rows;
         rows = r.0;
         offsets = ap (are_offsets (listed_read m l small p rows).offsets) r.1 ∙ a;
@@ -104,14 +105,14 @@ map_sound m l fs p rows cs s f w c a =
 
 -- ── lists of one size, and structs ──
 
-pub sized_sound : (m : RecordBatch) (l : Kind) (size : ℕ) (fs : Fields) (p : Place) (rows : ℕ) (cs : Forest) → is_sized l ≡ true → list_size l ≡ size → child_fields l ≡ fs → ForestSound fs (rows_told m fs (inside 1 p) (λ q. size * rows)) cs → SoundAs l rows (nested (sized (counted_read m l p rows)) cs)
+pub sized_sound : (m : RecordBatch) (l : Kind) (size : ℕ) (fs : Fields) (p : Place) (rows : ℕ) (cs : Forest) → is_sized l ≡ true → list_size l ≡ size → child_fields l ≡ plain_fields fs → ForestSound (plain_fields fs) (rows_told m fs (inside 1 p) (λ q. size * rows)) cs → SoundAs l rows (nested (sized (counted_read m l p rows)) cs)
 sized_sound m l size fs p rows cs s z f c =
     let h = sized (counted_read m l p rows) in
     record {
       kind_is = refl;
       rows_are = refl;
       none = both_none (head_fault h (kinds_each cs) (rows_each cs)) _ (sound_head h (kinds_each cs) (rows_each cs) (record {
-        suits = suited h _ l fs (kinds_each cs) refl s f c.kinds;
+        suits = suited h _ l (plain_fields fs) (kinds_each cs) refl s f c.kinds;
         valid = has_rows-read m p rows;
         rows = ap (λ n. are_all (n * rows) (rows_each cs)) z ∙ ap (are_all (size * rows)) c.rows ∙ told_all m fs (inside 1 p) (size * rows);
         offsets = refl;
@@ -120,14 +121,14 @@ sized_sound m l size fs p rows cs s z f c =
       })) c.none;
     }
 
-pub struct_sound : (m : RecordBatch) (l : Kind) (fs : Fields) (p : Place) (rows : ℕ) (cs : Forest) → is_struct l ≡ true → child_fields l ≡ fs → ForestSound fs (rows_told m fs (inside 1 p) (λ q. rows)) cs → SoundAs l rows (nested (structured (counted_read m l p rows)) cs)
+pub struct_sound : (m : RecordBatch) (l : Kind) (fs : Fields) (p : Place) (rows : ℕ) (cs : Forest) → is_struct l ≡ true → child_fields l ≡ plain_fields fs → ForestSound (plain_fields fs) (rows_told m fs (inside 1 p) (λ q. rows)) cs → SoundAs l rows (nested (structured (counted_read m l p rows)) cs)
 struct_sound m l fs p rows cs s f c =
     let h = structured (counted_read m l p rows) in
     record {
       kind_is = refl;
       rows_are = refl;
       none = both_none (head_fault h (kinds_each cs) (rows_each cs)) _ (sound_head h (kinds_each cs) (rows_each cs) (record {
-        suits = suited h _ l fs (kinds_each cs) refl s f c.kinds;
+        suits = suited h _ l (plain_fields fs) (kinds_each cs) refl s f c.kinds;
         valid = has_rows-read m p rows;
         rows = ap (are_all rows) c.rows ∙ told_all m fs (inside 1 p) rows;
         offsets = refl;
@@ -152,59 +153,61 @@ map_is_list m d sorted fs p zero = refl
 map_is_list m d sorted fs p (suc n) = refl
 
 abbrev pub KindSound : Kind → Type 0
-KindSound k = (l : Kind) → Label l k → (m : RecordBatch) (d : Dictionaries) (p : Place) (rows : ℕ) → array_faults m d k p rows ≡ [] → SoundAs l rows (parts_under l m k p rows)
+KindSound k = (l : Kind) → Label l k → (m : RecordBatch) (d : Dictionaries) (h : Held) (p : Place) (rows : ℕ) → HoldsCells d h → HoldsKinds h k → array_faults m d k p rows ≡ [] → SoundAs l rows (parts_under l m h k p rows)
 
 abbrev pub FieldsSound : Fields → Type 0
-FieldsSound fs = (m : RecordBatch) (d : Dictionaries) (p : Place) (rows : Place → ℕ) → child_faults m d fs p rows ≡ [] → ForestSound fs (rows_told m fs p rows) (forest_read m fs p rows)
+FieldsSound fs = (m : RecordBatch) (d : Dictionaries) (h : Held) (p : Place) (rows : Place → ℕ) → HoldsCells d h → HoldsFields h fs → child_faults m d fs p rows ≡ [] → ForestSound (plain_fields fs) (rows_told m fs p rows) (forest_read m h fs p rows)
 
 leaf_sound : (k : Kind) → is_leaf_kind k ≡ true → (l : Kind) → Label l k → (m : RecordBatch) (d : Dictionaries) (p : Place) (rows : ℕ) → array_faults m d k p rows ≡ [] → SoundAs l rows (Rattle.arrow_arrays.specs.Parts.leaf (parts_in (physical_of k) m l p rows))
-leaf_sound k leaf l e m d p rows h = record {
+leaf_sound k leaf l e m d p rows fine = record {
   kind_is = kind_under (physical_of k) m l p rows;
-  rows_are = rows_under m d k l p rows leaf (label_like l k e) h;
-  none = sound_under m d k l p rows leaf (label_like l k e) h;
+  rows_are = rows_under m d k l p rows leaf (label_like l k e) fine;
+  none = sound_under m d k l p rows leaf (label_like l k e) fine;
 }
 
 -- a kind without children has no tree
-pub plain_under : (l : Kind) (m : RecordBatch) (k : Kind) (p : Place) (rows : ℕ) → is_leaf_kind k ≡ true → Rattle.arrow_arrays.specs.Parts.leaf (parts_in (physical_of k) m l p rows) ≡ parts_under l m k p rows
-plain_under l m (kind.«list» small fs) p rows h = cc
-plain_under l m (kind.«list» large fs) p rows h = cc
-plain_under l m (kind.map sorted fs) p rows h = cc
-plain_under l m (kind.fixed_size_list size fs) p rows h = cc
-plain_under l m (kind.struct fs) p rows h = cc
-plain_under l m (kind.union mode stated ids fs) p rows h = cc
-plain_under l m (kind.extension name metadata k) p rows h = plain_under l m k p rows h
-plain_under l m k p rows h = refl
+pub plain_under : (l : Kind) (m : RecordBatch) (h : Held) (k : Kind) (p : Place) (rows : ℕ) → is_leaf_kind k ≡ true → Rattle.arrow_arrays.specs.Parts.leaf (parts_in (physical_of k) m l p rows) ≡ parts_under l m h k p rows
+plain_under l m h (kind.«list» small fs) p rows is = cc
+plain_under l m h (kind.«list» large fs) p rows is = cc
+plain_under l m h (kind.map sorted fs) p rows is = cc
+plain_under l m h (kind.fixed_size_list size fs) p rows is = cc
+plain_under l m h (kind.struct fs) p rows is = cc
+plain_under l m h (kind.union mode stated ids fs) p rows is = cc
+plain_under l m h (kind.dictionary t ordered id k) p rows is = cc
+plain_under l m h (kind.extension name metadata k) p rows is = plain_under l m h k p rows is
+plain_under l m h k p rows is = refl
+
+-- so it is read as it is read by itself
+pub read_plain : (m : RecordBatch) (h : Held) (k : Kind) (p : Place) (rows : ℕ) → is_leaf_kind k ≡ true → plain_read m k p rows ≡ parts_read m h k p rows
+read_plain m h k p rows is = plain_under k m h k p rows is ∙ ap (λ l. parts_under l m h k p rows) (sym (plain_itself k (no_dictionaries k is)))
 
 field_sound : (name : List ℕ) (nullable : Bool) (metadata : Metadata) (k : Kind) (others : Fields) → is_carried k ≡ true → KindSound k → FieldsSound others → FieldsSound (field name nullable metadata k others)
-field_sound name nullable metadata k others carried f g m d p rows h =
-    let a = f k (label_itself k) m d p (rows p) (none_first _ _ h) in
-    let b = g m d (after m k p) rows (sound_second (view_count_faults m k p) _ (none_second (array_faults m d k p (rows p)) _ h)) in
+field_sound name nullable metadata k others carried f g m d h p rows c v fine =
+    let a = f (plain_kind k) (label_plain k) m d h p (rows p) c v.0 (none_first _ _ fine) in
+    let b = g m d h (after m k p) rows c v.1 (sound_second (view_count_faults m k p) _ (none_second (array_faults m d k p (rows p)) _ fine)) in
     record {
-      kinds = and_from (kind_eq k _) _ (same_kind k _ a.kind_is) b.kinds;
+      kinds = and_from (kind_eq (plain_kind k) _) _ (same_kind (plain_kind k) _ a.kind_is) b.kinds;
       rows = rw (a.rows_are, b.rows) refl;
       none = both_none _ _ a.none b.none;
     }
 
 sound_cases : TreeCases KindSound FieldsSound
 sound_cases = record {
-  on_leaf = λ k leaf l e m d p rows h. subst (SoundAs l rows) (plain_under l m k p rows leaf) (leaf_sound k leaf l e m d p rows h);
-  on_list = λ o fs w g l e m d p rows h. list_sound m l o fs p rows _ (label_list o l (kind.«list» o fs) e ∙ list_itself o fs) (label_fields l (kind.«list» o fs) e) w (g m d (inside 2 p) (λ q. offset_read m o p rows) (list_children m d o fs p rows h)) (list_rises m d l o fs p rows h);
-  on_map = λ sorted fs w two g l e m d p rows h.
-      let k : array_faults m d (kind.«list» small fs) p rows ≡ [] = sym (map_is_list m d sorted fs p rows) ∙ h in
-      map_sound m l fs p rows _ (label_map small l (kind.map sorted fs) e ∙ two) (label_fields l (kind.map sorted fs) e) w (g m d (inside 2 p) (λ q. offset_read m small p rows) (list_children m d small fs p rows k)) (list_rises m d l small fs p rows k);
-  on_sized = λ size fs w s g l e m d p rows h. sized_sound m l size fs p rows _ (label_sized l (kind.fixed_size_list size fs) e ∙ sized_itself size fs s) (label_size l (kind.fixed_size_list size fs) e) (label_fields l (kind.fixed_size_list size fs) e) (g m d (inside 1 p) (λ q. size * rows) (none_second _ _ h));
-  on_struct = λ fs g l e m d p rows h. struct_sound m l fs p rows _ (label_struct l (kind.struct fs) e) (label_fields l (kind.struct fs) e) (g m d (inside 1 p) (λ q. rows) (none_second _ _ h));
-  on_union = λ mode stated ids fs right g l e m d p rows h.
-      subst (SoundAs l rows) (union_under l m mode stated ids fs p rows)
-      (union_sound m d l mode stated ids fs p rows _ e right h (g m d (children_at m mode p) (λ q. child_rows m mode rows q) (union_children m d mode stated ids fs p rows h)));
-  on_extension = λ name metadata k f l e m d p rows h. f l (record { under = e.under }) m d p rows h;
-  on_none = λ m d p rows h. record { kinds = refl; rows = refl; none = refl };
+  on_leaf = λ k leaf l e m d h p rows c v fine. subst (SoundAs l rows) (plain_under l m h k p rows leaf) (leaf_sound k leaf l e m d p rows fine);
+  on_list = λ o fs w g l e m d h p rows c v fine. list_sound m l o fs p rows _ (label_list o l (kind.«list» o fs) e ∙ list_itself o fs) (label_fields l (kind.«list» o fs) e) w (g m d h (inside 2 p) (λ q. offset_read m o p rows) c v (list_children m d o fs p rows fine)) (list_rises m d l o fs p rows fine);
+  on_map = λ sorted fs w two g l e m d h p rows c v fine.
+      let k : array_faults m d (kind.«list» small fs) p rows ≡ [] = sym (map_is_list m d sorted fs p rows) ∙ fine in
+      map_sound m l fs p rows _ (label_map small l (kind.map sorted fs) e ∙ two) (label_fields l (kind.map sorted fs) e) w (g m d h (inside 2 p) (λ q. offset_read m small p rows) c v (list_children m d small fs p rows k)) (list_rises m d l small fs p rows k);
+  on_sized = λ size fs w s g l e m d h p rows c v fine. sized_sound m l size fs p rows _ (label_sized l (kind.fixed_size_list size fs) e ∙ sized_itself size fs s) (label_size l (kind.fixed_size_list size fs) e) (label_fields l (kind.fixed_size_list size fs) e) (g m d h (inside 1 p) (λ q. size * rows) c v (none_second _ _ fine));
+  on_struct = λ fs g l e m d h p rows c v fine. struct_sound m l fs p rows _ (label_struct l (kind.struct fs) e) (label_fields l (kind.struct fs) e) (g m d h (inside 1 p) (λ q. rows) c v (none_second _ _ fine));
+  on_union = λ mode stated ids fs right g l e m d h p rows c v fine.
+      subst (SoundAs l rows) (union_under l m h mode stated ids fs p rows)
+      (union_sound m d l mode stated ids fs p rows _ e right fine (g m d h (children_at m mode p) (λ q. child_rows m mode rows q) c v (union_children m d mode stated ids fs p rows fine)));
+  on_dictionary = λ t ordered id k carried f l e m d h p rows c v fine. dictionary_sound m d h l t ordered id k p rows e carried c v fine;
+  on_extension = λ name metadata k f l e m d h p rows c v fine. f l (record { under = e.under }) m d h p rows c v fine;
+  on_none = λ m d h p rows c v fine. record { kinds = refl; rows = refl; none = refl };
   on_field = field_sound;
 }
-  where
-    sized_itself : (size : ℕ) (fs : Fields) → nat_lt 0 size ≡ true → is_sized (kind.fixed_size_list size fs) ≡ true
-    sized_itself zero fs s = cc
-    sized_itself (suc n) fs s = refl
 
 pub tree_sound : (k : Kind) → is_carried k ≡ true → KindSound k
 tree_sound = by_tree KindSound FieldsSound sound_cases
@@ -213,6 +216,6 @@ pub forest_sound : (fs : Fields) → Rattle.arrow_arrays.specs.Carried.are_carri
 forest_sound = by_fields KindSound FieldsSound sound_cases
 
 pub parts_sound : PartsAreSound
-parts_sound m d k p rows carried h =
-    let s = tree_sound k carried k (label_itself k) m d p rows h in
+parts_sound m d h k p rows c v carried fine =
+    let s = tree_sound k carried (plain_kind k) (label_plain k) m d h p rows c v fine in
     record { same_kind = s.kind_is; all_rows = s.rows_are; no_fault = s.none }

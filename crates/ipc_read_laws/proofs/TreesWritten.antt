@@ -6,7 +6,7 @@ use Rattle.std.specs.Option.{option_map}
 use Rattle.std.specs.Int.{byte_len}
 use Rattle.std.proofs.Math.Nat.{mul-le-mul_left}
 use Rattle.std.proofs.lemmas.Bool.{cases_Bool, ltb-true, eqb-true}
-use Rattle.std.proofs.lemmas.List.{take_all}
+use Rattle.std.proofs.lemmas.List.{take_all, append-nil}
 use Rattle.std.proofs.lemmas.List.Sums.{sum_by-cons}
 use Rattle.arrow_spec.specs.declared.types.IntegerType.{IntegerType}
 use Rattle.arrow_spec.specs.declared.types.IntegerType.TheVariants.{Int8}
@@ -16,9 +16,9 @@ use Rattle.arrow_spec.specs.declared.types.UnionMode.TheVariants.{Dense, Sparse}
 use Rattle.arrow_spec.specs.Kinds as kind
 use Rattle.arrow_spec.specs.Kinds.{Kind, Fields, Metadata, Offsets, small, large, half, single, double, width, none, field}
 use Rattle.arrow_spec.specs.Counts.{RecordBatch, Place, Written, magnitude, after, inside, union_buffers}
-use Rattle.arrow_spec.specs.Arrays.{Dictionaries, node_of, buf, bit, has_nulls, valid, signed_in, offset, offset_width, integer_width, from_on}
+use Rattle.arrow_spec.specs.Arrays.{Dictionaries, node_of, buf, bit, has_nulls, valid, signed_in, integer_in, offset, offset_width, integer_width, from_on}
 use Rattle.arrow_spec.specs.Faults.{array_faults, child_faults, offsets_faults, node_faults, view_count_faults, view_parts_faults, views_faults, view_text_faults}
-use Rattle.arrow_spec.specs.Sent.{own, with_views, also_written, validity_length, null_count, views_written, offset_read, dense_rows, written_part, parts_written, written}
+use Rattle.arrow_spec.specs.Sent.{own, with_views, nothing_written, also_written, validity_length, null_count, views_written, offset_read, dense_rows, written_part, parts_written, written}
 use Rattle.arrow_spec.proofs.Fewer.{none_first, none_second, sound_first, sound_second, offset-fewer}
 use Rattle.arrow_types.specs.Physical.{primitive_size, physical_of}
 use Rattle.arrow_types.specs.UnionIds.{are_right}
@@ -38,7 +38,9 @@ use Rattle.arrow_arrays.specs.Parts.{Parts, Forest, leaf, nested, fault_in, rows
 use Rattle.arrow_arrays.proofs.HeadSliced.{Sound, place_at-part}
 use Rattle.arrow_arrays.proofs.Sliced.{top_sound}
 use Rattle.arrow_arrays.specs.Carried.{is_carried}
-use Rattle.ipc_read_laws.specs.PartsRead.{parts_in, parts_under, parts_read, forest_read, bits_read, bytes_of_rows, validity_read, variable_read, views_read, listed_read, number_read, item_bytes}
+use Rattle.ipc_read_laws.specs.Held.{Held, HoldsCells, HoldsKinds, HoldsFields}
+use Rattle.ipc_read_laws.specs.PlainKinds.{plain_kind}
+use Rattle.ipc_read_laws.specs.PartsRead.{parts_in, parts_under, parts_read, forest_read, bits_read, bytes_of_rows, validity_read, variable_read, views_read, listed_read, indexed_read, number_read, item_bytes}
 use Rattle.ipc_read_laws.specs.WrittenParts.{bits_length, validity_bytes, offset_bytes, width_bytes, variable_lengths, leaf_written_in, head_written, held_by, written_on, written_each, written_in, written_under}
 use Rattle.ipc_read_laws.specs.Laws.{WrittenAsSent}
 use Rattle.ipc_read_laws.proofs.KindCases.{IsNumbers, by_kind, Like}
@@ -46,11 +48,11 @@ use Rattle.ipc_read_laws.proofs.FaultLaws.{fixed_held}
 use Rattle.ipc_read_laws.proofs.OffsetsRead.{offsets_told, place-told}
 use Rattle.ipc_read_laws.proofs.ViewsRead.{length-rows, count-buffers, lengths-buffers}
 use Rattle.ipc_read_laws.proofs.Sound.{views_held, buffers_held}
-use Rattle.ipc_read_laws.proofs.Labels.{Label, label_itself, label_like, label_size}
+use Rattle.ipc_read_laws.proofs.Labels.{Label, label_plain, label_like, label_size}
 use Rattle.ipc_read_laws.proofs.Trees.{TreeCases, by_tree, rows_told}
 use Rattle.ipc_read_laws.proofs.WrittenLaws.{written_read}
 use Rattle.ipc_read_laws.proofs.Unions.{children_at, union_children, union_top}
-use Rattle.ipc_read_laws.proofs.TreesSound.{plain_under, list_children, map_is_list, tree_sound}
+use Rattle.ipc_read_laws.proofs.TreesSound.{plain_under, read_plain, list_children, map_is_list, tree_sound}
 
 -- ── the validity of some rows ──
 
@@ -309,8 +311,8 @@ mutual
 -- ── every kind ──
 
 abbrev KindWritten : Kind → Type 0
-KindWritten k = (l : Kind) → Label l k → (m : RecordBatch) (d : Dictionaries) (p : Place) (read : ℕ) → array_faults m d k p read ≡ [] → (from n : ℕ) → from + n ≤ read
-    → written_part m k p read from n ≡ written_on from n (parts_under l m k p read)
+KindWritten k = (l : Kind) → Label l k → (m : RecordBatch) (d : Dictionaries) (h : Held) (p : Place) (read : ℕ) → HoldsCells d h → HoldsKinds h k → array_faults m d k p read ≡ [] → (from n : ℕ) → from + n ≤ read
+    → written_part m k p read from n ≡ written_on from n (parts_under l m h k p read)
 
 -- from which row on a child is written, and how many of its rows
 abbrev first_row : Cut → ℕ
@@ -322,8 +324,8 @@ cut_rows whole rows = rows
 cut_rows (run from n) rows = n
 
 abbrev FieldsWritten : Fields → Type 0
-FieldsWritten fs = (m : RecordBatch) (d : Dictionaries) (p : Place) (read : Place → ℕ) → child_faults m d fs p read ≡ [] → (c : Cut) → Reaches c (rows_told m fs p read)
-    → parts_written m fs p read (first_row c) (λ q. cut_rows c (read q)) ≡ written_each c (forest_read m fs p read)
+FieldsWritten fs = (m : RecordBatch) (d : Dictionaries) (h : Held) (p : Place) (read : Place → ℕ) → HoldsCells d h → HoldsFields h fs → child_faults m d fs p read ≡ [] → (c : Cut) → Reaches c (rows_told m fs p read)
+    → parts_written m fs p read (first_row c) (λ q. cut_rows c (read q)) ≡ written_each c (forest_read m h fs p read)
 
 reaches_all : (m : RecordBatch) (fs : Fields) (p : Place) (read from n : ℕ) → from + n ≤ read → Reaches (run from n) (rows_told m fs p (λ q. read))
 reaches_all m none p read from n h = tt
@@ -351,69 +353,82 @@ runs_same : (cs : Forest) (x a y b : ℕ) → x ≡ a → y ≡ b → written_ea
 runs_same cs x a y b e f = rw (e, f) refl
 
 -- what some rows hold of the child
-list_below : (m : RecordBatch) (d : Dictionaries) (l : Kind) (o : Offsets) (fs : Fields) (p : Place) (read from n : ℕ) → from + n ≤ read → array_faults m d (kind.«list» o fs) p read ≡ [] → FieldsWritten fs
+list_below : (m : RecordBatch) (d : Dictionaries) (held : Held) (l : Kind) (o : Offsets) (fs : Fields) (p : Place) (read from n : ℕ) → HoldsCells d held → HoldsFields held fs → from + n ≤ read → array_faults m d (kind.«list» o fs) p read ≡ [] → FieldsWritten fs
     → parts_written m fs (inside 2 p) (λ q. offset_read m o p read) (offset m o (p.buffer + 1) from) (λ q. offset m o (p.buffer + 1) (from + n) - offset m o (p.buffer + 1) from)
-    ≡ written_each (held_by from n (listed (listed_read m l o p read))) (forest_read m fs (inside 2 p) (λ q. offset_read m o p read))
-list_below m d l o fs p zero zero zero h fine below =
+    ≡ written_each (held_by from n (listed (listed_read m l o p read))) (forest_read m held fs (inside 2 p) (λ q. offset_read m o p read))
+list_below m d held l o fs p zero zero zero c v h fine below =
     let i = p.buffer + 1 in
     let a : offset m o i (0 + 0) - offset m o i 0 ≡ 0 = none_between _ _ (ap (offset m o i) (omega arith)) in
     ap (λ k. parts_written m fs (inside 2 p) (λ q. 0) (offset m o i 0) (λ q. k)) a
     ∙ parts_of_none m fs (inside 2 p) (λ q. 0) (offset m o i 0) 0
-    ∙ below m d (inside 2 p) (λ q. 0) (list_children m d o fs p 0 fine) (run 0 0) (reaches_all m fs (inside 2 p) 0 0 0 h)
-list_below m d l o fs p zero zero (suc n) h fine below = absurd (omega (arith, h))
-list_below m d l o fs p zero (suc from) n h fine below = absurd (omega (arith, h))
-list_below m d l o fs p (suc r) from n h fine below =
+    ∙ below m d held (inside 2 p) (λ q. 0) c v (list_children m d o fs p 0 fine) (run 0 0) (reaches_all m fs (inside 2 p) 0 0 0 h)
+list_below m d held l o fs p zero zero (suc n) c v h fine below = absurd (omega (arith, h))
+list_below m d held l o fs p zero (suc from) n c v h fine below = absurd (omega (arith, h))
+list_below m d held l o fs p (suc r) from n c v h fine below =
     let i = p.buffer + 1 in
     let most = magnitude (node_of m (suc p.node)).length in
     let well : offsets_faults m o i (suc r) most ≡ [] = none_first _ _ (sound_second _ _ (none_second _ _ fine)) in
     let first : offset m o i from ≤ offset m o i (suc r) = offset-fewer m o i (suc r) from most (omega (arith, h)) well in
     let last : offset m o i (from + n) ≤ offset m o i (suc r) = offset-fewer m o i (suc r) (from + n) most h well in
     let reach : offset m o i from + (offset m o i (from + n) - offset m o i from) ≤ offset m o i (suc r) = omega (arith, first, last) in
-    below m d (inside 2 p) (λ q. offset m o i (suc r)) (list_children m d o fs p (suc r) fine) (run (offset m o i from) (offset m o i (from + n) - offset m o i from)) (reaches_all m fs (inside 2 p) (offset m o i (suc r)) _ _ reach)
+    below m d held (inside 2 p) (λ q. offset m o i (suc r)) c v (list_children m d o fs p (suc r) fine) (run (offset m o i from) (offset m o i (from + n) - offset m o i from)) (reaches_all m fs (inside 2 p) (offset m o i (suc r)) _ _ reach)
     ∙ runs_same _ _ _ _ _ (place-told m o i (suc r) from (omega (arith, h))) (place-told m o i (suc r) (from + n) (omega (arith, h)))
 
 -- ── by the kind ──
 
 leaf_cases : (k : Kind) → is_leaf_kind k ≡ true → KindWritten k
-leaf_cases k is l e m d p read fine from n h = part_of_leaf m d p read from n h k is is l (label_like l k e) fine ∙ ap (written_on from n) (plain_under l m k p read is)
+leaf_cases k is l e m d held p read c v fine from n h = part_of_leaf m d p read from n h k is is l (label_like l k e) fine ∙ ap (written_on from n) (plain_under l m held k p read is)
 
 -- unions: a sparse one holds the same rows of each child, a dense one each child whole
 union_cases : (mode : UnionMode) (stated : Bool) (ids : List ℤ) (fs : Fields) → are_right ids (width fs) ≡ true → FieldsWritten fs → KindWritten (kind.union mode stated ids fs)
-union_cases Sparse stated ids fs right g l e m d p read fine from n h =
+union_cases Sparse stated ids fs right g l e m d held p read c v fine from n h =
     both _ _ _ _ (union_top m l Sparse p read from n h)
-    (g m d (children_at m Sparse p) (λ q. read) (union_children m d Sparse stated ids fs p read fine) (run from n) (reaches_all m fs (children_at m Sparse p) read from n h))
-union_cases Dense stated ids fs right g l e m d p read fine from n h =
+    (g m d held (children_at m Sparse p) (λ q. read) c v (union_children m d Sparse stated ids fs p read fine) (run from n) (reaches_all m fs (children_at m Sparse p) read from n h))
+union_cases Dense stated ids fs right g l e m d held p read c v fine from n h =
     both _ _ _ _ (union_top m l Dense p read from n h)
-    (g m d (children_at m Dense p) (λ q. dense_rows m q read) (union_children m d Dense stated ids fs p read fine) whole tt)
+    (g m d held (children_at m Dense p) (λ q. dense_rows m q read) c v (union_children m d Dense stated ids fs p read fine) whole tt)
+
+-- dictionaries: the keys alone
+also_nothing : (w : Written) → also_written w nothing_written ≡ w
+also_nothing w = rw (append-nil w.nodes, append-nil w.lengths, append-nil w.views) refl
+
+dictionary_cases : (t : IntegerType) (ordered : Bool) (id : ℤ) (k : Kind) → is_carried k ≡ true → KindWritten k → KindWritten (kind.dictionary t ordered id k)
+dictionary_cases t ordered id k carried f l e m d held p read c v fine from n h =
+    let size = byte_len (integer_width t) in
+    let count = length-on (λ j. integer_in m t (p.buffer + 1) j) read from n h in
+    own_part m p read from n _ _ _ [] [] h count (ap (λ x. size * x ∷ []) count) refl
+    ∙ sym (also_nothing (head_written (head_part from n (indexed (indexed_read m l t p read)))))
 
 none_cases : FieldsWritten none
-none_cases m d p read fine whole reach = refl
-none_cases m d p read fine (run from n) reach = refl
+none_cases m d held p read c v fine whole reach = refl
+none_cases m d held p read c v fine (run from n) reach = refl
 
 field_cases : (name : List ℕ) (nullable : Bool) (metadata : Metadata) (k : Kind) (others : Fields) → is_carried k ≡ true → KindWritten k → FieldsWritten others → FieldsWritten (field name nullable metadata k others)
-field_cases name nullable metadata k others carried f g m d p read fine whole reach =
-    let s = tree_sound k carried k (label_itself k) m d p (read p) (none_first _ _ fine) in
-    both _ _ _ _ (f k (label_itself k) m d p (read p) (none_first _ _ fine) 0 (read p) (omega arith) ∙ ap (λ n. written_on 0 n (parts_read m k p (read p))) (sym s.rows_are))
-    (g m d (after m k p) read (sound_second (view_count_faults m k p) _ (none_second (array_faults m d k p (read p)) _ fine)) whole tt)
-field_cases name nullable metadata k others carried f g m d p read fine (run from n) reach =
-    both _ _ _ _ (f k (label_itself k) m d p (read p) (none_first _ _ fine) from n reach.0)
-    (g m d (after m k p) read (sound_second (view_count_faults m k p) _ (none_second (array_faults m d k p (read p)) _ fine)) (run from n) reach.1)
+field_cases name nullable metadata k others carried f g m d held p read c v fine whole reach =
+    let first = v.0 in
+    let s = tree_sound k carried (plain_kind k) (label_plain k) m d held p (read p) c first (none_first _ _ fine) in
+    both _ _ _ _ (f (plain_kind k) (label_plain k) m d held p (read p) c first (none_first _ _ fine) 0 (read p) (omega arith) ∙ ap (λ n. written_on 0 n (parts_read m held k p (read p))) (sym s.rows_are))
+    (g m d held (after m k p) read c v.1 (sound_second (view_count_faults m k p) _ (none_second (array_faults m d k p (read p)) _ fine)) whole tt)
+field_cases name nullable metadata k others carried f g m d held p read c v fine (run from n) reach =
+    both _ _ _ _ (f (plain_kind k) (label_plain k) m d held p (read p) c v.0 (none_first _ _ fine) from n reach.0)
+    (g m d held (after m k p) read c v.1 (sound_second (view_count_faults m k p) _ (none_second (array_faults m d k p (read p)) _ fine)) (run from n) reach.1)
 
 written_cases : TreeCases KindWritten FieldsWritten
 written_cases = record {
   on_leaf = leaf_cases;
-  on_list = λ o fs w g l e m d p read fine from n h.
-      both _ _ _ _ (ap (λ b. own m p read from n (b * suc n ∷ [])) (wide o) ∙ list_top m l o p read from n h) (list_below m d l o fs p read from n h fine g);
-  on_map = λ sorted fs w two g l e m d p read fine from n h.
-      both _ _ _ _ (list_top m l small p read from n h) (list_below m d l small fs p read from n h (sym (map_is_list m d sorted fs p read) ∙ fine) g);
-  on_sized = λ size fs w s g l e m d p read fine from n h.
+  on_list = λ o fs w g l e m d held p read c v fine from n h.
+      both _ _ _ _ (ap (λ b. own m p read from n (b * suc n ∷ [])) (wide o) ∙ list_top m l o p read from n h) (list_below m d held l o fs p read from n c v h fine g);
+  on_map = λ sorted fs w two g l e m d held p read c v fine from n h.
+      both _ _ _ _ (list_top m l small p read from n h) (list_below m d held l small fs p read from n c v h (sym (map_is_list m d sorted fs p read) ∙ fine) g);
+  on_sized = λ size fs w s g l e m d held p read c v fine from n h.
       both _ _ _ _ (own_part m p read from n n [] [] [] [] h refl refl refl)
-      (g m d (inside 1 p) (λ q. size * read) (none_second _ _ fine) (run (size * from) (size * n)) (reaches_all m fs (inside 1 p) (size * read) _ _ (room size read from n h))
-      ∙ ap (λ z. written_each (run (z * from) (z * n)) (forest_read m fs (inside 1 p) (λ q. size * read))) (sym (label_size l (kind.fixed_size_list size fs) e)));
-  on_struct = λ fs g l e m d p read fine from n h.
-      both _ _ _ _ (own_part m p read from n n [] [] [] [] h refl refl refl) (g m d (inside 1 p) (λ q. read) (none_second _ _ fine) (run from n) (reaches_all m fs (inside 1 p) read from n h));
+      (g m d held (inside 1 p) (λ q. size * read) c v (none_second _ _ fine) (run (size * from) (size * n)) (reaches_all m fs (inside 1 p) (size * read) _ _ (room size read from n h))
+      ∙ ap (λ z. written_each (run (z * from) (z * n)) (forest_read m held fs (inside 1 p) (λ q. size * read))) (sym (label_size l (kind.fixed_size_list size fs) e)));
+  on_struct = λ fs g l e m d held p read c v fine from n h.
+      both _ _ _ _ (own_part m p read from n n [] [] [] [] h refl refl refl) (g m d held (inside 1 p) (λ q. read) c v (none_second _ _ fine) (run from n) (reaches_all m fs (inside 1 p) read from n h));
   on_union = union_cases;
-  on_extension = λ name metadata k f l e m d p read fine from n h. f l (record { under = e.under }) m d p read fine from n h;
+  on_dictionary = dictionary_cases;
+  on_extension = λ name metadata k f l e m d held p read c v fine from n h. f l (record { under = e.under }) m d held p read c v fine from n h;
   on_none = none_cases;
   on_field = field_cases;
 }
@@ -452,24 +467,26 @@ pub whole_on : (q : Parts) → is_nested q ≡ true → fault_in q ≡ None → 
 whole_on (leaf l) s e = cc
 whole_on (nested h cs) s e = ap (λ x. also_written (head_written x) (written_under h (written_each (held_by 0 (head_rows h) h) cs))) (whole_head h (kinds_each cs) (rows_each cs) (top_sound h cs e).0)
 
-pub nested_under : (k : Kind) → is_carried k ≡ true → is_leaf_kind k ≡ false → (l : Kind) (m : RecordBatch) (p : Place) (rows : ℕ) → is_nested (parts_under l m k p rows) ≡ true
-nested_under (kind.«list» o fs) c other l m p rows = refl
-nested_under (kind.map sorted fs) c other l m p rows = refl
-nested_under (kind.fixed_size_list size fs) c other l m p rows = refl
-nested_under (kind.struct fs) c other l m p rows = refl
-nested_under (kind.union Sparse stated ids fs) c other l m p rows = refl
-nested_under (kind.union Dense stated ids fs) c other l m p rows = refl
-nested_under (kind.extension name metadata k) c other l m p rows = nested_under k c other l m p rows
-nested_under k c other l m p rows = cc
+pub nested_under : (k : Kind) → is_carried k ≡ true → is_leaf_kind k ≡ false → (l : Kind) (m : RecordBatch) (h : Held) (p : Place) (rows : ℕ) → is_nested (parts_under l m h k p rows) ≡ true
+nested_under (kind.«list» o fs) c other l m h p rows = refl
+nested_under (kind.map sorted fs) c other l m h p rows = refl
+nested_under (kind.fixed_size_list size fs) c other l m h p rows = refl
+nested_under (kind.struct fs) c other l m h p rows = refl
+nested_under (kind.union Sparse stated ids fs) c other l m h p rows = refl
+nested_under (kind.union Dense stated ids fs) c other l m h p rows = refl
+nested_under (kind.dictionary t ordered id k) c other l m h p rows = refl
+nested_under (kind.extension name metadata k) c other l m h p rows = nested_under k c other l m h p rows
+nested_under k c other l m h p rows = cc
 
 -- what is written of an array that is not refused is what is written of the parts that are read
 pub all_written : WrittenAsSent
 unfolding written
-all_written m d k p rows carried fine = elim (cases_Bool (is_leaf_kind k)) [
-  | inl is ↦ written_read m d k p rows is fine ∙ ap written_in (plain_under k m k p rows is)
+all_written m d h k p rows c v carried fine = elim (cases_Bool (is_leaf_kind k)) [
+  | inl is ↦ written_read m d k p rows is fine ∙ ap written_in (read_plain m h k p rows is)
   | inr other ↦
-      let s = tree_sound k carried k (label_itself k) m d p rows fine in
-      by_tree KindWritten FieldsWritten written_cases k carried k (label_itself k) m d p rows fine 0 rows (omega arith)
-      ∙ ap (λ n. written_on 0 n (parts_read m k p rows)) (sym s.rows_are)
-      ∙ whole_on (parts_read m k p rows) (nested_under k carried other k m p rows) s.none
+      let l = plain_kind k in
+      let s = tree_sound k carried l (label_plain k) m d h p rows c v fine in
+      by_tree KindWritten FieldsWritten written_cases k carried l (label_plain k) m d h p rows c v fine 0 rows (omega arith)
+      ∙ ap (λ n. written_on 0 n (parts_read m h k p rows)) (sym s.rows_are)
+      ∙ whole_on (parts_read m h k p rows) (nested_under k carried other l m h p rows) s.none
 ]

@@ -22,6 +22,8 @@ use Rattle.arrow_arrays.specs.Heads.{Head, tagged, head_part, head_cells, head_f
 use Rattle.arrow_arrays.specs.Parts.{Forest, nested, kinds_each, rows_each}
 use Rattle.arrow_arrays.proofs.HeadSliced.{sound_head}
 use Rattle.arrow_arrays.proofs.UnionPlaces.{id_below}
+use Rattle.ipc_read_laws.specs.Held.{Held}
+use Rattle.ipc_read_laws.specs.PlainKinds.{plain_fields}
 use Rattle.ipc_read_laws.specs.PartsRead.{tagged_read, places_read, parts_under, forest_read, HaveBytes, AllHaveBytes}
 use Rattle.ipc_read_laws.specs.WrittenParts.{head_written}
 use Rattle.ipc_read_laws.proofs.Buffers.{get-told}
@@ -44,10 +46,10 @@ union_read m l mode p rows = tagged (tagged_read m l p rows (places_told m mode 
 abbrev pub children_at : RecordBatch → UnionMode → Place → Place
 children_at m mode p = inside (union_buffers m.version mode) p
 
-pub union_under : (l : Kind) (m : RecordBatch) (mode : UnionMode) (stated : Bool) (ids : List ℤ) (fs : Fields) (p : Place) (rows : ℕ)
-    → nested (union_read m l mode p rows) (forest_read m fs (children_at m mode p) (λ q. child_rows m mode rows q)) ≡ parts_under l m (union mode stated ids fs) p rows
-union_under l m Sparse stated ids fs p rows = refl
-union_under l m Dense stated ids fs p rows = refl
+pub union_under : (l : Kind) (m : RecordBatch) (held : Held) (mode : UnionMode) (stated : Bool) (ids : List ℤ) (fs : Fields) (p : Place) (rows : ℕ)
+    → nested (union_read m l mode p rows) (forest_read m held fs (children_at m mode p) (λ q. child_rows m mode rows q)) ≡ parts_under l m held (union mode stated ids fs) p rows
+union_under l m held Sparse stated ids fs p rows = refl
+union_under l m held Dense stated ids fs p rows = refl
 
 pub union_bytes : (m : RecordBatch) (mode : UnionMode) (stated : Bool) (ids : List ℤ) (fs : Fields) (p : Place) (rows : ℕ) → HaveBytes m (union mode stated ids fs) p rows → AllHaveBytes m fs (children_at m mode p) (λ q. child_rows m mode rows q)
 union_bytes m Sparse stated ids fs p rows b = b
@@ -172,7 +174,7 @@ of_mode m Sparse p rows = refl
 of_mode m Dense p rows = refl
 
 pub union_sound : (m : RecordBatch) (d : Dictionaries) (l : Kind) (mode : UnionMode) (stated : Bool) (ids : List ℤ) (fs : Fields) (p : Place) (rows : ℕ) (cs : Forest) → Label l (union mode stated ids fs) → are_right ids (width fs) ≡ true
-    → array_faults m d (union mode stated ids fs) p rows ≡ [] → ForestSound fs (rows_told m fs (children_at m mode p) (λ q. child_rows m mode rows q)) cs → SoundAs l rows (nested (union_read m l mode p rows) cs)
+    → array_faults m d (union mode stated ids fs) p rows ≡ [] → ForestSound (plain_fields fs) (rows_told m fs (children_at m mode p) (λ q. child_rows m mode rows q)) cs → SoundAs l rows (nested (union_read m l mode p rows) cs)
 union_sound m d l mode stated ids fs p rows cs e right h c =
     let o = places_told m mode p rows in
     let k = union mode stated ids fs in
@@ -183,7 +185,7 @@ union_sound m d l mode stated ids fs p rows cs e right h c =
       kind_is = refl;
       rows_are = types_length m l p rows o;
       none = both_none (head_fault top (kinds_each cs) (rows_each cs)) _ (sound_head top (kinds_each cs) (rows_each cs) (record {
-        suits = suited top _ l fs (kinds_each cs) refl dense (label_fields l k e) c.kinds;
+        suits = suited top _ l (plain_fields fs) (kinds_each cs) refl dense (label_fields l k e) c.kinds;
         valid = refl;
         rows = rows_fit m l mode fs p rows (rows_each cs) c.rows;
         offsets = ap (λ x. fits_places x (tagged_read m l p rows o).types o (rows_each cs)) (label_ids l k e) ∙ offsets_fit m l mode ids fs p rows (rows_each cs) all c.rows;

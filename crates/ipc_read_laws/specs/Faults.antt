@@ -3,13 +3,13 @@ use Rattle.std.specs.Prelude.{ℕ, zero, suc, ◌+◌, List, [], ◌∷◌, ◌+
 use Rattle.arrow_spec.specs.declared.error.IpcError.{IpcError}
 use Rattle.arrow_spec.specs.Kinds.{Kind}
 use Rattle.arrow_spec.specs.Counts.{RecordBatch, Place, magnitude}
-use Rattle.arrow_spec.specs.Arrays.{range_of}
+use Rattle.arrow_spec.specs.Arrays.{Dictionaries, range_of}
 use Rattle.arrow_spec.specs.Faults.{count_faults, array_faults}
 use Rattle.arrow_spec.specs.Needed.{looked_at}
 
 -- its nodes, buffers or view counts are not all there, or the array is damaged
-unfoldable pub read_faults : RecordBatch → Kind → Place → ℕ → List IpcError
-read_faults m k p rows = count_faults m k p ++ array_faults m [] k p rows
+unfoldable pub read_faults : RecordBatch → Dictionaries → Kind → Place → ℕ → List IpcError
+read_faults m d k p rows = count_faults m k p ++ array_faults m d k p rows
 
 -- the stated length of the i-th buffer
 abbrev pub stated : RecordBatch → ℕ → ℕ

@@ -1,3 +1,5 @@
+pub mod PlainKinds
+pub mod Held
 pub mod PartsRead
 pub mod Faults
 pub mod Batches

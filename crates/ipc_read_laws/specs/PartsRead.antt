@@ -2,11 +2,12 @@
 use Rattle.std.specs.Prelude.{ℕ, zero, suc, ◌+◌, ◌*◌, List, [], ◌∷◌, take, drop, Bool, Option, Some, None, if◌then◌else◌, ℤ, pos}
 use Rattle.std.specs.Int.{w8, w16, w32, w64, w128}
 use Rattle.arrow_spec.specs.Flat.{Order, little}
+use Rattle.arrow_spec.specs.declared.types.IntegerType.{IntegerType}
 use Rattle.arrow_spec.specs.declared.types.UnionMode.TheVariants.{Dense, Sparse}
 use Rattle.arrow_spec.specs.Kinds as kind
-use Rattle.arrow_spec.specs.Kinds.{Kind, Fields, Offsets, small, large, «list», map, fixed_size_list, struct, union, extension, field}
+use Rattle.arrow_spec.specs.Kinds.{Kind, Fields, Offsets, small, large, «list», map, fixed_size_list, struct, union, dictionary, extension, field}
 use Rattle.arrow_spec.specs.Counts.{RecordBatch, Place, count_at, union_buffers, after, inside}
-use Rattle.arrow_spec.specs.Arrays.{buf, has_nulls, from_on, signed_in, offset_width, types_buffer}
+use Rattle.arrow_spec.specs.Arrays.{buf, has_nulls, from_on, signed_in, integer_in, offset_width, types_buffer}
 use Rattle.arrow_spec.specs.Laws.{AreBytes}
 use Rattle.arrow_spec.specs.Sent.{offset_read, dense_rows}
 use Rattle.arrow_types.specs.Numbers.{signed_to_bytes, signed_from_bytes, unsigned_to_bytes, unsigned_from_bytes, days_ms_to_bytes, days_ms_from_bytes, months_days_ns_to_bytes, months_days_ns_from_bytes}
@@ -21,8 +22,11 @@ use Rattle.arrow_buffers.specs.Leaf.{Leaf}
 use Rattle.arrow_buffers.specs.Variable.{Variable}
 use Rattle.arrow_buffers.specs.Views.{Views}
 use Rattle.arrow_arrays.specs.LeafParts.{LeafParts, nulls, bits, numbers, fixed, binary, text, binary_views, text_views, number_size}
-use Rattle.arrow_arrays.specs.Heads.{Listed, Counted, Tagged, listed, mapped, sized, structured, tagged}
+use Rattle.arrow_arrays.specs.Heads.{Listed, Counted, Tagged, Indexed, listed, mapped, sized, structured, tagged, indexed}
 use Rattle.arrow_arrays.specs.Parts.{Parts, Forest, leaf, nested, none, also}
+use Rattle.arrow_arrays.specs.EmptyParts.{empty_parts}
+use Rattle.ipc_read_laws.specs.PlainKinds.{plain_kind}
+use Rattle.ipc_read_laws.specs.Held.{Held}
 
 -- ── validity and values ──
 
@@ -147,28 +151,38 @@ tagged_read m k p rows offsets = record { kind = k; types = from_on (λ j. signe
 abbrev pub places_read : RecordBatch → Place → ℕ → List ℤ
 places_read m p rows = from_on (λ j. signed_in m w32 (suc (types_buffer m p)) j) 0 rows
 
--- the parts of the array of a kind, which a label stands for: an extension that is looked through;
+-- the keys of a dictionary's rows
+abbrev pub indexed_read : RecordBatch → Kind → IntegerType → Place → ℕ → Indexed
+indexed_read m k t p rows = record { kind = k; index = t; keys = from_on (λ j. integer_in m t (p.buffer + 1) j) 0 rows; validity = validity_read m p rows }
+
+-- the parts that are held of a dictionary of such values, or one without rows
+abbrev pub parts_or_empty : Option Forest → Kind → Forest
+parts_or_empty None k = also (empty_parts (plain_kind k)) none
+parts_or_empty (Some parts) k = parts
+
+-- the parts of the array of a kind, which a label stands for: an extension that is looked through, without ids;
 -- and of children that stand from a place on, each read for the rows that its place says
 abbrev mutual
-  pub parts_under : Kind → RecordBatch → Kind → Place → ℕ → Parts
-  parts_under l m («list» o fs) p rows = nested (listed (listed_read m l o p rows)) (forest_read m fs (inside 2 p) (λ q. offset_read m o p rows))
-  parts_under l m (map sorted fs) p rows = nested (mapped (listed_read m l small p rows)) (forest_read m fs (inside 2 p) (λ q. offset_read m small p rows))
-  parts_under l m (fixed_size_list size fs) p rows = nested (sized (counted_read m l p rows)) (forest_read m fs (inside 1 p) (λ q. size * rows))
-  parts_under l m (struct fs) p rows = nested (structured (counted_read m l p rows)) (forest_read m fs (inside 1 p) (λ q. rows))
-  parts_under l m (union Sparse stated ids fs) p rows =
-      nested (tagged (tagged_read m l p rows None)) (forest_read m fs (inside (union_buffers m.version Sparse) p) (λ q. rows))
-  parts_under l m (union Dense stated ids fs) p rows = nested (tagged (tagged_read m l p rows (Some (places_read m p rows))))
-      (forest_read m fs (inside (union_buffers m.version Dense) p) (λ q. dense_rows m q rows))
-  parts_under l m (extension name metadata k) p rows = parts_under l m k p rows
-  parts_under l m k p rows = leaf (parts_in (physical_of k) m l p rows)
+  pub parts_under : Kind → RecordBatch → Held → Kind → Place → ℕ → Parts
+  parts_under l m h («list» o fs) p rows = nested (listed (listed_read m l o p rows)) (forest_read m h fs (inside 2 p) (λ q. offset_read m o p rows))
+  parts_under l m h (map sorted fs) p rows = nested (mapped (listed_read m l small p rows)) (forest_read m h fs (inside 2 p) (λ q. offset_read m small p rows))
+  parts_under l m h (fixed_size_list size fs) p rows = nested (sized (counted_read m l p rows)) (forest_read m h fs (inside 1 p) (λ q. size * rows))
+  parts_under l m h (struct fs) p rows = nested (structured (counted_read m l p rows)) (forest_read m h fs (inside 1 p) (λ q. rows))
+  parts_under l m h (union Sparse stated ids fs) p rows =
+      nested (tagged (tagged_read m l p rows None)) (forest_read m h fs (inside (union_buffers m.version Sparse) p) (λ q. rows))
+  parts_under l m h (union Dense stated ids fs) p rows = nested (tagged (tagged_read m l p rows (Some (places_read m p rows))))
+      (forest_read m h fs (inside (union_buffers m.version Dense) p) (λ q. dense_rows m q rows))
+  parts_under l m h (dictionary t ordered id k) p rows = nested (indexed (indexed_read m l t p rows)) (parts_or_empty (h id) k)
+  parts_under l m h (extension name metadata k) p rows = parts_under l m h k p rows
+  parts_under l m h k p rows = leaf (parts_in (physical_of k) m l p rows)
 
-  pub forest_read : RecordBatch → Fields → Place → (Place → ℕ) → Forest
-  forest_read m kind.none p rows = none
-  forest_read m (field name nullable metadata k others) p rows = also (parts_under k m k p (rows p)) (forest_read m others (after m k p) rows)
+  pub forest_read : RecordBatch → Held → Fields → Place → (Place → ℕ) → Forest
+  forest_read m h kind.none p rows = none
+  forest_read m h (field name nullable metadata k others) p rows = also (parts_under (plain_kind k) m h k p (rows p)) (forest_read m h others (after m k p) rows)
 
 -- the parts of an array
-abbrev pub parts_read : RecordBatch → Kind → Place → ℕ → Parts
-parts_read m k p rows = parts_under k m k p rows
+abbrev pub parts_read : RecordBatch → Held → Kind → Place → ℕ → Parts
+parts_read m h k p rows = parts_under (plain_kind k) m h k p rows
 
 -- the numbers of an array, and of its children, are of bytes as far as they are read
 abbrev mutual
@@ -179,6 +193,7 @@ abbrev mutual
   HaveBytes m (struct fs) p rows = AllHaveBytes m fs (inside 1 p) (λ q. rows)
   HaveBytes m (union Sparse stated ids fs) p rows = AllHaveBytes m fs (inside (union_buffers m.version Sparse) p) (λ q. rows)
   HaveBytes m (union Dense stated ids fs) p rows = AllHaveBytes m fs (inside (union_buffers m.version Dense) p) (λ q. dense_rows m q rows)
+  HaveBytes m (dictionary t ordered id k) p rows = Unit {0}
   HaveBytes m (extension name metadata k) p rows = HaveBytes m k p rows
   HaveBytes m k p rows = AreBytes (numbers_bytes m k p rows)
 

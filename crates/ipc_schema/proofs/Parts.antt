@@ -6,7 +6,8 @@ use Rattle.arrow_spec.specs.Flat.{Table}
 use Rattle.arrow_spec.specs.Messages.{batch_at, dictionary_at, record_message, version_of}
 use Rattle.ipc_schema.specs.Views.{nodes_part, buffers_part, variadic_part, batch_parts, record_parts, message_of}
 use Rattle.arrow_spec.specs.Headers.{dictionary, batch, header_at, message_header}
-use Rattle.ipc_schema.specs.Headers.{whole_in, header_part, header_parts, dictionary_parts}
+use Rattle.ipc_schema.specs.Headers.{whole_in, header_part, header_parts, dictionary_parts, dictionary_message, dictionary_message_of, dictionary_message_parts}
+use Rattle.ipc_schema.specs.declared.message.DictionaryMessage.{DictionaryMessage}
 use Rattle.ipc_schema.specs.declared.message.Message.{Message}
 use Rattle.ipc_schema.specs.declared.message.RecordMessage.{RecordMessage}
 use Rattle.arrow_spec.specs.declared.error.IpcError.{IpcError}
@@ -31,14 +32,21 @@ bind_ok : {A B E : Type 0} (x : A) (f : A → Result B E) → bind {E = E} (Ok x
 unfolding bind
 bind_ok x f = refl
 
-dictionary_same : (b : List ℕ) (t : Table) → bind (dictionary_at b t) (λ x. Ok (dictionary x)) ≡ dictionary_parts b t
+dictionary_same : (b : List ℕ) (t : Table) → dictionary_at b t ≡ dictionary_parts b t
 unfolding dictionary_at dictionary_parts
-dictionary_same b t = simp (bind_twice, bind_ok, batch_by_parts)
+dictionary_same b t = simp batch_by_parts
+
+dictionary_message_same : (b : List ℕ) → dictionary_message b ≡ dictionary_message_parts b
+unfolding dictionary_message dictionary_message_parts version_of
+dictionary_message_same b = simp dictionary_same
+
+pub dictionary_by_parts : (b : List ℕ) (r : Result DictionaryMessage IpcError) → Decodes dictionary_message_of r (dictionary_message_parts b) → Decodes dictionary_message_of r (dictionary_message b)
+dictionary_by_parts b r h = subst (Decodes dictionary_message_of r) (sym (dictionary_message_same b)) h
 
 header_same : (tag : ℕ) (b : List ℕ) (t : Table) → header_at tag b t ≡ header_part tag b t
 header_same zero b t = refl
 header_same (suc zero) b t = refl
-header_same (suc (suc zero)) b t = dictionary_same b t
+header_same (suc (suc zero)) b t = ap (λ r. bind r (λ x. Ok (dictionary x))) (dictionary_same b t)
 header_same (suc (suc (suc zero))) b t = ap (λ r. bind r (λ x. Ok (batch x))) (batch_by_parts b t)
 header_same (suc (suc (suc (suc n)))) b t = refl
 

@@ -5,9 +5,9 @@ ghost use Rattle.ipc_fields.specs.Causes.{Decodes};
 ghost use Rattle.arrow_spec.specs.Messages.{node_at, buffer_at, record_message};
 ghost use Rattle.ipc_schema.specs.Views.{node_of, buffer_of, number_of, nodes_in, buffers_in, numbers_in, nodes_part, buffers_part, variadic_part, batch_parts, record_parts, header_of, message_of};
 ghost use Rattle.arrow_spec.specs.Headers.{message_header};
-ghost use Rattle.ipc_schema.specs.Headers.{header_in, whole_in, batch_part, dictionary_parts, header_part, header_parts};
+ghost use Rattle.ipc_schema.specs.Headers.{header_in, whole_in, batch_part, dictionary_in, dictionary_part, dictionary_parts, dictionary_message, dictionary_message_of, dictionary_message_parts, header_part, header_parts};
 
-use crate::message::{BatchHeader, Message, MessageHeader, RecordMessage};
+use crate::message::{BatchHeader, DictionaryMessage, Message, MessageHeader, RecordMessage};
 use crate::number::i64_at;
 use arrow_flat::{Table, Vector};
 use arrow_spec::{FieldNode, FlatError, IpcBuffer, IpcError, OutOfSpecKind};
@@ -200,9 +200,16 @@ pub fn read_record_message(alloc: Global, bytes: &[u8]) -> Result<RecordMessage,
 }
 
 /// A dictionary batch: its id, whether it is a delta, and the tables of its values.
+#[derive(Drop)]
+struct DictionaryHeader {
+    id: i64,
+    is_delta: bool,
+    batch: BatchHeader,
+}
+
 #[tactic(auto, unfolding(arrow_spec::specs::Readings::bind, crate::specs::Headers::dictionary_parts))]
-fn read_dictionary(alloc: Global, table: &Table<'_>) -> Result<MessageHeader, IpcError>
-    ensures gives { Decodes header_in result (dictionary_parts table.now.bytes table.now.table) }
+fn read_dictionary_header(alloc: Global, table: &Table<'_>) -> Result<DictionaryHeader, IpcError>
+    ensures gives { Decodes dictionary_in result (dictionary_parts table.now.bytes table.now.table) }
 {
     let id = table.slot_i64(0, 0).map_err(|e| IpcError::OutOfSpec(
         OutOfSpecKind::InvalidFlatbufferId(e),
@@ -217,10 +224,51 @@ fn read_dictionary(alloc: Global, table: &Table<'_>) -> Result<MessageHeader, Ip
         return Err(IpcError::OutOfSpec(OutOfSpecKind::MissingData));
     };
     let batch = read_batch_header(alloc, &data)?;
-    Ok(MessageHeader::Dictionary {
+    Ok(DictionaryHeader {
         id,
         is_delta,
         batch,
+    })
+}
+
+#[tactic(auto, unfolding(arrow_spec::specs::Readings::bind, crate::specs::Headers::dictionary_message_parts))]
+fn read_dictionary_parts(alloc: Global, bytes: &[u8]) -> Result<DictionaryMessage, IpcError>
+    ensures gives { Decodes dictionary_message_of result (dictionary_message_parts bytes.now) }
+{
+    let message = read_message(bytes, Expected::Dictionary)?;
+    let header = read_dictionary_header(alloc, &message.header)?;
+    let version = read_version(&message.table)?;
+    Ok(DictionaryMessage {
+        id: header.id,
+        is_delta: header.is_delta,
+        header: header.batch,
+        version,
+    })
+}
+
+/// The id, whether it is a delta, the tables and the version of a dictionary's message, by its metadata without the prefix
+/// (Message.fbs, DictionaryBatch).
+///
+/// # Errors
+///
+/// As of `read_record_message`, `MissingData`, and the kinds of a dictionary's parts.
+#[tactic(auto, using(crate::proofs::Parts::dictionary_by_parts))]
+pub fn read_dictionary_message(alloc: Global, bytes: &[u8]) -> Result<DictionaryMessage, IpcError>
+    ensures gives { Decodes dictionary_message_of result (dictionary_message bytes.now) }
+{
+    read_dictionary_parts(alloc, bytes)
+}
+
+/// The same as the header of a message.
+#[tactic(auto, unfolding(arrow_spec::specs::Readings::bind))]
+fn read_dictionary(alloc: Global, table: &Table<'_>) -> Result<MessageHeader, IpcError>
+    ensures gives { Decodes header_in result (dictionary_part table.now.bytes table.now.table) }
+{
+    let header = read_dictionary_header(alloc, table)?;
+    Ok(MessageHeader::Dictionary {
+        id: header.id,
+        is_delta: header.is_delta,
+        batch: header.batch,
     })
 }
 

@@ -14,13 +14,13 @@ pub use arrow_spec::{
 };
 pub use custom::{refuse_footer_pairs, refuse_message_pairs};
 pub use footer::{Footer, decode_footer_len, deserialize_footer, deserialize_record_blocks};
-pub use header::{read_message_header, read_record_message};
+pub use header::{read_dictionary_message, read_message_header, read_record_message};
 pub use ipc_fields::{IpcField, IpcSchema};
 pub use ipc_io::{
     Entry, Failed, Feed, Got, MemoryFeed, MemoryShelf, MemorySink, MemorySource, PutError, Shelf,
     ShelfError, Sink, Source,
 };
-pub use message::{BatchHeader, Message, MessageHeader, RecordMessage};
+pub use message::{BatchHeader, DictionaryMessage, Message, MessageHeader, RecordMessage};
 pub use prefix::{is_continuation, message_prefix, metadata_length};
 pub use schema_reader::{deserialize_schema, read_schema};
 pub use schema_writer::{default_ipc_fields, schema_message, schema_to_bytes, serialize_schema};

@@ -19,6 +19,15 @@ pub struct RecordMessage {
     pub version: MetadataVersion,
 }
 
+/// The message of a dictionary: its id, whether it is a delta, and the tables of its values.
+#[derive(Debug, Drop)]
+pub struct DictionaryMessage {
+    pub id: i64,
+    pub is_delta: bool,
+    pub header: BatchHeader,
+    pub version: MetadataVersion,
+}
+
 /// The header of a message: a schema, a dictionary with its id and whether it is a delta, or a record batch.
 #[derive(Debug, Drop)]
 pub enum MessageHeader {

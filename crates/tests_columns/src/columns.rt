@@ -4,10 +4,10 @@ use arrow_buffers::PrimitiveArray;
 use arrow_spec::{FieldNode, IpcBuffer, IpcError, MetadataVersion, OutOfSpecKind};
 use arrow_types::{ArrowDataType, Field};
 use ipc_fields::IpcField;
-use ipc_read::{Body, read, read_null, read_primitive, skip, skip_binview};
+use ipc_read::{Body, Dictionaries, read, read_null, read_primitive, skip, skip_binview};
 use ipc_schema::{MemorySource, Source};
 use std::alloc::{AllocError, Global};
-use std::collections::{BTreeMap, VecDeque};
+use std::collections::VecDeque;
 use std::test::Fail;
 
 /// Validity 05 and the numbers 1, 0, 3; validity 03, the offsets 0, 1, 3, 3 and the text "xyz".
@@ -69,6 +69,7 @@ pub(crate) fn next(
 }
 
 /// The same in a message of a version.
+#[tactic(auto, using(ipc_read::proofs::HeldKinds::empty_holds))]
 pub(crate) fn next_of(
     alloc: Global,
     queues: &mut Queues,
@@ -85,6 +86,7 @@ pub(crate) fn next_of(
         length: 48,
     };
     let field = Field::new(alloc, String::new(alloc), dtype, true);
+    let dictionaries = Dictionaries::new(alloc);
     read(
         alloc,
         &mut queues.nodes,
@@ -93,7 +95,7 @@ pub(crate) fn next_of(
         &IpcField::new(alloc),
         &mut queues.buffers,
         source,
-        &BTreeMap::new(alloc),
+        &dictionaries,
         body,
         true,
         rows,

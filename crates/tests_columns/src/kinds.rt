@@ -5,8 +5,8 @@ use arrow_spec::{IpcError, MetadataVersion};
 use arrow_types::{ArrowDataType, PhysicalType};
 use ipc_fields::IpcField;
 use ipc_read::{
-    Body, Dictionaries, read_fixed_size_list, read_list, read_map, read_struct, read_union,
-    skip_fixed_size_list, skip_list, skip_map, skip_struct, skip_union,
+    Body, Dictionaries, is_held_for, read_fixed_size_list, read_list, read_map, read_struct,
+    read_union, skip_fixed_size_list, skip_list, skip_map, skip_struct, skip_union,
 };
 use ipc_schema::{MemorySource, Source};
 use std::alloc::Global;
@@ -50,7 +50,9 @@ fn read_of_kind(
         offset: 0,
         length: source.size()?,
     };
-    if !is_carried(dtype) {
+    let ipc_field = IpcField::new(alloc);
+    let dictionaries = Dictionaries::new(alloc);
+    if !is_carried(dtype) || !is_held_for(dtype, &ipc_field, &dictionaries) {
         return Err(IpcError::State);
     }
     macro_rules! by {
@@ -60,10 +62,10 @@ fn read_of_kind(
                 &mut queues.nodes,
                 &mut queues.views,
                 dtype,
-                &IpcField::new(alloc),
+                &ipc_field,
                 &mut queues.buffers,
                 &mut source,
-                &Dictionaries::new(alloc),
+                &dictionaries,
                 body,
                 true,
                 rows,

@@ -10,6 +10,8 @@ mod columns;
 #[cfg(test)]
 mod dictionaries;
 #[cfg(test)]
+mod held;
+#[cfg(test)]
 mod kinds;
 #[cfg(test)]
 mod memory;

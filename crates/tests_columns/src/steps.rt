@@ -2,7 +2,6 @@
 ghost use Rattle.std.specs.Prelude.{◌≡◌, ◌^◌, ◌<◌, [], ◌∷◌, length, map, true, IfOk};
 ghost use Rattle.arrow_spec.specs.Flat.{little, order_by};
 ghost use Rattle.arrow_spec.specs.Sent.{body_of};
-ghost use Rattle.arrow_types.specs.KindOf.{kind_of};
 ghost use Rattle.arrow_arrays.specs.Parts.{rows_in};
 ghost use Rattle.arrow_arrays.specs.PartsOf.{parts_of};
 ghost use Rattle.ipc_write_arrays.specs.Pieces.{pieces_in};
@@ -13,7 +12,7 @@ use arrow_arrays::{Array, RecordBatch, is_carried};
 use arrow_spec::{FieldNode, IpcBuffer, IpcError, MetadataVersion};
 use arrow_types::{ArrowDataType, ArrowSchema, Field};
 use ipc_fields::IpcField;
-use ipc_read::{Body, Dictionaries, read};
+use ipc_read::{Body, Dictionaries, is_held_for, read};
 use ipc_schema::{MemorySource, Source, read_record_message};
 use ipc_write::{EncodedData, WriteOptions, encode_record_batch};
 use ipc_write_arrays::write;
@@ -112,26 +111,26 @@ pub(crate) fn queues_of(alloc: Global, written: &Written) -> Result<Queues, Allo
     })
 }
 
-fn field_of(alloc: Global, dtype: &ArrowDataType) -> Result<Field, AllocError>
-    ensures { IfOk result (λ f. kind_of f.dtype ≡ kind_of dtype.now) }
-{
+fn field_of(alloc: Global, dtype: &ArrowDataType) -> Result<Field, AllocError> {
     let dtype = dtype.try_clone(alloc)?;
     Ok(Field::new(alloc, String::new(alloc), dtype, true))
 }
 
-/// The array of so many rows that is read from what was written.
-pub(crate) fn read_back(
+/// The array of so many rows that is read from what was written, under these ids and dictionaries.
+pub(crate) fn read_under(
     alloc: Global,
     dtype: &ArrowDataType,
+    ipc_field: &IpcField,
+    dictionaries: &Dictionaries,
     rows: usize,
     written: Written,
     is_little_endian: bool,
 ) -> Result<Result<Array, IpcError>, Fail> {
-    if !is_carried(dtype) {
+    let field = field_of(alloc, dtype)?;
+    if !is_carried(&field.dtype) || !is_held_for(&field.dtype, ipc_field, dictionaries) {
         return Err(Fail::from("a type that is not read"));
     }
     let mut queues = queues_of(alloc, &written)?;
-    let field = field_of(alloc, dtype)?;
     let mut source = MemorySource::new(written.body, Vec::new(alloc), Vec::new(alloc));
     let body = Body {
         offset: 0,
@@ -142,14 +141,33 @@ pub(crate) fn read_back(
         &mut queues.nodes,
         &mut queues.views,
         &field,
-        &IpcField::new(alloc),
+        ipc_field,
         &mut queues.buffers,
         &mut source,
-        &Dictionaries::new(alloc),
+        dictionaries,
         body,
         is_little_endian,
         rows,
         MetadataVersion::V5,
         &mut Vec::new(alloc),
     ))
+}
+
+/// The same of a type without dictionaries.
+pub(crate) fn read_back(
+    alloc: Global,
+    dtype: &ArrowDataType,
+    rows: usize,
+    written: Written,
+    is_little_endian: bool,
+) -> Result<Result<Array, IpcError>, Fail> {
+    read_under(
+        alloc,
+        dtype,
+        &IpcField::new(alloc),
+        &Dictionaries::new(alloc),
+        rows,
+        written,
+        is_little_endian,
+    )
 }

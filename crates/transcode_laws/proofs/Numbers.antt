@@ -28,6 +28,7 @@ use Rattle.arrow_spec.specs.Sent.{all_written, columns_written, compacted, compa
 use Rattle.arrow_spec.proofs.Fewer.{cause-none, none_first, none_second, offset-fewer, sound_first, sound_second}
 use Rattle.arrow_spec.proofs.MessageTables.{fits_pos}
 use Rattle.arrow_spec.specs.Bodies.{BufferFits, NodeFits}
+use Rattle.ipc_read_laws.specs.Held.{none_held}
 use Rattle.transcode_laws.specs.Files.{HeaderFits}
 use Rattle.transcode_laws.proofs.ChosenColumns.{there, not_there, column_at, stands_first, stands_later}
 use Rattle.transcode_laws.proofs.ReadTables.{share_below, tables_read}
@@ -259,7 +260,7 @@ top_fits m d k p rows fit h = part_fits m d k p rows 0 rows fit h (λ positive. 
 
 -- a column that is asked for
 column_fits : (m : RecordBatch) (d : Dictionaries) (asked : Option (List ℕ)) (fs : Fields) (p : Place) (rows few : ℕ) (cells : List (List Cell)) (c : ℕ) → TablesHaveWidth m → columns_at m d asked fs 0 p rows few ≡ Ok cells → is_chosen asked c ≡ true → WrittenFits (written_at (columns_written m asked fs 0 p few) c)
-column_fits m d asked fs p rows few cells c fit h is = elim (column_at m d asked fs 0 p rows few cells c c h (omega arith) is) [
+column_fits m d asked fs p rows few cells c fit h is = elim (column_at m d none_held asked fs 0 p rows few cells c c h (omega arith) is) [
   | there name nullable metadata k at same read w fine ↦ subst WrittenFits (sym w) (top_fits m d k at few fit fine)
   | not_there read w ↦ subst WrittenFits (sym w) nothing_fits
 ]

@@ -26,7 +26,7 @@ all_picked f g all (c ∷ cs) [] one are = absurd are
 all_picked f g all (c ∷ cs) (x ∷ xs) one are = rw (one c x (stands_first c cs) are.0, all_picked f g all cs xs (λ i y is at. one i y (stands_later c i cs is) at) are.1) refl
 
 pub rising_asked : RisingBatchIsAsked
-rising_asked a rising asked v tables body left rows read given same right h picked wanted =
+rising_asked a rising asked v tables body left held rows read given same right h picked wanted =
     let m : RecordBatch = record_batch_of a.order v tables body in
     let t = tables_read (with_columns (Some rising) a) v [] tables body left _ h in
     let few : share left t.rows ≡ rows = ap (λ (y : TableBatch). y.rows) t.is in

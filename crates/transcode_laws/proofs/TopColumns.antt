@@ -23,13 +23,15 @@ use Rattle.arrow_arrays.specs.LeafParts.{binary_views, text_views, leaf_fault_in
 use Rattle.arrow_arrays.specs.Parts.{Parts, leaf, nested, fault_in}
 use Rattle.ipc_write_laws.specs.Streams.{written_of}
 use Rattle.arrow_arrays.specs.Carried.{is_carried}
+use Rattle.ipc_read_laws.specs.Held.{Held, HoldsCells, HoldsKinds}
 use Rattle.ipc_read_laws.specs.LayoutFaults.{contents_of}
 use Rattle.ipc_read_laws.specs.PartsRead.{parts_in, parts_read, validity_read, views_read}
+use Rattle.ipc_read_laws.specs.PlainKinds.{plain_kind}
 use Rattle.ipc_read_laws.specs.WrittenParts.{validity_bytes, written_in}
 use Rattle.ipc_read_laws.proofs.LayoutLaws.{faults_by_layout}
 use Rattle.ipc_read_laws.proofs.KindCases.{like_itself}
 use Rattle.ipc_read_laws.proofs.SoundLaws.{sound_under}
-use Rattle.ipc_read_laws.proofs.TreesSound.{parts_sound, plain_under}
+use Rattle.ipc_read_laws.proofs.TreesSound.{parts_sound, read_plain}
 use Rattle.ipc_read_laws.proofs.TreesWritten.{all_written, is_nested, nested_under}
 use Rattle.ipc_read_laws.proofs.Validities.{nulls-read}
 use Rattle.ipc_read_laws.proofs.ViewsRead.{length-rows}
@@ -128,8 +130,8 @@ text_parts m p n h = sound_first _ _ h
 -- ── parts of a layout ──
 
 -- an array without children is read by its layout
-as_leaf : (m : RecordBatch) (k : Kind) (p : Place) (rows : ℕ) (l : PhysicalType) → physical_of k ≡ l → is_leaf_kind k ≡ true → leaf (parts_in l m k p rows) ≡ parts_read m k p rows
-as_leaf m k p rows l e is = ap (λ x. leaf (parts_in x m k p rows)) (sym e) ∙ plain_under k m k p rows is
+as_leaf : (m : RecordBatch) (h : Held) (k : Kind) (p : Place) (rows : ℕ) (l : PhysicalType) → physical_of k ≡ l → is_leaf_kind k ≡ true → leaf (parts_in l m k p rows) ≡ parts_read m h k p rows
+as_leaf m h k p rows l e is = ap (λ x. leaf (parts_in x m k p rows)) (sym e) ∙ read_plain m h k p rows is
 
 leaf_by : (k : Kind) (l : PhysicalType) → physical_of k ≡ l → is_leaf_layout l (binary_size k) ≡ true → is_leaf_kind k ≡ true
 leaf_by k l e is = ap (λ x. is_leaf_layout x (binary_size k)) e ∙ is
@@ -144,26 +146,26 @@ top_nested : (q : Parts) → is_nested q ≡ true → top q ≡ q
 top_nested (leaf l) is = cc
 top_nested (nested h cs) is = refl
 
-top_kept : (m : RecordBatch) (k : Kind) (p : Place) (rows : ℕ) (l : PhysicalType) → physical_of k ≡ l → (is_view false l || is_view true l) ≡ false → is_carried k ≡ true → top (parts_read m k p rows) ≡ parts_read m k p rows
-top_kept m k p rows l e none carried = elim (cases_Bool (is_leaf_kind k)) [
-  | inl is ↦ subst (λ q. top q ≡ q) (as_leaf m k p rows l e is) (top_plain l m k p rows none)
-  | inr other ↦ top_nested (parts_read m k p rows) (nested_under k carried other k m p rows)
+top_kept : (m : RecordBatch) (h : Held) (k : Kind) (p : Place) (rows : ℕ) (l : PhysicalType) → physical_of k ≡ l → (is_view false l || is_view true l) ≡ false → is_carried k ≡ true → top (parts_read m h k p rows) ≡ parts_read m h k p rows
+top_kept m h k p rows l e none carried = elim (cases_Bool (is_leaf_kind k)) [
+  | inl is ↦ subst (λ q. top q ≡ q) (as_leaf m h k p rows l e is) (top_plain l m k p rows none)
+  | inr other ↦ top_nested (parts_read m h k p rows) (nested_under k carried other (plain_kind k) m h p rows)
 ]
 
-by_layout : (m : RecordBatch) (d : Dictionaries) (k : Kind) (p : Place) (rows : ℕ) (l : PhysicalType) → physical_of k ≡ l → is_carried k ≡ true → array_faults m d k p rows ≡ [] → top_in l m k p rows ≡ written_in (top (parts_read m k p rows))
-by_layout m d k p zero physical.BinaryView e carried h = no_views_sent m k p ∙ ap (λ q. written_in (top q)) (as_leaf m k p 0 physical.BinaryView e (leaf_by k physical.BinaryView e refl))
-by_layout m d k p zero physical.Utf8View e carried h = no_views_sent m k p ∙ ap (λ q. written_in (top q)) (as_leaf m k p 0 physical.Utf8View e (leaf_by k physical.Utf8View e refl))
-by_layout m d k p (suc n) physical.BinaryView e carried h =
+by_layout : (m : RecordBatch) (d : Dictionaries) (h : Held) (k : Kind) (p : Place) (rows : ℕ) (l : PhysicalType) → physical_of k ≡ l → HoldsCells d h → HoldsKinds h k → is_carried k ≡ true → array_faults m d k p rows ≡ [] → top_in l m k p rows ≡ written_in (top (parts_read m h k p rows))
+by_layout m d h k p zero physical.BinaryView e c v carried fine = no_views_sent m k p ∙ ap (λ q. written_in (top q)) (as_leaf m h k p 0 physical.BinaryView e (leaf_by k physical.BinaryView e refl))
+by_layout m d h k p zero physical.Utf8View e c v carried fine = no_views_sent m k p ∙ ap (λ q. written_in (top q)) (as_leaf m h k p 0 physical.Utf8View e (leaf_by k physical.Utf8View e refl))
+by_layout m d h k p (suc n) physical.BinaryView e c v carried fine =
     let is = leaf_by k physical.BinaryView e refl in
-    let fine = parts_fine m d k p (suc n) is physical.BinaryView e h in
-    views_sent false (is_view false (physical_of k)) m k p n (binary_parts m p n (nothing_wrong m d k p (suc n) is physical.BinaryView e h)) fine
-    ∙ ap (λ q. written_in (top q)) (as_leaf m k p (suc n) physical.BinaryView e is)
-by_layout m d k p (suc n) physical.Utf8View e carried h =
+    let sound = parts_fine m d k p (suc n) is physical.BinaryView e fine in
+    views_sent false (is_view false (physical_of k)) m k p n (binary_parts m p n (nothing_wrong m d k p (suc n) is physical.BinaryView e fine)) sound
+    ∙ ap (λ q. written_in (top q)) (as_leaf m h k p (suc n) physical.BinaryView e is)
+by_layout m d h k p (suc n) physical.Utf8View e c v carried fine =
     let is = leaf_by k physical.Utf8View e refl in
-    let fine = parts_fine m d k p (suc n) is physical.Utf8View e h in
-    views_sent true (is_view true (physical_of k)) m k p n (text_parts m p n (nothing_wrong m d k p (suc n) is physical.Utf8View e h)) fine
-    ∙ ap (λ q. written_in (top q)) (as_leaf m k p (suc n) physical.Utf8View e is)
-by_layout m d k p rows l e carried h = all_written m d k p rows carried h ∙ ap written_in (sym (top_kept m k p rows l e refl carried))
+    let sound = parts_fine m d k p (suc n) is physical.Utf8View e fine in
+    views_sent true (is_view true (physical_of k)) m k p n (text_parts m p n (nothing_wrong m d k p (suc n) is physical.Utf8View e fine)) sound
+    ∙ ap (λ q. written_in (top q)) (as_leaf m h k p (suc n) physical.Utf8View e is)
+by_layout m d h k p rows l e c v carried fine = all_written m d h k p rows c v carried fine ∙ ap written_in (sym (top_kept m h k p rows l e refl carried))
 
 -- ── as a column ──
 
@@ -174,4 +176,4 @@ top_column_written (leaf (text_views q)) h = let r = top_views q in by_lengths (
 top_column_written q h = column_written q h
 
 pub top_sent : TopIsSent
-top_sent m d k p rows carried h = top_by_layout m k p rows ∙ by_layout m d k p rows (physical_of k) refl carried h ∙ top_column_written (parts_read m k p rows) (parts_sound m d k p rows carried h).no_fault
+top_sent m d h k p rows c v carried fine = top_by_layout m k p rows ∙ by_layout m d h k p rows (physical_of k) refl c v carried fine ∙ top_column_written (parts_read m h k p rows) (parts_sound m d h k p rows c v carried fine).no_fault

@@ -5,7 +5,7 @@ use Rattle.arrow_spec.specs.declared.error.IpcError.{IpcError}
 use Rattle.arrow_spec.specs.declared.message.MetadataVersion.{MetadataVersion}
 use Rattle.arrow_spec.specs.Readings.{◌>>=◌}
 use Rattle.arrow_spec.specs.Flat.{little}
-use Rattle.arrow_spec.specs.Kinds.{Kind, Fields, width}
+use Rattle.arrow_spec.specs.Kinds.{Kind, Fields, width, dictionary_counts}
 use Rattle.arrow_spec.specs.Columns.{stands_in}
 use Rattle.arrow_spec.specs.Counts.{RecordBatch, Place, first_place}
 use Rattle.arrow_spec.specs.Arrays.{Dictionaries}
@@ -21,6 +21,7 @@ use Rattle.ipc_write_laws.specs.Columns.{Means}
 use Rattle.ipc_write_laws.specs.Streams.{MayBeWritten, table_batch, written_batch, written_of}
 use Rattle.ipc_read_laws.specs.Batches.{columns_read}
 use Rattle.arrow_arrays.specs.Carried.{is_carried, are_carried}
+use Rattle.ipc_read_laws.specs.Held.{Held, HoldsCells, HoldsKinds}
 use Rattle.ipc_read_laws.specs.PartsRead.{parts_read}
 use Rattle.ipc_read_laws.specs.WrittenParts.{leaf_lengths_in, written_in}
 use Rattle.ipc_write_arrays.specs.Dictionaries.{HoldsValues}
@@ -39,25 +40,25 @@ WrittenAsColumn = (p : Parts) → fault_in p ≡ None → written_in p ≡ writt
 
 -- What is to be written of a top column that is not refused is what its parts are written with.
 abbrev pub TopIsSent : Type 0
-TopIsSent = (m : RecordBatch) (d : Dictionaries) (k : Kind) (p : Place) (rows : ℕ) → is_carried k ≡ true → array_faults m d k p rows ≡ []
-    → top_written m k p rows ≡ written_of (top_column (parts_read m k p rows) ∷ [])
+TopIsSent = (m : RecordBatch) (d : Dictionaries) (h : Held) (k : Kind) (p : Place) (rows : ℕ) → HoldsCells d h → HoldsKinds h k → is_carried k ≡ true → array_faults m d k p rows ≡ []
+    → top_written m k p rows ≡ written_of (top_column (parts_read m h k p rows) ∷ [])
 
--- A batch of the columns that were read is sent where its message may be: of some columns of the record batch, each once, in the order asked.
+-- A batch of the columns that were read, without dictionaries, is sent where its message may be: of some columns of the record batch, each once, in the order asked.
 abbrev pub ReadBatchIsSent : Type 0
-ReadBatchIsSent = (a : Asked) (v : MetadataVersion) (tables : BatchHeader) (body : List ℕ) (left : Option ℕ) (b : Batch) → a.dictionaries ≡ []
-    → are_carried (asked_fields a) ≡ true → columns_right a.columns (width a.fields) ≡ Ok tt
+ReadBatchIsSent = (a : Asked) (v : MetadataVersion) (tables : BatchHeader) (body : List ℕ) (left : Option ℕ) (h : Held) (b : Batch) → a.dictionaries ≡ []
+    → HoldsCells a.dictionaries h → dictionary_counts (asked_fields a) ≡ 0 → are_carried (asked_fields a) ≡ true → columns_right a.columns (width a.fields) ≡ Ok tt
     → batch_of_tables to_read a v [] tables body left ≡ Ok (record { rows = b.height; columns = map cells_in b.arrays; custom = [] })
-    → AreAsked (columns_read (record_batch_of a.order v tables body) a.fields first_place b.height) a.columns b.arrays
+    → AreAsked (columns_read (record_batch_of a.order v tables body) h a.fields first_place b.height) a.columns b.arrays
     → batch_of_tables to_send a v [] tables body left ≡
     (if_sent to_send (may_be_sent (written_batch (written_batch_of b)))
     >>= λ size. Ok (record { rows = b.height; columns = map cells_in b.arrays; custom = [] }))
 
 -- Where its columns mean their cells as they are written, as far as that asks for no values of dictionaries, it may be written where its message may be sent.
 abbrev pub ReadBatchIsSendable : Type 0
-ReadBatchIsSendable = (a : Asked) (v : MetadataVersion) (tables : BatchHeader) (body : List ℕ) (left : Option ℕ) (b : Batch) → HeaderFits tables
-    → a.dictionaries ≡ [] → are_carried (asked_fields a) ≡ true → columns_right a.columns (width a.fields) ≡ Ok tt
+ReadBatchIsSendable = (a : Asked) (v : MetadataVersion) (tables : BatchHeader) (body : List ℕ) (left : Option ℕ) (h : Held) (b : Batch) → HeaderFits tables
+    → a.dictionaries ≡ [] → HoldsCells a.dictionaries h → dictionary_counts (asked_fields a) ≡ 0 → are_carried (asked_fields a) ≡ true → columns_right a.columns (width a.fields) ≡ Ok tt
     → batch_of_tables to_read a v [] tables body left ≡ Ok (record { rows = b.height; columns = map cells_in b.arrays; custom = [] })
-    → AreAsked (columns_read (record_batch_of a.order v tables body) a.fields first_place b.height) a.columns b.arrays
+    → AreAsked (columns_read (record_batch_of a.order v tables body) h a.fields first_place b.height) a.columns b.arrays
     → (AllByRecursion (λ p. HoldsValues [] p) b.arrays → AllByRecursion (λ c. Means little [] b.height c) (written_batch_of b).columns) → map (λ c. c.cells) (written_batch_of b).columns ≡ map cells_in b.arrays
     → IsReadBatch a (record_batch_of a.order v tables body) (written_batch_of b)
     × (batch_of_tables to_read a v [] tables body left ≡ Ok (table_batch (written_batch_of b)))
@@ -67,11 +68,11 @@ ReadBatchIsSendable = (a : Asked) (v : MetadataVersion) (tables : BatchHeader) (
 
 -- A batch that was read of columns by rising numbers is, in the order asked, what the columns asked for mean. The numbers are the same.
 abbrev pub RisingBatchIsAsked : Type 0
-RisingBatchIsAsked = (a : Asked) (rising : List ℕ) (asked : List ℕ) (v : MetadataVersion) (tables : BatchHeader) (body : List ℕ) (left : Option ℕ) (rows : ℕ) (read given : List Parts)
+RisingBatchIsAsked = (a : Asked) (rising : List ℕ) (asked : List ℕ) (v : MetadataVersion) (tables : BatchHeader) (body : List ℕ) (left : Option ℕ) (h : Held) (rows : ℕ) (read given : List Parts)
     → ((c : ℕ) → stands_in rising c ≡ stands_in asked c) → columns_right (Some asked) (width a.fields) ≡ Ok tt
     → batch_of_tables to_read (with_columns (Some rising) a) v [] tables body left ≡ Ok (record { rows = rows; columns = map cells_in read; custom = [] })
-    → ArePicked (columns_read (record_batch_of a.order v tables body) a.fields first_place rows) rising read
-    → ArePicked (columns_read (record_batch_of a.order v tables body) a.fields first_place rows) asked given
+    → ArePicked (columns_read (record_batch_of a.order v tables body) h a.fields first_place rows) rising read
+    → ArePicked (columns_read (record_batch_of a.order v tables body) h a.fields first_place rows) asked given
     → batch_of_tables to_read (with_columns (Some asked) a) v [] tables body left ≡ Ok (record { rows = rows; columns = map cells_in given; custom = [] })
 
 -- What refuses a batch of columns by rising numbers refuses that of the columns asked for, in whatever order.

@@ -10,9 +10,10 @@ pub use ipc_projection::{
     ProjectionInfo, ProjectionIter, ProjectionResult, apply_projection, prepare_projection,
 };
 pub use ipc_read::{
-    Body, read, read_binary, read_binview, read_boolean, read_fixed_size_binary,
-    read_fixed_size_list, read_list, read_map, read_null, read_primitive, read_record_batch,
-    read_struct, read_union, read_utf8, skip, skip_binary, skip_binview, skip_boolean,
+    Body, are_held_for, is_held_for, read, read_binary, read_binview, read_boolean,
+    read_dictionary, read_dictionary_batch, read_fixed_size_binary, read_fixed_size_list,
+    read_list, read_map, read_null, read_primitive, read_record_batch, read_struct, read_union,
+    read_utf8, skip, skip_binary, skip_binview, skip_boolean, skip_dictionary,
     skip_fixed_size_binary, skip_fixed_size_list, skip_list, skip_map, skip_null, skip_primitive,
     skip_struct, skip_union, skip_utf8,
 };

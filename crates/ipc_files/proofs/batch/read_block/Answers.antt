@@ -1,6 +1,10 @@
-use Rattle.std.proofs.Common.{◌≡◌, Err, subst, sym, true}
+use Rattle.std.proofs.Common.{◌≡◌, ◌∙◌, ap, Err, subst, sym, true}
 use Rattle.std.specs.Rc.{rc_value}
 use Rattle.arrow_types.specs.Schemas.{fields_in}
+use Rattle.ipc_fields.specs.IpcFields.{ids_of}
+use Rattle.ipc_read.specs.Batches.{schema_fields}
+use Rattle.ipc_read.proofs.HeldKinds.{empty_holds_fields, nothing_held}
+use Rattle.ipc_files.proofs.MissingFeatures.{chosen_with}
 use Rattle.ipc_read.specs.Projection.{are_columns, columns_of}
 use Rattle.ipc_schema.specs.Views.{message_of}
 use Rattle.transcode_laws.specs.Files.{asked_of}
@@ -11,7 +15,7 @@ use Rattle.ipc_files.proofs.Errors.{is_err}
 use Rattle.ipc_files.proofs.Counted.{asked_floats}
 use Rattle.ipc_files.proofs.FetchedFiles.{block_front, block_whole}
 use Rattle.ipc_files.proofs.SentFields.{field_count}
-use Rattle.ipc_files.proofs.SentFiles.{block_answer, columns_alike, columns_sent, file_width, given_in, message_err, refused_in, same_order}
+use Rattle.ipc_files.proofs.SentFiles.{block_answer, columns_sent, file_width, given_in, message_err, refused_in, same_order}
 use Rattle.ipc_files.proofs.batch.read_block.Goals as goal
 
 pub returns-in_err-message-clause-gives : goal.returns-in_err-message-clause-gives
@@ -24,8 +28,8 @@ returns-clause-gives g c =
     let file = c.args.file.now in
     let columns = columns_of c.args.projection in
     let range : are_columns columns _ ≡ true = subst (λ n. are_columns columns n ≡ true) (sym (file_width file)) c.requires.range in
-    block_answer (g.S.Source.content c.args.source.now) _ (meta_view file) columns c.args.left file.ipc_schema.is_little_endian (fields_in (rc_value file.schema)) file.size (file_block c.args.block.now) (message_of c.in_ok-message.message) c.place_of_body.result c.read_record_batch.result
-    (columns_alike file columns c.requires.built) (asked_floats columns (rc_value file.schema) (columns_sent file columns c.requires.built)) c.requires.rising range (same_order file) c.in_ok-message.ensures.kept.content c.place_of_body.ensures c.requires.whole (given_in _ _ _ c.in_ok-message.ensures.message) c.in_ok-message.ensures.fits c.read_record_batch.ensures.gives c.read_record_batch.ensures.parts
+    block_answer (g.S.Source.content c.args.source.now) _ (meta_view file) _ columns c.args.left file.ipc_schema.is_little_endian file.size (file_block c.args.block.now) (message_of c.in_ok-message.message) c.place_of_body.result c.read_record_batch.result
+    (nothing_held c.new-dictionaries.result c.new-dictionaries.ensures.empty) (chosen_with columns (fields_in (rc_value file.schema)) (ids_of file.ipc_schema.fields.items) 0 ∙ asked_floats columns (rc_value file.schema) (columns_sent file columns c.requires.built)) c.requires.rising range (same_order file) c.in_ok-message.ensures.kept.content c.place_of_body.ensures c.requires.whole (given_in _ _ _ c.in_ok-message.ensures.message) c.in_ok-message.ensures.fits c.read_record_batch.ensures.gives c.read_record_batch.ensures.parts
 
 pub read_record_batch-requires-clause-columns : goal.read_record_batch-requires-clause-columns
 read_record_batch-requires-clause-columns g c = c.requires.read.columns (columns_of c.args.projection) (columns_sent c.args.file.now (columns_of c.args.projection) c.requires.built)
@@ -40,5 +44,8 @@ returns-in_err-message-clause-fetched g c =
 pub returns-clause-fetched : goal.returns-clause-fetched
 returns-clause-fetched g c =
     let file = c.args.file.now in
-    block_whole (g.S.Source.content c.args.source.now) (meta_view file) (columns_of c.args.projection) file.ipc_schema.is_little_endian (fields_in (rc_value file.schema)) (file_block c.args.block.now) c.args.left (message_of c.in_ok-message.message) _ _ _
-    (same_order file) (columns_alike file (columns_of c.args.projection) c.requires.built) c.in_ok-message.ensures.fetched (given_in _ _ _ c.in_ok-message.ensures.message) c.read_record_batch.ensures.fetched
+    block_whole (g.S.Source.content c.args.source.now) (meta_view file) (columns_of c.args.projection) file.ipc_schema.is_little_endian (file_block c.args.block.now) c.args.left (message_of c.in_ok-message.message) _ _ _
+    (same_order file) c.in_ok-message.ensures.fetched (given_in _ _ _ c.in_ok-message.ensures.message) c.read_record_batch.ensures.fetched
+
+pub read_record_batch-requires-clause-kinds : goal.read_record_batch-requires-clause-kinds
+read_record_batch-requires-clause-kinds g c = empty_holds_fields c.new-dictionaries.result (schema_fields (rc_value c.args.file.now.schema) c.args.file.now.ipc_schema.fields.items) c.new-dictionaries.ensures.empty

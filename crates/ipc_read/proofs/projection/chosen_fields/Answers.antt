@@ -1,10 +1,9 @@
-use Rattle.std.proofs.Common.{◌≡◌, ◌∙◌, sym, ap, arith, string_bytes, false, true, ◌+◌, Some}
+use Rattle.std.proofs.Common.{◌≡◌, ◌∙◌, sym, ap, arith, string_bytes, Some}
 use Rattle.std.specs.Prelude.{slice_get}
-use Rattle.arrow_spec.specs.Columns.{is_chosen}
 use Rattle.arrow_types.specs.KindOf.{child_of}
 use Rattle.arrow_types.specs.Schemas.{Keyed, with_field}
 use Rattle.ipc_read.specs.Projection.{columns_of}
-use Rattle.ipc_read.proofs.Chosen.{field_added, field_left, none_left}
+use Rattle.ipc_read.proofs.Chosen.{field_added, field_left}
 use Rattle.ipc_read.proofs.projection.chosen_fields.Goals as goal
 
 pub loop-i-preserved-then-not-is_chosen : goal.loop-i-preserved-then-not-is_chosen

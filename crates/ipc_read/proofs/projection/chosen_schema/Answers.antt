@@ -1,4 +1,4 @@
-use Rattle.std.proofs.Common.{◌≡◌, ◌∙◌, sym, ap}
+use Rattle.std.proofs.Common.{◌∙◌, sym, ap}
 use Rattle.std.specs.Rc.{rc_value}
 use Rattle.ipc_read.specs.Projection.{columns_of, chosen}
 use Rattle.ipc_read.proofs.Chosen.{all_chosen}

@@ -1,8 +1,7 @@
-use Rattle.std.proofs.Common.{◌≡◌, true, false, Bool, sym, ap, ◌∙◌, ℕ, List, length, arith, Result, Ok, Err, inl, inr, ◌<◌, ◌≤◌, ◌⊎◌}
-use Rattle.std.specs.Prelude.{get_or, MatchResult, Some}
-use Rattle.std.specs.Result.{is_ok}
+use Rattle.std.proofs.Common.{◌≡◌, sym, ap, ◌∙◌}
+use Rattle.std.specs.Prelude.{Some}
 use Rattle.std.proofs.lemmas.List.Sorted.{searched}
-use Rattle.arrow_spec.specs.Columns.{is_chosen, stands_in}
+use Rattle.arrow_spec.specs.Columns.{is_chosen}
 use Rattle.ipc_read.specs.Projection.{columns_of, are_rising}
 use Rattle.ipc_read.proofs.Chosen.{rises, stands_by_search}
 use Rattle.ipc_read.proofs.projection.is_chosen.Goals as goal

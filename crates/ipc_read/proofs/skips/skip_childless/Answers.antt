@@ -12,10 +12,10 @@ pub returns-in-Boolean : goal.returns-in-Boolean
 returns-in-Boolean c = leaf_passes c.skip_boolean.result (kind_of c.args.dtype.now) _ 2 c.requires.flat (sym c.to_physical_type.ensures ∙ c.in-Boolean.is) (λ n. refl) refl c.skip_boolean.ensures
 
 pub returns-in-Primitive : goal.returns-in-Primitive
-returns-in-Primitive c = elim c.in-Primitive.is [
-  | inl h ↦ leaf_passes c.skip_primitive.result (kind_of c.args.dtype.now) _ 2 c.requires.flat (sym c.to_physical_type.ensures ∙ h.1) (λ n. refl) refl c.skip_primitive.ensures
-  | inr h ↦ leaf_passes c.skip_primitive.result (kind_of c.args.dtype.now) _ 2 c.requires.flat (sym c.to_physical_type.ensures ∙ h.1) (λ n. refl) refl c.skip_primitive.ensures
-]
+returns-in-Primitive c = leaf_passes c.skip_primitive.result (kind_of c.args.dtype.now) _ 2 c.requires.flat (sym c.to_physical_type.ensures ∙ c.in-Primitive.is) (λ n. refl) refl c.skip_primitive.ensures
+
+pub returns-in-Dictionary : goal.returns-in-Dictionary
+returns-in-Dictionary c = leaf_passes c.skip_dictionary.result (kind_of c.args.dtype.now) _ 2 c.requires.flat (sym c.to_physical_type.ensures ∙ c.in-Dictionary.is) (λ n. refl) refl c.skip_dictionary.ensures
 
 pub returns-in-Binary : goal.returns-in-Binary
 returns-in-Binary c = elim c.in-Binary.is [

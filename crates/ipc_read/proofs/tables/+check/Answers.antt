@@ -3,8 +3,8 @@ use Rattle.arrow_spec.specs.Readings.{Refuses}
 use Rattle.arrow_types.specs.KindOf.{kind_of, fields_of}
 use Rattle.ipc_read.proofs.Refusals.{err_from}
 use Rattle.ipc_read.proofs.Passing.{answers_same}
-use Rattle.ipc_read.proofs.Nested.{kind_size, fields_size, counted_tree, list_tree, union_tree, child_size}
-use Rattle.ipc_read.proofs.ColumnKinds.{column_plain, column_list, list_floats, column_counted, counted_floats, column_union, union_floats, child_column, next_floats, child_floats, no_floats}
+use Rattle.ipc_read.proofs.Nested.{kind_size, fields_size, counted_tree, list_tree, union_tree, dictionary_tree, child_size}
+use Rattle.ipc_read.proofs.ColumnKinds.{column_plain, column_list, list_floats, column_counted, counted_floats, column_union, union_floats, column_values, values_floats, child_column, next_floats, child_floats, no_floats}
 use Rattle.ipc_read.proofs.tables.+check.Goals as goal
 
 pub check_kind-check_children-requires : goal.check_kind-check_children-requires
@@ -23,7 +23,16 @@ pub check_kind-returns-in-Some-list_child-clause-exact : goal.check_kind-returns
 check_kind-returns-in-Some-list_child-clause-exact t c = answers_same _ c.check_kind.result _ _ _ (sym (list_floats (kind_of c.args.dtype.now) _ c.in-Some-list_child.child.now c.in-Some-list_child.ensures.child)) c.check_kind.ensures.exact
 
 pub check_kind-check_plain-requires : goal.check_kind-check_plain-requires
-check_kind-check_plain-requires t c = record { plain = column_plain (kind_of c.args.dtype.now) c.requires.column c.in-None.ensures.none c.in-None-list_child.ensures.none c.in-None-union_fields.ensures.none }
+check_kind-check_plain-requires t c = record { plain = column_plain (kind_of c.args.dtype.now) c.requires.column c.in-None.ensures.none c.in-None-list_child.ensures.none c.in-None-union_fields.ensures.none c.in-None-dictionary_types.ensures.none }
+
+pub check_kind-check_kind-requires-in-Some-dictionary_types : goal.check_kind-check_kind-requires-in-Some-dictionary_types
+check_kind-check_kind-requires-in-Some-dictionary_types t c =
+    let k = c.in-Some-dictionary_types.ensures.dictionary in
+    let z : kind_size (kind_of c.args.dtype.now) ≡ 1 + kind_size (kind_of c.in-Some-dictionary_types.values.now) = omega (arith, dictionary_tree (kind_of c.args.dtype.now) _ (kind_of c.in-Some-dictionary_types.values.now) k) in
+    (search (rules, z), column_values (kind_of c.args.dtype.now) _ _ k c.requires.column)
+
+pub check_kind-returns-in-Some-dictionary_types-clause-exact : goal.check_kind-returns-in-Some-dictionary_types-clause-exact
+check_kind-returns-in-Some-dictionary_types-clause-exact t c = answers_same _ c.check_kind-in-Some-dictionary_types.result _ _ _ (sym (values_floats (kind_of c.args.dtype.now) _ _ c.in-Some-dictionary_types.ensures.dictionary)) c.check_kind-in-Some-dictionary_types.ensures.exact
 
 pub check_kind-check_children-requires-in-Some-union_fields : goal.check_kind-check_children-requires-in-Some-union_fields
 check_kind-check_children-requires-in-Some-union_fields t c =

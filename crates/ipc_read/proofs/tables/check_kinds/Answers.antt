@@ -1,10 +1,8 @@
 use Rattle.std.proofs.Common.{◌≡◌, Err, sym, ◌∙◌, ap, arith, subst, refl, true, false}
-use Rattle.std.specs.Prelude.{◌||◌, not, if◌then◌else◌}
 use Rattle.arrow_spec.specs.Columns.{is_chosen}
 use Rattle.arrow_spec.specs.Features.{float_faults}
 use Rattle.arrow_spec.specs.Readings.{Refuses}
 use Rattle.arrow_types.specs.KindOf.{child_of}
-use Rattle.arrow_arrays.specs.Carried.{is_carried}
 use Rattle.ipc_read.specs.Batches.{is_column_kind}
 use Rattle.ipc_read.specs.Projection.{columns_of}
 use Rattle.ipc_read.proofs.Passing.{is_err, answers_err}
