@@ -137,13 +137,13 @@ pub text_self : (z : Option (List ℕ)) → is_same_text z z ≡ true
 text_self None = refl
 text_self (Some x) = (bytes_eq-Decides x x).1 refl
 
-text_true : (y z : Option (List ℕ)) → is_same_text y z ≡ true → y ≡ z
+pub text_true : (y z : Option (List ℕ)) → is_same_text y z ≡ true → y ≡ z
 text_true None None h = refl
 text_true None (Some x) h = cc
 text_true (Some x) None h = cc
 text_true (Some x) (Some y) h = ap Some ((bytes_eq-Decides x y).0 h)
 
-integer_true : (i j : IntegerType) → is_same_integer i j ≡ true → i ≡ j
+pub integer_true : (i j : IntegerType) → is_same_integer i j ≡ true → i ≡ j
 integer_true i j h = sym (integer_type_from-integer_number i) ∙ ap integer_type_from (eqb-true _ _ h) ∙ integer_type_from-integer_number j
 
 unit_true : (u v : TimeUnit) → is_same_unit u v ≡ true → u ≡ v
@@ -175,7 +175,7 @@ float_self half = refl
 float_self single = refl
 float_self double = refl
 
-offsets_true : (o q : Offsets) → is_same_offsets o q ≡ true → o ≡ q
+pub offsets_true : (o q : Offsets) → is_same_offsets o q ≡ true → o ≡ q
 offsets_true small small h = refl
 offsets_true small large h = cc
 offsets_true large small h = cc
@@ -207,7 +207,7 @@ leaf_self (kind.dictionary index ordered old k) h = cc
 leaf_self (kind.extension name metadata k) h = cc
 leaf_self k h = refl
 
-leaf_true : (k l : Kind) → is_leaf k ≡ true → is_same_kind k l ≡ true → k ≡ l
+pub leaf_true : (k l : Kind) → is_leaf k ≡ true → is_same_kind k l ≡ true → k ≡ l
 leaf_true kind.null kind.null h g = refl
 leaf_true kind.null l h g = cc
 leaf_true kind.boolean kind.boolean h g = refl
