@@ -32,3 +32,5 @@ pub use keys::DictionaryKeys;
 pub use offsets::ListOffsets;
 pub use pieces::extend_from_lengths;
 pub use record_batch::{BatchError, RecordBatch, RecordBatchT};
+pub use same::have_same_rows;
+pub use structs::clone_each;

@@ -62,9 +62,10 @@ fn is_same_value(a: RowValue, b: RowValue) -> bool
     }
 }
 
-/// Whether some rows of two arrays hold the same.
+/// Whether `count` rows of one array from a row on hold the same as `length` rows of another, whatever their types. It takes
+/// no memory, and goes as deep as the arrays' trees.
 #[cycle(same)]
-fn have_same_rows(
+pub fn have_same_rows(
     a: &Array,
     from: usize,
     count: usize,

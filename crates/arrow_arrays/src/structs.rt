@@ -163,8 +163,9 @@ pub(crate) fn narrow_each(arrays: &mut Vec<Array>, held: usize, offset: usize, r
     }
 }
 
+/// Second owners of some arrays, which share their memory.
 #[cycle(copy)]
-pub(crate) fn clone_each(alloc: Global, arrays: &[Array]) -> Result<Vec<Array>, AllocError>
+pub fn clone_each(alloc: Global, arrays: &[Array]) -> Result<Vec<Array>, AllocError>
     ensures { IfOk result (λ v. all_parts_of v.items ≡ all_parts_of arrays.now) }
 {
     let mut clones = Vec::new(alloc);
