@@ -4,4 +4,6 @@ pub mod NewDictionaries
 pub mod Used
 pub mod Changes
 pub mod Walks
+pub mod Shapes
 pub mod Columns
+pub mod Batches

@@ -50,3 +50,7 @@ PartSent (Err e) new was is message step = (e ≡ Memory) ⊎ (step ≡ Err e)
 abbrev pub PartsSent : Result (Unit {0}) IpcError → DictionaryTracker → Progress → Progress → Result Sending IpcError → Type 0
 PartsSent (Ok u) new was is step = (added : List ℤ) × (step ≡ Ok (with_added new was added (map to_send is.messages.items))) × Releases was is added
 PartsSent (Err e) new was is step = (e ≡ Memory) ⊎ (step ≡ Err e)
+
+-- some parts are done, and what is left of a step comes to the same as all of it
+abbrev pub PartsLeft : DictionaryTracker → Progress → DictionaryTracker → Progress → (Sending → Result Sending IpcError) → Result Sending IpcError → Type 0
+PartsLeft old was new is rest step = (added : List ℤ) × (rest (with_added new was added (map to_send is.messages.items)) ≡ step) × Releases was is added

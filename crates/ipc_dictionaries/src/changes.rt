@@ -44,12 +44,13 @@ fn give_back(dictionaries: &mut BTreeMap<i64, Vec<Array>>, change: Change)
     requires { CanUndo (change ∷ []) (held_in dictionaries.old) }
     ensures { (q : ℤ) → held_in dictionaries.new q ≡ undone (change ∷ []) (held_in dictionaries.old) q }
 {
-    match change.parts {
-        Some(parts) => match dictionaries.insert(change.id, parts) {
+    let Change { id, parts } = change;
+    match parts {
+        Some(parts) => match dictionaries.insert(id, parts) {
             Ok(replaced) => drop(replaced),
             Err(_) => unreachable!(),
         },
-        None => drop(dictionaries.remove(&change.id)),
+        None => drop(dictionaries.remove(&id)),
     }
 }
 
@@ -59,7 +60,7 @@ pub(crate) fn undo(dictionaries: &mut BTreeMap<i64, Vec<Array>>, changes: Vec<Ch
     ensures { (q : ℤ) → held_in dictionaries.new q ≡ undone changes.items (held_in dictionaries.old) q }
 {
     let mut changes = changes;
-    for _ in 0..changes.len() {
+    for _turn in 0..changes.len() {
         match changes.pop() {
             Some(change) => give_back(dictionaries, change),
             None => unreachable!(),

@@ -121,7 +121,7 @@ fn are_values(dtype: &ArrowDataType, parts: &[Array]) -> bool
 }
 
 /// How the parts of the values of a dictionary of a type stand to those that are held.
-pub(crate) fn standing(held: &[Array], dtype: &ArrowDataType, parts: &[Array]) -> Standing
+pub(crate) fn standing_to(held: &[Array], dtype: &ArrowDataType, parts: &[Array]) -> Standing
     ensures { result ≡ standing (Some (forest_of held.now)) (values_kind (kind_of dtype.now)) (forest_of parts.now) }
 {
     if !are_values(dtype, held) {

@@ -5,6 +5,7 @@ mod changes;
 mod columns;
 mod comparison;
 mod sending;
+mod shapes;
 mod tracker;
 mod used;
 mod walk;

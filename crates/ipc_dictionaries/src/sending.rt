@@ -1,11 +1,11 @@
 //! What of a batch's dictionaries is to be sent before it (Arrow Columnar Format, "Dictionary Messages").
-ghost use Rattle.std.specs.Prelude.{◌≡◌, ℤ, [], ◌++◌, map, false, IfOk};
-ghost use Rattle.arrow_arrays.specs.PartsOf.{parts_of, forest_of};
+ghost use Rattle.std.specs.Prelude.{◌≡◌, ℤ, [], ◌∷◌};
 ghost use Rattle.arrow_arrays.specs.Parts.{also, none};
+ghost use Rattle.arrow_arrays.specs.PartsOf.{parts_of, forest_of};
 ghost use Rattle.ipc_fields.specs.IpcFields.{ids_of};
+ghost use Rattle.ipc_dictionaries.specs.Batches.{Sends, SendsMore};
 ghost use Rattle.ipc_dictionaries.specs.Changes.{undone, CanUndo};
-ghost use Rattle.ipc_dictionaries.specs.Sent.{Sends, Adds, messages_of};
-ghost use Rattle.ipc_dictionaries.specs.Tracker.{Held, held_by};
+ghost use Rattle.ipc_dictionaries.specs.Tracker.{held_by};
 ghost use Rattle.ipc_dictionaries.specs.Walks.{options_of};
 
 use crate::changes::{Change, undo};
@@ -81,7 +81,7 @@ pub fn dictionaries_to_encode(
     tracker: &mut DictionaryTracker,
     dictionaries: &mut Vec<ToEncode>,
 ) -> Result<(), IpcError>
-    ensures adds { Adds result tracker.old dictionaries.old.items tracker.new dictionaries.new.items (parts_of array.now) (ids_of (field.now ∷ [])) }
+    ensures sends { SendsMore result tracker.old dictionaries.old.items tracker.new dictionaries.new.items (also (parts_of array.now) none) (ids_of (field.now ∷ [])) }
     ensures options { options_of tracker.new ≡ options_of tracker.old }
 {
     let fields = slice::from_ref(field);

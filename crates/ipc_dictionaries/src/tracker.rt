@@ -7,7 +7,7 @@ ghost use Rattle.arrow_arrays.specs.PartsOf.{parts_of, forest_of};
 ghost use Rattle.ipc_dictionaries.specs.Standing.{delta_start, standing};
 ghost use Rattle.ipc_dictionaries.specs.Tracker.{held_by, held_in, values_in, is_indexed, IsKept, IsPut, Inserts};
 
-use crate::comparison::{Standing, allowed, delta_start, standing};
+use crate::comparison::{Standing, allowed, delta_start, standing_to};
 use arrow_arrays::{Array, DictionaryArray, clone_each};
 use arrow_spec::IpcError;
 use std::alloc::Global;
@@ -70,7 +70,7 @@ impl DictionaryTracker {
     {
         match self.dictionaries.get(&id) {
             None => Standing::Absent,
-            Some(held) => standing(held.as_slice(), dictionary.dtype(), dictionary.parts()),
+            Some(held) => standing_to(held.as_slice(), dictionary.dtype(), dictionary.parts()),
         }
     }
 

@@ -267,10 +267,11 @@ fn send_part(
     walk_array(alloc, part, None, fields, tracker, progress)?;
     progress.used.take_off(count);
     let values = rows_from(alloc, part, row)?;
-    progress.messages.push(ToEncode {
+    let message = ToEncode {
         id,
         values,
         is_delta,
-    })?;
+    };
+    progress.messages.push(message)?;
     Ok(())
 }
