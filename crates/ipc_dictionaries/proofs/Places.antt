@@ -1,7 +1,7 @@
 -- The rows of several arrays, one after another, from a place on.
 use Rattle.std.proofs.Common.{◌≡◌, ℕ, ◌+◌, ◌≤◌, ◌<◌, ◌++◌, ◌↔◌, List, [], ◌∷◌, Bool, true, false, IsTrue, length, take, drop, get_or, refl, sym, ap, ◌∙◌, append-nil, append_assoc, length-append, arith}
 use Rattle.std.specs.List.{sum}
-use Rattle.std.proofs.lemmas.List.{at_drop_more, at_drop_all, take_more, drop_at}
+use Rattle.std.proofs.lemmas.List.{at_drop_more, at_drop_all, take_more, drop_at, drop_all, take-append-drop}
 use Rattle.arrow_spec.specs.Cells.{Cell}
 use Rattle.arrow_spec.specs.Kinds.{null}
 use Rattle.arrow_buffers.specs.Rows.{part}
@@ -28,10 +28,7 @@ pub behind_at : (xs : List Array) (i n : ℕ) (x : Array) → i < length xs → 
 behind_at xs i n x h e l = ap (drop n) (all_at xs i x h e) ∙ drop_at (cells_in (parts_of x)) (all_cells (drop (i + 1) xs)) n (sym l)
 
 pub none_at : (xs : List Array) (i r : ℕ) → length xs ≤ i → drop r (all_cells (drop i xs)) ≡ []
-none_at xs i r h = ap (drop r) (at_drop_all all_cells xs i h) ∙ nothing r
-  where
-    nothing : (k : ℕ) → drop k {A = Cell} [] ≡ []
-    nothing k = grind arith
+none_at xs i r h = ap (drop r) (at_drop_all all_cells xs i h) ∙ drop_all r [] (omega arith)
 
 -- the rows of one array more
 pub all-append : (xs ys : List Array) → all_cells (xs ++ ys) ≡ all_cells xs ++ all_cells ys
@@ -42,6 +39,11 @@ pub one_more : (xs : List Array) (i : ℕ) (x : Array) → i < length xs → x �
 one_more xs i x h e =
     ap all_cells (take_more xs i x h ∙ ap (λ y. take i xs ++ y ∷ []) (sym e)) ∙ all-append (take i xs) (x ∷ [])
     ∙ ap (λ cs. all_cells (take i xs) ++ cs) (append-nil (cells_in (parts_of x)))
+
+-- the rows before an array, the array's, and those behind it
+pub split_at : (xs : List Array) (i : ℕ) (x : Array) → i < length xs → x ≡ get_or xs i x → all_cells xs ≡ all_cells (take i xs) ++ (cells_in (parts_of x) ++ all_cells (drop (i + 1) xs))
+split_at xs i x h e =
+    sym (ap all_cells (take-append-drop i xs)) ∙ all-append (take i xs) (drop i xs) ∙ ap (λ cs. all_cells (take i xs) ++ cs) (all_at xs i x h e)
 
 -- a test whether cells are the same
 pub cells_told : (r : Bool) (xs ys : List Cell) → (IsTrue r ↔ (ys ≡ xs)) → r ≡ are_same_cells xs ys

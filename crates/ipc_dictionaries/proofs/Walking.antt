@@ -112,21 +112,16 @@ several [] = refl
 several (x ∷ []) = refl
 several (x ∷ y ∷ xs) = refl
 
-pub dictionary_whole : (o : Options) (start : Option ℕ) (id : ℤ) (below : Ids) (parts : Forest) (s t : Sending) → (not (is_some start) && not o.deltas && has_several parts) ≡ false
-    → parts_sent o s.used id below (is_some start) (unwrap_or start 0) parts s ≡ Ok t → dictionary_sent o (Some true) start id below parts s ≡ Ok (holding id parts t)
-dictionary_whole o (Some n) id below parts s t few step = ap (λ r. then_by r (λ t. Ok (holding id parts t))) step
-dictionary_whole o None id below parts s t few step =
-    ap (λ b. if b then Err NotRepresentable else then_by (parts_sent o s.used id below false 0 parts s) (λ t. Ok (holding id parts t))) few
-    ∙ ap (λ r. then_by r (λ t. Ok (holding id parts t))) step
+pub dictionary_whole : (o : Options) (start : Option ℕ) (id : ℤ) (parts : Forest) (s t u : Sending) (walked : Result Sending IpcError) → (not (is_some start) && not o.deltas && has_several parts) ≡ false
+    → walked ≡ Ok t → holding id parts t ≡ u → dictionary_sent o (Some true) start id parts s walked ≡ Ok u
+dictionary_whole o start id parts s t u walked few step is =
+    ap (λ b. if b then Err NotRepresentable else then_by walked (λ t. Ok (holding id parts t))) few ∙ ap (λ r. then_by r (λ t. Ok (holding id parts t))) step ∙ ap Ok is
 
-pub dictionary_stopped : (o : Options) (start : Option ℕ) (id : ℤ) (below : Ids) (parts : Forest) (s : Sending) (error : IpcError) → (not (is_some start) && not o.deltas && has_several parts) ≡ false
-    → (error ≡ Memory) ⊎ (parts_sent o s.used id below (is_some start) (unwrap_or start 0) parts s ≡ Err error) → (error ≡ Memory) ⊎ (dictionary_sent o (Some true) start id below parts s ≡ Err error)
-dictionary_stopped o start id below parts s error few (inl memory) = inl memory
-dictionary_stopped o (Some n) id below parts s error few (inr step) = inr (ap (λ r. then_by r (λ t. Ok (holding id parts t))) step)
-dictionary_stopped o None id below parts s error few (inr step) =
-    inr (ap (λ b. if b then Err NotRepresentable else then_by (parts_sent o s.used id below false 0 parts s) (λ t. Ok (holding id parts t))) few
-    ∙ ap (λ r. then_by r (λ t. Ok (holding id parts t))) step)
+pub dictionary_stopped : (o : Options) (start : Option ℕ) (id : ℤ) (parts : Forest) (s : Sending) (walked : Result Sending IpcError) (error : IpcError) → (not (is_some start) && not o.deltas && has_several parts) ≡ false
+    → (error ≡ Memory) ⊎ (walked ≡ Err error) → (error ≡ Memory) ⊎ (dictionary_sent o (Some true) start id parts s walked ≡ Err error)
+dictionary_stopped o start id parts s walked error few (inl memory) = inl memory
+dictionary_stopped o start id parts s walked error few (inr step) =
+    inr (ap (λ b. if b then Err NotRepresentable else then_by walked (λ t. Ok (holding id parts t))) few ∙ ap (λ r. then_by r (λ t. Ok (holding id parts t))) step)
 
-pub dictionary_refused : (o : Options) (start : Option ℕ) (id : ℤ) (below : Ids) (parts : Forest) (s : Sending) → (not (is_some start) && not o.deltas && has_several parts) ≡ true → dictionary_sent o (Some true) start id below parts s ≡ Err NotRepresentable
-dictionary_refused o (Some n) id below parts s many = cc
-dictionary_refused o None id below parts s many = ap (λ b. if b then Err NotRepresentable else then_by (parts_sent o s.used id below false 0 parts s) (λ t. Ok (holding id parts t))) many
+pub dictionary_refused : (o : Options) (start : Option ℕ) (id : ℤ) (parts : Forest) (s : Sending) (walked : Result Sending IpcError) → (not (is_some start) && not o.deltas && has_several parts) ≡ true → dictionary_sent o (Some true) start id parts s walked ≡ Err NotRepresentable
+dictionary_refused o start id parts s walked many = ap (λ b. if b then Err NotRepresentable else then_by walked (λ t. Ok (holding id parts t))) many

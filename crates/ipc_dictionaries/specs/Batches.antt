@@ -1,5 +1,5 @@
 -- What is sent before a batch, and what is held then.
-use Rattle.std.specs.Prelude.{◌≡◌, ◌×◌, ◌⊎◌, ◌++◌, ℤ, List, [], Bool, false, map, Result, Ok, Err}
+use Rattle.std.specs.Prelude.{◌≡◌, ◌⊎◌, ◌++◌, ℤ, List, [], Bool, false, map, Result, Ok, Err}
 use Rattle.arrow_spec.specs.declared.error.IpcError.{IpcError}
 use Rattle.arrow_spec.specs.declared.error.IpcError.TheVariants.{Memory}
 use Rattle.arrow_arrays.specs.Parts.{Forest}

@@ -1,5 +1,5 @@
 -- Changes of what is held, and what was held before them.
-use Rattle.std.specs.Prelude.{◌≡◌, ◌×◌, ⊤, ℤ, List, [], ◌∷◌, Option, Some, None, if◌then◌else◌}
+use Rattle.std.specs.Prelude.{◌≡◌, ⊤, ℤ, List, [], ◌∷◌, Option, Some, None, if◌then◌else◌}
 use Rattle.std.specs.Option.{option_map, IsSome}
 use Rattle.std.specs.declared.alloc.Global.{Global}
 use Rattle.std.specs.declared.vec.Vec.{Vec}

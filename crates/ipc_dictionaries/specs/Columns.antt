@@ -1,5 +1,5 @@
 -- The columns of a batch, and what of their dictionaries is sent before it.
-use Rattle.std.specs.Prelude.{◌≡◌, ◌×◌, ◌⊎◌, [], true, false, Option, Some, None, Result, Ok, Err, not, ◌&&◌, if◌then◌else◌}
+use Rattle.std.specs.Prelude.{◌≡◌, ◌⊎◌, [], true, false, Option, Some, None, Result, Ok, Err, not, ◌&&◌, if◌then◌else◌}
 use Rattle.arrow_spec.specs.declared.error.IpcError.{IpcError}
 use Rattle.arrow_spec.specs.declared.error.IpcError.TheVariants.{SchemaMismatch, NotRepresentable, Memory}
 use Rattle.arrow_spec.specs.Kinds as kind

@@ -1,5 +1,6 @@
 -- What of a batch's dictionaries is sent before the batch. (Arrow Columnar Format, "Dictionary Messages".)
-use Rattle.std.specs.Prelude.{◌≡◌, ◌⊎◌, ◌-◌, ◌++◌, ◌&&◌, ◌||◌, ℕ, zero, suc, ℤ, List, [], ◌∷◌, Bool, true, false, not, Option, Some, None, Result, Ok, Err, nat_le, if◌then◌else◌}
+use Rattle.std.specs.Prelude.{◌-◌, ◌++◌, ◌&&◌, ◌||◌, ℕ, zero, suc, ℤ, List, [], ◌∷◌, Bool, true, false, not, Option, Some, None, is_some, Result, Ok, Err, nat_le, if◌then◌else◌}
+use Rattle.std.specs.Option.{unwrap_or}
 use Rattle.arrow_spec.specs.declared.error.IpcError.{IpcError}
 use Rattle.arrow_spec.specs.declared.error.IpcError.TheVariants.{DictionaryReplaced, NotRepresentable}
 use Rattle.arrow_spec.specs.Kinds.{same}
@@ -65,6 +66,13 @@ has_several none = false
 has_several (also p none) = false
 has_several (also p (also q ps)) = true
 
+-- A dictionary: refused, or as it is held, or its parts were walked: from a row on as deltas, or all, which takes deltas where there are several.
+abbrev pub dictionary_sent : Options → Option Bool → Option ℕ → ℤ → Forest → Sending → Result Sending IpcError → Result Sending IpcError
+dictionary_sent o None start id parts s walked = Err (DictionaryReplaced id)
+dictionary_sent o (Some false) start id parts s walked = Ok (fixing id s)
+dictionary_sent o (Some true) start id parts s walked =
+    if not (is_some start) && not o.deltas && has_several parts then Err NotRepresentable else then_by walked (λ t. Ok (holding id parts t))
+
 -- An array's dictionaries, under the ids of its IPC field. Those in the parts of a dictionary that are sent stand before the part, and
 -- may differ from part to part as from batch to batch: each part is seen as if no other part of the same dictionary fixed an id.
 abbrev mutual
@@ -72,21 +80,15 @@ abbrev mutual
   array_sent o (leaf l) id below s = Ok s
   array_sent o (nested (indexed d) parts) id below s =
       let st = standing (s.held (id_under id)) (values_kind d.kind) parts in
-      dictionary_sent o (allowed (o.cannot_replace || s.used (id_under id)) o.deltas st) (delta_start o.deltas st) (id_under id) below parts s
+      let start = delta_start o.deltas st in
+      dictionary_sent o (allowed (o.cannot_replace || s.used (id_under id)) o.deltas st) start (id_under id) parts s
+      (parts_sent o s.used (id_under id) below (is_some start) (unwrap_or start 0) parts s)
   array_sent o (nested h children) id below s = arrays_sent o children below s
 
   -- arrays under IPC fields, in order
   pub arrays_sent : Options → Forest → Ids → Sending → Result Sending IpcError
   arrays_sent o none below s = Ok s
   arrays_sent o (also p ps) below s = then_by (array_sent o p (first_id below) (first_ids below) s) (arrays_sent o ps (other_ids below))
-
-  -- A dictionary: refused, or as it is held, or from a row of all parts on as deltas, or whole, which takes deltas where there are several parts.
-  pub dictionary_sent : Options → Option Bool → Option ℕ → ℤ → Ids → Forest → Sending → Result Sending IpcError
-  dictionary_sent o None start id below parts s = Err (DictionaryReplaced id)
-  dictionary_sent o (Some false) start id below parts s = Ok (fixing id s)
-  dictionary_sent o (Some true) (Some n) id below parts s = then_by (parts_sent o s.used id below true n parts s) (λ t. Ok (holding id parts t))
-  dictionary_sent o (Some true) None id below parts s =
-      if not o.deltas && has_several parts then Err NotRepresentable else then_by (parts_sent o s.used id below false 0 parts s) (λ t. Ok (holding id parts t))
 
   -- Its parts from a row of them on: a delta has rows.
   pub parts_sent : Options → (ℤ → Bool) → ℤ → Ids → Bool → ℕ → Forest → Sending → Result Sending IpcError

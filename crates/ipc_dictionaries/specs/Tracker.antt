@@ -1,5 +1,5 @@
 -- The dictionaries that a writer holds, and what a call does to them.
-use Rattle.std.specs.Prelude.{◌≡◌, ◌×◌, ℤ, List, Bool, true, false, Option, Some, None, Result, Ok, Err, ⊤}
+use Rattle.std.specs.Prelude.{◌≡◌, ℤ, List, Bool, true, false, Option, Some, None, Result, Ok, Err, ⊤}
 use Rattle.std.specs.Option.{option_map}
 use Rattle.std.specs.Ordering.{int_cmp}
 use Rattle.std.specs.BTreeMap.{BTreeMap, get}

@@ -1,5 +1,5 @@
 -- What a walk over a batch's arrays comes to.
-use Rattle.std.specs.Prelude.{◌≡◌, ◌×◌, ◌⊎◌, ◌++◌, ◌||◌, ⊤, ℤ, List, [], ◌∷◌, Bool, true, false, map, Result, Ok, Err}
+use Rattle.std.specs.Prelude.{◌≡◌, ◌⊎◌, ◌++◌, ◌||◌, ⊤, ℤ, List, [], ◌∷◌, Bool, true, false, map, Result, Ok, Err}
 use Rattle.arrow_spec.specs.declared.error.IpcError.{IpcError}
 use Rattle.arrow_spec.specs.declared.error.IpcError.TheVariants.{Memory}
 use Rattle.arrow_arrays.specs.Parts.{Parts}

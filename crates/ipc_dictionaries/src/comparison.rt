@@ -51,9 +51,10 @@ fn place_behind(array: &Array, parts: &[Array], from: Place) -> Option<Place>
     let mut row = 0;
     let mut start = from.row;
     for i in from.part..parts.len() {
-        let others = parts[i].len();
+        let part = &parts[i];
+        let others = part.len();
         let count = lesser(rows - row, others - start);
-        if !have_same_rows(array, row, count, &parts[i], start, count) {
+        if !have_same_rows(array, row, count, part, start, count) {
             return None;
         }
         row += count;

@@ -197,7 +197,7 @@ fn send_dictionary(
     tracker: &mut DictionaryTracker,
     progress: &mut Progress,
 ) -> Result<(), IpcError>
-    ensures walks { Walks result (dictionary_sent (options_of tracker.old) (Some true) start id (ids_of fields.now) (forest_of parts.now) (sending_of tracker.old progress.old)) (sending_of tracker.new progress.new) }
+    ensures walks { Walks result (dictionary_sent (options_of tracker.old) (Some true) start id (forest_of parts.now) (sending_of tracker.old progress.old) (parts_sent (options_of tracker.old) (used_by progress.old.used) id (ids_of fields.now) (is_some start) (unwrap_or start 0) (forest_of parts.now) (sending_of tracker.old progress.old))) (sending_of tracker.new progress.new) }
     ensures adds { IfOk result (λ _. Adds progress.old.used progress.new.used) }
     ensures keeps { Keeps tracker.old progress.old tracker.new progress.new }
 {

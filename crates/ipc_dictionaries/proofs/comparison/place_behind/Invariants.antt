@@ -8,5 +8,5 @@ abbrev pub invariant-loop-i : goal.invariant-loop-i
 invariant-loop-i l = record {
   left : l.row < l.rows;
   there : l.start ≤ get_or (rows_each (forest_of l.parts)) l.i 0;
-  front : cells_from l.parts l.from ≡ take l.row (cells_in (parts_of l.array)) ++ drop l.start (all_cells (drop l.i l.parts));
+  front : cells_from l.parts l.fn.from ≡ take l.row (cells_in (parts_of l.array)) ++ drop l.start (all_cells (drop l.i l.parts));
 }
