@@ -1,9 +1,2 @@
 pub mod Runs
 pub mod Places
-pub mod Rests
-pub mod ShapeSteps
-pub mod Ids
-pub mod ChangeSteps
-pub mod UsedSteps
-pub mod Walking
-pub mod Leaves
