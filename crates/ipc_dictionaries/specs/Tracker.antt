@@ -1,5 +1,5 @@
 -- The dictionaries that a writer holds, and what a call does to them.
-use Rattle.std.specs.Prelude.{◌≡◌, ℤ, List, Bool, true, false, Option, Some, None, Result, Ok, Err, ⊤}
+use Rattle.std.specs.Prelude.{◌≡◌, ℤ, Bool, true, false, Option, Some, None, Result, Ok, Err}
 use Rattle.std.specs.Option.{option_map}
 use Rattle.std.specs.Ordering.{int_cmp}
 use Rattle.std.specs.BTreeMap.{BTreeMap, get}
@@ -7,7 +7,7 @@ use Rattle.std.specs.declared.alloc.Global.{Global}
 use Rattle.std.specs.declared.vec.Vec.{Vec}
 use Rattle.arrow_spec.specs.declared.error.IpcError.{IpcError}
 use Rattle.arrow_spec.specs.declared.error.IpcError.TheVariants as errors
-use Rattle.arrow_spec.specs.Kinds.{Kind, same}
+use Rattle.arrow_spec.specs.Kinds.{same}
 use Rattle.arrow_arrays.specs.Heads.{indexed, values_kind}
 use Rattle.arrow_arrays.specs.Parts.{Parts, Forest, leaf, nested, none, kind_in}
 use Rattle.arrow_arrays.specs.PartsOf.{forest_of}

@@ -1,4 +1,4 @@
-use Rattle.std.proofs.Common.{◌≡◌, ◌++◌, ◌+◌, take, drop, sym, ap, ◌∙◌, arith, append_assoc, true≢false}
+use Rattle.std.proofs.Common.{◌++◌, ◌+◌, take, drop, sym, ap, ◌∙◌, append_assoc, true≢false}
 use Rattle.arrow_arrays.specs.Parts.{cells_in}
 use Rattle.arrow_arrays.specs.PartsOf.{parts_of}
 use Rattle.ipc_dictionaries.specs.Standing.{all_cells, cells_from}

@@ -1,6 +1,5 @@
-use Rattle.std.proofs.Common.{◌≡◌, Bool, true, false, length, take, nat_lt, if◌then◌else◌, sym, ap, ◌∙◌, arith}
+use Rattle.std.proofs.Common.{◌≡◌, true, false, length, take, nat_lt, if◌then◌else◌, sym, ap, ◌∙◌, arith}
 use Rattle.std.proofs.lemmas.Bool.{lt-ltb, le-ltb}
-use Rattle.ipc_dictionaries.specs.declared.comparison.Standing.{Standing}
 use Rattle.ipc_dictionaries.specs.declared.comparison.Standing.TheVariants.{Same, Longer, Other}
 use Rattle.ipc_dictionaries.specs.Standing.{all_cells, are_same_cells}
 use Rattle.ipc_dictionaries.proofs.Places.{cells_told}
