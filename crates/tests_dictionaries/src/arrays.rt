@@ -9,18 +9,19 @@ use arrow_types::{ArrowDataType, IntegerType};
 use std::alloc::{AllocError, Global};
 
 /// The offsets of texts of one byte each.
-fn offsets(alloc: Global, rows: usize) -> Result<Vec<i32>, AllocError> {
+fn offsets(alloc: Global, rows: &[u8]) -> Result<Vec<i32>, AllocError> {
     let mut offsets = vec![in alloc; 0]?;
-    for _ in 0..rows {
-        let next = offsets.len() as i32;
-        offsets.push(next)?;
+    let mut end: i32 = 0;
+    for _ in rows {
+        end = end.saturating_add(1);
+        offsets.push(end)?;
     }
     Ok(offsets)
 }
 
 /// Texts of one byte each.
 pub fn texts(alloc: Global, rows: &[u8]) -> Result<Array, ArrayError> {
-    let offsets = Buffer::from_vec(offsets(alloc, rows.len())?)?;
+    let offsets = Buffer::from_vec(offsets(alloc, rows)?)?;
     let values = Buffer::from_vec(rows.to_vec(alloc)?)?;
     Ok(Array::Utf8(Utf8Array::try_new(ArrowDataType::Utf8, offsets, values, None)?))
 }
