@@ -66,7 +66,7 @@ metadata_from content after size block o m n p view r s eo em en h same prefix f
 
 -- ── what the metadata says ──
 
-read_of : {X Y Z : Type 0} (content : Option (List ℕ)) (metadata : List ℕ → Reading (List ℕ)) (view : X → List ℕ) (x : X) (text : List ℕ) (of : Y → Z) (reading : List ℕ → Reading Z) (r : Result Y IpcError)
+pub read_of : {X Y Z : Type 0} (content : Option (List ℕ)) (metadata : List ℕ → Reading (List ℕ)) (view : X → List ℕ) (x : X) (text : List ℕ) (of : Y → Z) (reading : List ℕ → Reading Z) (r : Result Y IpcError)
     → GivesIn content view (Ok x) metadata → text ≡ view x → Decodes of r (reading text) → GivesIn content of r (λ b. bind (metadata b) reading)
 read_of None metadata view x text of reading r h t g = tt
 read_of (Some b) metadata view x text of reading r h t g =
@@ -104,7 +104,7 @@ unfolding bind
 bind_twice (Ok x) f g = refl
 bind_twice (Err e) f g = refl
 
-bind_ok : {A B E : Type 0} (x : A) (f : A → Result B E) → bind (Ok x) f ≡ f x
+pub bind_ok : {A B E : Type 0} (x : A) (f : A → Result B E) → bind (Ok x) f ≡ f x
 unfolding bind
 bind_ok x f = refl
 

@@ -19,7 +19,7 @@ use Rattle.ipc_files.specs.FileBlocks.{GivesIn, block_header, file_block, messag
 use Rattle.ipc_files.specs.Fetching.{FooterFetched, MetadataFetched, message_cost}
 use Rattle.ipc_files.specs.RowCounts.{MessagesFetched, RowCountFetched, block_rows, file_row_count, messages_cost, row_count_of, rows_behind}
 use Rattle.ipc_files.proofs.BlockMessages.{bind_twice, refused_first, without_first}
-use Rattle.ipc_files.proofs.BlockSteps.{at_index}
+use Rattle.ipc_files.proofs.BlockNumbers.{at_index}
 
 -- the rows are what the message says
 pub rows_without_header : {X : Type 0} (content : Option (List ℕ)) (block : FileBlock) (view : X → MessageTables) (of : ℕ → ℕ) (e : IpcError) → GivesIn content view (Err e) (λ b. block_header b block) → GivesIn content of (Err e) (λ b. block_rows b block)
@@ -101,13 +101,13 @@ drop_next (y ∷ ys) zero x h = ap (λ z. z ∷ ys) cc
 drop_next (y ∷ ys) (suc i) x h = let e : suc i + 1 ≡ suc (i + 1) = omega arith in rw e (drop_next ys i x h)
 
 -- the blocks from one on
-from_block : (blocks : List Block) (i : ℕ) (d : Block) → i < length blocks → drop i (map file_block blocks) ≡ file_block (get_or blocks i d) ∷ drop (i + 1) (map file_block blocks)
-from_block blocks i d h = drop_next (map file_block blocks) i (file_block (get_or blocks i d)) (at_index blocks blocks i d refl h)
+pub from_block : (blocks items : List Block) (i : ℕ) (d : Block) → items ≡ blocks → i < length items → drop i (map file_block blocks) ≡ file_block (get_or items i d) ∷ drop (i + 1) (map file_block blocks)
+from_block blocks items i d same h = drop_next (map file_block blocks) i (file_block (get_or items i d)) (at_index blocks items i d same h)
 
 pub at_block : {X : Type 0} (content : Option (List ℕ)) (blocks : List Block) (i : ℕ) (d : Block) (whole : List ℕ → Reading X) (reading : List FileBlock → List ℕ → Reading X) (f mid : ℕ) → i < length blocks
     → ReadUpTo content (map file_block blocks) (drop i (map file_block blocks)) whole (reading (drop i (map file_block blocks))) f mid
     → ReadUpTo content (map file_block blocks) (file_block (get_or blocks i d) ∷ drop (i + 1) (map file_block blocks)) whole (reading (file_block (get_or blocks i d) ∷ drop (i + 1) (map file_block blocks))) f mid
-at_block content blocks i d whole reading f mid h read = subst (λ l. ReadUpTo content (map file_block blocks) l whole (reading l) f mid) (from_block blocks i d h) read
+at_block content blocks i d whole reading f mid h read = subst (λ l. ReadUpTo content (map file_block blocks) l whole (reading l) f mid) (from_block blocks blocks i d refl h) read
 
 -- none behind the last one
 pub all_dropped : (blocks : List Block) (i : ℕ) → length blocks ≤ i → drop i (map file_block blocks) ≡ []

@@ -1,39 +1,28 @@
--- How many bytes are fetched of blocks that mean batches, and of a file that means a table.
-use Rattle.std.proofs.Common.{◌≡◌, ℕ, zero, suc, ◌+◌, ◌-◌, ◌≤◌, List, [], ◌∷◌, ◌++◌, length, take, drop, Option, Some, None, Ok, Err, IfSome, refl, sym, ◌∙◌, ap, arith, subst, true, false, Bool, not, length-take, length-drop}
-use Rattle.std.specs.Prelude.{◌||◌, IsSome, sum_by, slice_get, option_map, ℤ, pos, negsuc}
-use Rattle.std.proofs.lemmas.List.Sums.{sum_by-append, sum_by-cons, sum_by_push}
-use Rattle.arrow_spec.specs.declared.error.IpcError.{IpcError}
-use Rattle.arrow_spec.specs.declared.error.IpcError.TheVariants.{Unsupported}
-use Rattle.arrow_spec.specs.declared.error.Feature.TheVariants as features
-use Rattle.arrow_spec.specs.Readings.{Reading, bind, meaning, natural, only_if, unless, free_of}
+-- How many bytes are fetched of blocks that mean batches, and of a footer.
+use Rattle.std.proofs.Common.{◌≡◌, ℕ, zero, suc, ◌+◌, ◌-◌, ◌≤◌, List, [], length, take, drop, Option, Some, None, Ok, IfSome, refl, sym, ◌∙◌, ap, arith, Bool, length-take, length-drop}
+use Rattle.std.specs.Prelude.{ℤ, pos, negsuc}
+use Rattle.arrow_spec.specs.Readings.{bind, natural, only_if, unless}
 use Rattle.arrow_spec.specs.Cells.{Cell}
 use Rattle.arrow_spec.specs.Columns.{columns_at, is_chosen, stands_in}
-use Rattle.arrow_spec.specs.Features.{feature_faults}
 use Rattle.arrow_spec.specs.Flat.{Order, order_by}
-use Rattle.arrow_spec.specs.Kinds.{Fields, none, field, width}
+use Rattle.arrow_spec.specs.Kinds.{Fields, none, field}
 use Rattle.arrow_spec.specs.Counts.{Place, RecordBatch, after, first_place, magnitude}
 use Rattle.arrow_spec.specs.Messages.{RecordMessage, prefix_of}
-use Rattle.arrow_spec.specs.Files.{ArrowTable, Asked, FileBlock, Meta, Request, TableBatch, as_asked, batch_of, batch_of_tables, batches_of, block_body, columns_right, custom_of, dictionaries_of, dictionaries_read, dictionaries_sent, fields_as_asked, file_reading, footer_of, has_any, meta_of, record_batch_of, share, to_read, what_is_left}
-use Rattle.arrow_spec.specs.Arrays.{Dictionaries}
-use Rattle.arrow_spec.specs.Needed.{Range, all_need, columns_looked_at, lengths, or_nothing}
+use Rattle.arrow_spec.specs.Files.{Asked, FileBlock, Meta, Request, TableBatch, as_asked, batch_of, batch_of_tables, block_body, footer_of, record_batch_of, share, to_read}
+use Rattle.arrow_spec.specs.Needed.{columns_looked_at}
 use Rattle.arrow_spec.proofs.Projection.{nothing, went}
-use Rattle.file_laws.specs.Fetched.{batch_fetched, batches_fetched, dictionary_fetched, fetched as ranges_fetched}
-use Rattle.file_laws.proofs.NeededParts.{batches_depend, meta-footer, parts_are}
 use Rattle.transcode_laws.specs.Built.{so_far}
-use Rattle.transcode_laws.specs.Files.{asked_of}
-use Rattle.transcode_laws.specs.Meaning.{file_table}
 use Rattle.ipc_io.specs.Outside.{IsSize}
 use Rattle.ipc_read_laws.specs.Faults.{stated_of}
 use Rattle.ipc_read.specs.Batches.{batch_fetched as buffers_fetched}
+use Rattle.ipc_files.specs.Blocks.{asked_under}
 use Rattle.ipc_files.specs.FileBlocks.{Fetched, PrefixIn, block_metadata, block_record, message_metadata}
-use Rattle.ipc_files.specs.FileViews.{FileSays}
-use Rattle.ipc_files.specs.Fetching.{BlockFetched, BlocksFetched, FileFetched, FooterFetched, FrontFetched, MessageFetched, MetadataFetched, block_cost, blocks_cost, both_of, message_cost}
-use Rattle.ipc_files.specs.Transcode.{asked}
+use Rattle.ipc_files.specs.Fetching.{BlockFetched, FooterFetched, FrontFetched, MessageFetched, MetadataFetched, both_of, message_cost}
+use Rattle.ipc_files.specs.Requests.{asked}
 use Rattle.ipc_files.proofs.BlockMessages.{batch_by_record}
-use Rattle.ipc_files.proofs.BlockSteps.{left_twice, take_next}
-use Rattle.ipc_files.proofs.Fetching.{answer_or, block_fetched, same_request}
+use Rattle.ipc_files.proofs.Fetching.{answer_or, block_fetched}
 use Rattle.ipc_files.proofs.FileFooters.{SaysFooter, end_of}
-use Rattle.ipc_files.proofs.SentBlocks.{rising_read}
+use Rattle.ipc_files.proofs.ReadBlocks.{rising_read}
 
 -- ── the message of a block ──
 
@@ -74,14 +63,14 @@ message_fetched (Some b) block f f' h = λ m is. let bytes = went (message_metad
 
 -- ── a block ──
 
-record BatchParts (b : List ℕ) (block : FileBlock) (left : Option ℕ) (x : TableBatch) : Type 0 where
-  message : RecordMessage
-  is : block_record b block ≡ Ok message
-  rows : ℕ
-  count : natural message.tables.length ≡ Ok rows
-  height : x.rows ≡ share left rows
+pub record BatchParts (b : List ℕ) (block : FileBlock) (left : Option ℕ) (x : TableBatch) : Type 0 where
+  pub message : RecordMessage
+  pub is : block_record b block ≡ Ok message
+  pub rows : ℕ
+  pub count : natural message.tables.length ≡ Ok rows
+  pub height : x.rows ≡ share left rows
 
-batch_parts : (b : List ℕ) (a : Asked) (block : FileBlock) (left : Option ℕ) (x : TableBatch) → batch_of so_far.custom to_read b a block left ≡ Ok x → BatchParts b block left x
+pub batch_parts : (b : List ℕ) (a : Asked) (block : FileBlock) (left : Option ℕ) (x : TableBatch) → batch_of so_far.custom to_read b a block left ≡ Ok x → BatchParts b block left x
 unfolding batch_of_tables
 batch_parts b a block left x h =
     let e : bind (block_record b block) (λ m. batch_of_tables to_read a m.version [] m.tables (block_body b block) left) ≡ Ok x = sym (batch_by_record to_read b a block left) ∙ h in
@@ -98,20 +87,20 @@ batch_parts b a block left x h =
 
 pub block_front : (content : Option (List ℕ)) (meta : Meta) (r : Request) (block : FileBlock) (left : Option ℕ) (f f' : ℕ) → MessageFetched content block f f' → BlockFetched content meta r block left f f'
 block_front None meta r block left f f' h = tt
-block_front (Some b) meta r block left f f' h = λ x is.
-    let p = batch_parts b (asked_of b meta r) block left x is in
+block_front (Some b) meta r block left f f' h = λ d x is.
+    let p = batch_parts b (asked_under b meta d r) block left x is in
     let whole = block_fetched b meta r block left p.message p.rows p.is p.count in
     omega (arith, h p.message p.is, whole.cost)
 
-counted : (z : ℤ) (n : ℕ) → natural z ≡ Ok n → magnitude z ≡ n
+pub counted : (z : ℤ) (n : ℕ) → natural z ≡ Ok n → magnitude z ≡ n
 counted (pos m) n h = cc
 counted (negsuc m) n h = cc
 
 pub block_whole : (content : Option (List ℕ)) (meta : Meta) (columns : Option (List ℕ)) (order : Bool) (block : FileBlock) (left : Option ℕ) (m : RecordMessage) (f mid f' : ℕ) → order_by order ≡ meta.schema.order
     → MessageFetched content block f mid → IfSome content (λ b. block_record b block ≡ Ok m) → ((bytes : List ℕ) → f' ≤ mid + buffers_fetched (record_batch_of (order_by order) m.version m.tables bytes) columns meta.schema.fields (share left (magnitude m.tables.length))) → BlockFetched content meta (asked columns left) block left f f'
 block_whole None meta columns order block left m f mid f' o h is more = tt
-block_whole (Some b) meta columns order block left m f mid f' o h is more = λ x read.
-    let p = batch_parts b (asked_of b meta (asked columns left)) block left x read in
+block_whole (Some b) meta columns order block left m f mid f' o h is more = λ d x read.
+    let p = batch_parts b (asked_under b meta d (asked columns left)) block left x read in
     let same : m ≡ p.message = cc in
     let rows : magnitude m.tables.length ≡ p.rows = ap (λ (y : RecordMessage). magnitude y.tables.length) same ∙ counted p.message.tables.length p.rows p.count in
     let body = block_body b block in
@@ -134,132 +123,13 @@ members_fetched m asked other fs (suc n) h = ap (stated_of m) (same_members m as
 
 pub fetched_ordered : (content : Option (List ℕ)) (meta : Meta) (rising cs : List ℕ) (block : FileBlock) (left : Option ℕ) (f f' : ℕ) → ((c : ℕ) → stands_in rising c ≡ stands_in cs c) → BlockFetched content meta (asked (Some rising) left) block left f f' → BlockFetched content meta (asked (Some cs) left) block left f f'
 fetched_ordered None meta rising cs block left f f' same h = tt
-fetched_ordered (Some b) meta rising cs block left f f' same h = λ x is.
-    let y = rising_read b (asked_of b meta (asked (Some cs) left)) rising cs block left x same is in
-    let p = batch_parts b (asked_of b meta (asked (Some cs) left)) block left x is in
+fetched_ordered (Some b) meta rising cs block left f f' same h = λ d x is.
+    let y = rising_read b (asked_under b meta d (asked (Some cs) left)) rising cs block left x same is in
+    let p = batch_parts b (asked_under b meta d (asked (Some cs) left)) block left x is in
     let by_rising = block_fetched b meta (asked (Some rising) left) block left p.message p.rows p.is p.count in
     let by_asked = block_fetched b meta (asked (Some cs) left) block left p.message p.rows p.is p.count in
     let moved = members_fetched (record_batch_of meta.schema.order p.message.version p.message.tables (block_body b block)) (Some rising) (Some cs) meta.schema.fields (share left p.rows) same in
-    omega (arith, h y.0 y.1, by_rising.cost, by_asked.cost, moved)
-
--- ── blocks, one after another ──
-
--- the rows of the first of some batches
-abbrev pub rows_before : ℕ → List TableBatch → ℕ
-rows_before i xs = sum_by (λ x. x.rows) (take i xs)
-
-rows_behind : (i : ℕ) (x : TableBatch) (xs : List TableBatch) → rows_before (suc i) (x ∷ xs) ≡ x.rows + rows_before i xs
-rows_behind i x xs = sum_by-cons (λ (y : TableBatch). y.rows) x (take i xs)
-
--- a batch, and where it stands
-record IsBatchAt (b : List ℕ) (a : Asked) (i : ℕ) (block : FileBlock) (left : Option ℕ) (xs : List TableBatch) : Type 0 where
-  batch : TableBatch
-  read : batch_of so_far.custom to_read b a block (what_is_left left (rows_before i xs)) ≡ Ok batch
-  at : slice_get xs i ≡ Some batch
-
-nothing_left : (left : Option ℕ) → what_is_left left 0 ≡ left
-nothing_left None = refl
-nothing_left (Some l) = let e : l - 0 ≡ l = omega arith in ap Some e
-
-at_block : (b : List ℕ) (a : Asked) (is_first : Bool) (blocks : List FileBlock) (i : ℕ) (block : FileBlock) (left : Option ℕ) (xs : List TableBatch) → batches_of so_far.custom to_read b a is_first blocks left ≡ Ok xs → slice_get blocks i ≡ Some block → IsBatchAt b a i block left xs
-unfolding batches_of
-at_block b a is_first [] i block left xs h k = cc
-at_block b a is_first (y ∷ ys) zero block left xs h k =
-    let first = went (batch_of so_far.custom to_read b a y left) _ xs h in
-    let flag = went (dictionaries_sent is_first to_read a) _ xs first.rest in
-    let others = went (batches_of so_far.custom to_read b a false ys (what_is_left left first.got.rows)) _ xs flag.rest in
-    let all : first.got ∷ others.got ≡ xs = cc (others.rest) in
-    let same : y ≡ block = cc in
-    let here : batch_of so_far.custom to_read b a block left ≡ Ok first.got = subst (λ z. batch_of so_far.custom to_read b a z left ≡ Ok first.got) same first.first in
-    record { batch = first.got; read = subst (λ l. batch_of so_far.custom to_read b a block l ≡ Ok first.got) (sym (nothing_left left)) here; at = ap (λ zs. slice_get zs 0) (sym all) }
-at_block b a is_first (y ∷ ys) (suc i) block left xs h k =
-    let first = went (batch_of so_far.custom to_read b a y left) _ xs h in
-    let flag = went (dictionaries_sent is_first to_read a) _ xs first.rest in
-    let others = went (batches_of so_far.custom to_read b a false ys (what_is_left left first.got.rows)) _ xs flag.rest in
-    let all : first.got ∷ others.got ≡ xs = cc (others.rest) in
-    let rest = at_block b a false ys i block (what_is_left left first.got.rows) others.got others.first k in
-    let before : what_is_left (what_is_left left first.got.rows) (rows_before i others.got) ≡ what_is_left left (rows_before (suc i) xs)
-    = left_twice left first.got.rows (rows_before i others.got) ∙ ap (what_is_left left) (sym (rows_behind i first.got others.got) ∙ ap (rows_before (suc i)) all) in
-    record { batch = rest.batch; read = subst (λ l. batch_of so_far.custom to_read b a block l ≡ Ok rest.batch) before rest.read; at = ap (λ zs. slice_get zs (suc i)) (sym all) ∙ rest.at }
-
--- what one block more costs
-cost_more : (b : List ℕ) (meta : Meta) (r : Request) (blocks : List FileBlock) (i : ℕ) (block : FileBlock) (x : TableBatch) (xs : List TableBatch) (left : Option ℕ) → slice_get blocks i ≡ Some block → slice_get xs i ≡ Some x
-    → blocks_cost b meta r (take (suc i) blocks) xs left ≡ blocks_cost b meta r (take i blocks) xs left + block_cost b meta r block (what_is_left left (rows_before i xs))
-cost_more b meta r [] i block x xs left h k = cc
-cost_more b meta r (y ∷ ys) i block x [] left h k = cc
-cost_more b meta r (y ∷ ys) zero block x (z ∷ zs) left h k =
-    let same : y ≡ block = cc in
-    let here : block_cost b meta r y left ≡ block_cost b meta r block (what_is_left left 0) = ap (λ w. block_cost b meta r w left) same ∙ ap (λ l. block_cost b meta r block l) (sym (nothing_left left)) in
-    omega (arith, here)
-cost_more b meta r (y ∷ ys) (suc i) block x (z ∷ zs) left h k =
-    let rest = cost_more b meta r ys i block x zs (what_is_left left z.rows) h k in
-    let before : what_is_left (what_is_left left z.rows) (rows_before i zs) ≡ what_is_left left (rows_before (suc i) (z ∷ zs)) = left_twice left z.rows (rows_before i zs) ∙ ap (what_is_left left) (sym (rows_behind i z zs)) in
-    let moved : block_cost b meta r block (what_is_left (what_is_left left z.rows) (rows_before i zs)) ≡ block_cost b meta r block (what_is_left left (rows_before (suc i) (z ∷ zs))) = ap (block_cost b meta r block) before in
-    omega (arith, rest, moved)
-
--- some blocks cost no more than all
-cost_less : (b : List ℕ) (meta : Meta) (r : Request) (blocks : List FileBlock) (i : ℕ) (xs : List TableBatch) (left : Option ℕ) → blocks_cost b meta r (take i blocks) xs left ≤ blocks_cost b meta r blocks xs left
-cost_less b meta r [] zero xs left = omega arith
-cost_less b meta r [] (suc i) xs left = omega arith
-cost_less b meta r (y ∷ ys) zero xs left = omega arith
-cost_less b meta r (y ∷ ys) (suc i) [] left = omega arith
-cost_less b meta r (y ∷ ys) (suc i) (z ∷ zs) left = omega (arith, cost_less b meta r ys i zs (what_is_left left z.rows))
-
--- what is fetched of the first blocks of those that mean batches, and how many rows these have
-abbrev pub FetchedUpTo : Option (List ℕ) → Meta → Request → ℕ → ℕ → ℕ → ℕ → Type 0
-FetchedUpTo None meta r i rows f f' = Unit {0}
-FetchedUpTo (Some b) meta r i rows f f' =
-    (xs : List TableBatch) → batches_of so_far.custom to_read b (asked_of b meta r) true meta.blocks r.limit ≡ Ok xs → (f' ≤ f + blocks_cost b meta r (take i meta.blocks) xs r.limit) × (rows ≡ rows_before i xs)
-
-pub none_yet : (content : Option (List ℕ)) (meta : Meta) (r : Request) (f f' : ℕ) → f' ≤ f → FetchedUpTo content meta r 0 0 f f'
-none_yet None meta r f f' h = tt
-none_yet (Some b) meta r f f' h = λ xs is. (omega (arith, h), refl)
-
--- a block at its place is read as far as rows are left
-read_there : (b : List ℕ) (meta : Meta) (r : Request) (i : ℕ) (block : FileBlock) (left : Option ℕ) (rows f mid f' : ℕ) (xs : List TableBatch) → slice_get meta.blocks i ≡ Some block → left ≡ what_is_left r.limit rows → rows ≡ rows_before i xs
-    → batches_of so_far.custom to_read b (asked_of b meta r) true meta.blocks r.limit ≡ Ok xs → BlockFetched (Some b) meta (asked r.columns left) block left mid f' → mid ≤ f + blocks_cost b meta r (take i meta.blocks) xs r.limit
-    → (f' ≤ f + blocks_cost b meta r (take (suc i) meta.blocks) xs r.limit)
-read_there b meta r i block left rows f mid f' xs h is so_far_rows all one before =
-    let x = at_block b (asked_of b meta r) true meta.blocks i block r.limit xs all h in
-    let same : left ≡ what_is_left r.limit (rows_before i xs) = is ∙ ap (what_is_left r.limit) so_far_rows in
-    let here : batch_of so_far.custom to_read b (asked_of b meta r) block left ≡ Ok x.batch = subst (λ l. batch_of so_far.custom to_read b (asked_of b meta r) block l ≡ Ok x.batch) (sym same) x.read in
-    let cost : block_cost b meta (asked r.columns left) block left ≡ block_cost b meta r block (what_is_left r.limit (rows_before i xs))
-    = ap (λ w. lengths (or_nothing (option_map (λ p. p.0) (meaning w)))) (same_request b meta r.columns left r.limit block left) ∙ ap (block_cost b meta r block) same in
-    let grown = cost_more b meta r meta.blocks i block x.batch xs r.limit h x.at in
-    omega (arith, one x.batch here, before, cost, grown)
-
-pub one_more : (content after : Option (List ℕ)) (meta : Meta) (r : Request) (i : ℕ) (block : FileBlock) (left : Option ℕ) (rows more : ℕ) (f mid f' : ℕ) → slice_get meta.blocks i ≡ Some block → left ≡ what_is_left r.limit rows → after ≡ content
-    → IfSome after (λ b. (x : TableBatch) → batch_of so_far.custom to_read b (asked_of b meta r) block left ≡ Ok x → more ≡ x.rows) → FetchedUpTo content meta r i rows f mid → BlockFetched after meta (asked r.columns left) block left mid f'
-    → FetchedUpTo content meta r (i + 1) (rows + more) f f'
-one_more None after meta r i block left rows more f mid f' h is same height before one = tt
-one_more (Some b) after meta r i block left rows more f mid f' h is same height before one = λ xs all.
-    let n : suc i ≡ i + 1 = omega arith in
-    let known = before xs all in
-    let here : BlockFetched (Some b) meta (asked r.columns left) block left mid f' = subst (λ o. BlockFetched o meta (asked r.columns left) block left mid f') same one in
-    let tall = subst (λ o. IfSome o (λ b. (x : TableBatch) → batch_of so_far.custom to_read b (asked_of b meta r) block left ≡ Ok x → more ≡ x.rows)) same height in
-    let x = at_block b (asked_of b meta r) true meta.blocks i block r.limit xs all h in
-    let read : batch_of so_far.custom to_read b (asked_of b meta r) block left ≡ Ok x.batch = subst (λ l. batch_of so_far.custom to_read b (asked_of b meta r) block l ≡ Ok x.batch) (sym (is ∙ ap (what_is_left r.limit) known.1)) x.read in
-    let cost = read_there b meta r i block left rows f mid f' xs h is known.1 all here known.0 in
-    let sum : rows_before (i + 1) xs ≡ rows_before i xs + x.batch.rows = ap (λ l. sum_by (λ y. y.rows) l) (take_next xs i x.batch x.at) ∙ sum_by_push (λ y. y.rows) (take i xs) x.batch in
-    (subst (λ k. f' ≤ f + blocks_cost b meta r (take k meta.blocks) xs r.limit) n cost, omega (arith, known.1, tall x.batch read, sum))
-
--- where a block is not sent, no more is fetched than all blocks cost
-pub and_stopped : (content after : Option (List ℕ)) (meta : Meta) (r : Request) (i : ℕ) (block : FileBlock) (left : Option ℕ) (rows : ℕ) (f mid f' : ℕ) → slice_get meta.blocks i ≡ Some block → left ≡ what_is_left r.limit rows → after ≡ content
-    → FetchedUpTo content meta r i rows f mid → BlockFetched after meta (asked r.columns left) block left mid f' → BlocksFetched content meta r meta.blocks f f'
-and_stopped None after meta r i block left rows f mid f' h is same before one = tt
-and_stopped (Some b) after meta r i block left rows f mid f' h is same before one = λ xs all.
-    let known = before xs all in
-    let here : BlockFetched (Some b) meta (asked r.columns left) block left mid f' = subst (λ o. BlockFetched o meta (asked r.columns left) block left mid f') same one in
-    omega (arith, read_there b meta r i block left rows f mid f' xs h is known.1 all here known.0, cost_less b meta r meta.blocks (suc i) xs r.limit)
-
-pub among_all : (content : Option (List ℕ)) (meta : Meta) (r : Request) (i rows f f' : ℕ) → FetchedUpTo content meta r i rows f f' → BlocksFetched content meta r meta.blocks f f'
-among_all None meta r i rows f f' h = tt
-among_all (Some b) meta r i rows f f' h = λ xs is. omega (arith, (h xs is).0, cost_less b meta r meta.blocks i xs r.limit)
-
--- nothing was fetched
-pub none_fetched : (content : Option (List ℕ)) (meta : Meta) (r : Request) (f f' : ℕ) → f' ≤ f → BlocksFetched content meta r meta.blocks f f'
-none_fetched None meta r f f' h = tt
-none_fetched (Some b) meta r f f' h = λ xs is. omega (arith, h)
+    omega (arith, h d y.0 y.1, by_rising.cost, by_asked.cost, moved)
 
 -- ── the footer ──
 
@@ -270,118 +140,3 @@ footer_whole (Some b) size end text n f f' s long g t says within h = λ x is.
     let same : x ≡ take n (drop (size - 10 - n) b) = cc in
     let count : length x ≡ length (take n (drop (size - 10 - n) b)) = ap length same in
     omega (arith, count, length-take n (drop (size - 10 - n) b), length-drop (size - 10 - n) b, s, within, h)
-
--- ── the file ──
-
-batches_cost : (b : List ℕ) (meta : Meta) (r : Request) (is_first : Bool) (blocks : List FileBlock) (left : Option ℕ) (parts : List Range) (xs : List TableBatch) → batches_fetched b meta r blocks left ≡ Ok parts → batches_of so_far.custom to_read b (asked_of b meta r) is_first blocks left ≡ Ok xs → lengths parts ≡ blocks_cost b meta r blocks xs left
-unfolding batches_fetched batches_of
-batches_cost b meta r is_first [] left parts xs h k = ap (λ (r : Reading (List Range)). lengths (or_nothing (meaning r))) (sym h)
-batches_cost b meta r is_first (block ∷ blocks) left parts xs h k =
-    let first = went (batch_fetched b meta r block left) _ parts h in
-    let others = went (batches_fetched b meta r blocks (what_is_left left first.got.1)) _ parts first.rest in
-    let read = went (batch_of so_far.custom to_read b (asked_of b meta r) block left) _ xs k in
-    let flag = went (dictionaries_sent is_first to_read (asked_of b meta r)) _ xs read.rest in
-    let behind = went (batches_of so_far.custom to_read b (asked_of b meta r) false blocks (what_is_left left read.got.rows)) _ xs flag.rest in
-    let all : read.got ∷ behind.got ≡ xs = cc (behind.rest) in
-    let p = batch_parts b (asked_of b meta r) block left read.got read.first in
-    let same = block_fetched b meta r block left p.message p.rows p.is p.count in
-    let rows : first.got.1 ≡ read.got.rows = ap (λ w. (answer_or first.got w).1) (sym first.first ∙ same.is) ∙ sym p.height in
-    let here : batches_fetched b meta r blocks (what_is_left left read.got.rows) ≡ Ok others.got = subst (λ n. batches_fetched b meta r blocks (what_is_left left n) ≡ Ok others.got) rows others.first in
-    let rest = batches_cost b meta r false blocks (what_is_left left read.got.rows) others.got behind.got here behind.first in
-    let cost : block_cost b meta r block left ≡ lengths first.got.0 = ap (λ r. lengths (or_nothing (option_map (λ x. x.0) (meaning r)))) first.first in
-    let whole : lengths parts ≡ lengths (first.got.0 ++ others.got) = ap (λ (r : Reading (List Range)). lengths (or_nothing (meaning r))) (sym others.rest) in
-    let sum : blocks_cost b meta r (block ∷ blocks) xs left ≡ block_cost b meta r block left + blocks_cost b meta r blocks behind.got (what_is_left left read.got.rows) = ap (λ ys. blocks_cost b meta r (block ∷ blocks) ys left) (sym all) in
-    omega (arith, cost, rest, whole, sum_by-append (λ (y : Range). y.length) first.got.0 others.got, sum)
-
-record FileParts (b : List ℕ) (r : Request) : Type 0 where
-  meta : Meta
-  footer : List ℕ
-  batches : List TableBatch
-  says : meta_of b ≡ Ok meta
-  is : footer_of b ≡ Ok footer
-  read : batches_of so_far.custom to_read b (asked_of b meta r) true meta.blocks r.limit ≡ Ok batches
-  total : lengths (ranges_fetched b r) ≡ 10 + length footer + blocks_cost b meta r meta.blocks batches r.limit
-
-let_through : (x : Bool) (e : IpcError) → unless (false || not x) e ≡ Ok tt → x ≡ false
-let_through true e h = cc
-let_through false e h = refl
-
-none_read : (blocks dictionaries : List FileBlock) → has_any (dictionaries_read blocks dictionaries) ≡ false → dictionaries_read blocks dictionaries ≡ []
-none_read [] ds h = refl
-none_read (x ∷ xs) [] h = refl
-none_read (x ∷ xs) (d ∷ ds) h = cc
-
-none_needed : (needs : FileBlock → Reading (List Range)) → all_need needs [] ≡ Ok []
-unfolding all_need
-none_needed needs = refl
-
-none_held : (b : List ℕ) (meta : Meta) → dictionaries_of b meta [] [] ≡ Ok []
-unfolding dictionaries_of
-none_held b meta = refl
-
--- the lengths of two ranges before others
-in_parts : (x y : Range) (zs : List Range) → lengths (x ∷ y ∷ zs) ≡ x.length + y.length + lengths zs
-in_parts x y zs =
-    let first = sum_by-cons (λ (z : Range). z.length) x (y ∷ zs) in
-    let second = sum_by-cons (λ (z : Range). z.length) y zs in
-    omega (arith, first, second)
-
-file_parts : (b : List ℕ) (r : Request) (t : ArrowTable) → file_reading so_far to_read b r None ≡ Ok t → FileParts b r
-unfolding file_reading ranges_fetched
-file_parts b r t h =
-    let known = went nothing _ t h in
-    let meta = went (meta_of b) _ t known.rest in
-    let footer = meta-footer b meta.got meta.first in
-    let custom = went (custom_of so_far.custom b) _ t meta.rest in
-    let columns = went (columns_right r.columns (width meta.got.schema.fields)) _ t custom.rest in
-    let floats = went (free_of (feature_faults r.columns meta.got.schema.fields (so_far.chosen meta.got.schema.order (fields_as_asked r.columns meta.got.schema.fields)))) _ t columns.rest in
-    let size = went nothing _ t floats.rest in
-    let read = went (unless (false || not (has_any (dictionaries_read meta.got.blocks meta.got.dictionaries))) (Unsupported features.NotYet)) _ t size.rest in
-    let dictionaries = went (dictionaries_of b meta.got [] (dictionaries_read meta.got.blocks meta.got.dictionaries)) _ t read.rest in
-    let none = none_read meta.got.blocks meta.got.dictionaries (let_through (has_any (dictionaries_read meta.got.blocks meta.got.dictionaries)) (Unsupported features.NotYet) read.first) in
-    let empty : dictionaries_of b meta.got [] (dictionaries_read meta.got.blocks meta.got.dictionaries) ≡ Ok [] = rw none (none_held b meta.got) in
-    let held : dictionaries.got ≡ [] = ap (answer_or []) (sym dictionaries.first ∙ empty) in
-    let holding : Dictionaries → Asked = λ d. record { order = meta.got.schema.order; fields = meta.got.schema.fields; columns = r.columns; dictionaries = d; most = length b } in
-    let batches = went (batches_of so_far.custom to_read b (holding dictionaries.got) true meta.got.blocks r.limit) _ t dictionaries.rest in
-    let all : batches_of so_far.custom to_read b (asked_of b meta.got r) true meta.got.blocks r.limit ≡ Ok batches.got = subst (λ d. batches_of so_far.custom to_read b (holding d) true meta.got.blocks r.limit ≡ Ok batches.got) held batches.first in
-    let parts = batches_depend so_far.custom b meta.got r true meta.got.blocks dictionaries.got r.limit batches.got batches.first in
-    let needless : all_need (λ block. dictionary_fetched b meta.got block) (dictionaries_read meta.got.blocks meta.got.dictionaries) ≡ Ok [] = rw none (none_needed _) in
-    let all_parts = parts_are b r meta.got footer.0 [] parts.parts meta.first footer.1 needless parts.needed in
-    let trailer : Range = record { place = length b - 10; length = 10 } in
-    let foot : Range = record { place = length b - 10 - length footer.0; length = length footer.0 } in
-    let whole : lengths (ranges_fetched b r) ≡ lengths (trailer ∷ foot ∷ parts.parts) = ap (λ r. lengths (or_nothing (meaning r))) all_parts in
-    let cost = batches_cost b meta.got r true meta.got.blocks r.limit parts.parts batches.got parts.needed all in
-    record {
-      meta = meta.got;
-      footer = footer.0;
-      batches = batches.got;
-      says = meta.first;
-      is = footer.1;
-      read = all;
-      total = whole ∙ in_parts trailer foot parts.parts ∙ ap (λ n. 10 + length footer.0 + n) cost;
-    }
-
-table_parts : (b : List ℕ) (r : Request) → IsSome (file_table b r) → FileParts b r
-unfolding file_table
-table_parts b r h = by_reading (file_reading so_far to_read b r None) refl h
-  where
-    by_reading : (w : Reading ArrowTable) → file_reading so_far to_read b r None ≡ w → IsSome (meaning w) → FileParts b r
-    by_reading (Ok t) is h = file_parts b r t is
-    by_reading (Err es) is h = cc
-
-pub file_by_footer : (content : Option (List ℕ)) (r : Request) (f f' : ℕ) → FooterFetched content f f' → FileFetched content r f f'
-file_by_footer None r f f' h = tt
-file_by_footer (Some b) r f f' h = λ some.
-    let p = table_parts b r some in
-    omega (arith, h p.footer p.is, p.total)
-
-pub file_by_blocks : (content after : Option (List ℕ)) (meta : Meta) (r : Request) (f mid f' : ℕ) → FooterFetched content f mid → IfSome content (λ b. FileSays b meta) → after ≡ content → BlocksFetched after meta r meta.blocks mid f' → FileFetched content r f f'
-file_by_blocks None after meta r f mid f' footer says same blocks = tt
-file_by_blocks (Some b) after meta r f mid f' footer says same blocks = λ some.
-    let p = table_parts b r some in
-    let is : p.meta ≡ meta = let q = p.says in let k = says.read in cc in
-    let here : BlocksFetched (Some b) meta r meta.blocks mid f' = subst (λ o. BlocksFetched o meta r meta.blocks mid f') same blocks in
-    let read : batches_of so_far.custom to_read b (asked_of b meta r) true meta.blocks r.limit ≡ Ok p.batches
-    = subst (λ (x : Meta). batches_of so_far.custom to_read b (asked_of b x r) true x.blocks r.limit ≡ Ok p.batches) is p.read in
-    let total : blocks_cost b p.meta r p.meta.blocks p.batches r.limit ≡ blocks_cost b meta r meta.blocks p.batches r.limit = ap (λ (x : Meta). blocks_cost b x r x.blocks p.batches r.limit) is in
-    omega (arith, footer p.footer p.is, here p.batches read, p.total, total)

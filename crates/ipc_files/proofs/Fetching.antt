@@ -27,7 +27,7 @@ stated_ranges m body (i ∷ is) =
     omega (arith, rest, sum_by-cons (λ (y : Range). y.length) (record { place = body + magnitude (Rattle.arrow_spec.specs.Arrays.range_of m i).offset; length = magnitude (Rattle.arrow_spec.specs.Arrays.range_of m i).length }) (ranges m body is))
 
 -- so are those of a batch of so many rows
-stated_rows : (m : RecordBatch) (body : ℕ) (asked : Option (List ℕ)) (fs : Fields) (rows : ℕ) → lengths (for_rows rows (ranges m body (columns_looked_at m asked fs 0 first_place))) ≡ buffers_fetched m asked fs rows
+pub stated_rows : (m : RecordBatch) (body : ℕ) (asked : Option (List ℕ)) (fs : Fields) (rows : ℕ) → lengths (for_rows rows (ranges m body (columns_looked_at m asked fs 0 first_place))) ≡ buffers_fetched m asked fs rows
 stated_rows m body asked fs zero = refl
 stated_rows m body asked fs (suc n) = stated_ranges m body (columns_looked_at m asked fs 0 first_place)
 
@@ -70,11 +70,6 @@ block_fetched b meta r block left m rows is count =
     let source_is : buffers_fetched source r.columns meta.schema.fields (share left rows) ≡ buffers_fetched (record_batch_of meta.schema.order m.version m.tables (block_body b block)) r.columns meta.schema.fields (share left rows)
     = ap (λ (x : RecordMessage). buffers_fetched (record_batch_of meta.schema.order x.version x.tables (block_body b block)) r.columns meta.schema.fields (share left rows)) same in
     record { parts = front ∷ buffers; is = e; cost = omega (arith, cost, message_is, rest, sum, source_is) }
-
--- only the columns of a request count
-pub same_request : (b : List ℕ) (meta : Meta) (columns : Option (List ℕ)) (limit other : Option ℕ) (block : FileBlock) (left : Option ℕ) → batch_fetched b meta (record { columns = columns; limit = limit }) block left ≡ batch_fetched b meta (record { columns = columns; limit = other }) block left
-unfolding batch_fetched
-same_request b meta columns limit other block left = refl
 
 -- ── a prefix ──
 

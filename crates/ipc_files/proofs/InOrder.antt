@@ -12,14 +12,14 @@ use Rattle.std.proofs.lemmas.Option.{same_Some}
 use Rattle.arrow_spec.specs.declared.error.IpcError.{IpcError}
 use Rattle.arrow_spec.specs.declared.error.IpcError.TheVariants as errors
 use Rattle.arrow_spec.specs.Columns.{stands_in}
-use Rattle.arrow_spec.specs.Features.{chosen_floats, chosen_top_floats, feature_faults}
-use Rattle.arrow_spec.specs.Files.{FileBlock, Meta, Request, TableBatch, batch_of, columns_right, fields_as_asked, to_read, wrong_columns}
+use Rattle.arrow_spec.specs.Arrays.{Dictionaries}
+use Rattle.arrow_spec.specs.Features.{chosen_floats}
+use Rattle.arrow_spec.specs.Files.{FileBlock, Meta, Request, TableBatch, batch_of, columns_right, to_read, wrong_columns}
 use Rattle.arrow_spec.specs.Kinds.{Fields, none, field}
 use Rattle.arrow_spec.specs.Readings.{Gives, Reading, Refuses, bind, free_of, refusals, unless, ◌>>=◌}
 use Rattle.arrow_types.specs.Schemas.{Keyed}
 use Rattle.arrow_arrays.specs.Batches.{Batch}
 use Rattle.transcode_laws.specs.Built.{so_far}
-use Rattle.transcode_laws.specs.Files.{asked_of}
 use Rattle.ipc_read.specs.Batches.{table_of}
 use Rattle.ipc_read.specs.Projection.{are_columns, are_rising, chosen}
 use Rattle.ipc_read.proofs.Chosen.{all_chosen}
@@ -28,17 +28,16 @@ use Rattle.ipc_projection.specs.Projections.{IsReordered}
 use Rattle.ipc_projection.specs.declared.projection.ProjectionInfo.{ProjectionInfo}
 use Rattle.ipc_projection.proofs.Numbers.{below_each, stands_once}
 use Rattle.ipc_projection.proofs.Projected.{applied_schema, chosen_stand}
-use Rattle.ipc_files.specs.Blocks.{BlockRead, ReadsBlock, batch_in}
+use Rattle.ipc_read_laws.specs.Held.{Held, HoldsCells}
+use Rattle.ipc_files.specs.Blocks.{BlockRead, ReadsBlock, asked_under, batch_in}
 use Rattle.ipc_files.specs.Fetching.{BlockFetched}
-use Rattle.ipc_files.specs.FileViews.{IsBuilt, meta_view}
+use Rattle.ipc_files.specs.FileViews.{meta_view}
 use Rattle.ipc_files.specs.Selections.{IsMade, MayProject, numbers_read, schema_shown}
-use Rattle.ipc_files.specs.Transcode.{asked}
+use Rattle.ipc_files.specs.Requests.{asked}
 use Rattle.ipc_files.specs.declared.metadata.FileMetadata.{FileMetadata}
-use Rattle.ipc_files.proofs.AskedFields.{built_from, numbers_sent, same_columns}
 use Rattle.ipc_files.proofs.ReadBatches.{gives_block}
 use Rattle.ipc_files.proofs.Selected.{IsSelected, right_of_file, selected_answer, selected_fetched}
-use Rattle.ipc_files.proofs.SentBlocks.{refused_ordered}
-use Rattle.ipc_files.proofs.SentFiles.{columns_sent}
+use Rattle.ipc_files.proofs.ReadBlocks.{refused_ordered}
 
 -- ── a projection that was made for a schema ──
 
@@ -128,40 +127,25 @@ right_of_projection s (Some cs) p h = right_from (length s) [] cs below once (λ
         let same : a.0 ≡ b.0 = stands_once p.columns.items h.rising a.0 b.0 c a.1 b.1 in
         same_Some j k (sym a.2 ∙ ap (entry p.map) same ∙ b.2)
 
--- ── what is built of the columns ──
+-- ── the features of the columns ──
 
 floats_same : (ds cs : List ℕ) (fs : Fields) (c : ℕ) → ((c : ℕ) → stands_in ds c ≡ stands_in cs c) → chosen_floats (Some ds) fs c ≡ chosen_floats (Some cs) fs c
 floats_same ds cs none c same = refl
 floats_same ds cs (field name nullable metadata k others) c same = rw (same c, floats_same ds cs others (suc c) same) refl
 
-tops_same : (ds cs : List ℕ) (fs : Fields) (c : ℕ) → ((c : ℕ) → stands_in ds c ≡ stands_in cs c) → chosen_top_floats (Some ds) fs c ≡ chosen_top_floats (Some cs) fs c
-tops_same ds cs none c same = refl
-tops_same ds cs (field name nullable metadata k others) c same = rw (same c, tops_same ds cs others (suc c) same) refl
-
-features_same : (ds cs : List ℕ) (fs : Fields) (carried : Bool) → ((c : ℕ) → stands_in ds c ≡ stands_in cs c) → feature_faults (Some ds) fs carried ≡ feature_faults (Some cs) fs carried
-features_same ds cs fs carried same = rw (tops_same ds cs fs 0 same, floats_same ds cs fs 0 same) refl
-
--- whether the columns asked for are built
-abbrev are_built : Option (List ℕ) → Meta → Bool
-are_built columns meta = so_far.chosen meta.schema.order (fields_as_asked columns meta.schema.fields)
-
-built_numbers : (file : FileMetadata) (ds cs : List ℕ) → ((c : ℕ) → stands_in ds c ≡ stands_in cs c) → IsBuilt (meta_view file) (Some cs) → IsBuilt (meta_view file) (Some ds)
-built_numbers file ds cs same h = built_from file (Some ds) (rc_value file.schema) refl (numbers_sent (rc_value file.schema) ds (same_columns (rc_value file.schema) cs ds same (columns_sent file (Some cs) h)))
-
-both_ways : (a b : Bool) → (a ≡ true → b ≡ true) → (b ≡ true → a ≡ true) → a ≡ b
-both_ways true b f g = sym (f refl)
-both_ways false true f g = g refl
-both_ways false false f g = refl
+-- those of a projection are those of the numbers that were asked for
+pub floats_asked : (s : List Keyed) (fs : Fields) (columns : Option (List ℕ)) (p : Option ProjectionInfo) → MayProject s columns p → chosen_floats (numbers_read p) fs 0 ≡ chosen_floats columns fs 0
+floats_asked s fs None None h = refl
+floats_asked s fs None (Some p) h = absurd h
+floats_asked s fs (Some cs) None h = absurd h
+floats_asked s fs (Some cs) (Some p) h = floats_same p.columns.items cs fs 0 h.same
 
 -- the place of the features of their kinds
 abbrev kinds_place : Option (List ℕ) → Meta → Reading (Unit {0})
-kinds_place columns meta = free_of (feature_faults columns meta.schema.fields (are_built columns meta))
+kinds_place columns meta = free_of (chosen_floats columns meta.schema.fields 0)
 
-place_same : (file : FileMetadata) (ds cs : List ℕ) → ((c : ℕ) → stands_in ds c ≡ stands_in cs c) → kinds_place (Some ds) (meta_view file) ≡ kinds_place (Some cs) (meta_view file)
-place_same file ds cs same =
-    let built : are_built (Some ds) (meta_view file) ≡ are_built (Some cs) (meta_view file) =
-    both_ways (are_built (Some ds) (meta_view file)) (are_built (Some cs) (meta_view file)) (built_numbers file cs ds (λ c. sym (same c))) (built_numbers file ds cs same) in
-    ap (λ (t : Bool). free_of (feature_faults (Some ds) (meta_view file).schema.fields t)) built ∙ ap free_of (features_same ds cs (meta_view file).schema.fields (are_built (Some cs) (meta_view file)) same)
+place_same : (meta : Meta) (ds cs : List ℕ) → ((c : ℕ) → stands_in ds c ≡ stands_in cs c) → kinds_place (Some ds) meta ≡ kinds_place (Some cs) meta
+place_same meta ds cs same = ap free_of (floats_same ds cs meta.schema.fields 0 same)
 
 went_on : {A : Type 0} (p : Reading (Unit {0})) (x : Reading A) (t : A) → (p >>= λ _. x) ≡ Ok t → p ≡ Ok tt
 unfolding bind
@@ -174,52 +158,57 @@ refused_behind (Ok u) x y e on h = on h
 refused_behind (Err es) x y e on h = h
 
 -- a block under a request, without the place before it
-abbrev block_of : List ℕ → Request → Meta → FileBlock → Reading TableBatch
-block_of b r meta block = batch_of so_far.custom to_read b (asked_of b meta r) block r.limit
+abbrev block_of : List ℕ → Request → Meta → Dictionaries → FileBlock → Reading TableBatch
+block_of b r meta d block = batch_of so_far.custom to_read b (asked_under b meta d r) block r.limit
 
-in_place : (b : List ℕ) (r : Request) (meta : Meta) (block : FileBlock) → kinds_place r.columns meta ≡ Ok tt → batch_in r b meta block ≡ block_of b r meta block
+in_place : (b : List ℕ) (r : Request) (meta : Meta) (d : Dictionaries) (block : FileBlock) → kinds_place r.columns meta ≡ Ok tt → batch_in r b meta d block ≡ block_of b r meta d block
 unfolding batch_in bind
-in_place b r meta block h = rw h refl
+in_place b r meta d block h = rw h refl
 
-was_placed : (b : List ℕ) (r : Request) (meta : Meta) (block : FileBlock) (t : TableBatch) → batch_in r b meta block ≡ Ok t → kinds_place r.columns meta ≡ Ok tt
+was_placed : (b : List ℕ) (r : Request) (meta : Meta) (d : Dictionaries) (block : FileBlock) (t : TableBatch) → batch_in r b meta d block ≡ Ok t → kinds_place r.columns meta ≡ Ok tt
 unfolding batch_in
-was_placed b r meta block t h = went_on (kinds_place r.columns meta) (block_of b r meta block) t h
+was_placed b r meta d block t h = went_on (kinds_place r.columns meta) (block_of b r meta d block) t h
 
-refused_in_order : (b : List ℕ) (file : FileMetadata) (ds cs : List ℕ) (left : Option ℕ) (block : FileBlock) (e : IpcError) → ((c : ℕ) → stands_in ds c ≡ stands_in cs c)
-    → Refuses e (refusals (batch_in (asked (Some ds) left) b (meta_view file) block)) → Refuses e (refusals (batch_in (asked (Some cs) left) b (meta_view file) block))
+refused_in_order : (b : List ℕ) (meta : Meta) (d : Dictionaries) (ds cs : List ℕ) (left : Option ℕ) (block : FileBlock) (e : IpcError) → ((c : ℕ) → stands_in ds c ≡ stands_in cs c)
+    → Refuses e (refusals (batch_in (asked (Some ds) left) b meta d block)) → Refuses e (refusals (batch_in (asked (Some cs) left) b meta d block))
 unfolding batch_in
-refused_in_order b file ds cs left block e same h =
-    subst (λ (p : Reading (Unit {0})). Refuses e (refusals (p >>= λ _. block_of b (asked (Some cs) left) (meta_view file) block))) (place_same file ds cs same)
-    (refused_behind (kinds_place (Some ds) (meta_view file)) (block_of b (asked (Some ds) left) (meta_view file) block) (block_of b (asked (Some cs) left) (meta_view file) block) e
-    (refused_ordered e b (asked_of b (meta_view file) (asked (Some cs) left)) ds cs block left same) h)
+refused_in_order b meta d ds cs left block e same h =
+    subst (λ (p : Reading (Unit {0})). Refuses e (refusals (p >>= λ _. block_of b (asked (Some cs) left) meta d block))) (place_same meta ds cs same)
+    (refused_behind (kinds_place (Some ds) meta) (block_of b (asked (Some ds) left) meta d block) (block_of b (asked (Some cs) left) meta d block) e
+    (refused_ordered e b (asked_under b meta d (asked (Some cs) left)) ds cs block left same) h)
 
 -- ── what is given ──
 
--- what a call gives of a block under some numbers
-abbrev pub GivesBatch : Option (List ℕ) → FileMetadata → Option (List ℕ) → Option ℕ → FileBlock → Result Batch IpcError → Type 0
-GivesBatch content file columns left block result = IfSome content (λ b. Gives table_of result (batch_in (asked columns left) b (meta_view file) block))
+-- what a call gives of a block under some numbers, and under dictionaries
+abbrev pub GivesUnder : List ℕ → FileMetadata → Dictionaries → Option (List ℕ) → Option ℕ → FileBlock → Result Batch IpcError → Type 0
+GivesUnder b file d columns left block result = Gives table_of result (batch_in (asked columns left) b (meta_view file) d block)
 
-pub refused_given : (content : Option (List ℕ)) (file : FileMetadata) (columns : Option (List ℕ)) (p : Option ProjectionInfo) (numbers : Option (List ℕ)) (left : Option ℕ) (block : FileBlock) (result : Result Batch IpcError) (e : IpcError) → numbers ≡ numbers_read p → result ≡ Err e
-    → MayProject (rc_value file.schema) columns p → GivesBatch content file numbers left block (Err e) → GivesBatch content file columns left block result
-refused_given None file columns p numbers left block result e same is may h = tt
-refused_given (Some b) file columns None numbers left block result e same is may h =
-    subst (λ r. GivesBatch (Some b) file columns left block r) (sym is) (subst (λ ds. GivesBatch (Some b) file ds left block (Err e)) (all_numbers (rc_value file.schema) columns None numbers refl same may) h)
-refused_given (Some b) file None (Some p) numbers left block result e same is may h = absurd may
-refused_given (Some b) file (Some cs) (Some p) numbers left block result e same is may h =
-    subst (λ r. GivesBatch (Some b) file (Some cs) left block r) (sym is) (refused_in_order b file p.columns.items cs left block e may.same (subst (λ ds. GivesBatch (Some b) file ds left block (Err e)) same h))
+-- under those whose cells are held
+abbrev pub GivesBatch : Option (List ℕ) → Held → FileMetadata → Option (List ℕ) → Option ℕ → FileBlock → Result Batch IpcError → Type 0
+GivesBatch content held file columns left block result = IfSome content (λ b. (d : Dictionaries) → HoldsCells d held → GivesUnder b file d columns left block result)
 
-pub ordered_given : (content : Option (List ℕ)) (file : FileMetadata) (columns : Option (List ℕ)) (p : ProjectionInfo) (numbers : Option (List ℕ)) (left : Option ℕ) (block : FileBlock) (x : Batch) (result : Result Batch IpcError) → numbers ≡ Some p.columns.items
-    → MayProject (rc_value file.schema) columns (Some p) → IfOk result (IsReordered p.map x) → IfErr result (λ e. e ≡ errors.Memory) → GivesBatch content file numbers left block (Ok x)
-    → IfSome content (λ b. BlockRead b (asked_of b (meta_view file) (asked numbers left)) block left x) → GivesBatch content file columns left block result
-ordered_given None file columns p numbers left block x result is may order memory gives read = tt
-ordered_given (Some b) file columns p numbers left block x result is may order memory gives read =
+pub refused_given : (content : Option (List ℕ)) (held : Held) (file : FileMetadata) (columns : Option (List ℕ)) (p : Option ProjectionInfo) (numbers : Option (List ℕ)) (left : Option ℕ) (block : FileBlock) (result : Result Batch IpcError) (e : IpcError) → numbers ≡ numbers_read p → result ≡ Err e
+    → MayProject (rc_value file.schema) columns p → GivesBatch content held file numbers left block (Err e) → GivesBatch content held file columns left block result
+refused_given None held file columns p numbers left block result e same is may h = tt
+refused_given (Some b) held file columns None numbers left block result e same is may h =
+    subst (λ r. GivesBatch (Some b) held file columns left block r) (sym is) (subst (λ ds. GivesBatch (Some b) held file ds left block (Err e)) (all_numbers (rc_value file.schema) columns None numbers refl same may) h)
+refused_given (Some b) held file None (Some p) numbers left block result e same is may h = absurd may
+refused_given (Some b) held file (Some cs) (Some p) numbers left block result e same is may h = λ d holds.
+    subst (λ r. GivesUnder b file d (Some cs) left block r) (sym is) (refused_in_order b (meta_view file) d p.columns.items cs left block e may.same (subst (λ ds. GivesUnder b file d ds left block (Err e)) same (h d holds)))
+
+pub ordered_given : (content : Option (List ℕ)) (held : Held) (file : FileMetadata) (columns : Option (List ℕ)) (p : ProjectionInfo) (numbers : Option (List ℕ)) (left : Option ℕ) (block : FileBlock) (x : Batch) (result : Result Batch IpcError) → numbers ≡ Some p.columns.items
+    → MayProject (rc_value file.schema) columns (Some p) → IfOk result (IsReordered p.map x) → IfErr result (λ e. e ≡ errors.Memory) → GivesBatch content held file numbers left block (Ok x)
+    → IfSome content (λ b. (d : Dictionaries) → HoldsCells d held → BlockRead b held (asked_under b (meta_view file) d (asked numbers left)) block left x) → GivesBatch content held file columns left block result
+ordered_given None held file columns p numbers left block x result is may order memory gives read = tt
+ordered_given (Some b) held file columns p numbers left block x result is may order memory gives read = λ d holds.
+    let meta = meta_view file in
     let h = selected_by (rc_value file.schema) columns p may in
-    let kinds : kinds_place numbers (meta_view file) ≡ Ok tt = was_placed b (asked numbers left) (meta_view file) block (table_of x) gives in
-    let rising : kinds_place (Some p.columns.items) (meta_view file) ≡ Ok tt = subst (λ ds. kinds_place ds (meta_view file) ≡ Ok tt) is kinds in
-    let here : kinds_place columns (meta_view file) ≡ Ok tt = subst (λ cs. kinds_place cs (meta_view file) ≡ Ok tt) (sym h.are) (sym (place_same file p.columns.items h.numbers h.is.same) ∙ rising) in
-    let block_read : ReadsBlock b (asked_of b (meta_view file) (asked (Some p.columns.items) left)) block left (Ok x) = record { read = subst (λ ds. BlockRead b (asked_of b (meta_view file) (asked ds left)) block left x) is read; refused = tt } in
-    gives_block b (asked columns left) (meta_view file) block result (in_place b (asked columns left) (meta_view file) block here)
-    (selected_answer (Some b) file columns p p.columns.items left block x result refl h (right_of_file file columns (rc_value file.schema) refl (right_of_projection (rc_value file.schema) columns p may)) order memory block_read)
+    let kinds : kinds_place numbers meta ≡ Ok tt = was_placed b (asked numbers left) meta d block (table_of x) (gives d holds) in
+    let rising : kinds_place (Some p.columns.items) meta ≡ Ok tt = subst (λ ds. kinds_place ds meta ≡ Ok tt) is kinds in
+    let here : kinds_place columns meta ≡ Ok tt = subst (λ cs. kinds_place cs meta ≡ Ok tt) (sym h.are) (sym (place_same meta p.columns.items h.numbers h.is.same) ∙ rising) in
+    let block_read : ReadsBlock b held (asked_under b meta d (asked (Some p.columns.items) left)) block left (Ok x) = record { read = subst (λ ds. BlockRead b held (asked_under b meta d (asked ds left)) block left x) is (read d holds); refused = tt } in
+    gives_block b held (asked columns left) meta d block result (in_place b (asked columns left) meta d block here)
+    (selected_answer (Some b) held file d columns p p.columns.items left block x result refl h (right_of_file file columns (rc_value file.schema) refl (right_of_projection (rc_value file.schema) columns p may)) order memory block_read)
 
 pub ordered_fetched : (content : Option (List ℕ)) (file : FileMetadata) (columns : Option (List ℕ)) (p : Option ProjectionInfo) (numbers : Option (List ℕ)) (block : FileBlock) (left : Option ℕ) (f f' : ℕ) → numbers ≡ numbers_read p → MayProject (rc_value file.schema) columns p
     → BlockFetched content (meta_view file) (asked numbers left) block left f f' → BlockFetched content (meta_view file) (asked columns left) block left f f'

@@ -1,7 +1,6 @@
 -- Columns that are read by rising numbers, among all columns of a record batch.
 use Rattle.std.specs.Prelude.{nat_lt, slice_get}
-use Rattle.std.proofs.lemmas.Bool.{and_from, and_parts, lt-ltb}
-use Rattle.std.proofs.lemmas.Option.{slice_get_within}
+use Rattle.std.proofs.lemmas.Bool.{and_parts}
 use Rattle.std.proofs.Common.{◌≡◌, ℕ, zero, suc, List, [], ◌∷◌, length, Option, Some, None, true, refl, sym, ap, ◌∙◌, subst}
 use Rattle.arrow_spec.specs.Columns.{is_chosen}
 use Rattle.arrow_spec.specs.Counts.{Place, RecordBatch, after, first_place}
@@ -56,13 +55,6 @@ picked_count all [] [] h = refl
 picked_count all [] (x ∷ xs) h = absurd h
 picked_count all (d ∷ cs) [] h = absurd h
 picked_count all (d ∷ cs) (x ∷ xs) h = ap suc (picked_count all cs xs h.1)
-
--- numbers in range are those of items
-pub some_item : {A : Type 0} (all : List A) (cs : List ℕ) (xs : List A) → ArePicked all cs xs → are_below (length all) cs ≡ true
-some_item all [] [] h = refl
-some_item all [] (x ∷ xs) h = absurd h
-some_item all (d ∷ cs) [] h = absurd h
-some_item all (d ∷ cs) (x ∷ xs) h = and_from (nat_lt d (length all)) (are_below (length all) cs) (lt-ltb d (length all) (slice_get_within all d x h.0)) (some_item all cs xs h.1)
 
 asked_picked : {A : Type 0} (columns : Option (List ℕ)) (all : List A) → are_rising columns ≡ true → are_columns columns (length all) ≡ true → AreAsked all columns (chosen columns 0 all)
 asked_picked None all rising range = all_chosen 0 all

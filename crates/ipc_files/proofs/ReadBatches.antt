@@ -1,64 +1,83 @@
 -- A record batch of a file that is read by its number.
-use Rattle.std.proofs.Common.{◌≡◌, ℕ, ◌<◌, List, [], map, length, Option, Some, None, Result, Ok, Err, IfOk, IfSome, refl, sym, ◌∙◌, ap, subst, false}
+use Rattle.std.proofs.Common.{◌≡◌, ℕ, ◌<◌, List, [], ◌∷◌, map, length, Option, Some, None, Result, Ok, Err, IfOk, IfSome, refl, sym, ◌∙◌, ap, subst}
 use Rattle.std.specs.Prelude.{slice_get, get_or}
 use Rattle.std.proofs.lemmas.Option.{slice_get-get_or, slice_get-map}
-use Rattle.arrow_spec.specs.declared.error.Feature.{Feature}
 use Rattle.arrow_spec.specs.declared.error.IpcError.{IpcError}
-use Rattle.arrow_spec.specs.declared.error.IpcError.TheVariants.{Unsupported}
+use Rattle.arrow_spec.specs.declared.error.IpcError.TheVariants as errors
 use Rattle.arrow_spec.specs.declared.message.Block.{Block}
-use Rattle.arrow_spec.specs.Features.{chosen_floats, feature_faults}
-use Rattle.arrow_spec.specs.Readings.{Gives, IsAmong, Refuses, bind, free_of, refusals}
-use Rattle.arrow_spec.specs.Files.{Asked, FileBlock, Meta, Request, batch_of, fields_as_asked, to_read}
-use Rattle.arrow_spec.proofs.FeatureFaults.{features-none, features-refused}
-use Rattle.arrow_spec.proofs.Projection.{ok-place, on}
+use Rattle.arrow_spec.specs.Arrays.{Dictionaries}
+use Rattle.arrow_spec.specs.Features.{chosen_floats}
+use Rattle.arrow_spec.specs.Readings.{Gives, Refuses, bind, free_of, refusals}
+use Rattle.arrow_spec.specs.Files.{Asked, FileBlock, Meta, Request, batch_of, to_read}
+use Rattle.arrow_spec.proofs.Projection.{on}
 use Rattle.arrow_arrays.specs.Batches.{Batch}
 use Rattle.arrow_types.specs.Schemas.{Keyed, fields_in}
 use Rattle.ipc_fields.specs.IpcFields.{Ids, fields_with}
 use Rattle.transcode_laws.specs.Built.{so_far}
-use Rattle.transcode_laws.specs.Files.{asked_of}
+use Rattle.ipc_read_laws.specs.Held.{Held, HoldsCells}
 use Rattle.ipc_read.specs.Batches.{table_of}
-use Rattle.ipc_files.specs.Blocks.{BlockRead, ReadsBlock, batch_in}
+use Rattle.ipc_read.specs.Sources.{IsRefusal}
+use Rattle.ipc_files.specs.Blocks.{BlockRead, ReadsBlock, asked_under, batch_in}
 use Rattle.ipc_files.specs.FileBlocks.{block_record, file_block}
-use Rattle.ipc_files.specs.FileViews.{IsBuilt}
-use Rattle.ipc_files.proofs.BlockMessages.{batch_by_record}
-use Rattle.ipc_files.proofs.MissingFeatures.{features_with}
-use Rattle.ipc_files.proofs.StreamSteps.{not_true}
+use Rattle.ipc_files.specs.FileViews.{FileCause}
+use Rattle.ipc_files.proofs.BlockMessages.{batch_by_record, refused_first}
+use Rattle.ipc_files.proofs.ChosenFloats.{chosen_with}
 
-pub batch_not_built : (content : Option (List ℕ)) (r : Request) (meta : Meta) (keyed : List Keyed) (below : Ids) (f : Feature) (block : FileBlock) → (IsBuilt meta r.columns → ⊥) → meta.schema.fields ≡ fields_with (fields_in keyed) below
-    → IsAmong (feature_faults r.columns (fields_in keyed) false) (Unsupported f) → IfSome content (λ b. Gives table_of (Err (Unsupported f)) (batch_in r b meta block))
-unfolding batch_in bind
-batch_not_built None r meta keyed below f block beyond is named = tt
-batch_not_built (Some b) r meta keyed below f block beyond is named =
-    let fs = meta.schema.fields in
-    let same : feature_faults r.columns fs false ≡ feature_faults r.columns (fields_in keyed) false = ap (λ gs. feature_faults r.columns gs false) is ∙ features_with r.columns (fields_in keyed) below false in
-    let here : IsAmong (feature_faults r.columns fs false) (Unsupported f) = subst (λ es. IsAmong es (Unsupported f)) (sym same) named in
-    let place : free_of (feature_faults r.columns fs (so_far.chosen meta.schema.order (fields_as_asked r.columns fs))) ≡ Err (feature_faults r.columns fs false) = rw (not_true _ beyond) (features-refused r.columns fs) in
-    rw place here
+-- what is refused at a place of its own
+pub refused_place : (e : IpcError) (es : List IpcError) → Refuses e es → Refuses e (refusals (free_of es))
+refused_place e [] h = h
+refused_place e (x ∷ xs) h = h
 
-batch_in_block : (b : List ℕ) (r : Request) (meta : Meta) (block : FileBlock) → IsBuilt meta r.columns → chosen_floats r.columns meta.schema.fields 0 ≡ [] → batch_in r b meta block ≡ batch_of so_far.custom to_read b (asked_of b meta r) block r.limit
+-- what is refused of the columns' kinds
+pub kinds_refused : (content : Option (List ℕ)) (h : Held) (r : Request) (meta : Meta) (s : List Keyed) (below : Ids) (block : FileBlock) (result : Result Batch IpcError) (e : IpcError) → result ≡ Err e → meta.schema.fields ≡ fields_with (fields_in s) below → Refuses e (chosen_floats r.columns (fields_in s) 0)
+    → IfSome content (λ b. (d : Dictionaries) → HoldsCells d h → Gives table_of result (batch_in r b meta d block))
+unfolding batch_in
+kinds_refused None h r meta s below block result e is same refused = tt
+kinds_refused (Some b) h r meta s below block result e is same refused = λ d holds.
+    let here : Refuses e (chosen_floats r.columns meta.schema.fields 0) = subst (Refuses e) (sym (ap (λ fs. chosen_floats r.columns fs 0) same ∙ chosen_with r.columns (fields_in s) below 0)) refused in
+    subst (λ q. Gives table_of q (batch_in r b meta d block)) (sym is) (refused_first e (free_of (chosen_floats r.columns meta.schema.fields 0)) (λ _. batch_of so_far.custom to_read b (asked_under b meta d r) block r.limit) (refused_place e (chosen_floats r.columns meta.schema.fields 0) here))
+
+-- why that is
+pub kinds_cause : (e : IpcError) (n m : ℕ) → IsRefusal e → FileCause e n m
+kinds_cause (errors.OutOfSpec kind) n m h = tt
+kinds_cause (errors.Unsupported feature) n m h = tt
+kinds_cause (errors.TooMany counted) n m h = absurd h
+kinds_cause errors.TooDeep n m h = absurd h
+kinds_cause errors.Memory n m h = absurd h
+kinds_cause errors.ReadFault n m h = absurd h
+kinds_cause errors.WriteFault n m h = absurd h
+kinds_cause (errors.Projection index) n m h = absurd h
+kinds_cause errors.TooLarge n m h = absurd h
+kinds_cause errors.SchemaMismatch n m h = absurd h
+kinds_cause (errors.DictionaryReplaced id) n m h = absurd h
+kinds_cause errors.NotRepresentable n m h = absurd h
+kinds_cause errors.State n m h = absurd h
+
+batch_in_block : (b : List ℕ) (r : Request) (meta : Meta) (d : Dictionaries) (block : FileBlock) → chosen_floats r.columns meta.schema.fields 0 ≡ [] → batch_in r b meta d block ≡ batch_of so_far.custom to_read b (asked_under b meta d r) block r.limit
 unfolding batch_in bind
-batch_in_block b r meta block built readable =
-    let kinds : free_of (feature_faults r.columns meta.schema.fields (so_far.chosen meta.schema.order (fields_as_asked r.columns meta.schema.fields))) ≡ Ok tt = rw built (ok-place _ (features-none r.columns meta.schema.fields readable)) in
+batch_in_block b r meta d block readable =
+    let kinds : free_of (chosen_floats r.columns meta.schema.fields 0) ≡ Ok tt = ap free_of readable in
     rw kinds refl
 
-pub gives_block : (b : List ℕ) (r : Request) (meta : Meta) (block : FileBlock) (result : Result Batch IpcError) → batch_in r b meta block ≡ batch_of so_far.custom to_read b (asked_of b meta r) block r.limit → ReadsBlock b (asked_of b meta r) block r.limit result → Gives table_of result (batch_in r b meta block)
-gives_block b r meta block (Ok x) same h =
-    let read : BlockRead b (asked_of b meta r) block r.limit x = h.read in
-    same ∙ batch_by_record to_read b (asked_of b meta r) block r.limit ∙ on (block_record b block) _ read.message read.is ∙ read.read
-gives_block b r meta block (Err e) same h = subst (λ w. Refuses e (refusals w)) (sym same) h.refused
+pub gives_block : (b : List ℕ) (h : Held) (r : Request) (meta : Meta) (d : Dictionaries) (block : FileBlock) (result : Result Batch IpcError) → batch_in r b meta d block ≡ batch_of so_far.custom to_read b (asked_under b meta d r) block r.limit → ReadsBlock b h (asked_under b meta d r) block r.limit result → Gives table_of result (batch_in r b meta d block)
+gives_block b h r meta d block (Ok x) same reads =
+    let read : BlockRead b h (asked_under b meta d r) block r.limit x = reads.read in
+    same ∙ batch_by_record to_read b (asked_under b meta d r) block r.limit ∙ on (block_record b block) _ read.message read.is ∙ read.read
+gives_block b h r meta d block (Err e) same reads = subst (λ w. Refuses e (refusals w)) (sym same) reads.refused
 
-pub batch_given : (content : Option (List ℕ)) (r : Request) (meta : Meta) (block found : FileBlock) (result : Result Batch IpcError) → IsBuilt meta r.columns → chosen_floats r.columns meta.schema.fields 0 ≡ [] → found ≡ block
-    → IfSome content (λ b. ReadsBlock b (asked_of b meta r) found r.limit result) → IfSome content (λ b. Gives table_of result (batch_in r b meta block))
-batch_given None r meta block found result built readable same h = tt
-batch_given (Some b) r meta block found result built readable same h =
-    let here : ReadsBlock b (asked_of b meta r) block r.limit result = subst (λ x. ReadsBlock b (asked_of b meta r) x r.limit result) same h in
-    gives_block b r meta block result (batch_in_block b r meta block built readable) here
+pub batch_given : (content : Option (List ℕ)) (h : Held) (r : Request) (meta : Meta) (block found : FileBlock) (result : Result Batch IpcError) → chosen_floats r.columns meta.schema.fields 0 ≡ [] → found ≡ block
+    → IfSome content (λ b. (d : Dictionaries) → HoldsCells d h → ReadsBlock b h (asked_under b meta d r) found r.limit result) → IfSome content (λ b. (d : Dictionaries) → HoldsCells d h → Gives table_of result (batch_in r b meta d block))
+batch_given None h r meta block found result readable same reads = tt
+batch_given (Some b) h r meta block found result readable same reads = λ d holds.
+    let here : ReadsBlock b h (asked_under b meta d r) block r.limit result = subst (λ x. ReadsBlock b h (asked_under b meta d r) x r.limit result) same (reads d holds) in
+    gives_block b h r meta d block result (batch_in_block b r meta d block readable) here
 
 -- and where it was read, what was read of it
-pub block_given : (content : Option (List ℕ)) (a : List ℕ → Asked) (block found : FileBlock) (left : Option ℕ) (result : Result Batch IpcError) → found ≡ block → IfSome content (λ b. ReadsBlock b (a b) found left result) → IfOk result (λ x. IfSome content (λ b. BlockRead b (a b) block left x))
-block_given None a block found left (Ok x) same h = tt
-block_given (Some b) a block found left (Ok x) same h = subst (λ w. BlockRead b (a b) w left x) same h.read
-block_given content a block found left (Err e) same h = tt
+pub block_given : (content : Option (List ℕ)) (h : Held) (a : List ℕ → Dictionaries → Asked) (block found : FileBlock) (left : Option ℕ) (result : Result Batch IpcError) → found ≡ block → IfSome content (λ b. (d : Dictionaries) → HoldsCells d h → ReadsBlock b h (a b d) found left result)
+    → IfOk result (λ x. IfSome content (λ b. (d : Dictionaries) → HoldsCells d h → BlockRead b h (a b d) block left x))
+block_given None h a block found left (Ok x) same reads = tt
+block_given (Some b) h a block found left (Ok x) same reads = λ d holds. subst (λ w. BlockRead b h (a b d) w left x) same (reads d holds).read
+block_given content h a block found left (Err e) same reads = tt
 
 -- the block of a number
 pub indexed : (blocks : List Block) (i : ℕ) (d : Block) (block : FileBlock) → i < length blocks → d ≡ get_or blocks i d → slice_get (map file_block blocks) i ≡ Some block → file_block d ≡ block

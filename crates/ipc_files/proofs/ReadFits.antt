@@ -1,12 +1,14 @@
 -- What was read of a file's bytes fits: its schema may be written, and the numbers of a block's message have 64 bits.
-use Rattle.std.proofs.Common.{◌≡◌, ℕ, ◌^◌, ◌<◌, List, Result, Ok, Err, IfOk, true, ap, sym, ◌∙◌, subst}
+use Rattle.std.proofs.Common.{◌≡◌, ℕ, ◌^◌, ◌<◌, List, [], Result, Ok, Err, IfOk, true, ap, sym, ◌∙◌, subst}
 use Rattle.std.specs.Rc.{rc_value}
 use Rattle.arrow_spec.specs.declared.error.IpcError.{IpcError}
 use Rattle.arrow_spec.specs.Files.{Meta, meta_in}
 use Rattle.arrow_spec.specs.Laws.{AreBytes}
 use Rattle.arrow_spec.specs.Messages.{record_message}
 use Rattle.ipc_fields.specs.Causes.{Decodes}
-use Rattle.arrow_spec.specs.WrittenSchemas.{SchemaMayBeWritten}
+use Rattle.arrow_spec.specs.Kinds.{uses_in}
+use Rattle.arrow_spec.specs.Schema.{uses_agree}
+use Rattle.arrow_spec.specs.WrittenSchemas.{IdsMayBeWritten, SchemaMayBeWritten}
 use Rattle.arrow_spec.proofs.ReadFiles.{footer_schema_may}
 use Rattle.arrow_types.specs.Schemas.{Keyed, fields_in}
 use Rattle.ipc_fields.specs.IpcFields.{have_shapes, ids_of, schema_view}
@@ -18,7 +20,7 @@ use Rattle.transcode_laws.specs.Files.{HeaderFits}
 use Rattle.transcode_laws.proofs.Headers as headers
 use Rattle.ipc_files.specs.FileViews.{meta_view, WasRead}
 use Rattle.ipc_files.specs.declared.metadata.FileMetadata.{FileMetadata}
-use Rattle.ipc_files.proofs.Counted.{columns_fit}
+use Rattle.ipc_files.proofs.ReadColumns.{fields_column}
 
 -- a block's message
 pub header_fits : (bytes : List ℕ) (r : Result RecordMessage IpcError) → AreBytes bytes → Decodes message_of r (record_message bytes) → IfOk r (λ m. HeaderFits (message_of m).tables)
@@ -40,16 +42,21 @@ pub footer_may : (bytes : List ℕ) (r : Result Footer IpcError) → AreBytes by
 footer_may bytes (Ok f) b h = (footer_schema_may bytes (footer_view f) b h).0
 footer_may bytes (Err e) b h = tt
 
+pub footer_ids : (bytes : List ℕ) (r : Result Footer IpcError) → AreBytes bytes → Decodes footer_view r (meta_in bytes) → IfOk r (λ f. IdsMayBeWritten (footer_view f).schema.fields)
+footer_ids bytes (Ok f) b h = (footer_schema_may bytes (footer_view f) b h).1
+footer_ids bytes (Err e) b h = tt
+
 -- metadata
-pub was_read : (m : FileMetadata) (footer : Footer) → SchemaMayBeWritten (footer_view footer).schema.fields (footer_view footer).schema.metadata → meta_view m ≡ footer_view footer → rc_value m.schema ≡ footer.schema → m.ipc_schema ≡ footer.ipc_schema
+pub was_read : (m : FileMetadata) (footer : Footer) → SchemaMayBeWritten (footer_view footer).schema.fields (footer_view footer).schema.metadata → IdsMayBeWritten (footer_view footer).schema.fields → meta_view m ≡ footer_view footer → rc_value m.schema ≡ footer.schema → m.ipc_schema ≡ footer.ipc_schema
     → have_shapes (fields_in footer.schema) (ids_of footer.ipc_schema.fields.items) ≡ true → m.size < 2 ^ 63 → WasRead m
-was_read m footer may same schema ipc shapes most =
+was_read m footer may ids same schema ipc shapes most =
     let is : SchemaMayBeWritten (meta_view m).schema.fields (meta_view m).schema.metadata = subst (λ (x : Meta). SchemaMayBeWritten x.schema.fields x.schema.metadata) (sym same) may in
     record {
       may = is;
       readable = record {
         shapes = rw (schema, ipc) shapes;
-        columns = columns_fit (rc_value m.schema) (ids_of m.ipc_schema.fields.items) is.fit;
+        columns = fields_column 64 (meta_view m).schema.fields is.fit;
+        agree = subst (λ (x : Meta). uses_agree [] (uses_in x.schema.fields) ≡ Ok tt) (sym same) ids.agree;
         most = most;
       };
     }

@@ -1,14 +1,14 @@
 -- How many bytes are fetched of a file at most.
-use Rattle.std.specs.Prelude.{◌≡◌, ℕ, ◌+◌, ◌≤◌, List, [], ◌∷◌, take, drop, length, ⊤, Option, Ok, Err, None, Some, IsSome, option_map, true}
+use Rattle.std.specs.Prelude.{◌≡◌, ℕ, ◌+◌, ◌≤◌, List, take, drop, length, ⊤, Option, Ok, Err, None, Some, option_map}
 use Rattle.arrow_spec.specs.Readings.{Reading, meaning}
-use Rattle.arrow_spec.specs.Files.{FileBlock, Meta, Request, TableBatch, batch_of, batches_of, footer_of, to_read, what_is_left}
+use Rattle.arrow_spec.specs.Arrays.{Dictionaries}
+use Rattle.arrow_spec.specs.Files.{FileBlock, Meta, Request, TableBatch, batch_of, footer_of, to_read}
 use Rattle.arrow_spec.specs.Messages.{RecordMessage, prefix_of}
 use Rattle.arrow_spec.specs.Needed.{lengths, or_nothing}
-use Rattle.file_laws.specs.Fetched.{batch_fetched, fetched as ranges_fetched}
+use Rattle.file_laws.specs.Fetched.{batch_fetched}
+use Rattle.ipc_files.specs.Blocks.{asked_under}
 use Rattle.ipc_files.specs.FileBlocks.{block_metadata, block_record, message_metadata}
 use Rattle.transcode_laws.specs.Built.{so_far}
-use Rattle.transcode_laws.specs.Files.{asked_of}
-use Rattle.transcode_laws.specs.Meaning.{file_table}
 
 -- a prefix with the metadata behind it
 abbrev pub both_of : Reading (ℕ × ℕ) → ℕ
@@ -22,12 +22,6 @@ message_cost b block = both_of (prefix_of (block_metadata b block))
 -- what is fetched of a block's message and of the buffers that are looked at, where rows are left to be read
 abbrev pub block_cost : List ℕ → Meta → Request → FileBlock → Option ℕ → ℕ
 block_cost b meta r block left = lengths (or_nothing (option_map (λ x. x.0) (meaning (batch_fetched b meta r block left))))
-
--- the same of some blocks, of which some batches were read
-abbrev pub blocks_cost : List ℕ → Meta → Request → List FileBlock → List TableBatch → Option ℕ → ℕ
-blocks_cost b meta r [] xs left = 0
-blocks_cost b meta r (block ∷ blocks) [] left = 0
-blocks_cost b meta r (block ∷ blocks) (x ∷ xs) left = block_cost b meta r block left + blocks_cost b meta r blocks xs (what_is_left left x.rows)
 
 -- ── what a count of fetched bytes has risen by, where bytes are told ──
 
@@ -46,25 +40,13 @@ abbrev pub MessageFetched : Option (List ℕ) → FileBlock → ℕ → ℕ → 
 MessageFetched None block fetched fetched' = ⊤
 MessageFetched (Some b) block fetched fetched' = (m : RecordMessage) → block_record b block ≡ Ok m → fetched' ≤ fetched + message_cost b block
 
--- of a block that means a batch, at most what it costs
+-- of a block that means a batch under any dictionaries, at most what it costs
 abbrev pub BlockFetched : Option (List ℕ) → Meta → Request → FileBlock → Option ℕ → ℕ → ℕ → Type 0
 BlockFetched None meta r block left fetched fetched' = ⊤
 BlockFetched (Some b) meta r block left fetched fetched' =
-    (x : TableBatch) → batch_of so_far.custom to_read b (asked_of b meta r) block left ≡ Ok x → fetched' ≤ fetched + block_cost b meta r block left
-
--- of the first blocks of those that mean batches, at most what they cost
-abbrev pub BlocksFetched : Option (List ℕ) → Meta → Request → List FileBlock → ℕ → ℕ → Type 0
-BlocksFetched None meta r blocks fetched fetched' = ⊤
-BlocksFetched (Some b) meta r blocks fetched fetched' =
-    (xs : List TableBatch) → batches_of so_far.custom to_read b (asked_of b meta r) true meta.blocks r.limit ≡ Ok xs
-    → fetched' ≤ fetched + blocks_cost b meta r blocks xs r.limit
+    (d : Dictionaries) (x : TableBatch) → batch_of so_far.custom to_read b (asked_under b meta d r) block left ≡ Ok x → fetched' ≤ fetched + block_cost b meta r block left
 
 -- of a footer, at most the end of the file and its own length
 abbrev pub FooterFetched : Option (List ℕ) → ℕ → ℕ → Type 0
 FooterFetched None fetched fetched' = ⊤
 FooterFetched (Some b) fetched fetched' = (f : List ℕ) → footer_of b ≡ Ok f → fetched' ≤ fetched + 10 + length f
-
--- of a file that means a table under a request, at most the ranges that the request fetches
-abbrev pub FileFetched : Option (List ℕ) → Request → ℕ → ℕ → Type 0
-FileFetched None r fetched fetched' = ⊤
-FileFetched (Some b) r fetched fetched' = IsSome (file_table b r) → fetched' ≤ fetched + lengths (ranges_fetched b r)

@@ -1,16 +1,17 @@
 -- What the values of a file that is read stand for.
-use Rattle.std.specs.Prelude.{◌≡◌, ℕ, ◌^◌, ◌<◌, List, [], Option, Some, Ok, map, slice_get, true, ⊤}
+use Rattle.std.specs.Prelude.{◌≡◌, ℕ, ◌^◌, ◌<◌, List, [], Ok, map, true, ⊤}
 use Rattle.std.specs.Rc.{rc_value}
 use Rattle.arrow_spec.specs.declared.error.IpcError.{IpcError}
 use Rattle.arrow_spec.specs.declared.error.IpcError.TheVariants.{OutOfSpec, Unsupported, TooMany, TooDeep, ReadFault, Memory}
-use Rattle.arrow_spec.specs.Columns.{is_chosen}
-use Rattle.arrow_spec.specs.Files.{Meta, custom_of, fields_as_asked, meta_of}
+use Rattle.arrow_spec.specs.Files.{Meta, custom_of, meta_of}
+use Rattle.arrow_spec.specs.Kinds.{uses_in}
+use Rattle.arrow_spec.specs.Schema.{uses_agree}
 use Rattle.arrow_spec.specs.WrittenSchemas.{SchemaMayBeWritten}
-use Rattle.arrow_types.specs.Schemas.{Keyed, fields_in}
+use Rattle.arrow_types.specs.Schemas.{fields_in}
 use Rattle.ipc_fields.specs.IpcFields.{have_shapes, ids_of, schema_view}
 use Rattle.ipc_io.specs.Outside.{Rose}
-use Rattle.transcode_laws.specs.Built.{is_sent_kind, so_far}
-use Rattle.ipc_read.specs.Batches.{are_column_kinds}
+use Rattle.transcode_laws.specs.Built.{so_far}
+use Rattle.ipc_read.specs.Batches.{are_column_fields}
 use Rattle.ipc_files.specs.FileBlocks.{file_block}
 use Rattle.ipc_files.specs.declared.metadata.FileMetadata.{FileMetadata}
 
@@ -26,19 +27,12 @@ pub record FileSays (b : List ℕ) (meta : Meta) : Type 0 where
   pub read : meta_of b ≡ Ok meta
   pub no_pairs : custom_of so_far.custom b ≡ Ok []
 
--- the columns of a file that are asked for are built
-abbrev pub IsBuilt : Meta → Option (List ℕ) → Type 0
-IsBuilt meta columns = so_far.chosen meta.schema.order (fields_as_asked columns meta.schema.fields) ≡ true
-
--- each column that is asked for is sent
-abbrev pub AreSentColumns : Option (List ℕ) → List Keyed → Type 0
-AreSentColumns columns s = (i : ℕ) (x : Keyed) → slice_get s i ≡ Some x → is_chosen columns i ≡ true → is_sent_kind x.1.kind ≡ true
-
--- metadata by which batches are read: the IPC fields are those of its schema, its columns may be read where they are built (no size is 0, lists and maps
--- have one child, and a map's is a struct of two fields), and the file's size is below 2^63
+-- metadata by which batches are read: the IPC fields are those of its schema, its columns may be read (no size is 0, lists and maps have one child, and a
+-- map's is a struct of two fields), the uses of each dictionary agree, and the file's size is below 2^63
 pub record IsReadable (m : FileMetadata) : Type 0 where
   pub shapes : have_shapes (fields_in (rc_value m.schema)) (ids_of m.ipc_schema.fields.items) ≡ true
-  pub columns : (columns : Option (List ℕ)) → AreSentColumns columns (rc_value m.schema) → are_column_kinds columns 0 (rc_value m.schema) ≡ true
+  pub columns : are_column_fields (meta_view m).schema.fields ≡ true
+  pub agree : uses_agree [] (uses_in (meta_view m).schema.fields) ≡ Ok tt
   pub most : m.size < 2 ^ 63
 
 -- metadata that was read of bytes: its schema may be written too

@@ -1,9 +1,8 @@
 pub mod FileViews
 pub mod FileBlocks
-pub mod Transcode
+pub mod Requests
 pub mod Blocks
-pub mod Sends
 pub mod Fetching
-pub mod Written
 pub mod Selections
 pub mod RowCounts
+pub mod FileDictionaries

@@ -1,11 +1,9 @@
 -- Columns of a file that are asked for by their numbers, and how they are read.
 use Rattle.std.specs.Prelude.{ℕ, List, Option, None, Some}
 use Rattle.std.specs.Rc.{rc_value}
-use Rattle.std.proofs.Common.{Bor}
 use Rattle.arrow_types.specs.Schemas.{Keyed}
 use Rattle.ipc_projection.specs.Projections.{IsProjection}
 use Rattle.ipc_projection.specs.declared.projection.ProjectionInfo.{ProjectionInfo}
-use Rattle.ipc_files.specs.declared.selection.Selection.{Selection}
 
 -- a projection of the numbers that are asked for, and none where all are
 abbrev pub MayProject : List Keyed → Option (List ℕ) → Option ProjectionInfo → Type 0
@@ -13,16 +11,6 @@ MayProject s None None = Unit {0}
 MayProject s None (Some p) = ⊥
 MayProject s (Some columns) None = ⊥
 MayProject s (Some columns) (Some p) = IsProjection s columns p
-
--- the same of those that are lent
-abbrev pub Projects : List Keyed → Option (Bor (List ℕ)) → Option (Bor ProjectionInfo) → Type 0
-Projects s None None = Unit {0}
-Projects s None (Some p) = ⊥
-Projects s (Some columns) None = ⊥
-Projects s (Some columns) (Some p) = IsProjection s columns.now p.now
-
-abbrev pub IsSelection : Selection → Type 0
-IsSelection s = Projects (rc_value s.file.now.schema) s.columns s.projection
 
 -- the numbers that are read for a projection
 abbrev pub numbers_read : Option ProjectionInfo → Option (List ℕ)

@@ -5,6 +5,7 @@ ghost use Rattle.ipc_io.specs.Outside.{IsSize, SourceKept};
 ghost use Rattle.ipc_schema.specs.Views.{message_of};
 ghost use Rattle.transcode_laws.specs.Files.{HeaderFits};
 ghost use Rattle.ipc_files.specs.FileBlocks.{block_header, message_metadata, plain_message, Lies, PrefixIn, BlockIn, GivesIn, file_block};
+ghost use Rattle.ipc_files.specs.FileDictionaries.{DictionaryIn};
 ghost use Rattle.ipc_files.specs.FileViews.{FileCause};
 ghost use Rattle.ipc_files.specs.Fetching.{FrontFetched, MessageFetched, MetadataFetched};
 
@@ -12,8 +13,8 @@ use crate::fetch::fetch;
 use crate::integers::magnitude;
 use arrow_spec::{Block, IpcError, OutOfSpecKind};
 use ipc_schema::{
-    RecordMessage, Source, is_continuation, metadata_length, read_record_message,
-    refuse_message_pairs,
+    DictionaryMessage, RecordMessage, Source, is_continuation, metadata_length,
+    read_dictionary_message, read_record_message, refuse_message_pairs,
 };
 use std::alloc::Global;
 
@@ -107,6 +108,24 @@ pub(crate) fn read_block_message<S: Source>(
 {
     let bytes = fetch_metadata(alloc, source, block, size)?;
     message_in(alloc, &bytes)
+}
+
+/// The message of a dictionary in a block of a file of `size` bytes; of the block, the prefix and the metadata are read.
+pub(crate) fn read_block_dictionary<S: Source>(
+    alloc: Global,
+    source: &mut S,
+    block: &Block,
+    size: u64,
+) -> Result<DictionaryMessage, IpcError>
+    requires { IsSize (S.content source.old) size }
+    ensures within { OnOk result ((file_block block.now).offset + (file_block block.now).metadata + (file_block block.now).body ≤ size) }
+    ensures message { DictionaryIn (S.content source.old) (file_block block.now) result }
+    ensures cause { IfErr result (λ e. FileCause e (S.faults source.old) (S.faults source.new)) }
+    ensures fetched { MetadataFetched (S.content source.old) (file_block block.now) (S.fetched source.old) (S.fetched source.new) }
+    ensures kept { SourceKept S.content S.faults S.references source.old source.new }
+{
+    let bytes = fetch_metadata(alloc, source, block, size)?;
+    read_dictionary_message(alloc, &bytes)
 }
 
 /// The message of a record batch in a block of a file of `size` bytes, whatever pairs it has; of the block, the prefix and

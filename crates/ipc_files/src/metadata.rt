@@ -1,8 +1,8 @@
 //! What a file's footer says (Arrow Columnar Format, "IPC File Format", File.fbs).
-ghost use Rattle.std.specs.Prelude.{◌≡◌, ◌+◌, ◌≤◌, ◌<◌, ◌^◌, true, length, None, IfOk, IfErr, IfSome};
+ghost use Rattle.std.specs.Prelude.{◌≡◌, ◌<◌, ◌^◌, true, length, None, IfOk, IfErr, IfSome};
 ghost use Rattle.arrow_spec.specs.Readings.{Gives, Refuses, refusals};
 ghost use Rattle.arrow_spec.specs.Files.{Request, file_reading, footer_of, meta_in, meta_of, to_send};
-ghost use Rattle.arrow_spec.specs.WrittenSchemas.{SchemaMayBeWritten};
+ghost use Rattle.arrow_spec.specs.WrittenSchemas.{IdsMayBeWritten, SchemaMayBeWritten};
 ghost use Rattle.arrow_types.specs.Schemas.{fields_in};
 ghost use Rattle.ipc_fields.specs.IpcFields.{have_shapes, ids_of, metadata_in};
 ghost use Rattle.ipc_fields.specs.Causes.{Decodes};
@@ -77,6 +77,7 @@ pub(crate) fn read_footer<S: Source>(alloc: Global, source: &mut S) -> Result<Fo
 fn footer_in(alloc: Global, bytes: &[u8]) -> Result<Footer, IpcError>
     ensures gives { Decodes footer_view result (meta_in bytes.now) }
     ensures may { IfOk result (λ f. SchemaMayBeWritten (footer_view f).schema.fields (footer_view f).schema.metadata) }
+    ensures ids { IfOk result (λ f. IdsMayBeWritten (footer_view f).schema.fields) }
     ensures shapes { IfOk result (λ f. have_shapes (fields_in f.schema) (ids_of f.ipc_schema.fields.items) ≡ true) }
 {
     deserialize_footer(alloc, bytes)
@@ -118,7 +119,7 @@ pub fn read_file_metadata<S: Source>(
 }
 
 /// Reads the footer of a file that is to be sent: pairs of its own are refused, since they are not carried yet.
-pub(crate) fn read_plain_metadata<S: Source>(
+pub fn read_plain_metadata<S: Source>(
     alloc: Global,
     source: &mut S,
 ) -> Result<FileMetadata, IpcError>

@@ -33,10 +33,11 @@ use Rattle.ipc_fields.specs.IpcFields.{Ids, Tree, no_fields, ids, ids_of, tree_o
 use Rattle.ipc_fields.specs.declared.ipc_field.IpcField.{IpcField}
 use Rattle.ipc_read_laws.specs.Held.{Held, HoldsCells, HasKind, HasKinds, HasFields}
 use Rattle.ipc_read_laws.specs.PlainKinds.{plain_kind}
+use Rattle.ipc_read_laws.specs.PartsRead.{parts_read}
 use Rattle.ipc_read_laws.proofs.PlainKinds.{width_plain}
-use Rattle.ipc_read.specs.Batches.{batch_reading, batch_fetched, columns_asked, is_column_kind, are_column_fields, are_column_kinds, kinds_of, schema_fields}
+use Rattle.ipc_read.specs.Batches.{batch_reading, batch_fetched, columns_asked, chosen_read, is_column_kind, are_column_fields, are_column_kinds, kinds_of, schema_fields}
 use Rattle.ipc_read.specs.Held.{held_in}
-use Rattle.ipc_read.specs.DictionaryBatches.{values_of_id, one_column, with_part, parts_before, dictionary_reading, dictionary_fetched, AddsDictionary, HasKindOf}
+use Rattle.ipc_read.specs.DictionaryBatches.{values_of_id, one_column, with_part, parts_before, dictionary_reading, dictionary_fetched, AddsDictionary, HasKindOf, HoldsPart}
 use Rattle.arrow_types.specs.Child.{Child}
 use Rattle.ipc_read.proofs.BatchTables.{refused_first}
 use Rattle.ipc_read.proofs.Refusals.{memory_refuses}
@@ -265,6 +266,18 @@ pub adds_held : (content : Option (List ℕ)) (r : Result (Unit {0}) IpcError) (
 adds_held None r h h' batch values read Here memory here g f = tt
 adds_held (Some b) (Ok u) h h' batch values read Here memory here g f = λ d holds. f d b holds (g d holds) here
 adds_held (Some b) (Err e) h h' batch values read Here memory here g f = λ d holds. record { ok = tt; err = memory_refuses e _ memory }
+
+-- the array of its values is the one of its buffers
+pub part_held : (content : Option (List ℕ)) (r : Result (Unit {0}) IpcError) (h h' : Held) (id : ℤ) (is_delta is_little_endian other : Bool) (m : Bool → List ℕ → RecordBatch) (o : Option Kind) (k : Kind) (p : Parts) (ps : List Parts) (fs : Fields) (rows height : ℕ) → o ≡ Some k → other ≡ is_little_endian → fs ≡ one_column k → height ≡ rows → ps ≡ p ∷ []
+    → IfSome content (λ b. (d : Dictionaries) → HoldsCells d h → ps ≡ chosen_read (m other b) h None fs 0 first_place height) → IfOk r (λ _. h' id ≡ Some (parts_before is_delta (h id) p))
+    → IfOk r (λ _. IfSome content (λ b. (d : Dictionaries) → HoldsCells d h → HoldsPart h h' id is_delta o (m is_little_endian b) rows))
+part_held content (Err e) h h' id is_delta is_little_endian other m o k p ps fs rows height u order column count one read here = tt
+part_held None (Ok x) h h' id is_delta is_little_endian other m o k p ps fs rows height u order column count one read here = tt
+part_held (Some b) (Ok x) h h' id is_delta is_little_endian other m o k p ps fs rows height u order column count one read here = λ d holds.
+    let only : p ∷ [] ≡ parts_read (m is_little_endian b) h k first_place rows ∷ [] =
+    sym one ∙ read d holds ∙ ap (λ z. chosen_read (m z b) h None fs 0 first_place height) order ∙ ap (λ gs. chosen_read (m is_little_endian b) h None gs 0 first_place height) column
+    ∙ ap (λ n. parts_read (m is_little_endian b) h k first_place n ∷ []) count in
+    subst (λ z. HoldsPart h h' id is_delta z (m is_little_endian b) rows) (sym u) (here ∙ ap (λ q. Some (parts_before is_delta (h id) q)) (one_is p (parts_read (m is_little_endian b) h k first_place rows) only))
 
 pub use_refused : (s s' : List Keyed) (ts ts' : List IpcField) (i : ℤ) (is_little_endian : Bool) (d : Dictionaries) (most : ℕ) (x : DictionaryBatch) (version : MetadataVersion) (body : List ℕ) (may_replace : Bool) (e : IpcError) → s' ≡ s → ts' ≡ ts → i ≡ x.id
     → (e ≡ Memory) ⊎ ((e ≡ OutOfSpec (InvalidId i)) × (values_of_id (schema_fields s' ts') i ≡ None)) → Refuses e (refusals (dictionary_reading s (ids_of ts) is_little_endian d most x version body may_replace))

@@ -1,10 +1,10 @@
 -- Dictionary messages that are read. (Arrow Columnar Format, "Dictionary Messages".)
-use Rattle.std.specs.Prelude.{◌≡◌, ℕ, ℤ, List, [], ◌∷◌, Bool, true, false, Option, Some, None, Ok, Result, IfOk, IfErr, IfSome}
+use Rattle.std.specs.Prelude.{◌≡◌, ℕ, ⊤, ℤ, List, [], ◌∷◌, Bool, true, false, Option, Some, None, Ok, Result, IfOk, IfErr, IfSome}
 use Rattle.arrow_spec.specs.declared.error.IpcError.{IpcError}
 use Rattle.arrow_spec.specs.declared.message.MetadataVersion.{MetadataVersion}
 use Rattle.arrow_spec.specs.Readings.{Reading, Refuses, refusals}
 use Rattle.arrow_spec.specs.Kinds.{Kind, Fields, none, field, uses_in, values_under}
-use Rattle.arrow_spec.specs.Counts.{RecordBatch}
+use Rattle.arrow_spec.specs.Counts.{RecordBatch, first_place}
 use Rattle.arrow_spec.specs.Messages.{BatchHeader, DictionaryBatch}
 use Rattle.arrow_spec.specs.Arrays.{Dictionaries, HeldDictionary}
 use Rattle.arrow_spec.specs.Files.{dictionary_of}
@@ -14,6 +14,7 @@ use Rattle.arrow_arrays.specs.Parts.{Parts, Forest, also}
 use Rattle.ipc_fields.specs.IpcFields.{Ids, schema_with}
 use Rattle.ipc_read.specs.Batches.{batch_fetched}
 use Rattle.ipc_read_laws.specs.Held.{Held, HoldsCells, HasKind}
+use Rattle.ipc_read_laws.specs.PartsRead.{parts_read}
 
 -- the message of a dictionary, by its batch's tables
 abbrev pub message_of : ℤ → Bool → BatchHeader → DictionaryBatch
@@ -36,6 +37,11 @@ abbrev pub parts_before : Bool → Option Forest → Parts → Forest
 parts_before false old p = also p parts.none
 parts_before true None p = also p parts.none
 parts_before true (Some xs) p = with_part xs p
+
+-- the last part under the id is the one of the message's buffers, behind those before it
+abbrev pub HoldsPart : Held → Held → ℤ → Bool → Option Kind → RecordBatch → ℕ → Type 0
+HoldsPart old new id is_delta None m rows = ⊤
+HoldsPart old new id is_delta (Some k) m rows = new id ≡ Some (parts_before is_delta (old id) (parts_read m old k first_place rows))
 
 -- what the message says under a schema, and under the dictionaries that were read before it
 abbrev pub dictionary_reading : List Keyed → Ids → Bool → Dictionaries → ℕ → DictionaryBatch → MetadataVersion → List ℕ → Bool → Reading HeldDictionary

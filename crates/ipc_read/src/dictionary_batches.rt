@@ -20,7 +20,7 @@ ghost use Rattle.ipc_io.specs.Outside.{SourceKept};
 ghost use Rattle.ipc_read_laws.specs.Held.{HoldsCells, HasKinds};
 ghost use Rattle.ipc_schema.specs.Views.{header_of};
 ghost use Rattle.ipc_read.specs.Batches.{is_column_kind, kinds_of, schema_fields};
-ghost use Rattle.ipc_read.specs.DictionaryBatches.{message_of, values_of_id, one_column, parts_before, dictionary_reading, dictionary_fetched, AddsDictionary, HasKindOf};
+ghost use Rattle.ipc_read.specs.DictionaryBatches.{message_of, values_of_id, one_column, parts_before, dictionary_reading, dictionary_fetched, AddsDictionary, HasKindOf, HoldsPart};
 ghost use Rattle.ipc_read.specs.Held.{held_in};
 ghost use Rattle.ipc_read.specs.Sources.{Inside, BodyReadCause, bytes_in};
 
@@ -224,6 +224,9 @@ pub fn read_dictionary_batch<S: Source>(
 
     // The parts that are held are those that the message says, or it is refused.
     ensures adds { IfSome (S.content source.old) (λ b. (d : History) → HoldsCells d (held_in dictionaries.old) → AddsDictionary d (held_in dictionaries.new) result (dictionary_reading (rc_value schema.now) (ids_of ipc_schema.now.fields.items) ipc_schema.now.is_little_endian d size (message_of id is_delta (header_of header.now)) version (bytes_in body b) may_replace)) }
+
+    // The array that is held has the values of the message's buffers, also under null rows.
+    ensures part { IfOk result (λ _. IfSome (S.content source.old) (λ b. (d : History) → HoldsCells d (held_in dictionaries.old) → HoldsPart (held_in dictionaries.old) (held_in dictionaries.new) id is_delta (values_of_id (schema_fields (rc_value schema.now) ipc_schema.now.fields.items) id) (record_batch_of (order_by ipc_schema.now.is_little_endian) version (header_of header.now) (bytes_in body b)) (magnitude header.now.length))) }
     ensures kind { HasKindOf (schema_fields (rc_value schema.now) ipc_schema.now.fields.items) (held_in dictionaries.old) id → IfOk result (λ _. HasKindOf (schema_fields (rc_value schema.now) ipc_schema.now.fields.items) (held_in dictionaries.new) id) }
     ensures others { (q : ℤ) → same id q ≡ false → held_in dictionaries.new q ≡ held_in dictionaries.old q }
     ensures refused { IfErr result (λ _. (q : ℤ) → held_in dictionaries.new q ≡ held_in dictionaries.old q) }

@@ -41,6 +41,6 @@ pub use skips::{
     skip, skip_binary, skip_binview, skip_boolean, skip_dictionary, skip_fixed_size_binary,
     skip_null, skip_primitive, skip_utf8,
 };
-pub use tables::unread_feature;
+pub use tables::{check_kinds, unread_feature};
 pub use variable::{read_binary, read_utf8};
 pub use views::read_binview;

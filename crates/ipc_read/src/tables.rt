@@ -180,11 +180,12 @@ pub(crate) fn field_at(schema: &ArrowSchema, i: usize) -> &Field
     }
 }
 
-/// The same of each column that is asked for.
-pub(crate) fn check_kinds(
-    schema: &ArrowSchema,
-    projection: Option<&[usize]>,
-) -> Result<(), IpcError>
+/// Refuses columns that are never read, of those whose numbers are asked for, which rise, or of all.
+///
+/// # Errors
+///
+/// `Unsupported(Float)` for floats at any depth, `Unsupported(Decimal256)` for decimals of 256 bits.
+pub fn check_kinds(schema: &ArrowSchema, projection: Option<&[usize]>) -> Result<(), IpcError>
     requires columns { are_column_kinds (columns_of projection) 0 schema.now ≡ true }
     requires rising { are_rising (columns_of projection) ≡ true }
     ensures exact { Answers (λ u. u) result (chosen_floats (columns_of projection.entry) (fields_in schema.now) 0) tt }

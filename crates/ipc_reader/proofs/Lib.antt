@@ -1,2 +1,3 @@
-pub mod PassedBlocks
 pub mod Progress
+pub mod PassedBlocks
+pub mod HeldDictionaries

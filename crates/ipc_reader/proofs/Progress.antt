@@ -17,5 +17,5 @@ progress content_of faults_of fetched_of references_of r r' (Some x) can h =
     let again : IsSize (content_of r'.source) r'.cursor.metadata.size = subst (λ (o : Option (List ℕ)). IsSize o r'.cursor.metadata.size) (sym h.kept.content) size in
     let blocks : length r'.cursor.metadata.blocks.items ≡ length r.cursor.metadata.blocks.items = ap (λ (m : FileMetadata). length m.blocks.items) h.metadata in
     let next : r'.cursor.block ≡ r.cursor.block + 1 = h.block in
-    let here : r.cursor.block < length r.cursor.metadata.blocks.items = h.ended in
+    let here : r.cursor.block < length r.cursor.metadata.blocks.items = h.ended.0 in
     record { on = λ ends. (again, tt, omega (arith, blocks, next, here)); keeps = again; rests = λ ends. tt }

@@ -1,43 +1,58 @@
 -- What the calls of a cursor over the record batches of a file read, fetch and keep.
-use Rattle.std.specs.Prelude.{◌≡◌, ◌<◌, ◌≤◌, ℕ, List, Option, Some, None, Result, Ok, Err, IfErr, IfOk, IfSome, MatchOption, length, slice_get}
+use Rattle.std.specs.Prelude.{◌≡◌, ◌⊎◌, ◌<◌, ◌≤◌, ℕ, List, Option, Some, None, Result, Ok, Err, IfErr, IfOk, IfSome, MatchOption, false, length, slice_get, true}
 use Rattle.std.specs.Rc.{rc_value}
 use Rattle.arrow_spec.specs.declared.error.IpcError.{IpcError}
 use Rattle.arrow_spec.specs.Files.{FileBlock}
 use Rattle.arrow_spec.specs.Readings.{Gives}
 use Rattle.arrow_arrays.specs.Batches.{Batch}
 use Rattle.ipc_io.specs.Outside.{SourceKept}
-use Rattle.ipc_read.specs.Batches.{table_of}
 use Rattle.ipc_schema.specs.Views.{message_of}
 use Rattle.ipc_schema.specs.declared.message.RecordMessage.{RecordMessage}
-use Rattle.ipc_files.specs.Blocks.{batch_in}
 use Rattle.ipc_files.specs.FileBlocks.{GivesIn, block_header}
-use Rattle.ipc_files.specs.Fetching.{BlockFetched, MetadataFetched}
+use Rattle.ipc_files.specs.Fetching.{MetadataFetched}
 use Rattle.ipc_files.specs.FileViews.{meta_view, FileCause}
 use Rattle.ipc_files.specs.RowCounts.{MessagesFetched, blocks_passed}
 use Rattle.ipc_files.specs.Selections.{MayProject, schema_shown}
-use Rattle.ipc_files.specs.Transcode.{asked}
+use Rattle.ipc_files.specs.Requests.{asked}
 use Rattle.ipc_reader.specs.Cursors.{block_after, left_after}
+use Rattle.ipc_reader.specs.Kept.{FetchedBy, GivesBy, KeptAfter, KeptBehind, is_refused}
 use Rattle.ipc_reader.specs.declared.cursor.FileCursor.{FileCursor}
 
 -- ── calls of a cursor c, which is c' behind them, over a source s, which is s' ──
 
 module _ {S : Type 0} (content_of : S → Option (List ℕ)) (faults_of fetched_of : S → ℕ) (references_of : S → List ℕ) (s s' : S) (c c' : FileCursor) where
+  -- the batch of the current block
+  pub record ReadsCurrent (result : Result Batch IpcError) : Type 0 where
+    pub gives : (columns : Option (List ℕ)) (block : FileBlock) → MayProject (rc_value c.metadata.schema) columns c.projection → slice_get (meta_view c.metadata).blocks c.block ≡ Some block
+        → IfSome (content_of s) (λ b. GivesBy c.dictionaries (asked columns c.left) b (meta_view c.metadata) block result)
+    pub dictionaries : (columns : Option (List ℕ)) → MayProject (rc_value c.metadata.schema) columns c.projection → KeptAfter (content_of s) (meta_view c.metadata) columns c.dictionaries c'.dictionaries result
+    pub schema : (columns : Option (List ℕ)) → MayProject (rc_value c.metadata.schema) columns c.projection → IfOk result (λ x. x.schema ≡ schema_shown (rc_value c.metadata.schema) c.projection)
+    pub left : c'.left ≡ c.left
+    pub block : c'.block ≡ c.block
+    pub projection : c'.projection ≡ c.projection
+    pub metadata : c'.metadata ≡ c.metadata
+    pub cause : IfErr result (λ e. FileCause e (faults_of s) (faults_of s'))
+    pub fetched : (columns : Option (List ℕ)) (block : FileBlock) → MayProject (rc_value c.metadata.schema) columns c.projection → slice_get (meta_view c.metadata).blocks c.block ≡ Some block
+        → FetchedBy c.dictionaries (content_of s) (meta_view c.metadata) (asked columns c.left) block c.left (fetched_of s) (fetched_of s')
+    pub kept : SourceKept content_of faults_of references_of s s'
+
   -- the next record batch
   pub record NextBatch (result : Option (Result Batch IpcError)) : Type 0 where
-    -- there is none exactly at or past the last block
-    pub ended : MatchOption result (length c.metadata.blocks.items ≤ c.block) (λ x. c.block < length c.metadata.blocks.items)
-    -- it is what the block means under the columns that were asked for and what was left of the limit, or a refusal of its
+    -- there is none exactly at or past the last block, or where a call before answered that the dictionaries are refused
+    pub ended : MatchOption result ((length c.metadata.blocks.items ≤ c.block) ⊎ (is_refused c.dictionaries ≡ true)) (λ x. (c.block < length c.metadata.blocks.items) × (is_refused c.dictionaries ≡ false))
+    -- it is what the block means under the dictionaries, the columns that were asked for and what was left of the limit, or a refusal of its
     pub gives : (columns : Option (List ℕ)) (block : FileBlock) → MayProject (rc_value c.metadata.schema) columns c.projection → slice_get (meta_view c.metadata).blocks c.block ≡ Some block
-        → IfSome result (λ r. IfSome (content_of s) (λ b. Gives table_of r (batch_in (asked columns c.left) b (meta_view c.metadata) block)))
+        → IfSome result (λ r. IfSome (content_of s) (λ b. GivesBy c.dictionaries (asked columns c.left) b (meta_view c.metadata) block r))
+    pub dictionaries : (columns : Option (List ℕ)) → MayProject (rc_value c.metadata.schema) columns c.projection → KeptBehind (content_of s) (meta_view c.metadata) columns c.dictionaries c'.dictionaries result
     pub schema : (columns : Option (List ℕ)) → MayProject (rc_value c.metadata.schema) columns c.projection → IfSome result (λ r. IfOk r (λ x. x.schema ≡ schema_shown (rc_value c.metadata.schema) c.projection))
     pub left : c'.left ≡ left_after c.left result
     pub block : c'.block ≡ block_after c.block result
     pub projection : c'.projection ≡ c.projection
     pub metadata : c'.metadata ≡ c.metadata
     pub cause : IfSome result (λ r. IfErr r (λ e. FileCause e (faults_of s) (faults_of s')))
-    -- no more is fetched than these columns of the block cost, and nothing past the last block
+    -- no more is fetched than these columns of the block cost, and at the first batch the dictionaries; and nothing where there is none
     pub fetched : (columns : Option (List ℕ)) (block : FileBlock) → MayProject (rc_value c.metadata.schema) columns c.projection → slice_get (meta_view c.metadata).blocks c.block ≡ Some block
-        → IfSome result (λ r. BlockFetched (content_of s) (meta_view c.metadata) (asked columns c.left) block c.left (fetched_of s) (fetched_of s'))
+        → IfSome result (λ r. FetchedBy c.dictionaries (content_of s) (meta_view c.metadata) (asked columns c.left) block c.left (fetched_of s) (fetched_of s'))
     pub stays : result ≡ None → fetched_of s' ≡ fetched_of s
     pub kept : SourceKept content_of faults_of references_of s s'
 
@@ -46,6 +61,7 @@ module _ {S : Type 0} (content_of : S → Option (List ℕ)) (faults_of fetched_
     pub ended : MatchOption result (length c.metadata.blocks.items ≤ c.block) (λ x. c.block < length c.metadata.blocks.items)
     pub gives : (block : FileBlock) → slice_get (meta_view c.metadata).blocks c.block ≡ Some block → IfSome result (λ r. GivesIn (content_of s) message_of r (λ b. block_header b block))
     pub left : c'.left ≡ c.left
+    pub dictionaries : c'.dictionaries ≡ c.dictionaries
     pub block : c'.block ≡ block_after c.block result
     pub projection : c'.projection ≡ c.projection
     pub metadata : c'.metadata ≡ c.metadata
@@ -64,6 +80,7 @@ module _ {S : Type 0} (content_of : S → Option (List ℕ)) (faults_of fetched_
     pub block : IfErr result (λ e. c'.block ≡ c.block)
     pub within : IfOk result (λ left. c'.block ≤ length c.metadata.blocks.items)
     pub left : c'.left ≡ c.left
+    pub dictionaries : c'.dictionaries ≡ c.dictionaries
     pub projection : c'.projection ≡ c.projection
     pub metadata : c'.metadata ≡ c.metadata
     pub cause : IfErr result (λ e. FileCause e (faults_of s) (faults_of s'))

@@ -3,10 +3,13 @@ ghost use Rattle.std.specs.Prelude.{◌≡◌, ◌∷◌, ◌⊎◌, [], length,
 ghost use Rattle.std.specs.Rc.{rc_value};
 ghost use Rattle.arrow_spec.specs.declared.error.IpcError.TheVariants.{Memory};
 ghost use Rattle.arrow_spec.specs.Files.{columns_right};
-ghost use Rattle.ipc_files.specs.FileViews.{IsReadable};
+ghost use Rattle.ipc_files.specs.FileViews.{IsReadable, meta_view};
 ghost use Rattle.ipc_files.specs.Selections.{IsMade, MayProject, schema_shown};
 ghost use Rattle.ipc_reader.specs.Cursors.{numbers_in};
+ghost use Rattle.ipc_reader.specs.Kept.{KeepsUses};
+ghost use Rattle.ipc_reader.specs.declared.kept.KeptDictionaries.TheVariants.{NotRead};
 
+use crate::kept::KeptDictionaries;
 use arrow_spec::IpcError;
 use arrow_types::{ArrowSchema, ArrowSchemaRef};
 use ipc_files::FileMetadata;
@@ -34,16 +37,19 @@ fn project(
 }
 
 /// A reader of a file without its source, which each call that reads is lent: the file's metadata, the columns asked
-/// for, how many rows are left of a limit, the current block, and memory that is used again.
+/// for, how many rows are left of a limit, the current block, the dictionaries that were read, and memory that is used
+/// again.
 #[derive(Drop)]
 pub struct FileCursor {
     pub(crate) metadata: FileMetadata,
     pub(crate) projection: Option<ProjectionInfo>,
     pub(crate) left: Option<usize>,
     pub(crate) block: usize,
+    pub(crate) dictionaries: KeptDictionaries,
     pub(crate) scratch: Vec<u8>,
     ghost readable: { IsReadable metadata },
     ghost made: { IsMade (rc_value metadata.schema) projection },
+    ghost uses: { ∥ KeepsUses (meta_view metadata) dictionaries ∥₁ },
 }
 
 impl FileCursor {
@@ -66,6 +72,7 @@ impl FileCursor {
         ensures metadata { IfOk result (λ c. c.metadata ≡ metadata) }
         ensures left { IfOk result (λ c. c.left ≡ limit) }
         ensures block { IfOk result (λ c. c.block ≡ 0) }
+        ensures dictionaries { IfOk result (λ c. c.dictionaries ≡ NotRead) }
     {
         let projection = project(alloc, &metadata.schema, projection)?;
         Ok(FileCursor::new_with_projection_info(alloc, metadata, projection, limit))
@@ -85,12 +92,14 @@ impl FileCursor {
         ensures metadata { result.metadata ≡ metadata }
         ensures left { result.left ≡ limit }
         ensures block { result.block ≡ 0 }
+        ensures dictionaries { result.dictionaries ≡ NotRead }
     {
         FileCursor {
             metadata,
             projection,
             left: limit,
             block: 0,
+            dictionaries: KeptDictionaries::NotRead,
             scratch: Vec::new(alloc),
         }
     }
@@ -119,12 +128,13 @@ impl FileCursor {
         self.block
     }
 
-    /// Goes to a block. What is left of the limit stays.
+    /// Goes to a block. What is left of the limit stays, and so do the dictionaries.
     pub fn set_current_block(&mut self, block: usize)
         ensures block { self.new.block ≡ block }
         ensures left { self.new.left ≡ self.old.left }
         ensures projection { self.new.projection ≡ self.old.projection }
         ensures metadata { self.new.metadata ≡ self.old.metadata }
+        ensures dictionaries { self.new.dictionaries ≡ self.old.dictionaries }
     {
         self.block = block;
     }
@@ -136,6 +146,7 @@ impl FileCursor {
         ensures block { self.new.block ≡ self.old.block }
         ensures left { self.new.left ≡ self.old.left }
         ensures metadata { self.new.metadata ≡ self.old.metadata }
+        ensures dictionaries { self.new.dictionaries ≡ self.old.dictionaries }
     {
         mem::replace(&mut self.projection, None)
     }
@@ -146,6 +157,7 @@ impl FileCursor {
         ensures left { self.new.left ≡ self.old.left }
         ensures projection { self.new.projection ≡ self.old.projection }
         ensures metadata { self.new.metadata ≡ self.old.metadata }
+        ensures dictionaries { self.new.dictionaries ≡ self.old.dictionaries }
     {
         mem::replace(&mut self.scratch, Vec::new(alloc))
     }
@@ -156,6 +168,7 @@ impl FileCursor {
         ensures left { self.new.left ≡ self.old.left }
         ensures projection { self.new.projection ≡ self.old.projection }
         ensures metadata { self.new.metadata ≡ self.old.metadata }
+        ensures dictionaries { self.new.dictionaries ≡ self.old.dictionaries }
     {
         self.scratch = scratch;
     }

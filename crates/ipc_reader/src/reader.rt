@@ -9,6 +9,7 @@ ghost use Rattle.ipc_files.specs.FileViews.{IsReadable};
 ghost use Rattle.ipc_files.specs.Selections.{IsMade, MayProject, schema_shown};
 ghost use Rattle.ipc_reader.specs.Cursors.{numbers_in};
 ghost use Rattle.ipc_reader.specs.Reads.{NextBatch, NextMessage, SkipsBlocks};
+ghost use Rattle.ipc_reader.specs.declared.kept.KeptDictionaries.TheVariants.{NotRead};
 
 use crate::cursor::FileCursor;
 use arrow_arrays::RecordBatch;
@@ -56,6 +57,7 @@ impl<S: Source> FileReader<S> {
         ensures metadata { IfOk result (λ r. r.cursor.metadata ≡ metadata) }
         ensures left { IfOk result (λ r. r.cursor.left ≡ limit) }
         ensures block { IfOk result (λ r. r.cursor.block ≡ 0) }
+        ensures dictionaries { IfOk result (λ r. r.cursor.dictionaries ≡ NotRead) }
     {
         match FileCursor::new(alloc, metadata, projection, limit) {
             Ok(cursor) => Ok(FileReader {
@@ -86,6 +88,7 @@ impl<S: Source> FileReader<S> {
         ensures metadata { result.cursor.metadata ≡ metadata }
         ensures left { result.cursor.left ≡ limit }
         ensures block { result.cursor.block ≡ 0 }
+        ensures dictionaries { result.cursor.dictionaries ≡ NotRead }
     {
         FileReader {
             source,
@@ -122,12 +125,13 @@ impl<S: Source> FileReader<S> {
         self.cursor.get_current_block()
     }
 
-    /// Goes to a block. What is left of the limit stays.
+    /// Goes to a block. What is left of the limit stays, and so do the dictionaries.
     pub fn set_current_block(&mut self, block: usize)
         ensures block { self.new.cursor.block ≡ block }
         ensures left { self.new.cursor.left ≡ self.old.cursor.left }
         ensures projection { self.new.cursor.projection ≡ self.old.cursor.projection }
         ensures metadata { self.new.cursor.metadata ≡ self.old.cursor.metadata }
+        ensures dictionaries { self.new.cursor.dictionaries ≡ self.old.cursor.dictionaries }
         ensures source { self.new.source ≡ self.old.source }
     {
         self.cursor.set_current_block(block);
@@ -140,6 +144,7 @@ impl<S: Source> FileReader<S> {
         ensures block { self.new.cursor.block ≡ self.old.cursor.block }
         ensures left { self.new.cursor.left ≡ self.old.cursor.left }
         ensures metadata { self.new.cursor.metadata ≡ self.old.cursor.metadata }
+        ensures dictionaries { self.new.cursor.dictionaries ≡ self.old.cursor.dictionaries }
         ensures source { self.new.source ≡ self.old.source }
     {
         self.cursor.take_projection_info()
@@ -151,6 +156,7 @@ impl<S: Source> FileReader<S> {
         ensures left { self.new.cursor.left ≡ self.old.cursor.left }
         ensures projection { self.new.cursor.projection ≡ self.old.cursor.projection }
         ensures metadata { self.new.cursor.metadata ≡ self.old.cursor.metadata }
+        ensures dictionaries { self.new.cursor.dictionaries ≡ self.old.cursor.dictionaries }
         ensures source { self.new.source ≡ self.old.source }
     {
         self.cursor.take_scratch(self.alloc)
@@ -162,6 +168,7 @@ impl<S: Source> FileReader<S> {
         ensures left { self.new.cursor.left ≡ self.old.cursor.left }
         ensures projection { self.new.cursor.projection ≡ self.old.cursor.projection }
         ensures metadata { self.new.cursor.metadata ≡ self.old.cursor.metadata }
+        ensures dictionaries { self.new.cursor.dictionaries ≡ self.old.cursor.dictionaries }
         ensures source { self.new.source ≡ self.old.source }
     {
         self.cursor.set_scratch(scratch);
@@ -196,7 +203,8 @@ impl<S: Source> FileReader<S> {
 }
 
 /// The record batches from the current block on, in the columns asked for, in their order, and as far as rows are left of
-/// the limit, each of them read or refused.
+/// the limit, each of them read or refused. At the first one the dictionaries are read; where they are refused there is
+/// no other.
 impl<S: Source + Drop> Iterator for FileReader<S> {
     type Item = Result<RecordBatch, IpcError>;
 

@@ -1,19 +1,19 @@
 //! What a cursor reads at its place.
-ghost use Rattle.std.specs.Prelude.{◌≡◌, ◌≤◌, length, map, Some, IfOk, IfErr};
+ghost use Rattle.std.specs.Prelude.{◌≡◌, ◌≤◌, ◌<◌, false, length, map, Some, IfOk, IfErr};
 ghost use Rattle.arrow_spec.specs.Files.{what_is_left};
 ghost use Rattle.ipc_io.specs.Outside.{IsSize, SourceKept};
 ghost use Rattle.ipc_files.specs.FileBlocks.{GivesIn, file_block};
 ghost use Rattle.ipc_files.specs.FileViews.{FileCause};
 ghost use Rattle.ipc_files.specs.RowCounts.{blocks_passed, MessagesFetched};
 ghost use Rattle.ipc_reader.specs.Cursors.{left_after};
-ghost use Rattle.ipc_reader.specs.Reads.{NextBatch, NextMessage, SkipsBlocks};
+ghost use Rattle.ipc_reader.specs.Kept.{is_refused};
+ghost use Rattle.ipc_reader.specs.Reads.{NextBatch, NextMessage, ReadsCurrent, SkipsBlocks};
 
 use crate::cursor::FileCursor;
+use crate::kept::KeptDictionaries;
 use arrow_arrays::RecordBatch;
 use arrow_spec::{Block, IpcError};
-use ipc_files::{
-    Dictionaries, RecordMessage, read_block_header, read_block_rows, read_projected_batch,
-};
+use ipc_files::{RecordMessage, read_block_header, read_block_rows, read_projected_batch};
 use ipc_io::Source;
 use std::alloc::Global;
 
@@ -75,13 +75,46 @@ fn pass_blocks<S: Source>(
 }
 
 impl FileCursor {
+    /// The record batch of the current block, at the first one behind the dictionaries.
+    fn read_current<S: Source>(
+        &mut self,
+        alloc: Global,
+        source: &mut S,
+    ) -> Result<RecordBatch, IpcError>
+        requires whole { IsSize (S.content source.old) self.old.metadata.size }
+        requires not_refused { is_refused self.old.dictionaries ≡ false }
+        requires in_range { self.old.block < length self.old.metadata.blocks.items }
+        ensures { ReadsCurrent S.content S.faults S.fetched S.references source.old source.new self.old self.new result }
+    {
+        let held = self.dictionaries.take(
+            alloc,
+            source,
+            &self.metadata,
+            self.projection.as_ref(),
+            &mut self.scratch,
+        )?;
+        let read = read_projected_batch(
+            alloc,
+            source,
+            &held,
+            &self.metadata,
+            self.projection.as_ref(),
+            self.left,
+            self.block,
+            &mut self.scratch,
+        );
+        self.dictionaries = KeptDictionaries::Held(held);
+        read
+    }
+
     /// Reads the record batch of the current block, in the columns asked for, in their order, and as far as rows are left
-    /// of the limit, and goes to the next block, also behind a refusal, which counts no rows. None at or past the last
-    /// block.
+    /// of the limit, and goes to the next block, also behind a refusal, which counts no rows. The first batch reads the
+    /// dictionaries, which are kept. None at or past the last block, and behind a call that refused the dictionaries.
     ///
     /// # Errors
     ///
-    /// As of `read_batch` of `ipc_files`.
+    /// As of `read_batch` of `ipc_files`, and at the first batch as of `read_file_dictionaries`, behind the features of the
+    /// columns.
     pub fn next<S: Source>(
         &mut self,
         alloc: Global,
@@ -90,25 +123,17 @@ impl FileCursor {
         requires whole { IsSize (S.content source.old) self.old.metadata.size }
         ensures { NextBatch S.content S.faults S.fetched S.references source.old source.new self.old self.new result }
     {
-        if self.block >= self.metadata.blocks.len() {
+        if self.block >= self.metadata.blocks.len() || self.dictionaries.is_refused() {
             return None;
         }
-        let read = read_projected_batch(
-            alloc,
-            source,
-            &Dictionaries::new(alloc),
-            &self.metadata,
-            self.projection.as_ref(),
-            self.left,
-            self.block,
-            &mut self.scratch,
-        );
+        let read = self.read_current(alloc, source);
         self.block += 1;
         self.left = left_behind(self.left, &read);
         Some(read)
     }
+
     /// Reads the message of the record batch of the current block, whatever pairs it has, and goes to the next block, also
-    /// behind a refusal. None at or past the last block. What is left of the limit stays.
+    /// behind a refusal. None at or past the last block. What is left of the limit stays, and no dictionary is read.
     ///
     /// # Errors
     ///

@@ -1,6 +1,5 @@
 -- What a refused run adds to its output, by what opening, reading, transcoding and the line feed's put added.
-use Rattle.std.proofs.Common.{◌≡◌, ℕ, Bool, true, false, List, [], ◌∷◌, ◌++◌, ◌⊎◌, inl, inr, Option, None, Some, Result, Ok, Err, IfErr, IfSome, IsErrAnd, MatchOption, option_map, refl, sym, subst}
-use Rattle.std.proofs.KnownBytes.{Appends-kept}
+use Rattle.std.proofs.Common.{◌≡◌, ℕ, ◌≤◌, arith, Bool, true, false, List, [], ◌∷◌, ◌++◌, ◌⊎◌, inl, inr, Option, None, Some, Result, Ok, Err, IfErr, IfSome, IsErrAnd, MatchOption, option_map, refl, sym, subst}
 use Rattle.arrow_spec.specs.declared.error.IpcError.{IpcError}
 use Rattle.arrow_spec.specs.declared.error.IpcError.TheVariants as errors
 use Rattle.arrow_spec.specs.Files.{Request}
@@ -10,16 +9,17 @@ use Rattle.ipc_io.specs.declared.outside.PutError.TheVariants as put
 use Rattle.ipc_io.specs.declared.outside.ShelfError.{ShelfError}
 use Rattle.ipc_io.specs.declared.outside.ShelfError.TheVariants as shelf
 use Rattle.ipc_io.specs.Faults.{put_error}
-use Rattle.ipc_io.specs.Outside.{AppendsPrefix, IsHeld, Puts}
-use Rattle.ipc_io.proofs.Known.{AppendsPrefix-within, AppendsPrefix-after}
-use Rattle.ipc_files.specs.declared.conversion.Summary.{Summary}
-use Rattle.ipc_files.specs.declared.encoding.Encoding.TheVariants.{Bytes, HexText}
-use Rattle.ipc_files.proofs.SentFiles.{keeps_same, told}
+use Rattle.ipc_io.specs.Outside.{AppendsPrefix, IsHeld, Puts, PutHasCause, Rose}
+use Rattle.ipc_io.proofs.Known.{AppendsPrefix-within, AppendsPrefix-after, Appends-kept_nil}
+use Rattle.ipc_transcode.specs.declared.conversion.Summary.{Summary}
+use Rattle.ipc_transcode.specs.declared.encoding.Encoding.TheVariants.{Bytes, HexText}
+use Rattle.ipc_files.proofs.ReadFiles.{told}
+use Rattle.ipc_transcode.proofs.SentFiles.{keeps_same}
 use Rattle.ipc_tool.specs.Refusal.{shelf_refusal}
 use Rattle.ipc_tool.specs.StreamPuts.{AddsStreamPart, shown_as}
 use Rattle.transcode_laws.specs.Built.{so_far}
 use Rattle.transcode_laws.specs.Files.{IsFrontOf, IsStreamOf}
-use Rattle.ipc_files.specs.Transcode.{text_of, AddsStream, AddsPiece, AddsPart, Transcodes}
+use Rattle.ipc_transcode.specs.Transcode.{text_of, AddsStream, AddsPiece, AddsPart, Transcodes}
 use Rattle.ipc_tool.specs.Run.{AddsBefore}
 
 -- what `?` makes of an error
@@ -39,10 +39,10 @@ of_shelf P K name (Some held) (Some b) h p = subst (λ v. MatchOption v K P) (sy
 of_shelf P K name (Some held) None h p = cc
 
 -- nothing was added where nothing was opened
-pub not_opened : (e : ShelfError) (b : List ℕ) (r : Request) (raw : Bool) (w : Option (List ℕ)) → AddsBefore (shelf_refusal e) b r raw w w
-not_opened shelf.Failed b r raw w = inl (keeps_same w)
-not_opened shelf.Memory b r raw w = inl (inl (keeps_same w))
-not_opened shelf.Unknown b r raw w = keeps_same w
+pub not_opened : (e : ShelfError) (wants wants' : ℕ) (b : List ℕ) (r : Request) (raw : Bool) (w : Option (List ℕ)) → AddsBefore (shelf_refusal e) wants wants' b r raw w w
+not_opened shelf.Failed wants wants' b r raw w = inl (keeps_same w)
+not_opened shelf.Memory wants wants' b r raw w = inl (inl (keeps_same w))
+not_opened shelf.Unknown wants wants' b r raw w = keeps_same w
 
 -- of any bytes that are told
 pub of_any : (P : List ℕ → Type 0) (K : Type 0) (told : Option (Option (List ℕ))) → K → ((b : List ℕ) → P b) → IfSome told (λ bytes. MatchOption bytes K P)
@@ -63,60 +63,43 @@ with_line_feed b r old new p = record {
     longer (inl q) = inl (q.0, AppendsPrefix-within old new (text_of HexText p.bytes) (10 ∷ []) q.1)
     longer (inr q) = inr q
 
-hex_part : (e : IpcError) (b : List ℕ) (r : Request) (old new : Option (List ℕ)) → AddsPart e b r (text_of HexText) old new → AddsStreamPart e b r false old new
-hex_part errors.WriteFault b r old new p = with_line_feed b r old new p
-hex_part errors.Memory b r old new p = inl p
-hex_part errors.ReadFault b r old new p = p
-hex_part (errors.OutOfSpec kind) b r old new p = p
-hex_part (errors.Unsupported feature) b r old new p = p
-hex_part errors.TooDeep b r old new p = p
-hex_part (errors.TooMany counted) b r old new p = p
-hex_part (errors.Projection index) b r old new p = p
-hex_part errors.TooLarge b r old new p = p
-hex_part errors.SchemaMismatch b r old new p = p
-hex_part (errors.DictionaryReplaced id) b r old new p = p
-hex_part errors.NotRepresentable b r old new p = p
-hex_part errors.State b r old new p = p
+hex_part : (e : IpcError) (wants wants' : ℕ) (b : List ℕ) (r : Request) (old new : Option (List ℕ)) → AddsPart e wants wants' b r (text_of HexText) old new → AddsStreamPart e wants wants' b r false old new
+hex_part errors.WriteFault wants wants' b r old new p = with_line_feed b r old new p
+hex_part errors.Memory wants wants' b r old new (inl p) = inl p
+hex_part errors.Memory wants wants' b r old new (inr p) = inr (p.0, with_line_feed b r old new p.1)
+hex_part e wants wants' b r old new p = p
 
-raw_part : (e : IpcError) (b : List ℕ) (r : Request) (old new : Option (List ℕ)) → AddsPart e b r (text_of Bytes) old new → AddsStreamPart e b r true old new
-raw_part errors.WriteFault b r old new p = p
-raw_part errors.Memory b r old new p = inl p
-raw_part errors.ReadFault b r old new p = p
-raw_part (errors.OutOfSpec kind) b r old new p = p
-raw_part (errors.Unsupported feature) b r old new p = p
-raw_part errors.TooDeep b r old new p = p
-raw_part (errors.TooMany counted) b r old new p = p
-raw_part (errors.Projection index) b r old new p = p
-raw_part errors.TooLarge b r old new p = p
-raw_part errors.SchemaMismatch b r old new p = p
-raw_part (errors.DictionaryReplaced id) b r old new p = p
-raw_part errors.NotRepresentable b r old new p = p
-raw_part errors.State b r old new p = p
+raw_part : (e : IpcError) (wants wants' : ℕ) (b : List ℕ) (r : Request) (old new : Option (List ℕ)) → AddsPart e wants wants' b r (text_of Bytes) old new → AddsStreamPart e wants wants' b r true old new
+raw_part errors.WriteFault wants wants' b r old new p = p
+raw_part errors.Memory wants wants' b r old new p = p
+raw_part e wants wants' b r old new p = p
 
 -- a transcoding that was refused
-pub hex_refused : (e : IpcError) (content : Option (List ℕ)) (r : Request) (old new : Option (List ℕ)) → IfSome content (λ b. AddsPart e b r (text_of HexText) old new) → IfSome content (λ b. AddsStreamPart e b r false old new)
-hex_refused e content r old new h = told content _ _ (λ b s p. hex_part e b r old new p) h
+pub hex_refused : (e : IpcError) (wants wants' : ℕ) (content : Option (List ℕ)) (r : Request) (old new : Option (List ℕ)) → IfSome content (λ b. AddsPart e wants wants' b r (text_of HexText) old new) → IfSome content (λ b. AddsStreamPart e wants wants' b r false old new)
+hex_refused e wants wants' content r old new h = told content _ _ (λ b s p. hex_part e wants wants' b r old new p) h
 
-pub raw_refused : (e : IpcError) (content : Option (List ℕ)) (r : Request) (old new : Option (List ℕ)) → IfSome content (λ b. AddsPart e b r (text_of Bytes) old new) → IfSome content (λ b. AddsStreamPart e b r true old new)
-raw_refused e content r old new h = told content _ _ (λ b s p. raw_part e b r old new p) h
+pub raw_refused : (e : IpcError) (wants wants' : ℕ) (content : Option (List ℕ)) (r : Request) (old new : Option (List ℕ)) → IfSome content (λ b. AddsPart e wants wants' b r (text_of Bytes) old new) → IfSome content (λ b. AddsStreamPart e wants wants' b r true old new)
+raw_refused e wants wants' content r old new h = told content _ _ (λ b s p. raw_part e wants wants' b r old new p) h
 
-after_stream : (e : PutError) (b : List ℕ) (r : Request) (old mid new : Option (List ℕ)) → AddsStream b r (text_of HexText) old mid → Puts mid new (Err e) (10 ∷ []) → AddsStreamPart (put_error e) b r false old new
-after_stream put.Failed b r old mid new s p = record {
+rose_later : (a b c : ℕ) → a ≤ b → Rose b c → Rose a c
+rose_later a b c h r = omega arith
+
+after_stream : (e : PutError) (faults faults' before wants wants' : ℕ) (b : List ℕ) (r : Request) (old mid new : Option (List ℕ)) → before ≤ wants → PutHasCause faults faults' wants wants' (Err e) → AddsStream b r (text_of HexText) old mid → Puts mid new (Err e) (10 ∷ []) → AddsStreamPart (put_error e) before wants' b r false old new
+after_stream put.Failed faults faults' before wants wants' b r old mid new later c s p = record {
   bytes = s.bytes;
   table = s.table;
   piece = inl (s.stream, AppendsPrefix-after old mid new (text_of HexText s.bytes) (10 ∷ []) s.added p);
 }
-after_stream put.Memory b r old mid new s p = inr (
-  refl,
+after_stream put.Memory faults faults' before wants wants' b r old mid new later c s p = inr (
+  rose_later before wants wants' later (c.wanted refl),
   record {
     bytes = s.bytes;
     table = s.table;
-    stream = s.stream;
-    added = Appends-kept old mid new (text_of HexText s.bytes) s.added p;
+    piece = inl (s.stream, AppendsPrefix-after old mid new (text_of HexText s.bytes) (10 ∷ []) s.added (0, Appends-kept_nil mid new p));
   },
 )
 
 -- a line feed that could not be put
-pub line_feed_refused : (e : PutError) (s : Summary) (content : Option (List ℕ)) (r : Request) (old mid new : Option (List ℕ)) → IfSome content (λ b. Transcodes s b r (text_of HexText) old mid) → Puts mid new (Err e) (10 ∷ [])
-    → IfSome content (λ b. AddsStreamPart (put_error e) b r false old new)
-line_feed_refused e s content r old mid new h p = told content _ _ (λ b _ t. after_stream e b r old mid new t.stream p) h
+pub line_feed_refused : (e : PutError) (faults faults' before wants wants' : ℕ) (s : Summary) (content : Option (List ℕ)) (r : Request) (old mid new : Option (List ℕ)) → before ≤ wants → PutHasCause faults faults' wants wants' (Err e) → IfSome content (λ b. Transcodes s b r (text_of HexText) old mid) → Puts mid new (Err e) (10 ∷ [])
+    → IfSome content (λ b. AddsStreamPart (put_error e) before wants' b r false old new)
+line_feed_refused e faults faults' before wants wants' s content r old mid new later c whole p = told content _ _ (λ b _ t. after_stream e faults faults' before wants wants' b r old mid new later c t.stream p) whole

@@ -14,7 +14,7 @@ use Rattle.ipc_tool.specs.Request.{stream_asked, schema_asked, table_asked}
 use Rattle.ipc_tool.specs.declared.request.StreamOptions.{StreamOptions}
 use Rattle.ipc_tool.specs.Input.{TakesTooMany, IsNoHex, HexCause}
 use Rattle.ipc_tool.specs.Run.{Outside, MayBe, NoneFailed, HasMeaning, HasText, IsMissing, IsOfOpening, name_in, IsLeft, IsComplete, IsTold}
-use Rattle.ipc_files.proofs.Refusing.{stood}
+use Rattle.ipc_transcode.proofs.Refusing.{stood}
 
 -- the source's bytes are told, and P holds of them
 abbrev OfSource : (List ℕ → Type 0) → Option (Option (List ℕ)) → Type 0

@@ -16,7 +16,7 @@ use Rattle.ipc_io.specs.declared.outside.PutError.TheVariants as put
 use Rattle.ipc_files.specs.FileViews.{meta_view, FileCause}
 use Rattle.ipc_tool.specs.SchemaPuts.{AddsText, AddsTextPart, PrintCause}
 use Rattle.ipc_files.specs.declared.metadata.FileMetadata.{FileMetadata}
-use Rattle.ipc_files.proofs.SentFiles.{told}
+use Rattle.ipc_files.proofs.ReadFiles.{told}
 
 text_said : (b : List ℕ) (meta : Meta) → meta_of b ≡ Ok meta → schema_text_of b ≡ Ok (schema_text meta.schema)
 unfolding schema_text_of bind

@@ -12,7 +12,7 @@ use Rattle.ipc_tool.specs.Refusal.{number_of, line_of}
 use Rattle.ipc_tool.specs.Request.{WordsCause, command_of}
 use Rattle.ipc_tool.specs.SchemaPuts.{AddsText, AddsTextFront, may_print}
 use Rattle.ipc_tool.specs.StreamPuts.{AddsStreamPart, shown_as}
-use Rattle.ipc_files.specs.Transcode.{AddsStream}
+use Rattle.ipc_transcode.specs.Transcode.{AddsStream}
 use Rattle.ipc_tool.specs.Input.{TakesTooMany, IsNoHex}
 use Rattle.ipc_tool.specs.declared.refusal.Refusal.{Refusal}
 use Rattle.ipc_tool.specs.declared.refusal.Refusal.TheVariants.{Ipc, Words, NotHex, InputTooLong, NoName}
@@ -25,38 +25,42 @@ pub record Outside : Type 0 where
   pub input_faults : ℕ
   pub written : Option (List ℕ)
   pub output_faults : ℕ
+  pub output_wants : ℕ
 
 -- by the members of their bounds
-abbrev pub outside_of : {H I W : Type 0} → (H → Option Held) → (H → ℕ) → (I → Option (List ℕ)) → (I → ℕ) → (W → Option (List ℕ)) → (W → ℕ) → H → I → W → Outside
-outside_of held shelf_faults rest input_faults written output_faults shelf input output = record {
+abbrev pub outside_of : {H I W : Type 0} → (H → Option Held) → (H → ℕ) → (I → Option (List ℕ)) → (I → ℕ) → (W → Option (List ℕ)) → (W → ℕ) → (W → ℕ) → H → I → W → Outside
+outside_of held shelf_faults rest input_faults written output_faults output_wants shelf input output = record {
   held = held shelf;
   shelf_faults = shelf_faults shelf;
   rest = rest input;
   input_faults = input_faults input;
   written = written output;
   output_faults = output_faults output;
+  output_wants = output_wants output;
 }
 
 -- the same where there is no shelf
-abbrev pub beside_shelf : {I W : Type 0} → (I → Option (List ℕ)) → (I → ℕ) → (W → Option (List ℕ)) → (W → ℕ) → I → W → Outside
-beside_shelf rest input_faults written output_faults input output = record {
+abbrev pub beside_shelf : {I W : Type 0} → (I → Option (List ℕ)) → (I → ℕ) → (W → Option (List ℕ)) → (W → ℕ) → (W → ℕ) → I → W → Outside
+beside_shelf rest input_faults written output_faults output_wants input output = record {
   held = None;
   shelf_faults = 0;
   rest = rest input;
   input_faults = input_faults input;
   written = written output;
   output_faults = output_faults output;
+  output_wants = output_wants output;
 }
 
 -- the same where there is no input
-abbrev pub beside_input : {H W : Type 0} → (H → Option Held) → (H → ℕ) → (W → Option (List ℕ)) → (W → ℕ) → H → W → Outside
-beside_input held shelf_faults written output_faults shelf output = record {
+abbrev pub beside_input : {H W : Type 0} → (H → Option Held) → (H → ℕ) → (W → Option (List ℕ)) → (W → ℕ) → (W → ℕ) → H → W → Outside
+beside_input held shelf_faults written output_faults output_wants shelf output = record {
   held = held shelf;
   shelf_faults = shelf_faults shelf;
   rest = None;
   input_faults = 0;
   written = written output;
   output_faults = output_faults output;
+  output_wants = output_wants output;
 }
 
 abbrev pub source_in : Option (List ℕ) → Outside → Option (Option (List ℕ))
@@ -87,13 +91,13 @@ abbrev pub IsWhole : StreamAsked → Outside → Outside → Type 0
 IsWhole s old new = IfSome (source_in s.name old) (λ bytes. IsSomeAnd bytes (λ b. AddsStream b s.request (shown_as s.raw) old.written new.written))
 
 -- what a request that was refused added, of known bytes: what the stream that was refused did, and nothing before a file was read
-abbrev pub AddsBefore : Refusal → List ℕ → Request → Bool → Option (List ℕ) → Option (List ℕ) → Type 0
-AddsBefore (Ipc e) b r raw old new = AddsStreamPart e b r raw old new
-AddsBefore _ b r raw old new = Keeps old new
+abbrev pub AddsBefore : Refusal → ℕ → ℕ → List ℕ → Request → Bool → Option (List ℕ) → Option (List ℕ) → Type 0
+AddsBefore (Ipc e) wants wants' b r raw old new = AddsStreamPart e wants wants' b r raw old new
+AddsBefore _ wants wants' b r raw old new = Keeps old new
 
 abbrev pub AddsPartOf : Refusal → StreamAsked → Outside → Outside → Type 0
 AddsPartOf e s old new =
-    IfSome (source_in s.name old) (λ bytes. MatchOption bytes (Keeps old.written new.written) (λ b. AddsBefore e b s.request s.raw old.written new.written))
+    IfSome (source_in s.name old) (λ bytes. MatchOption bytes (Keeps old.written new.written) (λ b. AddsBefore e old.output_wants new.output_wants b s.request s.raw old.written new.written))
 
 -- the source's bytes may be refused so
 abbrev pub MayBe : IpcError → StreamAsked → Outside → Type 0

@@ -61,8 +61,8 @@ fn run_words<H: Shelf, I: Feed, W: Sink, N: Sink>(
     notes: &mut N,
 ) -> u8
     ensures { Ran result (texts words.now)
-        (outside_of H.held H.faults I.rest I.faults W.written W.faults shelf.old input.old output.old)
-        (outside_of H.held H.faults I.rest I.faults W.written W.faults shelf.new input.new output.new)
+        (outside_of H.held H.faults I.rest I.faults W.written W.faults W.wants shelf.old input.old output.old)
+        (outside_of H.held H.faults I.rest I.faults W.written W.faults W.wants shelf.new input.new output.new)
         (noted_of N.written N.faults N.wants notes.old)
         (noted_of N.written N.faults N.wants notes.new) }
 {
@@ -79,8 +79,8 @@ pub fn answer<H: Shelf, I: Feed, W: Sink, N: Sink>(
     notes: &mut N,
 ) -> u8
     ensures { IsAnswer result (map string_bytes words.now)
-        (outside_of H.held H.faults I.rest I.faults W.written W.faults shelf.old input.old output.old)
-        (outside_of H.held H.faults I.rest I.faults W.written W.faults shelf.new input.new output.new)
+        (outside_of H.held H.faults I.rest I.faults W.written W.faults W.wants shelf.old input.old output.old)
+        (outside_of H.held H.faults I.rest I.faults W.written W.faults W.wants shelf.new input.new output.new)
         (noted_of N.written N.faults N.wants notes.old)
         (noted_of N.written N.faults N.wants notes.new) }
 {

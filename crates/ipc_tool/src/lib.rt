@@ -15,7 +15,7 @@ mod stream_output;
 pub use adapters::{InputFeed, OutputSink};
 pub use command_line::{answer, status_of_process};
 pub use folder::{FileSource, FolderShelf};
-pub use ipc_files::{Summary, transcode};
+pub use ipc_transcode::{Summary, transcode};
 pub use note::note_refusal;
 pub use program::run;
 pub use refusal::{Refusal, status};

@@ -56,17 +56,17 @@ fn stream_from_input<I: Feed, W: Sink>(
     options: &StreamOptions,
 ) -> Result<(), Refusal>
     ensures whole { OnOk result (IsWhole (stream_asked options.now None)
-        (beside_shelf I.rest I.faults W.written W.faults input.old output.old)
-        (beside_shelf I.rest I.faults W.written W.faults input.new output.new)) }
+        (beside_shelf I.rest I.faults W.written W.faults W.wants input.old output.old)
+        (beside_shelf I.rest I.faults W.written W.faults W.wants input.new output.new)) }
     ensures part { IfErr result (λ e. AddsPartOf e (stream_asked options.now None)
-        (beside_shelf I.rest I.faults W.written W.faults input.old output.old)
-        (beside_shelf I.rest I.faults W.written W.faults input.new output.new)) }
+        (beside_shelf I.rest I.faults W.written W.faults W.wants input.old output.old)
+        (beside_shelf I.rest I.faults W.written W.faults W.wants input.new output.new)) }
     ensures cause { IfErr result (λ e. RequestCause e (stream_asked options.now None)
-        (beside_shelf I.rest I.faults W.written W.faults input.old output.old)
-        (beside_shelf I.rest I.faults W.written W.faults input.new output.new)) }
+        (beside_shelf I.rest I.faults W.written W.faults W.wants input.old output.old)
+        (beside_shelf I.rest I.faults W.written W.faults W.wants input.new output.new)) }
     ensures complete { IfErr result (λ e. IsComplete e (stream_asked options.now None)
-        (beside_shelf I.rest I.faults W.written W.faults input.old output.old)
-        (beside_shelf I.rest I.faults W.written W.faults input.new output.new)) }
+        (beside_shelf I.rest I.faults W.written W.faults W.wants input.old output.old)
+        (beside_shelf I.rest I.faults W.written W.faults W.wants input.new output.new)) }
     ensures at_end { OnOk result (IsAtEnd (I.rest input.new)) }
     ensures reads { I.faults input.old ≤ I.faults input.new }
     ensures not_read { IfErr result (λ e. number_of e ≡ 11 → Keeps (W.written output.old) (W.written output.new)) }
@@ -87,17 +87,17 @@ fn stream_from_shelf<H: Shelf, W: Sink>(
     options: &StreamOptions,
 ) -> Result<(), Refusal>
     ensures whole { OnOk result (IsWhole (stream_asked options.now (Some name.now))
-        (beside_input H.held H.faults W.written W.faults shelf.old output.old)
-        (beside_input H.held H.faults W.written W.faults shelf.new output.new)) }
+        (beside_input H.held H.faults W.written W.faults W.wants shelf.old output.old)
+        (beside_input H.held H.faults W.written W.faults W.wants shelf.new output.new)) }
     ensures part { IfErr result (λ e. AddsPartOf e (stream_asked options.now (Some name.now))
-        (beside_input H.held H.faults W.written W.faults shelf.old output.old)
-        (beside_input H.held H.faults W.written W.faults shelf.new output.new)) }
+        (beside_input H.held H.faults W.written W.faults W.wants shelf.old output.old)
+        (beside_input H.held H.faults W.written W.faults W.wants shelf.new output.new)) }
     ensures cause { IfErr result (λ e. RequestCause e (stream_asked options.now (Some name.now))
-        (beside_input H.held H.faults W.written W.faults shelf.old output.old)
-        (beside_input H.held H.faults W.written W.faults shelf.new output.new)) }
+        (beside_input H.held H.faults W.written W.faults W.wants shelf.old output.old)
+        (beside_input H.held H.faults W.written W.faults W.wants shelf.new output.new)) }
     ensures complete { IfErr result (λ e. IsComplete e (stream_asked options.now (Some name.now))
-        (beside_input H.held H.faults W.written W.faults shelf.old output.old)
-        (beside_input H.held H.faults W.written W.faults shelf.new output.new)) }
+        (beside_input H.held H.faults W.written W.faults W.wants shelf.old output.old)
+        (beside_input H.held H.faults W.written W.faults W.wants shelf.new output.new)) }
     ensures missing { IsMissing (Some name.now) (H.held shelf.old) → IsErrAnd result IsOfOpening }
     ensures held { H.held shelf.new ≡ H.held shelf.old }
     ensures reads { H.faults shelf.old ≤ H.faults shelf.new }
@@ -118,17 +118,17 @@ fn schema_from_input<I: Feed, W: Sink>(
     output: &mut W,
 ) -> Result<(), Refusal>
     ensures text { OnOk result (IsText (schema_asked None)
-        (beside_shelf I.rest I.faults W.written W.faults input.old output.old)
-        (beside_shelf I.rest I.faults W.written W.faults input.new output.new)) }
+        (beside_shelf I.rest I.faults W.written W.faults W.wants input.old output.old)
+        (beside_shelf I.rest I.faults W.written W.faults W.wants input.new output.new)) }
     ensures part { IfErr result (λ e. AddsTextOf e (schema_asked None)
-        (beside_shelf I.rest I.faults W.written W.faults input.old output.old)
-        (beside_shelf I.rest I.faults W.written W.faults input.new output.new)) }
+        (beside_shelf I.rest I.faults W.written W.faults W.wants input.old output.old)
+        (beside_shelf I.rest I.faults W.written W.faults W.wants input.new output.new)) }
     ensures cause { IfErr result (λ e. SchemaCause e (schema_asked None)
-        (beside_shelf I.rest I.faults W.written W.faults input.old output.old)
-        (beside_shelf I.rest I.faults W.written W.faults input.new output.new)) }
+        (beside_shelf I.rest I.faults W.written W.faults W.wants input.old output.old)
+        (beside_shelf I.rest I.faults W.written W.faults W.wants input.new output.new)) }
     ensures told { IfErr result (λ e. IsTold e (schema_asked None)
-        (beside_shelf I.rest I.faults W.written W.faults input.old output.old)
-        (beside_shelf I.rest I.faults W.written W.faults input.new output.new)) }
+        (beside_shelf I.rest I.faults W.written W.faults W.wants input.old output.old)
+        (beside_shelf I.rest I.faults W.written W.faults W.wants input.new output.new)) }
     ensures few { IfErr result (λ e. (number_of e ≤ 4) ⊎ (11 ≤ number_of e)) }
     ensures at_end { OnOk result (IsAtEnd (I.rest input.new)) }
     ensures reads { I.faults input.old ≤ I.faults input.new }
@@ -149,17 +149,17 @@ fn schema_from_shelf<H: Shelf, W: Sink>(
     output: &mut W,
 ) -> Result<(), Refusal>
     ensures text { OnOk result (IsText (schema_asked (Some name.now))
-        (beside_input H.held H.faults W.written W.faults shelf.old output.old)
-        (beside_input H.held H.faults W.written W.faults shelf.new output.new)) }
+        (beside_input H.held H.faults W.written W.faults W.wants shelf.old output.old)
+        (beside_input H.held H.faults W.written W.faults W.wants shelf.new output.new)) }
     ensures part { IfErr result (λ e. AddsTextOf e (schema_asked (Some name.now))
-        (beside_input H.held H.faults W.written W.faults shelf.old output.old)
-        (beside_input H.held H.faults W.written W.faults shelf.new output.new)) }
+        (beside_input H.held H.faults W.written W.faults W.wants shelf.old output.old)
+        (beside_input H.held H.faults W.written W.faults W.wants shelf.new output.new)) }
     ensures cause { IfErr result (λ e. SchemaCause e (schema_asked (Some name.now))
-        (beside_input H.held H.faults W.written W.faults shelf.old output.old)
-        (beside_input H.held H.faults W.written W.faults shelf.new output.new)) }
+        (beside_input H.held H.faults W.written W.faults W.wants shelf.old output.old)
+        (beside_input H.held H.faults W.written W.faults W.wants shelf.new output.new)) }
     ensures told { IfErr result (λ e. IsTold e (schema_asked (Some name.now))
-        (beside_input H.held H.faults W.written W.faults shelf.old output.old)
-        (beside_input H.held H.faults W.written W.faults shelf.new output.new)) }
+        (beside_input H.held H.faults W.written W.faults W.wants shelf.old output.old)
+        (beside_input H.held H.faults W.written W.faults W.wants shelf.new output.new)) }
     ensures few { IfErr result (λ e. (number_of e ≤ 4) ⊎ (11 ≤ number_of e)) }
     ensures missing { IsMissing (Some name.now) (H.held shelf.old) → IsErrAnd result IsOfOpening }
     ensures held { H.held shelf.new ≡ H.held shelf.old }
@@ -184,23 +184,23 @@ fn work<H: Shelf, I: Feed, W: Sink>(
 ) -> Result<(), Refusal>
     ensures request { OnOk result (IsSome (command_of (texts words.now))) }
     ensures whole { OnOk result (IfSome (request_of (texts words.now)) (λ s. IsWhole s
-        (outside_of H.held H.faults I.rest I.faults W.written W.faults shelf.old input.old output.old)
-        (outside_of H.held H.faults I.rest I.faults W.written W.faults shelf.new input.new output.new))) }
+        (outside_of H.held H.faults I.rest I.faults W.written W.faults W.wants shelf.old input.old output.old)
+        (outside_of H.held H.faults I.rest I.faults W.written W.faults W.wants shelf.new input.new output.new))) }
     ensures text { OnOk result (IfSome (schema_request_of (texts words.now)) (λ s. IsText s
-        (outside_of H.held H.faults I.rest I.faults W.written W.faults shelf.old input.old output.old)
-        (outside_of H.held H.faults I.rest I.faults W.written W.faults shelf.new input.new output.new))) }
+        (outside_of H.held H.faults I.rest I.faults W.written W.faults W.wants shelf.old input.old output.old)
+        (outside_of H.held H.faults I.rest I.faults W.written W.faults W.wants shelf.new input.new output.new))) }
     ensures part { IfErr result (λ e. MatchOption (command_of (texts words.now)) (Keeps (W.written output.old) (W.written output.new)) (λ c. CommandAdds e c
-        (outside_of H.held H.faults I.rest I.faults W.written W.faults shelf.old input.old output.old)
-        (outside_of H.held H.faults I.rest I.faults W.written W.faults shelf.new input.new output.new))) }
+        (outside_of H.held H.faults I.rest I.faults W.written W.faults W.wants shelf.old input.old output.old)
+        (outside_of H.held H.faults I.rest I.faults W.written W.faults W.wants shelf.new input.new output.new))) }
     ensures cause { IfErr result (λ e. MatchOption (command_of (texts words.now)) (WordsCause e (texts words.now)) (λ c. CommandCause e c
-        (outside_of H.held H.faults I.rest I.faults W.written W.faults shelf.old input.old output.old)
-        (outside_of H.held H.faults I.rest I.faults W.written W.faults shelf.new input.new output.new))) }
+        (outside_of H.held H.faults I.rest I.faults W.written W.faults W.wants shelf.old input.old output.old)
+        (outside_of H.held H.faults I.rest I.faults W.written W.faults W.wants shelf.new input.new output.new))) }
     ensures complete { IfErr result (λ e. IfSome (request_of (texts words.now)) (λ s. IsComplete e s
-        (outside_of H.held H.faults I.rest I.faults W.written W.faults shelf.old input.old output.old)
-        (outside_of H.held H.faults I.rest I.faults W.written W.faults shelf.new input.new output.new))) }
+        (outside_of H.held H.faults I.rest I.faults W.written W.faults W.wants shelf.old input.old output.old)
+        (outside_of H.held H.faults I.rest I.faults W.written W.faults W.wants shelf.new input.new output.new))) }
     ensures told { IfErr result (λ e. IfSome (schema_request_of (texts words.now)) (λ s. IsTold e s
-        (outside_of H.held H.faults I.rest I.faults W.written W.faults shelf.old input.old output.old)
-        (outside_of H.held H.faults I.rest I.faults W.written W.faults shelf.new input.new output.new))) }
+        (outside_of H.held H.faults I.rest I.faults W.written W.faults W.wants shelf.old input.old output.old)
+        (outside_of H.held H.faults I.rest I.faults W.written W.faults W.wants shelf.new input.new output.new))) }
     ensures few { IfErr result (λ e. IfSome (schema_request_of (texts words.now)) (λ s. (number_of e ≤ 4) ⊎ (11 ≤ number_of e))) }
     ensures missing { IfSome (command_of (texts words.now)) (λ c. IsMissing (name_in c) (H.held shelf.old) → IsErrAnd result IsOfOpening) }
     ensures at_end { OnOk result (IfSome (command_of (texts words.now)) (λ c. IsNone (name_in c) → IsAtEnd (I.rest input.new))) }
@@ -243,27 +243,27 @@ pub fn run<H: Shelf, I: Feed, W: Sink, N: Sink>(
     // At 0 the words are a request. For a stream the output has one whole stream more that means what the source means, for a schema the text of the source's schema more; and nothing was noted.
     ensures request { result ≡ 0 → IsSome (command_of (texts words.now)) }
     ensures whole { result ≡ 0 → IfSome (request_of (texts words.now)) (λ s. IsWhole s
-        (outside_of H.held H.faults I.rest I.faults W.written W.faults shelf.old input.old output.old)
-        (outside_of H.held H.faults I.rest I.faults W.written W.faults shelf.new input.new output.new)) }
+        (outside_of H.held H.faults I.rest I.faults W.written W.faults W.wants shelf.old input.old output.old)
+        (outside_of H.held H.faults I.rest I.faults W.written W.faults W.wants shelf.new input.new output.new)) }
     ensures text { result ≡ 0 → IfSome (schema_request_of (texts words.now)) (λ s. IsText s
-        (outside_of H.held H.faults I.rest I.faults W.written W.faults shelf.old input.old output.old)
-        (outside_of H.held H.faults I.rest I.faults W.written W.faults shelf.new input.new output.new)) }
+        (outside_of H.held H.faults I.rest I.faults W.written W.faults W.wants shelf.old input.old output.old)
+        (outside_of H.held H.faults I.rest I.faults W.written W.faults W.wants shelf.new input.new output.new)) }
     ensures at_end { result ≡ 0 → IfSome (command_of (texts words.now)) (λ c. IsNone (name_in c) → IsAtEnd (I.rest input.new)) }
     ensures quiet { result ≡ 0 → notes.new ≡ notes.old }
 
     // Else there is one refusal that has its cause and left a part at most, and its line was noted.
     ensures refused { (result ≡ 0 → ⊥) → (e : Refusal)
         × IsRefused result e (texts words.now)
-        (outside_of H.held H.faults I.rest I.faults W.written W.faults shelf.old input.old output.old)
-        (outside_of H.held H.faults I.rest I.faults W.written W.faults shelf.new input.new output.new)
+        (outside_of H.held H.faults I.rest I.faults W.written W.faults W.wants shelf.old input.old output.old)
+        (outside_of H.held H.faults I.rest I.faults W.written W.faults W.wants shelf.new input.new output.new)
         × IsNoted e (N.written notes.old) (N.written notes.new) (N.faults notes.old) (N.faults notes.new) (N.wants notes.old) (N.wants notes.new) }
 
     // Where the source means a table and no device failed, memory may be wanting, or a message of it is too large; where it says a schema, memory may be wanting.
-    ensures complete { let old = outside_of H.held H.faults I.rest I.faults W.written W.faults shelf.old input.old output.old in
-        let new = outside_of H.held H.faults I.rest I.faults W.written W.faults shelf.new input.new output.new in
+    ensures complete { let old = outside_of H.held H.faults I.rest I.faults W.written W.faults W.wants shelf.old input.old output.old in
+        let new = outside_of H.held H.faults I.rest I.faults W.written W.faults W.wants shelf.new input.new output.new in
         IfSome (request_of (texts words.now)) (λ s. HasMeaning s old → NoneFailed old new → (result ≡ 0) ⊎ (result ≡ 13) ⊎ ((result ≡ 6) × MayBe TooLarge s old)) }
-    ensures told { let old = outside_of H.held H.faults I.rest I.faults W.written W.faults shelf.old input.old output.old in
-        let new = outside_of H.held H.faults I.rest I.faults W.written W.faults shelf.new input.new output.new in
+    ensures told { let old = outside_of H.held H.faults I.rest I.faults W.written W.faults W.wants shelf.old input.old output.old in
+        let new = outside_of H.held H.faults I.rest I.faults W.written W.faults W.wants shelf.new input.new output.new in
         IfSome (schema_request_of (texts words.now)) (λ s. HasText s old → NoneFailed old new → (result ≡ 0) ⊎ (result ≡ 13)) }
 
     // Each status has its cause.
@@ -271,8 +271,8 @@ pub fn run<H: Shelf, I: Feed, W: Sink, N: Sink>(
     ensures of_schema { IfSome (schema_request_of (texts words.now)) (λ s. (result ≤ 4) ⊎ (11 ≤ result)) }
     ensures at_most { result ≤ 17 }
     ensures read_fault { result ≡ 11 → IsSomeAnd (command_of (texts words.now)) (λ c. SourceFailed (name_in c)
-        (outside_of H.held H.faults I.rest I.faults W.written W.faults shelf.old input.old output.old)
-        (outside_of H.held H.faults I.rest I.faults W.written W.faults shelf.new input.new output.new)) }
+        (outside_of H.held H.faults I.rest I.faults W.written W.faults W.wants shelf.old input.old output.old)
+        (outside_of H.held H.faults I.rest I.faults W.written W.faults W.wants shelf.new input.new output.new)) }
     ensures write_fault { result ≡ 12 → Rose (W.faults output.old) (W.faults output.new) }
     ensures words { result ≡ 14 → IsNone (asked_of (texts words.now)) }
     ensures no_request { IsNone (asked_of (texts words.now)) → (result ≡ 14) ⊎ (result ≡ 13) }

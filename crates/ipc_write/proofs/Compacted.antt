@@ -18,8 +18,8 @@ use Rattle.arrow_buffers.proofs.Fixed.{quotient}
 use Rattle.arrow_buffers.proofs.Rows.{none_below, none_from, fine_here, null_here}
 use Rattle.arrow_buffers.proofs.ViewParts.{Seen, view_sound, good_row}
 use Rattle.arrow_arrays.specs.LeafParts.{nulls, bits, numbers, fixed, binary, text, binary_views, text_views}
-use Rattle.ipc_write_arrays.specs.Dictionaries.{HoldsValues}
-use Rattle.arrow_arrays.specs.Parts.{Parts, leaf, nested, rows_in, cells_in, fault_in}
+use Rattle.ipc_write_arrays.specs.Dictionaries.{HoldsValuesAt}
+use Rattle.arrow_arrays.specs.Parts.{Parts, leaf, nested, kind_in, rows_in, cells_in, fault_in}
 use Rattle.arrow_arrays.proofs.PieceLaws.{Viewed}
 use Rattle.ipc_write.specs.Compaction.{laid_from, laid_anew, compacted, views_need_compaction, top, top_views, value_at, value_length}
 use Rattle.ipc_write.specs.Laying.{LaidFits, ColumnFits}
@@ -192,14 +192,14 @@ top_rows (leaf (binary p)) e fits = refl
 top_rows (leaf (text p)) e fits = refl
 top_rows (nested h cs) e fits = refl
 
+-- the same kind
+pub top_kind : (p : Parts) → kind_in (top p) ≡ kind_in p
+top_kind (leaf (binary_views p)) = kind_kept p
+top_kind (leaf (text_views p)) = kind_kept p
+top_kind p = refl
+
 -- and the same dictionaries
-pub top_held : (d : Dictionaries) (p : Parts) → HoldsValues d p → HoldsValues d (top p)
-top_held d (leaf (binary_views v)) h = tt
-top_held d (leaf (text_views v)) h = tt
-top_held d (leaf (nulls n)) h = tt
-top_held d (leaf (bits f)) h = tt
-top_held d (leaf (numbers f)) h = tt
-top_held d (leaf (fixed f)) h = tt
-top_held d (leaf (binary p)) h = tt
-top_held d (leaf (text p)) h = tt
-top_held d (nested h cs) held = held
+pub top_held : (d : Dictionaries) (k : Kind) (p : Parts) → HoldsValuesAt d k p → HoldsValuesAt d k (top p)
+top_held d k (leaf (binary_views p)) h = tt
+top_held d k (leaf (text_views p)) h = tt
+top_held d k p h = h

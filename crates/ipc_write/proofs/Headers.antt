@@ -1,14 +1,16 @@
 -- The metadata of a message: how large it is, and how many slots its tables have.
-use Rattle.std.proofs.Common.{◌≡◌, ℕ, zero, suc, ◌+◌, ◌*◌, ◌^◌, ◌≤◌, List, [], ◌∷◌, ◌++◌, length, Result, Ok, Err, OnOk, refl, sym, ap, ◌∙◌, arith, length-append, append_assoc, ℤ, pos, negsuc, subst}
+use Rattle.std.proofs.Common.{◌≡◌, ℕ, zero, suc, ◌+◌, ◌*◌, ◌^◌, ◌≤◌, List, [], ◌∷◌, ◌++◌, length, Result, Ok, Err, OnOk, refl, sym, ap, ◌∙◌, arith, length-append, append_assoc, Bool, true, false, ℤ, pos, negsuc, subst}
 use Rattle.std.specs.List.{flat_map}
 use Rattle.std.specs.Int.{Width, w64}
 use Rattle.arrow_spec.specs.declared.message.FieldNode.{FieldNode}
 use Rattle.arrow_spec.specs.declared.message.IpcBuffer.{IpcBuffer}
 use Rattle.arrow_spec.specs.Layout.{Node, Slots, table, numbers64, no_more, absent, child, end_of, end_of_children, inline_end, table_place, size, slot_count, one_more}
-use Rattle.arrow_spec.specs.Sent.{unless_zero, node_bytes, buffer_bytes, nodes_node, buffers_node, message_slots}
+use Rattle.arrow_spec.specs.Sent.{unless_zero, flag, node_bytes, buffer_bytes, nodes_node, buffers_node, message_slots}
 use Rattle.arrow_spec.proofs.Ends.{end_above}
 use Rattle.arrow_flat.specs.Nodes.{KeepsSlotLimit, ChildrenKeepSlotLimit}
-use Rattle.ipc_write.specs.Metadata.{counts_slot, header_node, metadata_node}
+use Rattle.ipc_write.specs.Metadata.{content_node, content_tag, counts_slot, header_node, metadata_node}
+use Rattle.ipc_write.specs.declared.metadata.Content.{Content}
+use Rattle.ipc_write.specs.declared.metadata.Content.TheVariants.{RecordBatch, DictionaryBatch}
 
 pub two_put : {T E : Type 0} → (r : Result T E) (a x y d e : List ℕ) → d ≡ a ++ x → OnOk r (e ≡ d ++ y) → OnOk r (e ≡ a ++ (x ++ y))
 two_put (Ok t) a x y d e hd he = he ∙ ap (λ t. t ++ y) hd ∙ append_assoc a x y
@@ -44,9 +46,26 @@ keeps_header rows nodes buffers counts =
     let few : slot_count rest ≤ 4 = omega (arith, count_counts counts) in
     (omega (arith, count_zero w64 (pos rows) rest, few), keeps_zero w64 (pos rows) rest (tt, (tt, keeps_counts counts)))
 
-pub keeps_metadata : (n h : Node) (rows body : ℕ) (nodes : List FieldNode) (buffers : List IpcBuffer) (counts : List ℤ) → h ≡ header_node rows nodes buffers counts → n ≡ table (message_slots 3 h body []) → KeepsSlotLimit n
-keeps_metadata n h rows body nodes buffers counts hh hn =
-    let header : KeepsSlotLimit h = subst KeepsSlotLimit (sym hh) (keeps_header rows nodes buffers counts) in
+count_flag : (b : Bool) → slot_count (flag b no_more) ≤ 1
+count_flag true = omega arith
+count_flag false = omega arith
+
+keeps_flag : (b : Bool) → ChildrenKeepSlotLimit (flag b no_more)
+keeps_flag true = tt
+keeps_flag false = tt
+
+keeps_content : (content : Content) (batch : Node) → KeepsSlotLimit batch → KeepsSlotLimit (content_node content batch)
+keeps_content RecordBatch batch h = h
+keeps_content (DictionaryBatch id is_delta) batch h =
+    let rest = child batch (flag is_delta no_more) in
+    let few : slot_count rest ≤ 2 = omega (arith, count_flag is_delta) in
+    (omega (arith, count_zero w64 id rest, few), keeps_zero w64 id rest (h, keeps_flag is_delta))
+
+pub keeps_metadata : (n h batch : Node) (content : Content) (tag rows body : ℕ) (nodes : List FieldNode) (buffers : List IpcBuffer) (counts : List ℤ) → batch ≡ header_node rows nodes buffers counts
+    → h ≡ content_node content batch → n ≡ table (message_slots tag h body []) → KeepsSlotLimit n
+keeps_metadata n h batch content tag rows body nodes buffers counts hb hh hn =
+    let inner : KeepsSlotLimit batch = subst KeepsSlotLimit (sym hb) (keeps_header rows nodes buffers counts) in
+    let header : KeepsSlotLimit h = subst KeepsSlotLimit (sym hh) (keeps_content content batch inner) in
     let last = unless_zero w64 (pos body) no_more in
     let few : slot_count last ≤ 2 = count_zero w64 (pos body) no_more in
     subst KeepsSlotLimit (sym hn) (omega (arith, few), (header, keeps_zero w64 (pos body) no_more tt))
@@ -84,20 +103,40 @@ header_end rows nodes buffers counts c =
     let second : length (flat_map buffer_bytes buffers) ≤ two = omega arith in
     (omega (arith, whole, last, later, first, length-nodes nodes), omega (arith, whole, last, second, length-buffers buffers))
 
-message_end : (body : ℕ) (h : Node) → (c : ℕ) × (end_of h c ≤ size (table (message_slots 3 h body [])))
+content_end : (content : Content) (batch : Node) (c : ℕ) → (e : ℕ) × (end_of batch e ≤ end_of (content_node content batch) c)
+content_end RecordBatch batch c = (c, omega arith)
+content_end (DictionaryBatch id is_delta) batch c =
+    let rest = child batch (flag is_delta no_more) in
+    let s = unless_zero w64 id rest in
+    let e = inline_end s (table_place s c + 4) in
+    let whole : end_of (table s) c ≡ end_of batch e = children_zero w64 id rest e ∙ no_child is_delta (end_of batch e) in
+    (e, omega (arith, whole))
+  where
+    no_child : (b : Bool) (n : ℕ) → end_of_children (flag b no_more) n ≡ n
+    no_child true n = refl
+    no_child false n = refl
+
+message_end : (tag body : ℕ) (h : Node) → (c : ℕ) × (end_of h c ≤ size (table (message_slots tag h body [])))
 unfolding size
-message_end body h =
-    let s = message_slots 3 h body [] in
+message_end tag body h =
+    let s = message_slots tag h body [] in
     let e = inline_end s (table_place s 4 + 4) in
     let whole : end_of (table s) 4 ≡ end_of h e = children_zero w64 (pos body) no_more (end_of h e) in
     (e, omega (arith, whole))
 
-pub many_nodes : (rows body : ℕ) (nodes : List FieldNode) (buffers : List IpcBuffer) (counts : List ℤ) → 2 ^ 27 ≤ length nodes → 2 ^ 31 ≤ size (metadata_node rows nodes buffers counts body)
-many_nodes rows body nodes buffers counts h =
-    let end = message_end body (header_node rows nodes buffers counts) in
+-- a record batch's table ends within the message
+batch_end : (content : Content) (body : ℕ) (batch : Node) → (c : ℕ) × (end_of batch c ≤ size (table (message_slots (content_tag content) (content_node content batch) body [])))
+batch_end content body batch =
+    let outer = message_end (content_tag content) body (content_node content batch) in
+    let inner = content_end content batch outer.0 in
+    (inner.0, omega (arith, inner.1, outer.1))
+
+pub many_nodes : (content : Content) (rows body : ℕ) (nodes : List FieldNode) (buffers : List IpcBuffer) (counts : List ℤ) → 2 ^ 27 ≤ length nodes → 2 ^ 31 ≤ size (metadata_node content rows nodes buffers counts body)
+many_nodes content rows body nodes buffers counts h =
+    let end = batch_end content body (header_node rows nodes buffers counts) in
     omega (arith, (header_end rows nodes buffers counts end.0).0, end.1, h)
 
-pub many_buffers : (rows body : ℕ) (nodes : List FieldNode) (buffers : List IpcBuffer) (counts : List ℤ) → 2 ^ 27 ≤ length buffers → 2 ^ 31 ≤ size (metadata_node rows nodes buffers counts body)
-many_buffers rows body nodes buffers counts h =
-    let end = message_end body (header_node rows nodes buffers counts) in
+pub many_buffers : (content : Content) (rows body : ℕ) (nodes : List FieldNode) (buffers : List IpcBuffer) (counts : List ℤ) → 2 ^ 27 ≤ length buffers → 2 ^ 31 ≤ size (metadata_node content rows nodes buffers counts body)
+many_buffers content rows body nodes buffers counts h =
+    let end = batch_end content body (header_node rows nodes buffers counts) in
     omega (arith, (header_end rows nodes buffers counts end.0).1, end.1, h)

@@ -1,13 +1,13 @@
 pub mod Laying
-pub mod Lengths
-mod Putting
+pub mod Putting
 mod Headers
 mod ColumnSteps
+pub mod PlannedMessages
 mod Messages
+pub mod DictionaryValues
 pub mod CompactedViews
 pub mod CompactedRows
 pub mod Compacted
-mod Meanings
+pub mod Meanings
 pub mod Written
 mod SameRecords
-pub mod TreeEnds

@@ -1,101 +1,96 @@
--- The message of a batch is within its limits, or not.
-use Rattle.std.proofs.Common.{◌≡◌, ℕ, ◌^◌, ◌<◌, ◌≤◌, List, [], ◌∷◌, Bool, true, false, length, map, refl, sym, ap, ◌∙◌, arith, subst, Result, Ok, Err, IsErrAnd, pos, min}
-use Rattle.std.specs.Prelude.{nat_le, ◌&&◌}
-use Rattle.std.proofs.lemmas.Bool.{le-leb, lt-leb}
+use Rattle.std.proofs.Common.{◌≡◌, ℕ, ◌^◌, ◌≤◌, List, [], ◌∷◌, ◌++◌, false, length, map, refl, ap, ◌∙◌, arith, subst, Result, Ok, Err, pos}
+-- The messages of batches and of values are within their limits, or not.
+use Rattle.std.specs.Prelude.{None}
 use Rattle.arrow_spec.specs.declared.error.IpcError.{IpcError}
 use Rattle.arrow_spec.specs.declared.error.IpcError.TheVariants as errors
-use Rattle.arrow_spec.specs.declared.message.FieldNode.{FieldNode}
-use Rattle.arrow_spec.specs.declared.message.IpcBuffer.{IpcBuffer}
-use Rattle.arrow_spec.specs.Layout.{Node, up_to, size, no_more}
-use Rattle.arrow_spec.specs.Sent.{placed, views_slot}
+use Rattle.arrow_spec.specs.declared.error.Feature.TheVariants as features
+use Rattle.arrow_spec.specs.Framing.{body_bytes}
+use Rattle.arrow_spec.specs.Layout.{no_more}
+use Rattle.arrow_spec.specs.Sent.{placed, body_of, views_slot, batch_node}
+use Rattle.arrow_spec.specs.Counts.{Written}
+use Rattle.arrow_spec.proofs.Bodies.{length-body}
 use Rattle.arrow_arrays.specs.Batches.{Batch}
 use Rattle.arrow_arrays.specs.Parts.{Parts}
-use Rattle.arrow_spec.specs.Framing.{body_bytes}
 use Rattle.ipc_write_arrays.specs.Outputs.{Outputs}
 use Rattle.ipc_write.specs.Batches.{columns_written, columns_pieces, batch_message, batch_body, is_within}
-use Rattle.ipc_write.specs.Encoding.{all_outputs, Makes, WritesColumns}
-use Rattle.ipc_write.specs.Metadata.{metadata_node, counts_slot, BuildsMetadata}
+use Rattle.ipc_write.specs.Encoding.{all_outputs, Makes}
+use Rattle.ipc_write.proofs.ColumnSteps.{same_pieces}
+use Rattle.ipc_write.specs.Metadata.{counts_slot, header_node}
+use Rattle.ipc_write.specs.Outcomes.{Encodes, Plans, Same}
+use Rattle.ipc_write.specs.declared.encoded.BodyPlan.{BodyPlan}
 use Rattle.ipc_write.specs.declared.encoded.EncodedData.{EncodedData}
-
--- what stands of columns that were written
-pub record Stand (b : Batch) (o : Outputs) : Type 0 where
-  pub nodes : o.nodes ≡ (columns_written b.arrays).nodes
-  pub buffers : o.buffers ≡ placed 0 (columns_written b.arrays).lengths
-  pub body : o.body ≡ batch_body b
-  pub counts : o.views ≡ map pos (columns_written b.arrays).views
-
-pub stand : (b : Batch) (o : Outputs) (ps : List Parts) → ps ≡ b.arrays → o ≡ all_outputs ps → Stand b o
-stand b o ps e h =
-    let k : o ≡ all_outputs b.arrays = h ∙ ap all_outputs e in
-    record { nodes = ap (λ x. x.nodes) k; buffers = ap (λ x. x.buffers) k; body = ap (λ x. x.body) k; counts = ap (λ x. x.views) k }
+use Rattle.ipc_write.specs.Planned.{MakesMessage, planned_message}
+use Rattle.ipc_write.specs.declared.metadata.Content.TheVariants.{RecordBatch}
+use Rattle.ipc_write.specs.declared.options.WriteOptions.{WriteOptions}
+use Rattle.ipc_write.proofs.ColumnSteps.{same_pieces}
+use Rattle.ipc_write.proofs.PlannedMessages.{long_rows}
 
 slot_same : (ns : List ℕ) → counts_slot (map pos ns) ≡ views_slot ns no_more
 slot_same [] = refl
 slot_same (n ∷ ns) = refl
 
-node_is : (b : Batch) → metadata_node b.height (columns_written b.arrays).nodes (placed 0 (columns_written b.arrays).lengths) (map pos (columns_written b.arrays).views) (length (batch_body b)) ≡ (batch_message b).node
+-- the table of a record batch of what is written
+pub header_same : (rows : ℕ) (w : Written) → header_node rows w.nodes (placed 0 w.lengths) (map pos w.views) ≡ batch_node rows w
+header_same rows w = rw (slot_same w.views) refl
+
+-- ── a batch ──
+
+-- where the body ends
+body_ends : (b : Batch) → body_of 0 (map length (columns_pieces b.arrays)) ≡ length (batch_body b)
+body_ends b = omega (arith, length-body (columns_pieces b.arrays) 0)
+
+-- the message of planned columns is the batch's
+message_same : (b : Batch) → planned_message RecordBatch b.height (all_outputs b.arrays) ≡ batch_message b
 unfolding batch_message
-node_is b = rw (slot_same (columns_written b.arrays).views) refl
+message_same b =
+    let w = columns_written b.arrays in
+    rw (body_ends b, ap (map length) (same_pieces b.arrays), header_same b.height w) refl
 
-pub node_same : (b : Batch) (o : Outputs) (rows count : ℕ) (nodes : List FieldNode) (buffers : List IpcBuffer) → Stand b o → rows ≡ b.height → nodes ≡ o.nodes → buffers ≡ o.buffers → count ≡ length o.body → metadata_node rows nodes buffers o.views count ≡ (batch_message b).node
-node_same b o rows count nodes buffers s hr hn hb hc = rw (hr, hn ∙ s.nodes, hb ∙ s.buffers, hc ∙ ap length s.body, s.counts) (node_is b)
+made_so : (r : Result BodyPlan IpcError) (limit : ℕ) (b : Batch) → MakesMessage r limit b.height (batch_message b) (columns_pieces b.arrays) → Makes r limit b
+unfolding is_within batch_message
+made_so (Ok p) limit b k = k
+made_so (Err errors.TooLarge) limit b k = k
+made_so (Err errors.Memory) limit b k = tt
+made_so (Err e) limit b k = absurd k
 
-body_same : (b : Batch) → (batch_message b).body ≡ length (batch_body b)
-unfolding batch_message
-body_same b = refl
-
-not_second : (a c : Bool) → (a && false && c) ≡ false
-not_second true c = refl
-not_second false c = refl
-
-not_third : (a b : Bool) → (a && b && false) ≡ false
-not_third true true = refl
-not_third true false = refl
-not_third false b = refl
-
-pub is_in : (limit size_of : ℕ) (b : Batch) → size_of ≡ size (batch_message b).node → up_to 8 size_of ≤ min limit 2147483647 → length (batch_body b) < 2 ^ 63 → b.height < 2 ^ 63 → is_within limit b ≡ true
-unfolding is_within
-is_in limit size_of b e h k l =
-    let x = up_to 8 (size (batch_message b).node) in
-    let first : nat_le x (min limit 2147483647) ≡ true = le-leb x (min limit 2147483647) (subst (λ n. up_to 8 n ≤ min limit 2147483647) e h) in
-    let second : nat_le (batch_message b).body 9223372036854775807 ≡ true = le-leb (batch_message b).body 9223372036854775807 (omega (arith, body_same b, k)) in
-    let third : nat_le b.height 9223372036854775807 ≡ true = le-leb b.height 9223372036854775807 (omega (arith, l)) in
-    rw (first, second, third) refl
+pub batch_planned : (r : Result BodyPlan IpcError) (limit rows : ℕ) (b : Batch) (o : Outputs) (ps : List Parts) → rows ≡ b.height → ps ≡ b.arrays → o ≡ all_outputs ps
+    → MakesMessage r limit rows (planned_message RecordBatch rows o) o.pieces → Makes r limit b
+batch_planned r limit rows b o ps hr hp ho h =
+    let all : o ≡ all_outputs b.arrays = ho ∙ ap all_outputs hp in
+    let here : MakesMessage r limit b.height (planned_message RecordBatch b.height (all_outputs b.arrays)) (columns_pieces b.arrays) = subst (λ x. MakesMessage r limit b.height (planned_message RecordBatch b.height x) x.pieces) all (subst (λ n. MakesMessage r limit n (planned_message RecordBatch n o) o.pieces) hr h) in
+    made_so r limit b (subst (λ m. MakesMessage r limit b.height m (columns_pieces b.arrays)) (message_same b) here)
 
 pub many_rows : (limit : ℕ) (b : Batch) → 2 ^ 63 ≤ b.height → is_within limit b ≡ false
 unfolding is_within
-many_rows limit b h =
-    let third : nat_le b.height 9223372036854775807 ≡ false = lt-leb b.height 9223372036854775807 (omega (arith, h)) in
-    rw third (not_third (nat_le (up_to 8 (size (batch_message b).node)) (min limit 2147483647)) (nat_le (batch_message b).body 9223372036854775807))
+many_rows limit b h = long_rows limit b.height (batch_message b) h
 
-pub long_body : (limit : ℕ) (b : Batch) → 2 ^ 63 ≤ length (batch_body b) → is_within limit b ≡ false
-unfolding is_within
-long_body limit b h =
-    let second : nat_le (batch_message b).body 9223372036854775807 ≡ false = lt-leb (batch_message b).body 9223372036854775807 (omega (arith, body_same b, h)) in
-    rw second (not_second (nat_le (up_to 8 (size (batch_message b).node)) (min limit 2147483647)) (nat_le b.height 9223372036854775807))
+-- ── options ──
 
-pub long_metadata : (limit size_of : ℕ) (b : Batch) → size_of ≡ size (batch_message b).node → min limit 2147483647 < up_to 8 size_of → is_within limit b ≡ false
-unfolding is_within
-long_metadata limit size_of b e h =
-    let x = up_to 8 (size (batch_message b).node) in
-    let first : nat_le x (min limit 2147483647) ≡ false = lt-leb x (min limit 2147483647) (subst (λ n. min limit 2147483647 < up_to 8 n) e h) in
-    rw first refl
+pub plans_made : (r : Result BodyPlan IpcError) (options : WriteOptions) (b : Batch) → options.compression ≡ None → Makes r options.metadata_limit b → Plans r options b
+plans_made (Ok p) options b e h = (e, h.0, h.1, h.2, h.3)
+plans_made (Err errors.TooLarge) options b e h = (e, h)
+plans_made (Err errors.Memory) options b e h = e
+plans_made (Err f) options b e h = absurd h
 
--- an error of columns
-pub columns_err : (r : Result EncodedData IpcError) (e : IpcError) (limit : ℕ) (b : Batch) (ps : List Parts) → ps ≡ b.arrays → IsErrAnd r (λ f. f ≡ e) → WritesColumns (Err e) ps → Makes r limit b
-columns_err (Ok m) e limit b ps hp h k = absurd h
-columns_err (Err errors.TooLarge) e limit b ps hp h k = long_body limit b (subst (λ l. 2 ^ 63 ≤ length (body_bytes 0 (columns_pieces l))) hp (subst (λ f. WritesColumns (Err f) ps) (sym h) k))
-columns_err (Err errors.Memory) e limit b ps hp h k = tt
-columns_err (Err f) e limit b ps hp h k = subst (λ g. WritesColumns (Err g) ps) (sym h) k
+-- ── in one piece ──
 
-large_node : (limit : ℕ) (b : Batch) (n : Node) → n ≡ (batch_message b).node → 2 ^ 31 ≤ size n → is_within limit b ≡ false
-large_node limit b n e h =
-    let large : 2 ^ 31 ≤ size (batch_message b).node = subst (λ m. 2 ^ 31 ≤ size m) e h in
-    long_metadata limit (size (batch_message b).node) b refl (omega (arith, large))
+-- buffers that stand behind nothing
+pub behind_none : (old new : List ℕ) (ps qs : List (List ℕ)) → old ≡ [] → qs ≡ ps → new ≡ old ++ body_bytes (length old) qs → new ≡ body_bytes 0 ps
+behind_none old new ps qs e f h = h ∙ rw (e, f) refl
 
--- an error of metadata
-pub metadata_err : (r : Result EncodedData IpcError) (e : IpcError) (limit : ℕ) (b : Batch) (n : Node) → IsErrAnd r (λ f. f ≡ e) → n ≡ (batch_message b).node → BuildsMetadata (Err e) n → Makes r limit b
-metadata_err (Ok m) e limit b n h hn k = absurd h
-metadata_err (Err errors.TooLarge) e limit b n h hn k = large_node limit b n hn (subst (λ f. BuildsMetadata (Err f) n) (sym h) k)
-metadata_err (Err errors.Memory) e limit b n h hn k = tt
-metadata_err (Err f) e limit b n h hn k = subst (λ g. BuildsMetadata (Err g) n) (sym h) k
+pub encodes_planned : (p : BodyPlan) (m : EncodedData) (options : WriteOptions) (b : Batch) (old : EncodedData) → Plans (Ok p) options b → m.ipc_message.items ≡ p.ipc_message.items → m.arrow_data.items ≡ body_bytes 0 p.buffers.items → Encodes (Ok tt) options b old m
+encodes_planned p m options b old h hm hb = (h.0, h.1, hm ∙ h.2, hb ∙ ap (body_bytes 0) h.3)
+
+same : (m : EncodedData) → Same m m
+same m = record { message = refl; body = refl }
+
+-- memory was wanted for the body
+pub body_wanted : (p : BodyPlan) (options : WriteOptions) (b : Batch) (old : EncodedData) → Plans (Ok p) options b → Encodes (Err errors.Memory) options b old old
+body_wanted p options b old h = (h.0, same old)
+
+pub encodes_refused : (e : IpcError) (options : WriteOptions) (b : Batch) (old : EncodedData) → Plans (Err e) options b → Encodes (Err e) options b old old
+encodes_refused (errors.Unsupported features.Compression) options b old h = (h, same old)
+encodes_refused (errors.Unsupported feature) options b old h = absurd h
+encodes_refused errors.TooLarge options b old h = (h.0, h.1, same old)
+encodes_refused errors.Memory options b old h = (h, same old)
+encodes_refused e options b old h = absurd h

@@ -1,10 +1,12 @@
 pub mod Encoding
 pub mod Metadata
+pub mod Planned
+pub mod Values
 pub mod Puts
-pub mod Ends
 pub mod Laying
 pub mod Compaction
 pub mod Batches
+pub mod Bodies
 pub mod Outcomes
 pub mod RecordCode
 pub mod Records

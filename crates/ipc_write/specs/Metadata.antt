@@ -1,4 +1,4 @@
--- The metadata of a record batch's message, by its nodes, buffers and view counts.
+-- The metadata of the messages of record batches and of dictionaries' values, by their nodes, buffers and view counts.
 use Rattle.std.specs.Prelude.{◌≡◌, ℕ, ◌^◌, ◌≤◌, List, [], ◌∷◌, length, ⊤, Result, Ok, Err, ℤ, pos}
 use Rattle.std.specs.Int.{w64}
 use Rattle.std.specs.declared.alloc.Global.{Global}
@@ -10,7 +10,9 @@ use Rattle.arrow_spec.specs.declared.message.IpcBuffer.{IpcBuffer}
 use Rattle.arrow_flat.specs.declared.build.BuildError.{BuildError}
 use Rattle.arrow_flat.specs.declared.build.BuildError.TheVariants as build
 use Rattle.arrow_spec.specs.Layout.{Node, Slots, table, child, absent, no_more, numbers64, layout, size}
-use Rattle.arrow_spec.specs.Sent.{unless_zero, nodes_node, buffers_node, message_slots}
+use Rattle.arrow_spec.specs.Sent.{unless_zero, flag, nodes_node, buffers_node, message_slots}
+use Rattle.ipc_write.specs.declared.metadata.Content.{Content}
+use Rattle.ipc_write.specs.declared.metadata.Content.TheVariants.{RecordBatch, DictionaryBatch}
 
 -- view counts are left out where there are none
 abbrev pub counts_slot : List ℤ → Slots
@@ -22,9 +24,18 @@ abbrev pub header_node : ℕ → List FieldNode → List IpcBuffer → List ℤ 
 header_node rows nodes buffers counts =
     table (unless_zero w64 (pos rows) (child (nodes_node nodes) (child (buffers_node buffers) (absent (counts_slot counts)))))
 
+-- the header of a message: that table, or the table of a dictionary batch with it (Message.fbs, DictionaryBatch); and its tag
+abbrev pub content_node : Content → Node → Node
+content_node RecordBatch batch = batch
+content_node (DictionaryBatch id is_delta) batch = table (unless_zero w64 id (child batch (flag is_delta no_more)))
+
+abbrev pub content_tag : Content → ℕ
+content_tag RecordBatch = 3
+content_tag (DictionaryBatch id is_delta) = 2
+
 -- its message
-abbrev pub metadata_node : ℕ → List FieldNode → List IpcBuffer → List ℤ → ℕ → Node
-metadata_node rows nodes buffers counts body = table (message_slots 3 (header_node rows nodes buffers counts) body [])
+abbrev pub metadata_node : Content → ℕ → List FieldNode → List IpcBuffer → List ℤ → ℕ → Node
+metadata_node content rows nodes buffers counts body = table (message_slots (content_tag content) (content_node content (header_node rows nodes buffers counts)) body [])
 
 -- the flatbuffer of a node, or it passes 2^31 - 1 bytes
 abbrev pub Builds : Result (Vec ℕ Global) BuildError → Node → Type 0

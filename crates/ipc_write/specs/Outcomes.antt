@@ -7,14 +7,18 @@ use Rattle.arrow_spec.specs.declared.error.Feature.TheVariants as features
 use Rattle.arrow_spec.specs.Layout.{layout, up_to, zeros}
 use Rattle.arrow_spec.specs.Framing.{prefixed}
 use Rattle.arrow_arrays.specs.Batches.{Batch}
-use Rattle.ipc_write.specs.Batches.{batch_message, batch_body, is_within}
+use Rattle.ipc_write.specs.Batches.{batch_message, batch_body, columns_pieces, is_within}
+use Rattle.ipc_write.specs.declared.encoded.BodyPlan.{BodyPlan}
 use Rattle.ipc_write.specs.declared.encoded.EncodedData.{EncodedData}
 use Rattle.ipc_write.specs.declared.options.WriteOptions.{WriteOptions}
 
--- the bytes of a message: mark and length, the metadata with zeros up to a multiple of 8, and the body with zeros up to a multiple of 64
+-- mark and length, and the metadata with zeros up to a multiple of 8
+abbrev pub metadata_frame : List ℕ → List ℕ
+metadata_frame metadata = prefixed (up_to 8 (length metadata)) (metadata ++ zeros (up_to 8 (length metadata) - length metadata))
+
+-- the bytes of a message: these, and the body with zeros up to a multiple of 64
 unfoldable pub message_frame : List ℕ → List ℕ → List ℕ
-message_frame metadata body = prefixed (up_to 8 (length metadata)) (metadata ++ zeros (up_to 8 (length metadata) - length metadata)) ++ body
-    ++ zeros (up_to 64 (length body) - length body)
+message_frame metadata body = metadata_frame metadata ++ body ++ zeros (up_to 64 (length body) - length body)
 
 -- the mark and a length
 abbrev pub continuation : ℤ → List ℕ
@@ -24,6 +28,15 @@ continuation n = (255 ∷ 255 ∷ 255 ∷ 255 ∷ []) ++ to_le_bytes w32 (cast_u
 pub record Same (old new : EncodedData) : Type 0 where
   pub message : new.ipc_message.items ≡ old.ipc_message.items
   pub body : new.arrow_data.items ≡ old.arrow_data.items
+
+-- a batch has been planned: its message and the buffers of its body; or it is refused
+abbrev pub Plans : Result BodyPlan IpcError → WriteOptions → Batch → Type 0
+Plans (Ok p) options b = (options.compression ≡ None) × (is_within options.metadata_limit b ≡ true) × (p.ipc_message.items ≡ layout (batch_message b).node)
+    × (p.buffers.items ≡ columns_pieces b.arrays) × (p.body_length ≡ length (batch_body b))
+Plans (Err (errors.Unsupported features.Compression)) options b = IsSome options.compression
+Plans (Err errors.TooLarge) options b = (options.compression ≡ None) × (is_within options.metadata_limit b ≡ false)
+Plans (Err errors.Memory) options b = options.compression ≡ None
+Plans (Err e) options b = ⊥
 
 -- a batch has been encoded, or is refused, and then what was there is left
 abbrev pub Encodes : Result (Unit {0}) IpcError → WriteOptions → Batch → EncodedData → EncodedData → Type 0

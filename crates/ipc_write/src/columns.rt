@@ -1,33 +1,20 @@
-//! Columns to nodes, buffers and a body (Arrow Columnar Format, "RecordBatch message").
-ghost use Rattle.std.specs.Prelude.{◌≡◌, ◌%◌, ◌^◌, ◌<◌, [], length, true, IfOk};
+//! Columns to nodes, buffers and view counts (Arrow Columnar Format, "RecordBatch message").
+ghost use Rattle.std.specs.Prelude.{◌≡◌, ◌^◌, ◌<◌, true, IfOk};
 ghost use Rattle.std.specs.Option.{option_map};
 ghost use Rattle.arrow_spec.specs.Flat.{little};
 ghost use Rattle.arrow_arrays.specs.Batches.{have_rows};
-ghost use Rattle.arrow_spec.specs.Arrays.{Dictionaries};
-ghost use Rattle.ipc_write_arrays.specs.Dictionaries.{HoldsValues};
 ghost use Rattle.arrow_arrays.specs.Parts.{rows_in};
 ghost use Rattle.arrow_arrays.specs.PartsOf.{parts_of, all_parts_of};
-ghost use Rattle.ipc_write_laws.specs.Columns.{Means};
-ghost use Rattle.ipc_write_arrays.specs.Pieces.{column_in};
+ghost use Rattle.ipc_write_arrays.specs.Outputs.{written_behind};
+ghost use Rattle.ipc_write_arrays.specs.OutputsOf.{outputs_of};
 ghost use Rattle.ipc_write.specs.Compaction.{top};
 ghost use Rattle.ipc_write.specs.Laying.{ColumnFits};
-ghost use Rattle.ipc_write.specs.Encoding.{outputs_of, Adds, AllMean, IsTop, TopMeans, WritesColumns};
+ghost use Rattle.ipc_write.specs.Encoding.{all_outputs, AllMean, IsTop, TopMeans};
 
 use crate::compaction::compact;
-use crate::ends::array_end;
 use arrow_arrays::Array;
-use arrow_spec::{FieldNode, IpcBuffer, IpcError};
-use ipc_write_arrays::write;
+use ipc_write_arrays::{Outputs, plan};
 use std::alloc::{AllocError, Global};
-
-/// What columns are written as: their nodes, buffers, body and view counts.
-#[derive(Drop)]
-pub(crate) struct Columns {
-    pub(crate) nodes: Vec<FieldNode>,
-    pub(crate) buffers: Vec<IpcBuffer>,
-    pub(crate) body: Vec<u8>,
-    pub(crate) counts: Vec<i64>,
-}
 
 /// The array that stands for a top column, where it is another.
 fn top_array(alloc: Global, array: &Array) -> Result<Option<Array>, AllocError>
@@ -53,61 +40,33 @@ fn top_array(alloc: Global, array: &Array) -> Result<Option<Array>, AllocError>
     }
 }
 
-/// Adds an array.
-fn add_array(alloc: Global, array: &Array, columns: &mut Columns) -> Result<(), IpcError>
-    requires few { rows_in (parts_of array.now) < 2 ^ 63 }
-    requires aligned { length columns.old.body.items % 64 ≡ 0 }
-    ensures adds { Adds result (parts_of array.now) (outputs_of columns.old) (outputs_of columns.new) }
-    ensures means { IfOk result (λ _. (d : Dictionaries) → HoldsValues d (parts_of array.now) → Means little d (rows_in (parts_of array.now)) (column_in little (parts_of array.now))) }
-{
-    if array_end(alloc, columns.body.len(), array)?.is_none() {
-        return Err(IpcError::TooLarge);
-    }
-    let mut offset = columns.body.len() as i64;
-    write(
-        array,
-        &mut columns.buffers,
-        &mut columns.body,
-        &mut columns.nodes,
-        &mut columns.counts,
-        &mut offset,
-        true,
-    )
-}
-
 /// Adds a top column.
-fn add_column(alloc: Global, array: &Array, columns: &mut Columns) -> Result<(), IpcError>
-    requires few { rows_in (parts_of array.now) < 2 ^ 63 }
-    requires aligned { length columns.old.body.items % 64 ≡ 0 }
-    ensures adds { Adds result (top (parts_of array.now)) (outputs_of columns.old) (outputs_of columns.new) }
+fn add_column(alloc: Global, array: &Array, columns: &mut Outputs) -> Result<(), AllocError>
+    requires { rows_in (parts_of array.now) < 2 ^ 63 }
+    ensures adds { IfOk result (λ _. outputs_of columns.new ≡ written_behind little (top (parts_of array.now)) (outputs_of columns.old)) }
     ensures means { IfOk result (λ _. TopMeans (rows_in (parts_of array.now)) (parts_of array.now)) }
 {
     let _rows = array.len();
     let Some(compacted) = top_array(alloc, array)? else {
-        return add_array(alloc, array, columns);
+        return plan(array, columns, true);
     };
-    let added = add_array(alloc, &compacted, columns);
+    let added = plan(&compacted, columns, true);
     drop(compacted);
     added
 }
 
 /// The top columns of a batch of so many rows.
-pub(crate) fn write_columns(
+pub(crate) fn plan_columns(
     alloc: Global,
     arrays: &[Array],
     height: usize,
-) -> Result<Columns, IpcError>
+) -> Result<Outputs, AllocError>
     requires few { height < 2 ^ 63 }
     requires heights { have_rows height (all_parts_of arrays.now) ≡ true }
-    ensures written { WritesColumns result (all_parts_of arrays.now) }
+    ensures planned { IfOk result (λ c. outputs_of c ≡ all_outputs (all_parts_of arrays.now)) }
     ensures means { IfOk result (λ _. AllMean height (all_parts_of arrays.now)) }
 {
-    let mut columns = Columns {
-        nodes: Vec::new(alloc),
-        buffers: Vec::new(alloc),
-        body: Vec::new(alloc),
-        counts: Vec::new(alloc),
-    };
+    let mut columns = Outputs::new(alloc);
     for array in arrays {
         add_column(alloc, array, &mut columns)?;
     }

@@ -1,13 +1,15 @@
 //! Messages with their prefix and padding, put into a sink or in one piece (Arrow Columnar Format, "Encapsulated message format").
 ghost use Rattle.std.specs.Prelude.{◌≡◌, ◌↔◌, ◌⊎◌, ◌+◌, ◌-◌, ◌%◌, ◌^◌, ◌<◌, ◌≤◌, ◌++◌, length, IfOk, OnOk, IfErr, Err};
 ghost use Rattle.arrow_spec.specs.Layout.{Node, layout, up_to, zeros};
-ghost use Rattle.arrow_spec.specs.Framing.{message_bytes};
+ghost use Rattle.arrow_spec.specs.Framing.{body_bytes, message_bytes};
 ghost use Rattle.arrow_spec.specs.declared.error.IpcError.TheVariants.{Memory, TooLarge};
-ghost use Rattle.ipc_write.specs.Outcomes.{continuation, message_frame};
-ghost use Rattle.ipc_write.specs.Puts.{moved, PutsText, PutsMessage};
+ghost use Rattle.ipc_bodies.specs.Puts.{moved, PutsText};
+ghost use Rattle.ipc_write.specs.Outcomes.{continuation, metadata_frame, message_frame};
+ghost use Rattle.ipc_write.specs.Puts.{PutsMessage};
 
-use crate::EncodedData;
+use crate::{BodyPlan, EncodedData};
 use arrow_spec::IpcError;
+use ipc_bodies::put_body;
 use ipc_schema::{PutError, Sink};
 use std::alloc::{AllocError, Global};
 
@@ -63,6 +65,17 @@ pub fn write_continuation<W: Sink>(sink: &mut W, total_len: i32) -> Result<usize
     Ok(8)
 }
 
+/// Puts the mark and the length of metadata, and the metadata with zeros up to that length.
+fn put_metadata<W: Sink>(sink: &mut W, metadata: &[u8], padded: usize) -> Result<(), IpcError>
+    requires padded { padded ≡ up_to 8 (length metadata.now) }
+    requires small { padded < 2 ^ 31 }
+    ensures puts { PutsText (moved (W.written sink.old) (W.written sink.new) (W.faults sink.old) (W.faults sink.new) (W.wants sink.old) (W.wants sink.new)) result (metadata_frame metadata.now) }
+    ensures same_references { W.references sink.new ≡ W.references sink.old }
+{
+    write_continuation(sink, padded as i32)?;
+    put_padded(sink, metadata, padded - metadata.len())
+}
+
 /// Puts the parts of a message one after another.
 fn put_message<W: Sink>(sink: &mut W, encoded: &EncodedData, padded: usize) -> Result<(), IpcError>
     requires padded { padded ≡ up_to 8 (length encoded.now.ipc_message.items) }
@@ -72,8 +85,7 @@ fn put_message<W: Sink>(sink: &mut W, encoded: &EncodedData, padded: usize) -> R
 {
     let metadata = encoded.ipc_message.as_slice();
     let body = encoded.arrow_data.as_slice();
-    write_continuation(sink, padded as i32)?;
-    put_padded(sink, metadata, padded - metadata.len())?;
+    put_metadata(sink, metadata, padded)?;
     put_padded(sink, body, pad_to_64(body.len()))
 }
 
@@ -100,6 +112,51 @@ pub fn write_message<W: Sink>(
     put_message(sink, encoded, padded)?;
     let body = encoded.arrow_data.len();
     Ok((8 + padded, body + pad_to_64(body)))
+}
+
+/// Puts the parts of a planned message one after another.
+fn put_plan<W: Sink>(
+    sink: &mut W,
+    plan: &BodyPlan,
+    padded: usize,
+    scratch: &mut [u8],
+) -> Result<(), IpcError>
+    requires padded { padded ≡ up_to 8 (length plan.now.ipc_message.items) }
+    requires small { padded < 2 ^ 31 }
+    requires scratch { 64 ≤ length scratch.old }
+    ensures puts { PutsText (moved (W.written sink.old) (W.written sink.new) (W.faults sink.old) (W.faults sink.new) (W.wants sink.old) (W.wants sink.new)) result (message_frame plan.now.ipc_message.items (body_bytes 0 plan.now.buffers.items)) }
+    ensures same_references { W.references sink.new ≡ W.references sink.old }
+    ensures scratch { length scratch.new ≡ length scratch.old }
+{
+    let metadata = plan.ipc_message.as_slice();
+    let buffers = plan.buffers.as_slice();
+    put_metadata(sink, metadata, padded)?;
+    put_body(sink, buffers, scratch)
+}
+
+/// Puts a planned message as `write_message` puts it, with its body in pieces, at most as many bytes at a time as the scratch has.
+///
+/// # Errors
+///
+/// Those of `write_message`.
+pub fn write_plan<W: Sink>(
+    sink: &mut W,
+    plan: &BodyPlan,
+    scratch: &mut [u8],
+) -> Result<(usize, usize), IpcError>
+    requires { 64 ≤ length scratch.old }
+    ensures ok { IfOk result (λ r. r ≡ (8 + up_to 8 (length plan.now.ipc_message.items), plan.now.body_length)) }
+    ensures too_large { (result ≡ Err TooLarge) ↔ (2 ^ 31 ≤ up_to 8 (length plan.now.ipc_message.items)) }
+    ensures puts { PutsMessage (moved (W.written sink.old) (W.written sink.new) (W.faults sink.old) (W.faults sink.new) (W.wants sink.old) (W.wants sink.new)) result (up_to 8 (length plan.now.ipc_message.items)) (message_frame plan.now.ipc_message.items (body_bytes 0 plan.now.buffers.items)) }
+    ensures same_references { W.references sink.new ≡ W.references sink.old }
+    ensures scratch { length scratch.new ≡ length scratch.old }
+{
+    let padded = plan.ipc_message.len().next_multiple_of(8);
+    if padded > MOST_METADATA {
+        return Err(IpcError::TooLarge);
+    }
+    put_plan(sink, plan, padded, scratch)?;
+    Ok((8 + padded, plan.body_length))
 }
 
 fn push_zeros(out: &mut Vec<u8>, count: usize) -> Result<(), AllocError>

@@ -1,19 +1,23 @@
 //! Record batches as they are written: batches to messages, messages to a sink (Arrow Columnar Format, "Serialization and Interprocess Communication (IPC)").
 #![tactic(auto)]
 
+mod body;
 mod columns;
 mod compaction;
 mod encode;
 mod encoded;
-mod ends;
 mod frame;
 mod metadata;
 mod options;
+mod planned;
 mod record;
+mod values;
 
-pub use encode::encode_record_batch;
-pub use encoded::EncodedData;
-pub use frame::{message_to_bytes, pad_to_64, write_continuation, write_message};
+pub use encode::{encode_record_batch, plan_batch};
+pub use encoded::{BodyPlan, EncodedData};
+pub use frame::{message_to_bytes, pad_to_64, write_continuation, write_message, write_plan};
+pub use ipc_bodies::{BodyBuffer, put_body};
 pub use ipc_write_arrays::write;
 pub use options::{Compression, WriteOptions};
 pub use record::Record;
+pub use values::plan_values;

@@ -14,7 +14,7 @@ use Rattle.arrow_buffers.specs.Rows.{part}
 use Rattle.arrow_buffers.proofs.Parts.{map-part}
 use Rattle.arrow_arrays.specs.KeysOf.{keys_in, index_in}
 use Rattle.arrow_arrays.specs.declared.keys.DictionaryKeys.{DictionaryKeys}
-use Rattle.ipc_write_arrays.specs.Adding.{AllFit}
+use Rattle.ipc_bodies.specs.Fitting.{AllFit, ReadsFit}
 use Rattle.ipc_write_arrays.specs.Dictionaries.{IsBelow, KeyFits}
 use Rattle.ipc_write_arrays.specs.Pieces.{key_written}
 use Rattle.ipc_write_arrays.proofs.Adding.{if_ok}
@@ -48,8 +48,8 @@ pub same_bytes : (k l : DictionaryKeys) (order : Order) (w : Width) (o n : ℕ) 
 same_bytes k l order w o n ys zs e d f = ap (λ m. flat_map (key_written order (index_in m)) (part o n (keys_in m))) e ∙ f ∙ ap (λ us. flat_map (unsigned_to_bytes w order) (part o n us)) (sym d)
 
 -- keys fit where their numbers do
-pub fit_of : {T E A : Type 0} (r : Result T E) (k l : DictionaryKeys) (o n : ℕ) (fits : A → Type 0) (ys zs : List A) → k ≡ l → ys ≡ zs → (AllByRecursion fits (part o n zs) → AllByRecursion (λ key. KeyFits (index_in l) key) (part o n (keys_in l)))
-    → IfOk r (λ x. AllFit fits (part o n ys)) → IfOk r (λ x. AllFit (KeyFits (index_in k)) (part o n (keys_in k)))
-fit_of r k l o n fits ys zs e d f h =
+pub fit_of : {T E A : Type 0} (r : Result T E) (k l : DictionaryKeys) (o n : ℕ) (fits : A → Type 0) (read : Order → List ℕ → A) (ys zs : List A) → k ≡ l → ys ≡ zs → ReadsFit read fits → (AllByRecursion fits (part o n zs) → AllByRecursion (λ key. KeyFits (index_in l) key) (part o n (keys_in l)))
+    → IfOk r (λ x. ReadsFit read fits → AllFit fits (part o n ys)) → IfOk r (λ x. AllFit (KeyFits (index_in k)) (part o n (keys_in k)))
+fit_of r k l o n fits read ys zs e d law f h =
     subst (λ m. IfOk r (λ x. AllFit (KeyFits (index_in m)) (part o n (keys_in m)))) (sym e)
-    (if_ok r (λ (p : AllFit fits (part o n zs)). record { each = f p.each }) (subst (λ us. IfOk r (λ x. AllFit fits (part o n us))) d h))
+    (if_ok r (λ (p : ReadsFit read fits → AllFit fits (part o n zs)). record { each = f (p law).each }) (subst (λ us. IfOk r (λ x. ReadsFit read fits → AllFit fits (part o n us))) d h))

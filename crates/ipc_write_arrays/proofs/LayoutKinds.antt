@@ -16,8 +16,9 @@ use Rattle.arrow_types.specs.declared.physical.PrimitiveType.TheVariants.{Int8, 
 use Rattle.arrow_buffers.specs.Layouts.{is_primitive, primitive_number, is_variable}
 use Rattle.arrow_buffers.specs.Variable.{Variable, variable_fault}
 use Rattle.arrow_buffers.proofs.VariableParts.{variable_sound}
-use Rattle.ipc_write_arrays.specs.Pieces.{in_order, layout_in_order, width_of_kind, offset_bytes, bytes_between, variable_pieces, offset_limit, OffsetsFit}
-use Rattle.ipc_write_arrays.specs.Adding.{AllBelow}
+use Rattle.ipc_bodies.specs.Fitting.{offset_limit, AllBelow}
+use Rattle.ipc_bodies.specs.Pieces.{in_order, offset_bytes}
+use Rattle.ipc_write_arrays.specs.Pieces.{layout_in_order, width_of_kind, bytes_between, variable_pieces, OffsetsFit}
 
 -- ── numbers ──
 
@@ -91,9 +92,9 @@ variable_same order o p v offsets values ev eo ex ew =
     ∙ ap (λ w. validity_bytes p.validity ∷ offset_bytes order w p.offsets ∷ bytes_between p.offsets p.values ∷ []) (sym ew)
 
 -- no offset passes the width of its kind
-pub offsets_fit : (limit : ℕ) (l : Bool) (k : Kind) (xs offsets : List ℤ) → limit ≡ offset_limit (offsets_by l) → width_of_kind k ≡ offsets_by l → xs ≡ offsets → AllBelow limit xs → OffsetsFit k offsets
-offsets_fit limit l k xs offsets el ew ex h =
-    subst (λ n. AllByRecursion (λ x. magnitude x < n) offsets) (el ∙ ap offset_limit (sym ew)) (subst (λ ys. AllByRecursion (λ x. magnitude x < limit) ys) ex h.each)
+pub offsets_fit : (l : Bool) (k : Kind) (xs offsets : List ℤ) → width_of_kind k ≡ offsets_by l → xs ≡ offsets → AllBelow (offset_limit (offsets_by l)) xs → OffsetsFit k offsets
+offsets_fit l k xs offsets ew ex h =
+    subst (λ o. AllByRecursion (λ x. magnitude x < offset_limit o) offsets) (sym ew) (subst (λ ys. AllByRecursion (λ x. magnitude x < offset_limit (offsets_by l)) ys) ex h.each)
 
 pub leaf_same : (v w : Option (List Bool)) (xs ys : List ℕ) → v ≡ w → xs ≡ ys → validity_bytes v ∷ xs ∷ [] ≡ validity_bytes w ∷ ys ∷ []
 leaf_same v w xs ys e f = ap (λ u. validity_bytes u ∷ xs ∷ []) e ∙ ap (λ u. validity_bytes w ∷ u ∷ []) f

@@ -2,9 +2,9 @@ pub mod Adding
 pub mod Behind
 pub mod TrimLaws
 pub mod Children
+pub mod Alike
 pub mod TreeColumns
-pub mod Bits
-pub mod Offsets
+pub mod Fitting
 pub mod RoundTripHeads
 pub mod RoundTripPlain
 pub mod RoundTripTurned

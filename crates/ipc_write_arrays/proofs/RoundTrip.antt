@@ -8,7 +8,7 @@ use Rattle.std.proofs.lemmas.List.{length-map}
 use Rattle.std.proofs.lemmas.List.Sums.{sum_by-cons}
 use Rattle.arrow_spec.specs.declared.message.FieldNode.{FieldNode}
 use Rattle.arrow_spec.specs.Flat.{Order, order_by}
-use Rattle.arrow_spec.specs.Kinds.{Kind}
+use Rattle.arrow_spec.specs.Kinds.{Kind, Fields, none as no_fields, field}
 use Rattle.arrow_spec.specs.Cells.{Cell}
 use Rattle.arrow_spec.specs.Counts.{magnitude}
 use Rattle.arrow_spec.specs.Arrays.{Dictionaries, found}
@@ -18,22 +18,24 @@ use Rattle.arrow_buffers.specs.Variable.{place_at, are_offsets, variable_rows}
 use Rattle.arrow_buffers.proofs.Parts.{length-part}
 use Rattle.arrow_buffers.proofs.Masks.{has_rows-part}
 use Rattle.arrow_buffers.proofs.Rising.{some_offset, offset_between}
-use Rattle.arrow_arrays.specs.LeafParts.{LeafParts, nulls, bits, numbers, fixed, binary, text, binary_views, text_views, leaf_rows_in, leaf_fault_in, leaf_part_of}
+use Rattle.arrow_arrays.specs.LeafParts.{LeafParts, nulls, bits, numbers, fixed, binary, text, binary_views, text_views, leaf_kind_in, leaf_rows_in, leaf_fault_in, leaf_part_of}
 use Rattle.arrow_arrays.specs.Heads.{Head, Listed, Counted, Indexed, indexed_part, is_dictionary, have_keys, joined, are_under, listed, mapped, sized, structured, tagged, indexed, Cut, whole, run, Reaches, head_kind, head_rows, head_cells, suits, are_of, child_fields, first_or_0, is_list, is_map, is_sized, is_struct, is_union, tagged_cut, fits_places, ids_in, head_part, cut_of}
 use Rattle.arrow_arrays.specs.Nodes.{counts_in}
 use Rattle.arrow_arrays.specs.NoDictionaries.{is_indexed, has_no_dictionary, have_no_dictionary}
-use Rattle.arrow_arrays.specs.Parts.{Parts, Forest, leaf, nested, none, also, rows_in, null_rows_in, kinds_each, rows_each, cells_in, cells_each, fault_in, fault_each}
+use Rattle.arrow_arrays.specs.Parts.{Parts, Forest, leaf, nested, none, also, kind_in, rows_in, null_rows_in, kinds_each, rows_each, cells_in, cells_each, fault_in, fault_each}
 use Rattle.arrow_arrays.proofs.LeafSliced as leaves
 use Rattle.arrow_arrays.proofs.HeadSliced.{Sound, place_at-part, fault-part, head_sound, cut_counts}
 use Rattle.arrow_arrays.proofs.Sliced.{top_sound, neither, length-cells}
 use Rattle.ipc_write_laws.specs.Columns.{WrittenColumn, Means}
 use Rattle.ipc_write_laws.specs.Streams.{AreOf}
-use Rattle.ipc_write_arrays.specs.Dictionaries.{KeyFits, dictionary_id, HoldsValues, HoldsEach}
-use Rattle.ipc_write_arrays.specs.Pieces.{HeadFit, TagsFit, LeafFit, Fit, FitEach, column_in, key_written, tree_nodes, tree_pieces, offset_limit}
+use Rattle.ipc_write_arrays.specs.Dictionaries.{KeyFits, dictionary_id, is_alike, first_kind, other_fields, HoldsValues, HoldsValuesAt, HoldsEachAt}
+use Rattle.ipc_bodies.specs.Fitting.{offset_limit}
+use Rattle.ipc_write_arrays.specs.Pieces.{HeadFit, TagsFit, LeafFit, Fit, FitEach, column_in, with_kind, key_written, tree_nodes, tree_pieces}
 use Rattle.ipc_write_arrays.specs.Trims.{counted_from, listed_trim, head_trim, held_between, held_by, trim, trim_each, sent}
 use Rattle.ipc_write_arrays.specs.Outputs.{LeafMayHaveOrder, MayHaveOrder, MayHaveOrderEach}
 use Rattle.ipc_write_arrays.proofs.TrimLaws.{place_from, head_holds, head_cells-trim, all_of, all_rows-trim}
-use Rattle.ipc_write_arrays.proofs.TreeColumns.{sent_column, sent_columns, trimmed, nodes_below, own_node, nested_is, columns_are_of, length-columns}
+use Rattle.ipc_write_arrays.proofs.Alike.{shape, one_shape, same_fields, leaf_kind, same_leaf, head_under, kinds_under, sound_under, AreAlike, children_alike}
+use Rattle.ipc_write_arrays.proofs.TreeColumns.{sent_column, sent_columns, trimmed, nodes_below, own_node, nested_is, trimmed_under, held_under, columns_are_of, length-columns}
 use Rattle.ipc_write_arrays.proofs.RoundTripUnions.{sparse_mean, dense_mean}
 use Rattle.ipc_write_arrays.proofs.RoundTripHeads.{one_column}
 use Rattle.ipc_write_arrays.proofs.RoundTripKeys.{keys_mean}
@@ -183,8 +185,8 @@ length-trim whole (also p cs) = ap suc (length-trim whole cs)
 length-trim (run o n) none = refl
 length-trim (run o n) (also p cs) = ap suc (length-trim (run o n) cs)
 
-meant : (order : Order) (d : Dictionaries) (o n : ℕ) (p : Parts) → rows_in (trim o n p) ≡ n → Means order d n (sent_column order o n p) → MeansOwn order d n (sent_column order o n p)
-meant order d o n p e means =
+meant : (order : Order) (d : Dictionaries) (k : Kind) (o n : ℕ) (p : Parts) → rows_in (trim o n p) ≡ n → Means order d n (sent_column order k o n p) → MeansOwn order d n (sent_column order k o n p)
+meant order d k o n p e means =
     let q = trim o n p in
     record {
       means = means;
@@ -196,14 +198,14 @@ meant order d o n p e means =
 own_rows_are : (q : Parts) → rows_in q ≡ first_rows (tree_nodes q)
 own_rows_are q = ap first_rows (sym (own_node q))
 
-cut_rows : (order : Order) (c : Cut) (cs : Forest) → fault_each cs ≡ None → CutRows c (rows_each cs) (sent_columns order c cs)
-cut_rows order whole none e = refl
-cut_rows order whole (also p cs) e =
+cut_rows : (order : Order) (fs : Fields) (c : Cut) (cs : Forest) → fault_each cs ≡ None → CutRows c (rows_each cs) (sent_columns order fs c cs)
+cut_rows order fs whole none e = refl
+cut_rows order fs whole (also p cs) e =
     let f = neither (fault_in p) (fault_each cs) e in
     let q = trim 0 (rows_in p) p in
     let rows : first_rows (tree_nodes q) ≡ rows_in p = sym (own_rows_are q) ∙ all_rows-trim 0 (rows_in p) p f.0 (omega arith) in
-    ap (λ r. r ∷ map own_rows (sent_columns order whole cs)) rows ∙ ap (λ ns. rows_in p ∷ ns) (cut_rows order whole cs f.1)
-cut_rows order (run o n) cs e = tt
+    ap (λ r. r ∷ map own_rows (sent_columns order (other_fields fs) whole cs)) rows ∙ ap (λ ns. rows_in p ∷ ns) (cut_rows order (other_fields fs) whole cs f.1)
+cut_rows order fs (run o n) cs e = tt
 
 -- the cells of all children
 length-joined : (cs : Forest) → fault_each cs ≡ None → length (joined (cells_each cs)) ≡ sum (rows_each cs)
@@ -218,67 +220,79 @@ column_of k nodes pieces ns xs = record { kind = k; nodes = nodes; pieces = piec
 same_column : {k l : Kind} (nodes : List FieldNode) (pieces : List (List ℕ)) (ns : List ℕ) {xs ys : List Cell} → k ≡ l → xs ≡ ys → column_of k nodes pieces ns xs ≡ column_of l nodes pieces ns ys
 same_column nodes pieces ns p q = rw (p, q) refl
 
--- what is sent of some rows means their cells, where the values of its dictionaries were read
+-- what is sent of some rows means their cells under any kind that is alike, where the values of its dictionaries were read under the kind's ids
 mutual
-  pub tree_means : (is_little_endian : Bool) (d : Dictionaries) (o n : ℕ) (p : Parts) → HoldsValues d p → fault_in p ≡ None → o + n ≤ rows_in p → Fit (trim o n p) → MayHaveOrder p is_little_endian
-      → Means (order_by is_little_endian) d n (sent_column (order_by is_little_endian) o n p)
-  tree_means le d o n (leaf l) held e within fit may =
+  pub tree_means : (is_little_endian : Bool) (d : Dictionaries) (o n : ℕ) (k : Kind) (p : Parts) → shape (kind_in p) ≡ shape k → HoldsValuesAt d k p → fault_in p ≡ None → o + n ≤ rows_in p → Fit (trim o n p) → MayHaveOrder p is_little_endian
+      → Means (order_by is_little_endian) d n (sent_column (order_by is_little_endian) k o n p)
+  tree_means le d o n k (leaf l) alike held e within fit may =
       let order = order_by le in
       let q = leaf_part_of o n l in
-      let same : column_in order (leaf q) ≡ sent_column order o n (leaf l) = same_column (tree_nodes (leaf q)) (tree_pieces order (leaf q)) (counts_in (leaf q)) (leaves.kind-part o n l) (leaves.cells-part o n l e within) in
+      let kind : leaf_kind_in q ≡ k = leaves.kind-part o n l ∙ same_leaf (leaf_kind_in l) k (leaf_kind l e) alike in
+      let same : column_in order (leaf q) ≡ sent_column order k o n (leaf l) = same_column (tree_nodes (leaf q)) (tree_pieces order (leaf q)) (counts_in (leaf q)) kind (leaves.cells-part o n l e within) in
       subst (Means order d n) same
       (subst (λ r. Means order d r (column_in order (leaf q))) (leaves.rows-part o n l e within)
       (leaf_means le d q (leaves.fault-part o n l e within) fit (may_part o n l le may)))
-  tree_means le d o n (nested (indexed x) cs) held e within fit may =
+  tree_means le d o n k (nested (indexed x) cs) alike held e within fit may =
       let t = top_sound (indexed x) cs e in
-      indexed_mean (order_by le) d o n x (kinds_each cs) (rows_each cs) (cells_each cs) t.0 within fit.0 (length-joined cs t.1) held
-  tree_means le d o n (nested h cs) held e within fit may =
+      let y : Indexed = record { kind = k; index = x.index; keys = x.keys; validity = x.validity } in
+      indexed_mean (order_by le) d o n y (kinds_under k (indexed x)) (rows_each cs) (cells_each cs) (sound_under k (indexed x) (kinds_each cs) (rows_each cs) alike t.0) within fit.0 (length-joined cs t.1) held
+  tree_means le d o n k (nested h cs) alike held e within fit may =
       let order = order_by le in
       let t = top_sound h cs e in
       let c = held_by o n h in
+      let fs = child_fields k in
       let sent = trim_each c cs in
-      let columns = sent_columns order c cs in
-      let fs = child_fields (head_kind h) in
-      let good = each_means le d c cs held t.1 (head_holds o n h (rows_each cs) t.0.rows t.0.offsets within) fit.1 may in
-      let kinds : AreOf fs columns = columns_are_of order c fs cs (and_parts (suits h) (are_of fs (kinds_each cs)) t.0.suits).1 in
-      subst (Means order d n) (sym (nested_is order o n h cs t.1 t.0.offsets within))
-      (head_mean order d o n h (kinds_each cs) (rows_each cs) (rows_each sent) columns refl t.0 within fit.0 (length-columns order c cs ∙ sym (length-trim c cs)) (length-trim c cs) kinds good (cut_rows order c cs t.1))
+      let columns = sent_columns order fs c cs in
+      let children = children_alike (child_fields (head_kind h)) fs cs (same_fields (head_kind h) k alike) (and_parts (suits h) (are_of (child_fields (head_kind h)) (kinds_each cs)) t.0.suits).1 in
+      let good = each_means le d fs c cs children held t.1 (head_holds o n h (rows_each cs) t.0.rows t.0.offsets within) fit.1 may in
+      let cut : c ≡ held_by o n (head_under k h) = sym (held_under o n k h alike) in
+      subst (Means order d n) (trimmed_under order o n k h columns alike ∙ ap (with_kind k) (sym (nested_is order fs o n h cs t.1 t.0.offsets within)))
+      (head_mean order d o n (head_under k h) (kinds_under k h) (rows_each cs) (rows_each sent) columns refl (sound_under k h (kinds_each cs) (rows_each cs) alike t.0) within fit.0 (length-columns order fs c cs ∙ sym (length-trim c cs)) (length-trim c cs)
+      (columns_are_of order c fs cs children) (subst (λ x. AreCut order d x columns) cut good) (subst (λ x. CutRows x (rows_each cs) columns) cut (cut_rows order fs c cs t.1)))
 
-  each_means : (is_little_endian : Bool) (d : Dictionaries) (c : Cut) (cs : Forest) → HoldsEach d cs → fault_each cs ≡ None → Reaches c (rows_each cs) → FitEach (trim_each c cs) → MayHaveOrderEach cs is_little_endian
-      → AreCut (order_by is_little_endian) d c (sent_columns (order_by is_little_endian) c cs)
-  each_means le d whole none held e r fit may = tt
-  each_means le d whole (also p cs) held e r fit may =
+  each_means : (is_little_endian : Bool) (d : Dictionaries) (fs : Fields) (c : Cut) (cs : Forest) → AreAlike fs cs → HoldsEachAt d fs cs → fault_each cs ≡ None → Reaches c (rows_each cs) → FitEach (trim_each c cs) → MayHaveOrderEach cs is_little_endian
+      → AreCut (order_by is_little_endian) d c (sent_columns (order_by is_little_endian) fs c cs)
+  each_means le d fs whole none a held e r fit may = tt
+  each_means le d fs (run o n) none a held e r fit may = tt
+  each_means le d no_fields whole (also p cs) a held e r fit may = absurd a
+  each_means le d no_fields (run o n) (also p cs) a held e r fit may = absurd a
+  each_means le d (field name nullable metadata k fs) whole (also p cs) a held e r fit may =
       let f = neither (fault_in p) (fault_each cs) e in
       let order = order_by le in
       let q = trim 0 (rows_in p) p in
       let rows : rows_in q ≡ rows_in p = all_rows-trim 0 (rows_in p) p f.0 (omega arith) in
       let own : rows_in p ≡ first_rows (tree_nodes q) = sym rows ∙ own_rows_are q in
-      (subst (λ n. MeansOwn order d n (sent_column order 0 (rows_in p) p)) own (meant order d 0 (rows_in p) p rows (tree_means le d 0 (rows_in p) p held.0 f.0 (omega arith) fit.0 may.0)), each_means le d whole cs held.1 f.1 tt fit.1 may.1)
-  each_means le d (run o n) none held e r fit may = tt
-  each_means le d (run o n) (also p cs) held e r fit may =
+      (subst (λ n. MeansOwn order d n (sent_column order k 0 (rows_in p) p)) own (meant order d k 0 (rows_in p) p rows (tree_means le d 0 (rows_in p) k p a.0 held.0 f.0 (omega arith) fit.0 may.0)), each_means le d fs whole cs a.1 held.1 f.1 tt fit.1 may.1)
+  each_means le d (field name nullable metadata k fs) (run o n) (also p cs) a held e r fit may =
       let f = neither (fault_in p) (fault_each cs) e in
-      (meant (order_by le) d o n p (all_rows-trim o n p f.0 r.0) (tree_means le d o n p held.0 f.0 r.0 fit.0 may.0), each_means le d (run o n) cs held.1 f.1 r.1 fit.1 may.1)
+      (meant (order_by le) d k o n p (all_rows-trim o n p f.0 r.0) (tree_means le d o n k p a.0 held.0 f.0 r.0 fit.0 may.0), each_means le d fs (run o n) cs a.1 held.1 f.1 r.1 fit.1 may.1)
 
 -- so does any such array's column
-pub column_means : (is_little_endian : Bool) (d : Dictionaries) (p : Parts) → HoldsValues d p → fault_in p ≡ None → Fit (sent p) → MayHaveOrder p is_little_endian
-    → Means (order_by is_little_endian) d (rows_in p) (column_in (order_by is_little_endian) p)
-column_means le d (leaf l) held e fit may = leaf_means le d l e fit may
-column_means le d (nested h cs) held e fit may =
+pub means_under : (is_little_endian : Bool) (k : Kind) (d : Dictionaries) (p : Parts) → is_alike (kind_in p) k ≡ true → HoldsValuesAt d k p → fault_in p ≡ None → Fit (sent p) → MayHaveOrder p is_little_endian
+    → Means (order_by is_little_endian) d (rows_in p) (with_kind k (column_in (order_by is_little_endian) p))
+means_under le k d (leaf l) alike held e fit may =
+    let column = column_in (order_by le) (leaf l) in
+    let same : leaf_kind_in l ≡ k = same_leaf (leaf_kind_in l) k (leaf_kind l e) (one_shape (leaf_kind_in l) k alike) in
+    subst (λ x. Means (order_by le) d (leaf_rows_in l) (with_kind x column)) same (leaf_means le d l e fit may)
+means_under le k d (nested h cs) alike held e fit may =
     let order = order_by le in
     let p = nested h cs in
     let q = trim 0 (head_rows h) p in
-    let same : sent_column order 0 (head_rows h) p ≡ column_in order p = same_column (tree_nodes q) (tree_pieces order q) (counts_in q) refl (all_of (head_rows h) (cells_in p) (length-cells p e)) in
-    subst (Means order d (head_rows h)) same (tree_means le d 0 (head_rows h) p held e (omega arith) fit may)
+    let same : sent_column order k 0 (head_rows h) p ≡ with_kind k (column_in order p) = same_column (tree_nodes q) (tree_pieces order q) (counts_in q) refl (all_of (head_rows h) (cells_in p) (length-cells p e)) in
+    subst (Means order d (head_rows h)) same (tree_means le d 0 (head_rows h) k p (one_shape (head_kind h) k alike) held e (omega arith) fit may)
 
 -- an array without dictionaries needs no values
 mutual
-  pub none_held : (d : Dictionaries) (p : Parts) → has_no_dictionary p ≡ true → HoldsValues d p
-  none_held d (leaf l) plain = tt
-  none_held d (nested (indexed x) cs) plain = cc
-  none_held d (nested h cs) plain = none_held_each d cs (and_parts (not (is_indexed h)) (have_no_dictionary cs) plain).1
+  pub none_held_at : (d : Dictionaries) (k : Kind) (p : Parts) → has_no_dictionary p ≡ true → HoldsValuesAt d k p
+  none_held_at d k (leaf l) plain = tt
+  none_held_at d k (nested (indexed x) cs) plain = cc
+  none_held_at d k (nested h cs) plain = none_held_each d (child_fields k) cs (and_parts (not (is_indexed h)) (have_no_dictionary cs) plain).1
 
-  none_held_each : (d : Dictionaries) (cs : Forest) → have_no_dictionary cs ≡ true → HoldsEach d cs
-  none_held_each d none plain = tt
-  none_held_each d (also p cs) plain =
+  none_held_each : (d : Dictionaries) (fs : Fields) (cs : Forest) → have_no_dictionary cs ≡ true → HoldsEachAt d fs cs
+  none_held_each d fs none plain = tt
+  none_held_each d fs (also p cs) plain =
       let k = and_parts (has_no_dictionary p) (have_no_dictionary cs) plain in
-      (none_held d p k.0, none_held_each d cs k.1)
+      (none_held_at d (first_kind fs) p k.0, none_held_each d (other_fields fs) cs k.1)
+
+pub none_held : (d : Dictionaries) (p : Parts) → has_no_dictionary p ≡ true → HoldsValues d p
+none_held d p = none_held_at d (kind_in p) p

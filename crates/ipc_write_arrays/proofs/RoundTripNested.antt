@@ -25,7 +25,8 @@ use Rattle.ipc_write_laws.specs.Streams.{AreOf}
 use Rattle.ipc_write_laws.proofs.Counted.{node_there}
 use Rattle.ipc_write_laws.proofs.Children.{StandTogether, AreMeant, AreRead, first_child, children_right, across_right}
 use Rattle.ipc_write_laws.proofs.Tops.{TopShape, TopStands, top_column, top_means}
-use Rattle.ipc_write_arrays.specs.Pieces.{offset_bytes, offset_limit}
+use Rattle.ipc_bodies.specs.Fitting.{offset_limit}
+use Rattle.ipc_bodies.specs.Pieces.{offset_bytes}
 use Rattle.ipc_write_arrays.proofs.RoundTripHeads.{Headed, node_right, validity_right, cells_told}
 use Rattle.ipc_write_arrays.proofs.RoundTripPlain.{numbers_right}
 use Rattle.ipc_write_arrays.proofs.RoundTripPlaces.{OffsetsHeld, offset_read, offsets_right, length-offset_bytes}

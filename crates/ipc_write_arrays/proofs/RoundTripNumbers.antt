@@ -33,7 +33,8 @@ use Rattle.arrow_arrays.proofs.NumberParts.{leaf_suits}
 use Rattle.arrow_arrays.specs.LeafParts.{numbers, unsigned_at, primitive_cell, layout_cell, number_cell, number_size, are_numbers, leaf_fault_in}
 use Rattle.arrow_arrays.specs.Parts.{leaf}
 use Rattle.ipc_write_laws.specs.Columns.{StandsAt, Means}
-use Rattle.ipc_write_arrays.specs.Pieces.{in_order, layout_in_order, column_in}
+use Rattle.ipc_bodies.specs.Pieces.{in_order}
+use Rattle.ipc_write_arrays.specs.Pieces.{layout_in_order, column_in}
 use Rattle.ipc_write_arrays.proofs.RoundTripHeads.{Shape, extended, means_by, headed, second, cells_told, map_told}
 use Rattle.ipc_write_arrays.proofs.RoundTripPlain.{two_of, fixed_right}
 use Rattle.ipc_write_arrays.proofs.RoundTripTurned.{by_order, itself, num_same, unsigned_read, halves, thirds}

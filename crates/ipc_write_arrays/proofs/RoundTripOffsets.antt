@@ -24,7 +24,9 @@ use Rattle.arrow_buffers.proofs.Rows.{none_below, none_from}
 use Rattle.arrow_buffers.proofs.Rising.{some_offset, offset_risen, offset_climbs, offset_between}
 use Rattle.arrow_buffers.proofs.VariableParts.{Spanned, variable_sound}
 use Rattle.ipc_write_laws.specs.Columns.{WrittenColumn, StandsAt, Means}
-use Rattle.ipc_write_arrays.specs.Pieces.{width_of_kind, offset_bytes, bytes_between, variable_pieces, offset_limit, OffsetsFit}
+use Rattle.ipc_bodies.specs.Fitting.{offset_limit}
+use Rattle.ipc_bodies.specs.Pieces.{offset_bytes}
+use Rattle.ipc_write_arrays.specs.Pieces.{width_of_kind, bytes_between, variable_pieces, OffsetsFit}
 use Rattle.ipc_write_arrays.proofs.RoundTripHeads.{Headed, Shape, extended, one_column, means_by, headed, second, valid_by, validity_right, cells_told}
 use Rattle.ipc_write_arrays.proofs.RoundTripPlain.{numbers_right}
 use Rattle.ipc_write_arrays.proofs.RoundTripPlaces as places

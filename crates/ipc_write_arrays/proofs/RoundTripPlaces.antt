@@ -19,7 +19,8 @@ use Rattle.arrow_types.specs.Numbers.{to_bytes}
 use Rattle.arrow_types.specs.NumberLaws.{unsigned_back, unsigned_width}
 use Rattle.arrow_buffers.specs.Variable.{place_at}
 use Rattle.arrow_buffers.proofs.Rows.{none_from}
-use Rattle.ipc_write_arrays.specs.Pieces.{rebased, offset_bytes, offset_limit}
+use Rattle.ipc_bodies.specs.Fitting.{offset_limit}
+use Rattle.ipc_bodies.specs.Pieces.{rebased, offset_bytes}
 use Rattle.ipc_write_arrays.proofs.RoundTripTurned.{itself, part_there}
 use Rattle.ipc_write_arrays.proofs.RoundTripNumbers.{item_stands, length-items}
 

@@ -11,7 +11,7 @@ use Rattle.arrow_spec.proofs.Found.{right_at}
 use Rattle.arrow_types.specs.NumberLaws.{turned_2, turned_4, turned_8, turned_16}
 use Rattle.arrow_types.specs.declared.physical.PrimitiveType.TheVariants as primitive
 use Rattle.arrow_arrays.specs.LeafParts.{unsigned_at}
-use Rattle.ipc_write_arrays.specs.Pieces.{in_order}
+use Rattle.ipc_bodies.specs.Pieces.{in_order}
 
 -- all bytes of a number turned
 abbrev pub by_order : Order → List ℕ → List ℕ

@@ -7,7 +7,7 @@ use Rattle.arrow_spec.specs.Flat.{Order}
 use Rattle.arrow_spec.specs.Kinds.{Offsets}
 use Rattle.arrow_spec.specs.Arrays.{offset_width}
 use Rattle.arrow_types.specs.Numbers.{to_bytes}
-use Rattle.ipc_write_arrays.specs.Pieces.{offset_bytes}
+use Rattle.ipc_bodies.specs.Pieces.{offset_bytes}
 use Rattle.std.proofs.lemmas.Bool.{eqb-true}
 use Rattle.std.proofs.lemmas.List.{length-map, get_or_default, take_all}
 use Rattle.arrow_spec.specs.Cells as cells

@@ -1,13 +1,14 @@
 -- The dictionaries that the keys of an array count into, and which keys are numbers of a type. (Arrow Columnar Format, "Dictionary-encoded Layout".)
-use Rattle.std.specs.Prelude.{◌≡◌, ℕ, ◌^◌, ◌<◌, Some, ℤ, pos, negsuc, FitsSigned}
+use Rattle.std.specs.Prelude.{◌≡◌, ℕ, ◌^◌, ◌<◌, Bool, Some, ℤ, pos, negsuc, FitsSigned}
 use Rattle.std.specs.Int.{w8, w16, w32, w64, w128}
 use Rattle.arrow_spec.specs.declared.types.IntegerType.{IntegerType}
 use Rattle.arrow_spec.specs.declared.types.IntegerType.TheVariants.{Int8, Int16, Int32, Int64, Int128, UInt8, UInt16, UInt32, UInt64}
 use Rattle.arrow_spec.specs.Kinds as kind
-use Rattle.arrow_spec.specs.Kinds.{Kind}
+use Rattle.arrow_spec.specs.Kinds.{Kind, Fields, is_same_kind}
 use Rattle.arrow_spec.specs.Arrays.{Dictionaries, found}
-use Rattle.arrow_arrays.specs.Heads.{indexed, joined}
-use Rattle.arrow_arrays.specs.Parts.{Parts, Forest, leaf, nested, none, also, cells_each}
+use Rattle.arrow_arrays.specs.Heads.{indexed, joined, child_fields}
+use Rattle.arrow_arrays.specs.Parts.{Parts, Forest, leaf, nested, none, also, kind_in, cells_each}
+use Rattle.ipc_read_laws.specs.PlainKinds.{plain_kind}
 
 -- a number that has no sign and is below another
 abbrev pub IsBelow : ℕ → ℤ → Type 0
@@ -32,13 +33,32 @@ dictionary_id (kind.dictionary index ordered id k) = id
 dictionary_id (kind.extension name metadata k) = dictionary_id k
 dictionary_id k = pos 0
 
--- The values of each dictionary that stands in an array were read under its id. Of those below values nothing is asked: they were read with these.
-abbrev mutual
-  pub HoldsValues : Dictionaries → Parts → Type 0
-  HoldsValues d (leaf l) = Unit {0}
-  HoldsValues d (nested (indexed x) cs) = found d (dictionary_id x.kind) ≡ Some (joined (cells_each cs))
-  HoldsValues d (nested h cs) = HoldsEach d cs
+-- ── the values of dictionaries ──
 
-  pub HoldsEach : Dictionaries → Forest → Type 0
-  HoldsEach d none = Unit {0}
-  HoldsEach d (also p cs) = HoldsValues d p × HoldsEach d cs
+-- one kind, ids, names, nullability and metadata aside
+abbrev pub is_alike : Kind → Kind → Bool
+is_alike k l = is_same_kind (plain_kind k) (plain_kind l)
+
+-- the kind of the first field, and the fields behind it; that of nulls, and none, where there is none
+abbrev pub first_kind : Fields → Kind
+first_kind kind.none = kind.null
+first_kind (kind.field name nullable metadata k others) = k
+
+abbrev pub other_fields : Fields → Fields
+other_fields kind.none = kind.none
+other_fields (kind.field name nullable metadata k others) = others
+
+-- The values of each dictionary that stands in an array were read under the id that a kind alike to the array's states for it. Of those below values nothing is asked: they were read with these.
+abbrev mutual
+  pub HoldsValuesAt : Dictionaries → Kind → Parts → Type 0
+  HoldsValuesAt d k (leaf l) = Unit {0}
+  HoldsValuesAt d k (nested (indexed x) cs) = found d (dictionary_id k) ≡ Some (joined (cells_each cs))
+  HoldsValuesAt d k (nested h cs) = HoldsEachAt d (child_fields k) cs
+
+  pub HoldsEachAt : Dictionaries → Fields → Forest → Type 0
+  HoldsEachAt d fs none = Unit {0}
+  HoldsEachAt d fs (also p cs) = HoldsValuesAt d (first_kind fs) p × HoldsEachAt d (other_fields fs) cs
+
+-- under the ids of the array's own kind
+abbrev pub HoldsValues : Dictionaries → Parts → Type 0
+HoldsValues d p = HoldsValuesAt d (kind_in p) p

@@ -4,4 +4,3 @@ pub mod Dictionaries
 pub mod Pieces
 pub mod Outputs
 pub mod OutputsOf
-pub mod Adding

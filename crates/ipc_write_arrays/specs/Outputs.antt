@@ -1,15 +1,14 @@
--- What is added to a record batch's nodes, buffers and body. (Arrow Columnar Format, "RecordBatch message".)
-use Rattle.std.specs.Prelude.{◌≡◌, ℕ, List, ◌++◌, length, map, ⊤, Bool, true, ℤ, pos}
+-- What is added to a record batch's nodes, buffers and view counts. (Arrow Columnar Format, "RecordBatch message".)
+use Rattle.std.specs.Prelude.{◌≡◌, ℕ, List, [], ◌∷◌, ◌++◌, map, ⊤, Bool, true, ℤ, pos}
 use Rattle.arrow_spec.specs.declared.message.FieldNode.{FieldNode}
-use Rattle.arrow_spec.specs.declared.message.IpcBuffer.{IpcBuffer}
 use Rattle.arrow_spec.specs.Flat.{Order}
-use Rattle.arrow_spec.specs.Framing.{body_bytes}
-use Rattle.arrow_spec.specs.Sent.{placed}
 use Rattle.arrow_arrays.specs.LeafParts.{LeafParts, binary_views, text_views}
 use Rattle.arrow_arrays.specs.Parts.{Parts, Forest, leaf, nested, none, also}
-use Rattle.arrow_arrays.specs.Nodes.{counts_in, counts_each}
+use Rattle.arrow_arrays.specs.Heads.{Head}
+use Rattle.arrow_arrays.specs.Nodes.{node_in, counts_in, counts_each}
+use Rattle.ipc_bodies.specs.Adding.{Kept}
 use Rattle.ipc_write_arrays.specs.Trims.{sent}
-use Rattle.ipc_write_arrays.specs.Pieces.{nodes_in, pieces_in, tree_nodes, trees_nodes, tree_pieces, trees_pieces}
+use Rattle.ipc_write_arrays.specs.Pieces.{nodes_in, pieces_in, head_pieces, tree_nodes, trees_nodes, tree_pieces, trees_pieces}
 
 -- views are written in little-endian order alone
 abbrev pub LeafMayHaveOrder : LeafParts → Bool → Type 0
@@ -27,25 +26,33 @@ abbrev mutual
   MayHaveOrderEach none is_little_endian = ⊤
   MayHaveOrderEach (also p cs) is_little_endian = MayHaveOrder p is_little_endian × MayHaveOrderEach cs is_little_endian
 
--- nodes, buffers, body and view counts, as they stand
+-- nodes, the bytes of the buffers, and view counts, as they stand
 pub record Outputs : Type 0 where
   pub nodes : List FieldNode
-  pub buffers : List IpcBuffer
-  pub body : List ℕ
+  pub pieces : List (List ℕ)
   pub views : List ℤ
 
--- these four
-abbrev pub outputs : List FieldNode → List IpcBuffer → List ℕ → List ℤ → Outputs
-outputs nodes buffers body views = record { nodes = nodes; buffers = buffers; body = body; views = views }
+-- these three
+abbrev pub outputs : List FieldNode → List (List ℕ) → List ℤ → Outputs
+outputs nodes pieces views = record { nodes = nodes; pieces = pieces; views = views }
 
--- nodes, buffers and view counts have been put behind them: the buffers stand behind the body, each from a multiple of 64 on, with zeros up to the next
+-- all that is added to has been kept
+pub record KeptAll (before after : Outputs) : Type 0 where
+  pub nodes : Kept before.nodes after.nodes
+  pub pieces : Kept before.pieces after.pieces
+  pub views : Kept before.views after.views
+
+-- nodes, buffers and view counts have been put behind them
 abbrev pub put_behind : List FieldNode → List (List ℕ) → List ℕ → Outputs → Outputs
 put_behind nodes pieces counts before = record {
   nodes = before.nodes ++ nodes;
-  buffers = before.buffers ++ placed (length before.body) (map length pieces);
-  body = before.body ++ body_bytes (length before.body) pieces;
+  pieces = before.pieces ++ pieces;
   views = before.views ++ map pos counts;
 }
+
+-- the node and the own buffers of an array with children have
+abbrev pub top_behind : Order → Head → Outputs → Outputs
+top_behind order h before = put_behind (node_in (nested h none) ∷ []) (head_pieces order h) [] before
 
 -- an array that is laid anew has been added to them
 abbrev pub laid_behind : Order → Parts → Outputs → Outputs

@@ -4,4 +4,4 @@ use Rattle.ipc_write_arrays.specs.Outputs.{outputs}
 use Rattle.ipc_write_arrays.specs.declared.outputs.Outputs.{Outputs}
 
 abbrev pub outputs_of : Outputs → specs.Outputs
-outputs_of o = outputs o.nodes.items o.buffers.items o.body.items o.views.items
+outputs_of o = outputs o.nodes.items o.buffers.items o.views.items

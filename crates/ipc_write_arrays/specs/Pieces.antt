@@ -1,41 +1,34 @@
 -- What is written of an array: its node, the bytes of its buffers and its view counts. (Arrow Columnar Format, "Buffer Listing for Each Layout", "Dictionary-encoded Layout",
 -- "Variadic buffers".)
-use Rattle.std.specs.Prelude.{FitsSigned, ◌≡◌, length, ℕ, ◌-◌, ◌^◌, ◌<◌, List, [], ◌∷◌, ◌++◌, map, take, drop, reverse, Option, Some, None, ℤ, if◌then◌else◌}
+use Rattle.std.specs.Prelude.{FitsSigned, ◌≡◌, true, length, ℕ, ◌<◌, List, [], ◌∷◌, ◌++◌, Option, Some, None, ℤ, if◌then◌else◌}
 use Rattle.std.specs.Int.{w8, w32}
 use Rattle.std.specs.List.{flat_map, AllByRecursion}
 use Rattle.arrow_spec.specs.declared.message.FieldNode.{FieldNode}
 use Rattle.arrow_spec.specs.declared.types.IntegerType.{IntegerType}
-use Rattle.arrow_spec.specs.Flat.{Order, little, big}
-use Rattle.arrow_spec.specs.Kinds.{Kind, Offsets, small, large, binary, utf8, extension}
+use Rattle.arrow_spec.specs.Flat.{Order}
+use Rattle.arrow_spec.specs.Kinds.{Kind, Offsets, small, binary, utf8, extension}
 use Rattle.arrow_spec.specs.Counts.{magnitude}
-use Rattle.arrow_spec.specs.Arrays.{offset_width, slice, integer_width, is_unsigned}
+use Rattle.arrow_spec.specs.Arrays.{Dictionaries, slice, integer_width, is_unsigned}
 use Rattle.arrow_spec.specs.Framing.{packed, validity_bytes}
-use Rattle.arrow_types.specs.Numbers.{to_bytes, signed_to_bytes, unsigned_to_bytes}
+use Rattle.arrow_types.specs.Numbers.{signed_to_bytes, unsigned_to_bytes}
 use Rattle.arrow_types.specs.Physical.{physical_of}
 use Rattle.arrow_types.specs.declared.physical.PhysicalType.{PhysicalType}
 use Rattle.arrow_types.specs.declared.physical.PhysicalType.TheVariants as physical
-use Rattle.arrow_types.specs.declared.physical.PrimitiveType.{PrimitiveType}
-use Rattle.arrow_types.specs.declared.physical.PrimitiveType.TheVariants as primitive
 use Rattle.arrow_buffers.specs.Variable.{Variable, place_at, variable_rows}
 use Rattle.arrow_buffers.specs.Views.{Views}
 use Rattle.arrow_arrays.specs.LeafParts.{LeafParts, nulls, bits, numbers, fixed, binary as binaries, text, binary_views, text_views}
 use Rattle.arrow_arrays.specs.Heads.{Head, Listed, listed, mapped, sized, structured, tagged, indexed}
-use Rattle.arrow_arrays.specs.Parts.{Parts, Forest, leaf, nested, none, also, kind_in, cells_in, rows_each}
+use Rattle.arrow_arrays.specs.Parts.{Parts, Forest, leaf, nested, none, also, kind_in, rows_in, cells_in, rows_each}
 use Rattle.arrow_arrays.specs.Nodes.{node_in, counts_in}
-use Rattle.ipc_write_laws.specs.Columns.{WrittenColumn}
-use Rattle.ipc_write_arrays.specs.Dictionaries.{KeyFits}
+use Rattle.ipc_bodies.specs.Fitting.{offset_limit}
+use Rattle.ipc_bodies.specs.Pieces.{in_order, offset_bytes}
+use Rattle.ipc_write_laws.specs.Columns.{WrittenColumn, Means}
+use Rattle.ipc_write_arrays.specs.Dictionaries.{KeyFits, is_alike, HoldsValuesAt}
 use Rattle.ipc_write_arrays.specs.Trims.{sent}
 
 -- ── numbers ──
 
--- the bytes of a number in an order, by those that have the lowest first: each integer in it is turned by itself
-abbrev pub in_order : Order → PrimitiveType → List ℕ → List ℕ
-in_order little p bytes = bytes
-in_order big primitive.DaysMs bytes = reverse (take 4 bytes) ++ reverse (drop 4 bytes)
-in_order big primitive.MonthDayNano bytes = reverse (take 4 bytes) ++ reverse (take 4 (drop 4 bytes)) ++ reverse (drop 8 bytes)
-in_order big p bytes = reverse bytes
-
--- the same in a layout
+-- the bytes of a number of a layout in an order, by those that have the lowest first
 abbrev pub layout_in_order : Order → PhysicalType → List ℕ → List ℕ
 layout_in_order order (physical.Primitive p) bytes = in_order order p bytes
 layout_in_order order layout bytes = bytes
@@ -48,14 +41,6 @@ width_of_kind (binary o) = o
 width_of_kind (utf8 o) = o
 width_of_kind (extension name metadata k) = width_of_kind k
 width_of_kind k = small
-
--- offsets that begin at 0
-abbrev pub rebased : List ℤ → List ℕ
-rebased offsets = map (λ x. magnitude x - place_at offsets 0) offsets
-
--- their bytes
-abbrev pub offset_bytes : Order → Offsets → List ℤ → List ℕ
-offset_bytes order o offsets = flat_map (λ n. to_bytes order (offset_width o) n) (rebased offsets)
 
 -- the bytes between the first offset and the last
 abbrev pub bytes_between : List ℤ → List ℕ → List ℕ
@@ -138,12 +123,15 @@ pieces_in order p = tree_pieces order (sent p)
 abbrev pub column_in : Order → Parts → WrittenColumn
 column_in order p = record { kind = kind_in p; nodes = nodes_in p; pieces = pieces_in order p; views = counts_in (sent p); cells = cells_in p }
 
--- ── numbers that fit ──
+-- the same column under another kind
+abbrev pub with_kind : Kind → WrittenColumn → WrittenColumn
+with_kind k c = record { kind = k; nodes = c.nodes; pieces = c.pieces; views = c.views; cells = c.cells }
 
--- no offset reaches this
-abbrev pub offset_limit : Offsets → ℕ
-offset_limit small = 2 ^ 31
-offset_limit large = 2 ^ 63
+-- what is written of an array means its cells under each kind that is alike to its own, where the values of its dictionaries were read under that kind's ids
+abbrev pub IsMeant : Order → Parts → Type 0
+IsMeant order p = (k : Kind) (d : Dictionaries) → is_alike (kind_in p) k ≡ true → HoldsValuesAt d k p → Means order d (rows_in p) (with_kind k (column_in order p))
+
+-- ── numbers that fit ──
 
 -- each offset is one of its width
 abbrev pub OffsetsFit : Kind → List ℤ → Type 0

@@ -16,13 +16,13 @@ const MOST_ROWS: usize = 0x7fff_ffff_ffff_ffff;
 
 /// Which rows of each child are meant: all, or so many from one on.
 #[derive(Clone, Copy)]
-pub enum Cut {
+pub(crate) enum Cut {
     Whole,
     Run(usize, usize),
 }
 
 /// Which rows of its children rows of a union hold; a dense one's children are held whole.
-pub fn union_cut(places: Option<&Buffer<i32>>, offset: usize, rows: usize) -> Cut
+pub(crate) fn union_cut(places: Option<&Buffer<i32>>, offset: usize, rows: usize) -> Cut
     ensures { cut_in result ≡ tagged_cut offset rows (option_map (λ b. b.now) places.entry) }
 {
     match places {
@@ -48,7 +48,7 @@ fn sayable(rows: usize) -> Result<usize, AllocError>
 /// # Errors
 ///
 /// Want of memory, where they are more than a node can say.
-pub fn cut_rows(array: &Array, cut: Cut) -> Result<(usize, usize), AllocError>
+pub(crate) fn cut_rows(array: &Array, cut: Cut) -> Result<(usize, usize), AllocError>
     ensures from { IfOk result (λ r. r.0 ≡ cut_from (cut_in cut)) }
     ensures count { IfOk result (λ r. r.1 ≡ cut_count (cut_in cut) (rows_in (parts_of array.now))) }
     ensures few { IfOk result (λ r. r.1 < 2 ^ 63) }
@@ -64,7 +64,7 @@ pub fn cut_rows(array: &Array, cut: Cut) -> Result<(usize, usize), AllocError>
 /// # Errors
 ///
 /// Want of memory, where they are more than a node can say.
-pub fn items_between(
+pub(crate) fn items_between(
     size: usize,
     offset: usize,
     rows: usize,

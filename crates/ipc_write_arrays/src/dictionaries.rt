@@ -1,24 +1,24 @@
 //! Rows of dictionaries: their keys alone (Arrow Columnar Format, "Dictionary-encoded Layout").
-ghost use Rattle.std.specs.Prelude.{◌≡◌, ◌+◌, ◌^◌, ◌<◌, ◌≤◌, [], ◌∷◌, length, map, IfOk, IfErr};
+ghost use Rattle.std.specs.Prelude.{◌≡◌, ◌+◌, ◌^◌, ◌<◌, ◌≤◌, [], ◌∷◌, length, IfOk, IfErr};
 ghost use Rattle.std.specs.List.{flat_map};
 ghost use Rattle.arrow_spec.specs.Flat.{order_by};
-ghost use Rattle.arrow_spec.specs.Sent.{body_of};
 ghost use Rattle.arrow_buffers.specs.Rows.{part};
 ghost use Rattle.arrow_arrays.specs.Heads.{indexed};
 ghost use Rattle.arrow_arrays.specs.KeysOf.{keys_in, index_in};
 ghost use Rattle.arrow_arrays.specs.Parts.{nested};
+ghost use Rattle.ipc_bodies.specs.Adding.{Appends};
+ghost use Rattle.ipc_bodies.specs.Fitting.{AllFit};
 ghost use Rattle.ipc_write_arrays.specs.Trims.{trim};
-ghost use Rattle.ipc_write_arrays.specs.Pieces.{Fit, key_written, tree_pieces};
+ghost use Rattle.ipc_write_arrays.specs.Pieces.{Fit, key_written};
 ghost use Rattle.ipc_write_arrays.specs.OutputsOf.{outputs_of};
-ghost use Rattle.ipc_write_arrays.specs.Outputs.{laid_behind};
+ghost use Rattle.ipc_write_arrays.specs.Outputs.{laid_behind, KeptAll};
 ghost use Rattle.ipc_write_arrays.specs.Dictionaries.{KeyFits};
-ghost use Rattle.ipc_write_arrays.specs.Adding.{Adds, AllFit, KeptAll};
 
-use crate::buffers::put_part;
-use crate::outputs::Outputs;
+use crate::Outputs;
+use crate::layouts::add_part;
 use crate::trees::{add_top, validity_part};
 use arrow_arrays::{DictionaryArray, DictionaryKeys};
-use arrow_spec::IpcBuffer;
+use ipc_bodies::BodyBuffer;
 use std::alloc::AllocError;
 
 /// Adds rows of a dictionary, of which the keys are written, and not the values.
@@ -31,7 +31,6 @@ pub(crate) fn add_dictionary(
 ) -> Result<(), AllocError>
     requires within { offset + rows ≤ length array.now.head.keys }
     requires few { rows < 2 ^ 63 }
-    requires short { body_of (length out.old.body.items) (map length (tree_pieces (order_by is_little_endian) (trim offset rows (nested (indexed array.now.head) array.now.children)))) < 2 ^ 63 }
     ensures ok { IfOk result (λ _. outputs_of out.new ≡ laid_behind (order_by is_little_endian) (trim offset rows (nested (indexed array.now.head) array.now.children)) (outputs_of out.old)) }
     ensures err { IfErr result (λ _. KeptAll (outputs_of out.old) (outputs_of out.new)) }
     ensures fit { IfOk result (λ _. Fit (trim offset rows (nested (indexed array.now.head) array.now.children))) }
@@ -39,46 +38,37 @@ pub(crate) fn add_dictionary(
     let _rows = array.len();
     let bits = array.validity();
     let validity = validity_part(bits, offset, rows)?;
-    add_top(
-        rows,
-        &validity,
-        &mut out.buffers,
-        &mut out.body,
-        &mut out.nodes,
-    )?;
-    put_keys(
+    add_top(rows, &validity, out)?;
+    add_keys(
         array.keys(),
         offset,
         rows,
         &mut out.buffers,
-        &mut out.body,
         is_little_endian,
     )
 }
 
-/// Puts the keys from one on, so many of them.
-fn put_keys(
+/// Adds the keys from one on, so many of them.
+fn add_keys(
     keys: &DictionaryKeys,
     at: usize,
     count: usize,
-    places: &mut Vec<IpcBuffer>,
-    body: &mut Vec<u8>,
+    buffers: &mut Vec<BodyBuffer>,
     is_little: bool,
 ) -> Result<(), AllocError>
     requires within { at + count ≤ length (keys_in keys.now) }
-    requires short { body_of (length body.old.items) (length (flat_map (key_written (order_by is_little) (index_in keys.now)) (part at count (keys_in keys.now))) ∷ []) < 2 ^ 63 }
-    ensures bytes { Adds result places.old.items body.old.items places.new.items body.new.items (flat_map (key_written (order_by is_little) (index_in keys.now)) (part at count (keys_in keys.now)) ∷ []) }
+    ensures bytes { Appends result buffers.old.items buffers.new.items (flat_map (key_written (order_by is_little) (index_in keys.now)) (part at count (keys_in keys.now)) ∷ []) }
     ensures fit { IfOk result (λ _. AllFit (KeyFits (index_in keys.now)) (part at count (keys_in keys.now))) }
 {
     match keys {
-        DictionaryKeys::Int8(keys) => put_part(keys.values(), at, count, places, body, is_little),
-        DictionaryKeys::Int16(keys) => put_part(keys.values(), at, count, places, body, is_little),
-        DictionaryKeys::Int32(keys) => put_part(keys.values(), at, count, places, body, is_little),
-        DictionaryKeys::Int64(keys) => put_part(keys.values(), at, count, places, body, is_little),
-        DictionaryKeys::Int128(keys) => put_part(keys.values(), at, count, places, body, is_little),
-        DictionaryKeys::UInt8(keys) => put_part(keys.values(), at, count, places, body, is_little),
-        DictionaryKeys::UInt16(keys) => put_part(keys.values(), at, count, places, body, is_little),
-        DictionaryKeys::UInt32(keys) => put_part(keys.values(), at, count, places, body, is_little),
-        DictionaryKeys::UInt64(keys) => put_part(keys.values(), at, count, places, body, is_little),
+        DictionaryKeys::Int8(keys) => add_part(keys.values(), at, count, buffers, is_little),
+        DictionaryKeys::Int16(keys) => add_part(keys.values(), at, count, buffers, is_little),
+        DictionaryKeys::Int32(keys) => add_part(keys.values(), at, count, buffers, is_little),
+        DictionaryKeys::Int64(keys) => add_part(keys.values(), at, count, buffers, is_little),
+        DictionaryKeys::Int128(keys) => add_part(keys.values(), at, count, buffers, is_little),
+        DictionaryKeys::UInt8(keys) => add_part(keys.values(), at, count, buffers, is_little),
+        DictionaryKeys::UInt16(keys) => add_part(keys.values(), at, count, buffers, is_little),
+        DictionaryKeys::UInt32(keys) => add_part(keys.values(), at, count, buffers, is_little),
+        DictionaryKeys::UInt64(keys) => add_part(keys.values(), at, count, buffers, is_little),
     }
 }

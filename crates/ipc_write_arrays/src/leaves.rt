@@ -1,22 +1,24 @@
 //! Arrays without children (Arrow Columnar Format, "Buffer Listing for Each Layout").
-ghost use Rattle.std.specs.Prelude.{◌≡◌, ◌^◌, ◌<◌, [], ◌∷◌, length, map, pos, None, true, IfOk, IfErr};
+ghost use Rattle.std.specs.Prelude.{◌≡◌, ◌^◌, ◌<◌, [], ◌∷◌, map, pos, true, IfOk, IfErr};
 ghost use Rattle.arrow_spec.specs.Flat.{order_by};
-ghost use Rattle.arrow_spec.specs.Sent.{body_of};
 ghost use Rattle.arrow_arrays.specs.Parts.{rows_in};
 ghost use Rattle.arrow_arrays.specs.PartsOf.{parts_of};
 ghost use Rattle.arrow_arrays.specs.Nodes.{node_in, counts_in};
+ghost use Rattle.ipc_bodies.specs.Adding.{Appends};
 ghost use Rattle.ipc_write_arrays.specs.Trims.{has_no_children};
 ghost use Rattle.ipc_write_arrays.specs.Pieces.{Fit, tree_pieces};
-ghost use Rattle.ipc_write_arrays.specs.Outputs.{laid_behind, outputs};
-ghost use Rattle.ipc_write_arrays.specs.Adding.{Appends, Adds, KeptAll};
+ghost use Rattle.ipc_write_arrays.specs.Outputs.{laid_behind, KeptAll};
+ghost use Rattle.ipc_write_arrays.specs.OutputsOf.{outputs_of};
 
-use crate::layouts::{write_bits, write_fixed, write_numbers, write_variable, write_views};
+use crate::Outputs;
+use crate::layouts::{add_bits, add_fixed, add_primitive, add_variable, add_views};
 use arrow_arrays::Array;
-use arrow_spec::{FieldNode, IpcBuffer};
+use arrow_spec::FieldNode;
+use ipc_bodies::BodyBuffer;
 use std::alloc::AllocError;
 
 /// Whether an array has no children.
-pub fn is_leaf(array: &Array) -> bool
+pub(crate) fn is_leaf(array: &Array) -> bool
     ensures { result ≡ has_no_children (parts_of array.now) }
 {
     match array {
@@ -33,23 +35,18 @@ pub fn is_leaf(array: &Array) -> bool
 /// Adds an array without children.
 pub(crate) fn add_leaf(
     array: &Array,
-    buffers: &mut Vec<IpcBuffer>,
-    arrow_data: &mut Vec<u8>,
-    nodes: &mut Vec<FieldNode>,
-    variadic: &mut Vec<i64>,
+    out: &mut Outputs,
     is_little_endian: bool,
 ) -> Result<(), AllocError>
     requires leaf { has_no_children (parts_of array.now) ≡ true }
     requires few { rows_in (parts_of array.now) < 2 ^ 63 }
-    requires short { body_of (length arrow_data.old.items) (map length (tree_pieces (order_by is_little_endian) (parts_of array.now))) < 2 ^ 63 }
-    ensures ok { IfOk result (λ _. outputs nodes.new.items buffers.new.items arrow_data.new.items variadic.new.items ≡ laid_behind (order_by is_little_endian) (parts_of array.now) (outputs nodes.old.items buffers.old.items arrow_data.old.items variadic.old.items)) }
-    ensures end { IfOk result (λ _. length arrow_data.new.items < 2 ^ 63) }
-    ensures err { IfErr result (λ _. KeptAll (outputs nodes.old.items buffers.old.items arrow_data.old.items variadic.old.items) (outputs nodes.new.items buffers.new.items arrow_data.new.items variadic.new.items)) }
+    ensures ok { IfOk result (λ _. outputs_of out.new ≡ laid_behind (order_by is_little_endian) (parts_of array.now) (outputs_of out.old)) }
+    ensures err { IfErr result (λ _. KeptAll (outputs_of out.old) (outputs_of out.new)) }
     ensures fit { IfOk result (λ _. Fit (parts_of array.now)) }
 {
-    push_own_node(array, nodes)?;
-    push_view_count(array, variadic)?;
-    write_buffers(array, buffers, arrow_data, is_little_endian)
+    push_own_node(array, &mut out.nodes)?;
+    push_view_count(array, &mut out.views)?;
+    add_buffers(array, &mut out.buffers, is_little_endian)
 }
 
 // The node of an array without children; its nulls are no more than its rows.
@@ -96,38 +93,36 @@ fn push_count(count: usize, variadic: &mut Vec<i64>) -> Result<(), AllocError>
     Ok(())
 }
 
-fn write_buffers(
+fn add_buffers(
     array: &Array,
-    buffers: &mut Vec<IpcBuffer>,
-    arrow_data: &mut Vec<u8>,
+    buffers: &mut Vec<BodyBuffer>,
     is_little_endian: bool,
 ) -> Result<(), AllocError>
     requires leaf { has_no_children (parts_of array.now) ≡ true }
-    requires short { body_of (length arrow_data.old.items) (map length (tree_pieces (order_by is_little_endian) (parts_of array.now))) < 2 ^ 63 }
-    ensures bytes { Adds result buffers.old.items arrow_data.old.items buffers.new.items arrow_data.new.items (tree_pieces (order_by is_little_endian) (parts_of array.now)) }
+    ensures bytes { Appends result buffers.old.items buffers.new.items (tree_pieces (order_by is_little_endian) (parts_of array.now)) }
     ensures fit { IfOk result (λ _. Fit (parts_of array.now)) }
 {
     match array {
         Array::Null(_) => Ok(()),
-        Array::Boolean(array) => write_bits(array, buffers, arrow_data, is_little_endian),
-        Array::Int8(array) => write_numbers(array, buffers, arrow_data, is_little_endian),
-        Array::Int16(array) => write_numbers(array, buffers, arrow_data, is_little_endian),
-        Array::Int32(array) => write_numbers(array, buffers, arrow_data, is_little_endian),
-        Array::Int64(array) => write_numbers(array, buffers, arrow_data, is_little_endian),
-        Array::Int128(array) => write_numbers(array, buffers, arrow_data, is_little_endian),
-        Array::UInt8(array) => write_numbers(array, buffers, arrow_data, is_little_endian),
-        Array::UInt16(array) => write_numbers(array, buffers, arrow_data, is_little_endian),
-        Array::UInt32(array) => write_numbers(array, buffers, arrow_data, is_little_endian),
-        Array::UInt64(array) => write_numbers(array, buffers, arrow_data, is_little_endian),
-        Array::DaysMs(array) => write_numbers(array, buffers, arrow_data, is_little_endian),
-        Array::MonthsDaysNs(array) => write_numbers(array, buffers, arrow_data, is_little_endian),
-        Array::Binary(array) => write_variable(array, buffers, arrow_data, is_little_endian),
-        Array::LargeBinary(array) => write_variable(array, buffers, arrow_data, is_little_endian),
-        Array::Utf8(array) => write_variable(array, buffers, arrow_data, is_little_endian),
-        Array::LargeUtf8(array) => write_variable(array, buffers, arrow_data, is_little_endian),
-        Array::BinaryView(array) => write_views(array, buffers, arrow_data),
-        Array::Utf8View(array) => write_views(array, buffers, arrow_data),
-        Array::FixedSizeBinary(array) => write_fixed(array, buffers, arrow_data, is_little_endian),
+        Array::Boolean(array) => add_bits(array, buffers),
+        Array::Int8(array) => add_primitive(array, buffers, is_little_endian),
+        Array::Int16(array) => add_primitive(array, buffers, is_little_endian),
+        Array::Int32(array) => add_primitive(array, buffers, is_little_endian),
+        Array::Int64(array) => add_primitive(array, buffers, is_little_endian),
+        Array::Int128(array) => add_primitive(array, buffers, is_little_endian),
+        Array::UInt8(array) => add_primitive(array, buffers, is_little_endian),
+        Array::UInt16(array) => add_primitive(array, buffers, is_little_endian),
+        Array::UInt32(array) => add_primitive(array, buffers, is_little_endian),
+        Array::UInt64(array) => add_primitive(array, buffers, is_little_endian),
+        Array::DaysMs(array) => add_primitive(array, buffers, is_little_endian),
+        Array::MonthsDaysNs(array) => add_primitive(array, buffers, is_little_endian),
+        Array::Binary(array) => add_variable(array, buffers, is_little_endian),
+        Array::LargeBinary(array) => add_variable(array, buffers, is_little_endian),
+        Array::Utf8(array) => add_variable(array, buffers, is_little_endian),
+        Array::LargeUtf8(array) => add_variable(array, buffers, is_little_endian),
+        Array::BinaryView(array) => add_views(array, buffers),
+        Array::Utf8View(array) => add_views(array, buffers),
+        Array::FixedSizeBinary(array) => add_fixed(array, buffers),
         Array::List(_)
         | Array::FixedSizeList(_)
         | Array::Map(_)

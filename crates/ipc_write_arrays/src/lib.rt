@@ -1,9 +1,8 @@
-//! Arrays as they are written: to nodes, buffers and a body (Arrow Columnar Format, "Serialization and Interprocess Communication (IPC)").
+//! Arrays as they are written: to nodes, buffers and view counts, and to a body (Arrow Columnar Format, "Serialization and
+//! Interprocess Communication (IPC)").
 #![tactic(auto)]
 
 mod array;
-mod buffers;
-mod bytes;
 mod cuts;
 mod dictionaries;
 mod layouts;
@@ -11,7 +10,5 @@ mod leaves;
 mod outputs;
 mod trees;
 
-pub use array::write;
-pub use cuts::{Cut, cut_rows, items_between, union_cut};
-pub use leaves::is_leaf;
-pub use trees::ends_between;
+pub use array::{plan, write};
+pub use outputs::Outputs;

@@ -1,11 +1,29 @@
 //! What arrays are added to (Arrow Columnar Format, "RecordBatch message").
-use arrow_spec::{FieldNode, IpcBuffer};
+ghost use Rattle.std.specs.Prelude.{◌≡◌, []};
+ghost use Rattle.ipc_write_arrays.specs.Outputs.{outputs};
+ghost use Rattle.ipc_write_arrays.specs.OutputsOf.{outputs_of};
 
-/// Nodes, buffers, a body and view counts.
+use arrow_spec::FieldNode;
+use ipc_bodies::BodyBuffer;
+use std::alloc::Global;
+
+/// The nodes, the buffers and the view counts of arrays, one array behind another.
 #[derive(Drop)]
-pub(crate) struct Outputs {
-    pub(crate) nodes: Vec<FieldNode>,
-    pub(crate) buffers: Vec<IpcBuffer>,
-    pub(crate) body: Vec<u8>,
-    pub(crate) views: Vec<i64>,
+pub struct Outputs {
+    pub nodes: Vec<FieldNode>,
+    pub buffers: Vec<BodyBuffer>,
+    pub views: Vec<i64>,
+}
+
+impl Outputs {
+    /// Those of no array.
+    pub fn new(alloc: Global) -> Outputs
+        ensures { outputs_of result ≡ outputs [] [] [] }
+    {
+        Outputs {
+            nodes: Vec::new(alloc),
+            buffers: Vec::new(alloc),
+            views: Vec::new(alloc),
+        }
+    }
 }

@@ -1,38 +1,38 @@
 //! Some rows of an array, laid anew: offsets begin at 0, and of the children only what these rows hold is written
 //! (Arrow Columnar Format, "Variable-size List Layout", "Struct Layout").
-ghost use Rattle.std.specs.Prelude.{◌≡◌, ◌+◌, ◌^◌, ◌<◌, ◌≤◌, [], ◌∷◌, length, map, pos, None, true, IfOk, IfErr};
+ghost use Rattle.std.specs.Prelude.{◌≡◌, ◌+◌, ◌^◌, ◌<◌, ◌≤◌, [], ◌∷◌, length, map, pos, true, IfOk, IfErr};
 ghost use Rattle.std.specs.Option.{ForSome, option_map};
-ghost use Rattle.std.specs.Int.{w8, w32};
+ghost use Rattle.std.specs.Int.{w8};
 ghost use Rattle.std.specs.List.{flat_map};
 ghost use Rattle.arrow_spec.specs.Flat.{order_by};
-ghost use Rattle.arrow_spec.specs.Sent.{body_of};
 ghost use Rattle.arrow_spec.specs.Framing.{validity_bytes};
 ghost use Rattle.arrow_types.specs.Numbers.{offsets_by, signed_to_bytes};
 ghost use Rattle.arrow_buffers.specs.Rows.{part, has_rows, null_rows};
 ghost use Rattle.arrow_buffers.specs.Variable.{place_at, are_offsets, variable_rows};
-ghost use Rattle.arrow_arrays.specs.Heads.{listed, mapped, sized, structured, tagged, tagged_cut, Reaches};
-ghost use Rattle.arrow_arrays.specs.Parts.{nested, none, rows_in, rows_each};
-ghost use Rattle.arrow_arrays.specs.Nodes.{node_in};
+ghost use Rattle.arrow_arrays.specs.Heads.{listed, mapped, sized, structured, tagged, Reaches};
+ghost use Rattle.arrow_arrays.specs.Parts.{nested, rows_in, rows_each};
 ghost use Rattle.arrow_arrays.specs.PartsOf.{parts_of, forest_of, only};
 ghost use Rattle.arrow_arrays.specs.OffsetsOf.{offsets_in, width_in};
+ghost use Rattle.ipc_bodies.specs.Adding.{Appends};
+ghost use Rattle.ipc_bodies.specs.Fitting.{offset_limit, AllBelow};
+ghost use Rattle.ipc_bodies.specs.Pieces.{offset_bytes};
 ghost use Rattle.ipc_write_arrays.specs.Trims.{has_no_children, lists_of, listed_trim, trim, trim_each};
 ghost use Rattle.ipc_write_arrays.specs.CutsOf.{cut_in};
-ghost use Rattle.ipc_write_arrays.specs.Pieces.{Fit, FitEach, TagsFit, listed_pieces, place_pieces, offset_bytes, offset_limit, tree_pieces, trees_pieces};
+ghost use Rattle.ipc_write_arrays.specs.Pieces.{Fit, FitEach, TagsFit, place_pieces};
 ghost use Rattle.ipc_write_arrays.specs.OutputsOf.{outputs_of};
-ghost use Rattle.ipc_write_arrays.specs.Outputs.{each_behind, laid_behind};
-ghost use Rattle.ipc_write_arrays.specs.Adding.{Appends, Adds, AllBelow, KeptAll, WritesNumbers};
+ghost use Rattle.ipc_write_arrays.specs.Outputs.{each_behind, laid_behind, put_behind, top_behind, KeptAll};
 
-use crate::buffers::{put_offsets, put_part, put_validity};
+use crate::Outputs;
 use crate::cuts::{Cut, cut_rows, items_between, union_cut};
 use crate::dictionaries::add_dictionary;
+use crate::layouts::{add_offsets, add_part, add_validity};
 use crate::leaves::{add_leaf, push_node};
-use crate::outputs::Outputs;
 use arrow_arrays::{
     Array, FixedSizeListArray, ListArray, ListOffsets, MapArray, StructArray, UnionArray,
 };
 use arrow_buffers::{Bitmap, Buffer, nulls_in, place_of};
-use arrow_spec::{FieldNode, IpcBuffer};
 use arrow_types::Offset;
+use ipc_bodies::BodyBuffer;
 use std::alloc::AllocError;
 
 /// Adds the rows of an array from one on, so many of them. What stands behind after a failure is more than was there.
@@ -46,7 +46,6 @@ pub(crate) fn add_rows(
 ) -> Result<(), AllocError>
     requires within { offset + rows ≤ rows_in (parts_of array.now) }
     requires few { rows < 2 ^ 63 }
-    requires short { body_of (length out.old.body.items) (map length (tree_pieces (order_by is_little_endian) (trim offset rows (parts_of array.now)))) < 2 ^ 63 }
     ensures ok { IfOk result (λ _. outputs_of out.new ≡ laid_behind (order_by is_little_endian) (trim offset rows (parts_of array.now)) (outputs_of out.old)) }
     ensures err { IfErr result (λ _. KeptAll (outputs_of out.old) (outputs_of out.new)) }
     ensures fit { IfOk result (λ _. Fit (trim offset rows (parts_of array.now))) }
@@ -58,12 +57,12 @@ pub(crate) fn add_rows(
         Array::FixedSizeList(lists) => add_sized(lists, offset, rows, out, is_little_endian),
         Array::Union(union) => add_union(union, offset, rows, out, is_little_endian),
         Array::Dictionary(array) => add_dictionary(array, offset, rows, out, is_little_endian),
-        _ => add_part(array, offset, rows, out, is_little_endian),
+        _ => add_slice(array, offset, rows, out, is_little_endian),
     }
 }
 
 /// Adds rows of an array without children.
-fn add_part(
+fn add_slice(
     array: &Array,
     offset: usize,
     rows: usize,
@@ -73,23 +72,15 @@ fn add_part(
     requires leaf { has_no_children (parts_of array.now) ≡ true }
     requires within { offset + rows ≤ rows_in (parts_of array.now) }
     requires few { rows < 2 ^ 63 }
-    requires short { body_of (length out.old.body.items) (map length (tree_pieces (order_by is_little_endian) (trim offset rows (parts_of array.now)))) < 2 ^ 63 }
     ensures ok { IfOk result (λ _. outputs_of out.new ≡ laid_behind (order_by is_little_endian) (trim offset rows (parts_of array.now)) (outputs_of out.old)) }
     ensures err { IfErr result (λ _. KeptAll (outputs_of out.old) (outputs_of out.new)) }
     ensures fit { IfOk result (λ _. Fit (trim offset rows (parts_of array.now))) }
 {
     let _rows = array.len();
-    let clone = array.try_clone(*out.body.allocator())?;
+    let clone = array.try_clone(*out.nodes.allocator())?;
     let part = clone.sliced(offset, rows);
     let _part_rows = part.len();
-    add_leaf(
-        &part,
-        &mut out.buffers,
-        &mut out.body,
-        &mut out.nodes,
-        &mut out.views,
-        is_little_endian,
-    )
+    add_leaf(&part, out, is_little_endian)
 }
 
 /// Adds rows of lists.
@@ -103,7 +94,6 @@ fn add_list(
 ) -> Result<(), AllocError>
     requires within { offset + rows ≤ variable_rows list.now.head.offsets }
     requires few { rows < 2 ^ 63 }
-    requires short { body_of (length out.old.body.items) (map length (tree_pieces (order_by is_little_endian) (trim offset rows (nested (listed list.now.head) list.now.children)))) < 2 ^ 63 }
     ensures ok { IfOk result (λ _. outputs_of out.new ≡ laid_behind (order_by is_little_endian) (trim offset rows (nested (listed list.now.head) list.now.children)) (outputs_of out.old)) }
     ensures err { IfErr result (λ _. KeptAll (outputs_of out.old) (outputs_of out.new)) }
     ensures fit { IfOk result (λ _. Fit (trim offset rows (nested (listed list.now.head) list.now.children))) }
@@ -132,7 +122,6 @@ fn add_map(
 ) -> Result<(), AllocError>
     requires within { offset + rows ≤ variable_rows maps.now.head.offsets }
     requires few { rows < 2 ^ 63 }
-    requires short { body_of (length out.old.body.items) (map length (tree_pieces (order_by is_little_endian) (trim offset rows (nested (mapped maps.now.head) maps.now.children)))) < 2 ^ 63 }
     ensures ok { IfOk result (λ _. outputs_of out.new ≡ laid_behind (order_by is_little_endian) (trim offset rows (nested (mapped maps.now.head) maps.now.children)) (outputs_of out.old)) }
     ensures err { IfErr result (λ _. KeptAll (outputs_of out.old) (outputs_of out.new)) }
     ensures fit { IfOk result (λ _. Fit (trim offset rows (nested (mapped maps.now.head) maps.now.children))) }
@@ -166,23 +155,12 @@ fn add_listed(
     requires bits { has_rows (option_map (λ b. b.now) held) (variable_rows (offsets_in offsets.now)) ≡ true }
     requires within { offset + rows ≤ variable_rows (offsets_in offsets.now) }
     requires few { rows < 2 ^ 63 }
-    requires short { body_of (length out.old.body.items) (map length (tree_pieces (order_by is_little_endian) (trim offset rows (nested (listed (lists_of offsets.now (option_map (λ b. b.now) held))) (only values.now))))) < 2 ^ 63 }
     ensures ok { IfOk result (λ _. outputs_of out.new ≡ laid_behind (order_by is_little_endian) (trim offset rows (nested (listed (lists_of offsets.now (option_map (λ b. b.now) held.entry))) (only values.now))) (outputs_of out.old)) }
     ensures err { IfErr result (λ _. KeptAll (outputs_of out.old) (outputs_of out.new)) }
     ensures fit { IfOk result (λ _. Fit (trim offset rows (nested (listed (lists_of offsets.now (option_map (λ b. b.now) held.entry))) (only values.now)))) }
 {
     let limit = values.len();
-    let (first, last) = add_listed_top(
-        offsets,
-        held,
-        limit,
-        offset,
-        rows,
-        &mut out.buffers,
-        &mut out.body,
-        &mut out.nodes,
-        is_little_endian,
-    )?;
+    let (first, last) = add_listed_top(offsets, held, limit, offset, rows, out, is_little_endian)?;
     add_rows(values, first, last - first, out, is_little_endian)
 }
 
@@ -193,18 +171,15 @@ fn add_listed_top(
     limit: usize,
     offset: usize,
     rows: usize,
-    buffers: &mut Vec<IpcBuffer>,
-    arrow_data: &mut Vec<u8>,
-    nodes: &mut Vec<FieldNode>,
+    out: &mut Outputs,
     is_little_endian: bool,
 ) -> Result<(usize, usize), AllocError>
     requires rise { are_offsets (offsets_in offsets.now) limit ≡ true }
     requires bits { has_rows (option_map (λ b. b.now) held) (variable_rows (offsets_in offsets.now)) ≡ true }
     requires within { offset + rows ≤ variable_rows (offsets_in offsets.now) }
     requires few { rows < 2 ^ 63 }
-    requires short { body_of (length arrow_data.old.items) (map length (listed_pieces (order_by is_little_endian) (listed_trim offset rows (lists_of offsets.now (option_map (λ b. b.now) held))))) < 2 ^ 63 }
-    ensures node { Appends result nodes.old.items nodes.new.items (node_in (nested (listed (listed_trim offset rows (lists_of offsets.now (option_map (λ b. b.now) held.entry)))) none) ∷ []) }
-    ensures bytes { Adds result buffers.old.items arrow_data.old.items buffers.new.items arrow_data.new.items (listed_pieces (order_by is_little_endian) (listed_trim offset rows (lists_of offsets.now (option_map (λ b. b.now) held.entry)))) }
+    ensures ok { IfOk result (λ _. outputs_of out.new ≡ top_behind (order_by is_little_endian) (listed (listed_trim offset rows (lists_of offsets.now (option_map (λ b. b.now) held.entry)))) (outputs_of out.old)) }
+    ensures err { IfErr result (λ _. KeptAll (outputs_of out.old) (outputs_of out.new)) }
     ensures fit { IfOk result (λ _. AllBelow (offset_limit (width_in offsets.now)) (listed_trim offset rows (lists_of offsets.now (option_map (λ b. b.now) held.entry))).offsets) }
     ensures first { IfOk result (λ r. r.0 ≡ place_at (offsets_in offsets.now) offset) }
     ensures last { IfOk result (λ r. r.1 ≡ place_at (offsets_in offsets.now) (offset + rows)) }
@@ -215,14 +190,13 @@ fn add_listed_top(
     let _count = offsets.len();
     let ends = ends_between(offsets, offset, rows, limit);
     let validity = validity_part(held, offset, rows)?;
-    add_top(rows, &validity, buffers, arrow_data, nodes)?;
-    put_list_offsets(
+    add_top(rows, &validity, out)?;
+    add_list_offsets(
         offsets,
         offset,
         rows,
         limit,
-        buffers,
-        arrow_data,
+        &mut out.buffers,
         is_little_endian,
     )?;
     Ok(ends)
@@ -247,27 +221,19 @@ pub(crate) fn validity_part(
 pub(crate) fn add_top(
     rows: usize,
     validity: &Option<Bitmap>,
-    buffers: &mut Vec<IpcBuffer>,
-    arrow_data: &mut Vec<u8>,
-    nodes: &mut Vec<FieldNode>,
+    out: &mut Outputs,
 ) -> Result<(), AllocError>
     requires few { rows < 2 ^ 63 }
     requires bits { has_rows validity.now rows ≡ true }
-    requires short { body_of (length arrow_data.old.items) (length (validity_bytes validity.now) ∷ []) < 2 ^ 63 }
-    ensures node { Appends result nodes.old.items nodes.new.items (record { length = pos rows; null_count = pos (null_rows validity.now) } ∷ []) }
-    ensures bytes { Adds result buffers.old.items arrow_data.old.items buffers.new.items arrow_data.new.items (validity_bytes validity.now ∷ []) }
+    ensures ok { IfOk result (λ _. outputs_of out.new ≡ put_behind (record { length = pos rows; null_count = pos (null_rows validity.now) } ∷ []) (validity_bytes validity.now ∷ []) [] (outputs_of out.old)) }
+    ensures err { IfErr result (λ _. KeptAll (outputs_of out.old) (outputs_of out.new)) }
 {
-    push_node(rows, nulls_in(validity), nodes)?;
-    put_validity(validity.as_ref(), buffers, arrow_data)
+    push_node(rows, nulls_in(validity), &mut out.nodes)?;
+    add_validity(validity.as_ref(), &mut out.buffers)
 }
 
 /// The offset of a row and that of the row behind the last of so many.
-pub fn ends_between(
-    offsets: &ListOffsets,
-    offset: usize,
-    rows: usize,
-    limit: usize,
-) -> (usize, usize)
+fn ends_between(offsets: &ListOffsets, offset: usize, rows: usize, limit: usize) -> (usize, usize)
     requires rise { are_offsets (offsets_in offsets.now) limit ≡ true }
     requires below { offset + rows < length (offsets_in offsets.now) }
     ensures first { result.0 ≡ place_at (offsets_in offsets.now) offset }
@@ -287,64 +253,43 @@ pub fn ends_between(
     }
 }
 
-/// Puts the offsets of rows, counted from the first.
-fn put_list_offsets(
+/// Adds the offsets of rows, counted from the first.
+fn add_list_offsets(
     offsets: &ListOffsets,
     offset: usize,
     rows: usize,
     limit: usize,
-    buffers: &mut Vec<IpcBuffer>,
-    arrow_data: &mut Vec<u8>,
-    is_little_endian: bool,
+    buffers: &mut Vec<BodyBuffer>,
+    is_little: bool,
 ) -> Result<(), AllocError>
     requires rise { are_offsets (offsets_in offsets.now) limit ≡ true }
     requires below { offset + rows < length (offsets_in offsets.now) }
-    requires short { body_of (length arrow_data.old.items) (length (offset_bytes (order_by is_little_endian) (width_in offsets.now) (part offset (rows + 1) (offsets_in offsets.now))) ∷ []) < 2 ^ 63 }
-    ensures bytes { Adds result buffers.old.items arrow_data.old.items buffers.new.items arrow_data.new.items (offset_bytes (order_by is_little_endian) (width_in offsets.now) (part offset (rows + 1) (offsets_in offsets.now)) ∷ []) }
+    ensures bytes { Appends result buffers.old.items buffers.new.items (offset_bytes (order_by is_little) (width_in offsets.now) (part offset (rows + 1) (offsets_in offsets.now)) ∷ []) }
     ensures below { IfOk result (λ _. AllBelow (offset_limit (width_in offsets.now)) (part offset (rows + 1) (offsets_in offsets.now))) }
 {
     match offsets {
-        ListOffsets::Small(places) => put_places(
-            places,
-            offset,
-            rows,
-            limit,
-            buffers,
-            arrow_data,
-            is_little_endian,
-        ),
-        ListOffsets::Large(places) => put_places(
-            places,
-            offset,
-            rows,
-            limit,
-            buffers,
-            arrow_data,
-            is_little_endian,
-        ),
+        ListOffsets::Small(places) => add_places(places, offset, rows, limit, buffers, is_little),
+        ListOffsets::Large(places) => add_places(places, offset, rows, limit, buffers, is_little),
     }
 }
 
-fn put_places<O: Offset>(
+fn add_places<O: Offset>(
     places: &Buffer<O>,
     offset: usize,
     rows: usize,
     limit: usize,
-    buffers: &mut Vec<IpcBuffer>,
-    arrow_data: &mut Vec<u8>,
-    is_little_endian: bool,
+    buffers: &mut Vec<BodyBuffer>,
+    is_little: bool,
 ) -> Result<(), AllocError>
     requires rise { are_offsets (map O.number places.now) limit ≡ true }
     requires below { offset + rows < length places.now }
-    requires numbers { WritesNumbers O.number O.limit O.IS_LARGE O.written }
-    requires short { body_of (length arrow_data.old.items) (length (offset_bytes (order_by is_little_endian) (offsets_by O.IS_LARGE) (part offset (rows + 1) (map O.number places.now))) ∷ []) < 2 ^ 63 }
-    ensures bytes { Adds result buffers.old.items arrow_data.old.items buffers.new.items arrow_data.new.items (offset_bytes (order_by is_little_endian) (offsets_by O.IS_LARGE) (part offset (rows + 1) (map O.number places.now)) ∷ []) }
-    ensures below { IfOk result (λ _. AllBelow O.limit (part offset (rows + 1) (map O.number places.now))) }
+    ensures bytes { Appends result buffers.old.items buffers.new.items (offset_bytes (order_by is_little) (offsets_by O.IS_LARGE) (part offset (rows + 1) (map O.number places.now)) ∷ []) }
+    ensures below { IfOk result (λ _. AllBelow (offset_limit (offsets_by O.IS_LARGE)) (part offset (rows + 1) (map O.number places.now))) }
 {
     let _count = places.len();
     let clone = places.try_clone()?;
     let part = clone.sliced(offset, rows + 1);
-    put_offsets(&part, limit, buffers, arrow_data, is_little_endian)
+    add_offsets(&part, limit, buffers, is_little)
 }
 
 /// Adds rows of lists of one size.
@@ -358,7 +303,6 @@ fn add_sized(
 ) -> Result<(), AllocError>
     requires within { offset + rows ≤ lists.now.head.rows }
     requires few { rows < 2 ^ 63 }
-    requires short { body_of (length out.old.body.items) (map length (tree_pieces (order_by is_little_endian) (trim offset rows (nested (sized lists.now.head) lists.now.children)))) < 2 ^ 63 }
     ensures ok { IfOk result (λ _. outputs_of out.new ≡ laid_behind (order_by is_little_endian) (trim offset rows (nested (sized lists.now.head) lists.now.children)) (outputs_of out.old)) }
     ensures err { IfErr result (λ _. KeptAll (outputs_of out.old) (outputs_of out.new)) }
     ensures fit { IfOk result (λ _. Fit (trim offset rows (nested (sized lists.now.head) lists.now.children))) }
@@ -369,13 +313,7 @@ fn add_sized(
     let (from, count) = items_between(lists.size(), offset, rows, held, items)?;
     let bits = lists.validity();
     let validity = validity_part(bits, offset, rows)?;
-    add_top(
-        rows,
-        &validity,
-        &mut out.buffers,
-        &mut out.body,
-        &mut out.nodes,
-    )?;
+    add_top(rows, &validity, out)?;
     add_rows(values, from, count, out, is_little_endian)
 }
 
@@ -390,7 +328,6 @@ fn add_struct(
 ) -> Result<(), AllocError>
     requires within { offset + rows ≤ columns.now.head.rows }
     requires few { rows < 2 ^ 63 }
-    requires short { body_of (length out.old.body.items) (map length (tree_pieces (order_by is_little_endian) (trim offset rows (nested (structured columns.now.head) columns.now.children)))) < 2 ^ 63 }
     ensures ok { IfOk result (λ _. outputs_of out.new ≡ laid_behind (order_by is_little_endian) (trim offset rows (nested (structured columns.now.head) columns.now.children)) (outputs_of out.old)) }
     ensures err { IfErr result (λ _. KeptAll (outputs_of out.old) (outputs_of out.new)) }
     ensures fit { IfOk result (λ _. Fit (trim offset rows (nested (structured columns.now.head) columns.now.children))) }
@@ -398,13 +335,7 @@ fn add_struct(
     let _rows = columns.len();
     let bits = columns.validity();
     let validity = validity_part(bits, offset, rows)?;
-    add_top(
-        rows,
-        &validity,
-        &mut out.buffers,
-        &mut out.body,
-        &mut out.nodes,
-    )?;
+    add_top(rows, &validity, out)?;
     add_each(
         columns.values(),
         Cut::Run(offset, rows),
@@ -424,23 +355,13 @@ fn add_union(
 ) -> Result<(), AllocError>
     requires within { offset + rows ≤ length union.now.head.types }
     requires few { rows < 2 ^ 63 }
-    requires short { body_of (length out.old.body.items) (map length (tree_pieces (order_by is_little_endian) (trim offset rows (nested (tagged union.now.head) union.now.children)))) < 2 ^ 63 }
     ensures ok { IfOk result (λ _. outputs_of out.new ≡ laid_behind (order_by is_little_endian) (trim offset rows (nested (tagged union.now.head) union.now.children)) (outputs_of out.old)) }
     ensures err { IfErr result (λ _. KeptAll (outputs_of out.old) (outputs_of out.new)) }
     ensures fit { IfOk result (λ _. Fit (trim offset rows (nested (tagged union.now.head) union.now.children))) }
 {
     let _rows = union.len();
     let places = union.offsets();
-    add_union_top(
-        union.types(),
-        places,
-        offset,
-        rows,
-        &mut out.buffers,
-        &mut out.body,
-        &mut out.nodes,
-        is_little_endian,
-    )?;
+    add_union_top(union.types(), places, offset, rows, out, is_little_endian)?;
     add_each(
         union.fields(),
         union_cut(places, offset, rows),
@@ -455,24 +376,21 @@ fn add_union_top(
     places: Option<&Buffer<i32>>,
     offset: usize,
     rows: usize,
-    buffers: &mut Vec<IpcBuffer>,
-    arrow_data: &mut Vec<u8>,
-    nodes: &mut Vec<FieldNode>,
+    out: &mut Outputs,
     is_little_endian: bool,
 ) -> Result<(), AllocError>
     requires types { offset + rows ≤ length types.now }
     requires places { ForSome (option_map (λ b. b.now) places) (λ os. offset + rows ≤ length os) }
     requires few { rows < 2 ^ 63 }
-    requires short { body_of (length arrow_data.old.items) (map length (flat_map (signed_to_bytes w8 (order_by is_little_endian)) (part offset rows types.now) ∷ place_pieces (order_by is_little_endian) (option_map (part offset rows) (option_map (λ b. b.now) places)))) < 2 ^ 63 }
-    ensures node { Appends result nodes.old.items nodes.new.items (record { length = pos rows; null_count = pos 0 } ∷ []) }
-    ensures bytes { Adds result buffers.old.items arrow_data.old.items buffers.new.items arrow_data.new.items (flat_map (signed_to_bytes w8 (order_by is_little_endian)) (part offset rows types.now) ∷ place_pieces (order_by is_little_endian) (option_map (part offset rows) (option_map (λ b. b.now) places.entry))) }
+    ensures ok { IfOk result (λ _. outputs_of out.new ≡ put_behind (record { length = pos rows; null_count = pos 0 } ∷ []) (flat_map (signed_to_bytes w8 (order_by is_little_endian)) (part offset rows types.now) ∷ place_pieces (order_by is_little_endian) (option_map (part offset rows) (option_map (λ b. b.now) places.entry))) [] (outputs_of out.old)) }
+    ensures err { IfErr result (λ _. KeptAll (outputs_of out.old) (outputs_of out.new)) }
     ensures fit { IfOk result (λ _. TagsFit (option_map (part offset rows) (option_map (λ b. b.now) places.entry)) (part offset rows types.now)) }
 {
-    push_node(rows, 0, nodes)?;
-    put_part(types, offset, rows, buffers, arrow_data, is_little_endian)?;
+    push_node(rows, 0, &mut out.nodes)?;
+    add_part(types, offset, rows, &mut out.buffers, is_little_endian)?;
     match places {
         None => Ok(()),
-        Some(places) => put_part(places, offset, rows, buffers, arrow_data, is_little_endian),
+        Some(places) => add_part(places, offset, rows, &mut out.buffers, is_little_endian),
     }
 }
 
@@ -485,7 +403,6 @@ fn add_each(
     is_little_endian: bool,
 ) -> Result<(), AllocError>
     requires reaches { Reaches (cut_in cut) (rows_each (forest_of arrays.now)) }
-    requires short { body_of (length out.old.body.items) (map length (trees_pieces (order_by is_little_endian) (trim_each (cut_in cut) (forest_of arrays.now)))) < 2 ^ 63 }
     ensures ok { IfOk result (λ _. outputs_of out.new ≡ each_behind (order_by is_little_endian) (trim_each (cut_in cut) (forest_of arrays.now)) (outputs_of out.old)) }
     ensures err { IfErr result (λ _. KeptAll (outputs_of out.old) (outputs_of out.new)) }
     ensures fit { IfOk result (λ _. FitEach (trim_each (cut_in cut) (forest_of arrays.now))) }

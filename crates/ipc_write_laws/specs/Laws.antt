@@ -13,6 +13,7 @@ use Rattle.arrow_spec.specs.Laws.{header_of}
 use Rattle.arrow_spec.specs.Streams.{closed, stream_table, unended}
 use Rattle.ipc_write_laws.specs.Columns.{WrittenColumn, Means}
 use Rattle.ipc_write_laws.specs.Streams.{AreOf, AreSent, ColumnsStandAt, MayBeWritten, StreamMayBeWritten, TableMayBeWritten, WrittenBatch, bare_table, batch_bytes, body_for, written_batch, written_of, written_so_far, written_stream, written_table}
+use Rattle.ipc_write_laws.specs.Messages.{MessageMayBeWritten, MessagesMayBeWritten, WrittenMessage, bytes_of, ended_stream, none_known, stream_so_far, table_of_messages, with_messages}
 use Rattle.ipc_write_laws.specs.Plain.{have_no_ids}
 
 -- Columns that mean their cells, of the fields' kinds, are read as these cells where they stand one after another.
@@ -68,3 +69,19 @@ BatchIsSent = (fs : Fields) (m : RecordBatch) (x : WrittenBatch) → all_written
 -- Fields without dictionaries, whose unions state their ids, are written and read as they are.
 abbrev pub PlainFieldsStay : Type 0
 PlainFieldsStay = (fs : Fields) (n : ℕ) → have_no_ids fs ≡ true → (numbered fs n ≡ fs) × (bare fs ≡ fs)
+
+-- A stream of messages that may be written, and ended, is closed and means the table of its batches.
+abbrev pub StreamOfMessagesMeansItsTable : Type 0
+StreamOfMessagesMeansItsTable = (fs : Fields) (pairs custom : Metadata) (xs : List WrittenMessage) → MessagesMayBeWritten fs pairs custom xs
+    → closed (ended_stream fs pairs custom xs) × (stream_table (ended_stream fs pairs custom xs) None ≡ Some (table_of_messages fs pairs custom xs))
+
+-- Before it is ended nothing stands behind its messages, and it means the table as well.
+abbrev pub FrontOfMessagesMeansItsTable : Type 0
+FrontOfMessagesMeansItsTable = (fs : Fields) (pairs custom : Metadata) (xs : List WrittenMessage) → MessagesMayBeWritten fs pairs custom xs
+    → unended (stream_so_far fs pairs custom xs) × (stream_table (stream_so_far fs pairs custom xs) None ≡ Some (table_of_messages fs pairs custom xs))
+
+-- A message more is its bytes more at the end, and the stream may be written with it if the message may.
+abbrev pub OneMoreMessage : Type 0
+OneMoreMessage = (fs : Fields) (pairs custom : Metadata) (xs : List WrittenMessage) (x : WrittenMessage)
+    → (stream_so_far fs pairs custom (xs ++ x ∷ []) ≡ stream_so_far fs pairs custom xs ++ bytes_of x)
+    × (MessagesMayBeWritten fs pairs custom xs → MessageMayBeWritten fs (with_messages xs none_known) x → MessagesMayBeWritten fs pairs custom (xs ++ x ∷ []))

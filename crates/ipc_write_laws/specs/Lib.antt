@@ -1,4 +1,5 @@
 pub mod Columns
 pub mod Streams
 pub mod Plain
+pub mod Messages
 pub mod Laws

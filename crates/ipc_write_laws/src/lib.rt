@@ -1,7 +1,7 @@
 //! Columns of any kind as they are written, and the law that a stream of them means its table. Each function's contract is a law, proved in `proofs/`.
 #![tactic(auto)]
 
-ghost use Rattle.ipc_write_laws.specs.Laws.{BatchIsSent, BatchReadsBack, ColumnsAreSent, ColumnsReadBack, OneMoreBatch, PlainFieldsStay, WrittenFrontMeansItsBareTable, WrittenFrontMeansItsTable, WrittenStreamMeansItsBareTable, WrittenStreamMeansItsTable};
+ghost use Rattle.ipc_write_laws.specs.Laws.{BatchIsSent, BatchReadsBack, ColumnsAreSent, ColumnsReadBack, FrontOfMessagesMeansItsTable, OneMoreBatch, OneMoreMessage, PlainFieldsStay, StreamOfMessagesMeansItsTable, WrittenFrontMeansItsBareTable, WrittenFrontMeansItsTable, WrittenStreamMeansItsBareTable, WrittenStreamMeansItsTable};
 
 /// Columns that stand one after another in a record batch are read as the cells that they mean (Arrow Columnar Format, "RecordBatch message").
 pub fn columns_read_back()
@@ -51,4 +51,19 @@ pub fn batch_is_sent()
 /// Fields without dictionaries, whose unions state their ids, keep their kinds when they are written and read.
 pub fn plain_fields_stay()
     ensures { PlainFieldsStay }
+{}
+
+/// A stream of dictionaries' values and of batches is closed and means the table of its batches (Arrow Columnar Format, "IPC Streaming Format", "Dictionary Messages").
+pub fn stream_of_messages_means_its_table()
+    ensures { StreamOfMessagesMeansItsTable }
+{}
+
+/// Before its end mark it is whole messages with nothing behind them, and means the same table.
+pub fn front_of_messages_means_its_table()
+    ensures { FrontOfMessagesMeansItsTable }
+{}
+
+/// Such a stream grows by a message at its end.
+pub fn one_more_message()
+    ensures { OneMoreMessage }
 {}

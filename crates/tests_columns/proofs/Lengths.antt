@@ -22,7 +22,8 @@ use Rattle.arrow_buffers.specs.Variable.{Variable}
 use Rattle.arrow_arrays.specs.LeafParts.{LeafParts, nulls, bits, numbers, fixed, binary, text, binary_views, text_views}
 use Rattle.arrow_arrays.specs.Parts.{Parts, leaf, nested}
 use Rattle.arrow_arrays.specs.Batches.{Batch}
-use Rattle.ipc_write_arrays.specs.Pieces.{in_order, layout_in_order, rebased, offset_bytes, width_of_kind, bytes_between, variable_pieces, leaf_pieces, pieces_in}
+use Rattle.ipc_bodies.specs.Pieces.{in_order, rebased, offset_bytes}
+use Rattle.ipc_write_arrays.specs.Pieces.{layout_in_order, width_of_kind, bytes_between, variable_pieces, leaf_pieces, pieces_in}
 use Rattle.ipc_write_arrays.specs.Trims.{has_no_children}
 use Rattle.ipc_write_arrays.specs.Outputs.{LeafMayHaveOrder, MayHaveOrder}
 use Rattle.ipc_write.specs.Batches.{batch_body, columns_pieces, is_within, batch_message}

@@ -6,8 +6,8 @@ use arrow_types::{ArrowDataType, ArrowSchema, Field};
 use ipc_fields::IpcField;
 use ipc_schema::MemorySink;
 use ipc_write::{
-    EncodedData, Record, WriteOptions, encode_record_batch, pad_to_64, write_continuation,
-    write_message,
+    EncodedData, Record, WriteOptions, encode_record_batch, pad_to_64, plan_batch, put_body,
+    write_continuation, write_message, write_plan,
 };
 use std::alloc::{AllocError, Global};
 use std::rc::Rc;
@@ -105,6 +105,27 @@ fn too_much_metadata_leaves_what_was_there(rt: HostRuntime) -> Result<(), Fail> 
     let done = encode_record_batch(alloc, &batch, &options, &mut encoded);
     assert!(rt; matches!(done, Err(IpcError::TooLarge)));
     assert!(rt; encoded.arrow_data.as_slice() == [7].as_slice());
+    Ok(())
+}
+
+#[test]
+fn a_body_is_put_in_pieces(rt: HostRuntime) -> Result<(), Fail> {
+    let alloc = rt.alloc();
+    let batch = one_batch(alloc, 26)?;
+    let options = WriteOptions::default();
+    let mut encoded = EncodedData::new(alloc);
+    encode_record_batch(alloc, &batch, &options, &mut encoded)?;
+    let plan = plan_batch(alloc, &batch, &options)?;
+    assert!(rt; plan.ipc_message.as_slice() == encoded.ipc_message.as_slice());
+    assert!(rt; plan.body_length == 128 && plan.buffers.len() == 3);
+    let mut sink = MemorySink::new(alloc, None, Vec::new(alloc));
+    put_body(&mut sink, plan.buffers.as_slice(), &mut [0xff; 64])?;
+    assert!(rt; sink.bytes() == encoded.arrow_data.as_slice());
+    let mut whole = MemorySink::new(alloc, None, Vec::new(alloc));
+    let lengths = write_message(&mut whole, &encoded)?;
+    let mut pieces = MemorySink::new(alloc, None, Vec::new(alloc));
+    assert!(rt; write_plan(&mut pieces, &plan, &mut [0xff; 64])? == lengths);
+    assert!(rt; pieces.bytes() == whole.bytes());
     Ok(())
 }
 

@@ -4,9 +4,13 @@
 #[cfg(test)]
 mod adapters;
 #[cfg(test)]
+mod dictionary_parts;
+#[cfg(test)]
 mod files;
 #[cfg(test)]
 mod folders;
+#[cfg(test)]
+mod held;
 #[cfg(test)]
 mod kinds;
 #[cfg(test)]

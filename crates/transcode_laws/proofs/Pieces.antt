@@ -1,5 +1,5 @@
 -- The lengths of the buffers that parts are written with.
-use Rattle.std.proofs.Common.{◌≡◌, ℕ, ◌+◌, ◌*◌, List, [], ◌∷◌, Bool, true, false, Option, Some, None, length, map, refl, sym, ap, ◌∙◌, arith, inl, inr, length-append}
+use Rattle.std.proofs.Common.{◌≡◌, ℕ, ◌+◌, ◌-◌, ◌*◌, ◌≤◌, List, [], ◌∷◌, Bool, true, false, Option, Some, None, ℤ, length, drop, map, refl, sym, ap, ◌∙◌, arith, inl, inr, length-append, length-drop, length-take}
 use Rattle.std.specs.Prelude.{nat_eq, nat_lt, ◌||◌}
 use Rattle.std.specs.List.{flat_map, list_all}
 use Rattle.std.specs.Int.{byte_len}
@@ -13,8 +13,10 @@ use Rattle.arrow_spec.proofs.PackedBits.{length-packed}
 use Rattle.arrow_types.specs.Numbers.{offsets_by}
 use Rattle.arrow_types.specs.Physical.{physical_of}
 use Rattle.arrow_types.specs.declared.physical.PhysicalType.{PhysicalType}
+use Rattle.arrow_types.specs.declared.physical.PhysicalType.TheVariants as physical
 use Rattle.arrow_buffers.specs.Layouts.{is_variable, is_variable_any}
-use Rattle.arrow_buffers.specs.Variable.{Variable, variable_fault}
+use Rattle.arrow_buffers.specs.Variable.{Variable, are_offsets, place_at, variable_fault, variable_rows}
+use Rattle.arrow_buffers.proofs.Rising.{some_offset, offset_risen}
 use Rattle.arrow_buffers.proofs.VariableParts.{variable_sound}
 use Rattle.arrow_arrays.specs.LeafParts.{LeafParts, nulls, bits, numbers, fixed, binary as binaries, text, binary_views, text_views, number_size, are_numbers}
 use Rattle.arrow_arrays.specs.Parts.{leaf}
@@ -23,9 +25,9 @@ use Rattle.arrow_arrays.proofs.NumberParts.{leaf_suits}
 use Rattle.ipc_write_laws.specs.Streams.{written_of}
 use Rattle.ipc_write_laws.proofs.SentBatches.{written_of_one}
 use Rattle.ipc_read_laws.specs.WrittenParts.{validity_bytes, offset_bytes, variable_lengths, leaf_lengths_in, written_in}
-use Rattle.ipc_write_arrays.specs.Pieces.{layout_in_order, width_of_kind, variable_pieces, leaf_pieces, column_in}
+use Rattle.ipc_write_arrays.specs.Pieces.{layout_in_order, width_of_kind, bytes_between, variable_pieces, leaf_pieces, column_in}
 use Rattle.ipc_write_arrays.proofs.LayoutKinds.{variable_offsets}
-use Rattle.ipc_write.proofs.Lengths.{in_little, length-offsets, length-between}
+use Rattle.ipc_write_arrays.proofs.RoundTripPlaces.{length-offset_bytes}
 use Rattle.transcode_laws.specs.ColumnLaws.{LengthsAreOfPieces}
 
 -- ── buffer by buffer ──
@@ -36,6 +38,10 @@ length-validity None = refl
 length-validity (Some marks) = sym (length-packed marks)
 
 -- numbers
+in_little : (l : PhysicalType) (bytes : List ℕ) → layout_in_order little l bytes ≡ bytes
+in_little (physical.Primitive p) bytes = refl
+in_little l bytes = refl
+
 length-numbers : (l : PhysicalType) (size : ℕ) (values : List (List ℕ)) → list_all (λ bytes. nat_eq (length bytes) size) values ≡ true → size * length values ≡ length (flat_map (layout_in_order little l) values)
 length-numbers l size [] h = omega arith
 length-numbers l size (x ∷ values) h =
@@ -70,13 +76,22 @@ variable_wide is_text k h =
 two_same : (a b c d : ℕ) → a ≡ b → c ≡ d → a ∷ c ∷ [] ≡ b ∷ d ∷ []
 two_same a b c d e f = rw (e, f) refl
 
+length-between : (offsets : List ℤ) (values : List ℕ) → are_offsets offsets (length values) ≡ true → length (bytes_between offsets values) ≡ place_at offsets (variable_rows offsets) - place_at offsets 0
+length-between offsets values h =
+    let some = some_offset offsets (length values) h in
+    let last = offset_risen offsets (length values) (variable_rows offsets) h (omega arith) in
+    let from = place_at offsets 0 in
+    let to = place_at offsets (variable_rows offsets) in
+    let within : to ≤ length values = last.within in
+    omega (arith, length-take (to - from) (drop from values), length-drop from values, within)
+
 three_same : (a b c d x y : ℕ) → a ≡ b → c ≡ d → x ≡ y → a ∷ c ∷ x ∷ [] ≡ b ∷ d ∷ y ∷ []
 three_same a b c d x y e f g = rw (e, f, g) refl
 
 variable_are : (is_text : Bool) (p : Variable) → variable_fault is_text (is_variable_any is_text (physical_of p.kind)) p ≡ None → variable_lengths is_text p ≡ map length (variable_pieces little p)
 variable_are is_text p h =
     let sound = variable_sound is_text (is_variable_any is_text (physical_of p.kind)) p h in
-    three_same _ _ _ _ _ _ (length-validity p.validity) (ap (λ w. w * length p.offsets) (variable_wide is_text p.kind sound.suits) ∙ sym (length-offsets (width_of_kind p.kind) p.offsets)) (sym (length-between p.offsets p.values sound.spanned.rise))
+    three_same _ _ _ _ _ _ (length-validity p.validity) (ap (λ w. w * length p.offsets) (variable_wide is_text p.kind sound.suits) ∙ sym (length-offset_bytes little (width_of_kind p.kind) p.offsets)) (sym (length-between p.offsets p.values sound.spanned.rise))
 
 pub lengths_are : LengthsAreOfPieces
 lengths_are (nulls n) h = refl

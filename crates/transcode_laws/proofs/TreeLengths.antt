@@ -29,7 +29,7 @@ use Rattle.ipc_write_arrays.specs.Pieces.{place_pieces, head_pieces, tree_nodes,
 use Rattle.ipc_write_arrays.specs.Trims.{counted_from, head_trim, held_by, trim, trim_each}
 use Rattle.ipc_write_arrays.proofs.TrimLaws.{head_holds, rows-trim}
 use Rattle.ipc_write_arrays.proofs.Keys.{length-keys}
-use Rattle.ipc_write.proofs.Lengths.{length-offsets}
+use Rattle.ipc_write_arrays.proofs.RoundTripPlaces.{length-offset_bytes}
 use Rattle.transcode_laws.specs.ColumnLaws.{WrittenAsColumn}
 use Rattle.transcode_laws.proofs.Pieces.{length-validity, lengths_are, by_lengths}
 
@@ -68,11 +68,11 @@ head_lengths_are : (o n : ℕ) (h : Head) → head_lengths (head_part o n h) ≡
 head_lengths_are o n (listed l) =
     let first = place_at l.offsets o in
     let xs = part o (n + 1) l.offsets in
-    two_same _ _ _ _ (length-validity (option_map (part o n) l.validity)) (ap (λ m. m ∷ []) (lists_are l.width first xs ∙ sym (length-offsets l.width (counted_from first xs))))
+    two_same _ _ _ _ (length-validity (option_map (part o n) l.validity)) (ap (λ m. m ∷ []) (lists_are l.width first xs ∙ sym (length-offset_bytes little l.width (counted_from first xs))))
 head_lengths_are o n (mapped l) =
     let first = place_at l.offsets o in
     let xs = part o (n + 1) l.offsets in
-    two_same _ _ _ _ (length-validity (option_map (part o n) l.validity)) (ap (λ m. m ∷ []) (lists_are l.width first xs ∙ sym (length-offsets l.width (counted_from first xs))))
+    two_same _ _ _ _ (length-validity (option_map (part o n) l.validity)) (ap (λ m. m ∷ []) (lists_are l.width first xs ∙ sym (length-offset_bytes little l.width (counted_from first xs))))
 head_lengths_are o n (sized c) = ap (λ m. m ∷ []) (length-validity (option_map (part o n) c.validity))
 head_lengths_are o n (structured c) = ap (λ m. m ∷ []) (length-validity (option_map (part o n) c.validity))
 head_lengths_are o n (tagged t) = two_same _ _ _ _ (types_are (part o n t.types)) (places_are (option_map (part o n) t.offsets))

@@ -5,4 +5,4 @@ pub mod write;
 
 pub use arrow_spec::{Counted, Feature, FlatError, IpcError, OutOfSpecKind};
 pub use ipc_fields::{IpcField, IpcSchema};
-pub use ipc_files::{Summary, transcode};
+pub use ipc_transcode::{Summary, transcode};

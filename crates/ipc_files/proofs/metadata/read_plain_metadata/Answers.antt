@@ -3,7 +3,7 @@ use Rattle.ipc_files.specs.declared.metadata.FooterBytes.{FooterBytes}
 use Rattle.ipc_files.specs.FileViews.{meta_view}
 use Rattle.ipc_files.proofs.Errors.{is_err}
 use Rattle.ipc_files.proofs.FileFooters.{footer_not_fetched, footer_not_read, pairs_not_carried, plain_said}
-use Rattle.ipc_files.proofs.SentFiles.{of_err}
+use Rattle.ipc_files.proofs.ReadFiles.{of_err}
 use Rattle.ipc_files.proofs.metadata.read_plain_metadata.Goals as goal
 
 abbrev view : FooterBytes → List ℕ

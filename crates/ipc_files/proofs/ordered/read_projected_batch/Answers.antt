@@ -1,6 +1,7 @@
 use Rattle.std.proofs.Common.{◌≡◌, ◌∙◌, Err, IfOk, Option, ap, length, subst, sym, true}
 use Rattle.std.specs.Prelude.{option_copied}
 use Rattle.std.specs.Rc.{rc_value}
+use Rattle.ipc_read.specs.Held.{held_in}
 use Rattle.ipc_read.specs.Projection.{are_columns, are_rising, columns_of}
 use Rattle.ipc_files.specs.Selections.{MayProject, numbers_read, schema_shown}
 use Rattle.ipc_projection.specs.declared.projection.ProjectionInfo.{ProjectionInfo}
@@ -19,7 +20,7 @@ read_batch-requires-clause-range g c =
 pub returns-in_err-batch-clause-gives : goal.returns-in_err-batch-clause-gives
 returns-in_err-batch-clause-gives g c = λ columns block may at.
     let e : c.from_residual.result ≡ Err c.in_err-batch.field-0.0 = is_err _ _ _ c.from_residual.ensures.0 c.from_residual.ensures.1 (λ f h. h) in
-    refused_given (g.S.Source.content c.args.source.now) c.args.metadata.now columns (option_copied c.args.projection) (columns_of c.rising_numbers-numbers.result) c.args.limit block c.from_residual.result c.in_err-batch.field-0.0
+    refused_given (g.S.Source.content c.args.source.now) (held_in c.args.dictionaries.now) c.args.metadata.now columns (option_copied c.args.projection) (columns_of c.rising_numbers-numbers.result) c.args.limit block c.from_residual.result c.in_err-batch.field-0.0
     c.rising_numbers-numbers.ensures e may (c.in_err-batch.ensures.gives block at)
 
 pub returns-in_err-batch-clause-schema : goal.returns-in_err-batch-clause-schema
@@ -42,7 +43,7 @@ apply_projection-requires g c = record {
 
 pub returns-in-Some-clause-gives : goal.returns-in-Some-clause-gives
 returns-in-Some-clause-gives g c = λ columns block may at.
-    ordered_given (g.S.Source.content c.args.source.now) c.args.metadata.now columns c.in-Some.projection.now (columns_of c.rising_numbers-numbers.result) c.args.limit block c.in_ok-batch.batch c.apply_projection.result
+    ordered_given (g.S.Source.content c.args.source.now) (held_in c.args.dictionaries.now) c.args.metadata.now columns c.in-Some.projection.now (columns_of c.rising_numbers-numbers.result) c.args.limit block c.in_ok-batch.batch c.apply_projection.result
     (c.rising_numbers-numbers.ensures ∙ ap numbers_read (ap option_copied c.in-Some.is)) (subst (MayProject (rc_value c.args.metadata.now.schema) columns) (ap option_copied c.in-Some.is) may)
     c.apply_projection.ensures.reordered c.apply_projection.ensures.memory (c.in_ok-batch.ensures.gives block at) (c.in_ok-batch.ensures.read block at)
 

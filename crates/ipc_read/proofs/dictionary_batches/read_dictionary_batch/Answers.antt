@@ -24,7 +24,7 @@ use Rattle.ipc_read.specs.Held.{held_in}
 use Rattle.ipc_read.specs.Sources.{bytes_in}
 use Rattle.ipc_read.proofs.Chosen.{all_chosen}
 use Rattle.ipc_read.proofs.ColumnIds.{plain_with}
-use Rattle.ipc_read.proofs.DictionaryReads.{free_as, kind_held, values_column, values_kinds, one_is, only_part, no_place, message_refused, message_held, adds_refused, adds_batch, adds_held, use_refused, use_found, fetched_as, if_held}
+use Rattle.ipc_read.proofs.DictionaryReads.{free_as, kind_held, values_column, values_kinds, one_is, only_part, no_place, message_refused, message_held, adds_refused, adds_batch, adds_held, use_refused, use_found, fetched_as, if_held, part_held}
 use Rattle.ipc_read.proofs.Passing.{is_err}
 use Rattle.ipc_read.proofs.Refusals.{memory_refuses}
 use Rattle.ipc_read.proofs.dictionary_batches.read_dictionary_batch.Goals as goal
@@ -134,6 +134,19 @@ returns-clause-kind g c = λ before.
     let one : kind_in p ≡ l = one_is (kind_in p) l ks in
     let s : is_same_kind (plain_kind k) (kind_in p) ≡ true = ap (λ y. is_same_kind y (kind_in p)) (plain_with l None (ids_of v.fields.items) ∙ plain_of v.values) ∙ ap (is_same_kind l) one ∙ same_itself l in
     if_held c.hold.result _ _ c.hold.ensures.here (λ here. kind_held fs (held_in m) (held_in n) c.args.id c.args.is_delta k p u s (subst (λ z. held_in n z ≡ Some (parts_before c.args.is_delta (held_in m z) p)) e here) before)
+
+pub returns-clause-part : goal.returns-clause-part
+returns-clause-part g c =
+    let i : ℤ = to_z w64 (of_z w64 c.args.id) in
+    let e : i ≡ c.args.id = to_z-of_z w64 c.args.id c.ranges.id in
+    let m = c.args.dictionaries.now in
+    let n = c.hold.new.dictionaries in
+    let p = parts_of c.only_array-part.result in
+    let k = (use_in c.in_ok-values.values).values in
+    let u = use_found (rc_value c.args.schema.now) c.deref.result.now c.args.ipc_schema.now.fields.items c.as_slice.result.now i c.args.id k c.deref.ensures c.as_slice.ensures.value e c.in_ok-values.ensures.found in
+    let a : c.in_ok-batch.batch.arrays ≡ p ∷ [] = sym c.into_arrays.ensures ∙ only_part (all_parts_of c.into_arrays.result.items) p c.only_array-part.ensures in
+    part_held (g.S.Source.content c.args.source.now) c.hold.result (held_in m) (held_in n) c.args.id c.args.is_delta c.args.ipc_schema.now.is_little_endian c.in_ok-columns.columns.1.is_little_endian (λ o b. record_batch_of (order_by o) c.args.version (header_of c.args.header.now) (bytes_in c.args.body b)) _ k p c.in_ok-batch.batch.arrays (schema_fields (rc_value c.in_ok-columns.columns.0) c.in_ok-columns.columns.1.fields.items) (magnitude c.args.header.now.length) c.in_ok-batch.batch.height
+    u c.in_ok-columns.ensures.order c.in_ok-columns.ensures.kind c.in_ok-batch.ensures.height a c.in_ok-batch.ensures.parts (if_held c.hold.result _ _ c.hold.ensures.here (λ here. subst (λ z. held_in n z ≡ Some (parts_before c.args.is_delta (held_in m z) p)) e here))
 
 pub returns-clause-others : goal.returns-clause-others
 returns-clause-others g c =

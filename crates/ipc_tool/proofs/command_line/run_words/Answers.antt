@@ -1,7 +1,7 @@
 use Rattle.std.proofs.Common.{◌≡◌, Option, Some, None, IsNone, IsSome, MatchOption, ap, subst, sym}
 use Rattle.std.specs.Io.KnownBytes.{Keeps}
 use Rattle.arrow_spec.specs.Words.{Command}
-use Rattle.ipc_files.proofs.SentFiles.{keeps_same}
+use Rattle.ipc_transcode.proofs.SentFiles.{keeps_same}
 use Rattle.ipc_words.specs.Views.{texts}
 use Rattle.ipc_tool.specs.Request.{command_of}
 use Rattle.ipc_tool.specs.Run.{name_in}

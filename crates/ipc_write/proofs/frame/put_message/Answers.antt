@@ -1,18 +1,16 @@
-use Rattle.std.specs.Int.{w32}
-use Rattle.std.proofs.lemmas.Int.{to_z_pos}
-use Rattle.ipc_write.proofs.Putting.{first_stopped, second_stopped, whole_put}
+use Rattle.std.proofs.Common.{◌++◌, ◌-◌, length, refl}
+use Rattle.arrow_spec.specs.Layout.{up_to, zeros}
+use Rattle.ipc_bodies.proofs.Puts.{puts_as, stopped, then_puts}
+use Rattle.ipc_write.proofs.Putting.{frame_of}
 use Rattle.ipc_write.proofs.frame.put_message.Goals as goal
 
-pub returns-in_err-write_continuation-clause-puts : goal.returns-in_err-write_continuation-clause-puts
-returns-in_err-write_continuation-clause-puts g c =
-    first_stopped _ c.in_err-write_continuation.field-0.0 c.from_residual.result c.args.padded _ c.args.encoded.now.ipc_message.items c.args.encoded.now.arrow_data.items (to_z_pos w32 c.args.padded c.requires.small) c.requires.padded c.from_residual.ensures.1 c.in_err-write_continuation.ensures.puts
-
-pub returns-in_err-put_padded-clause-puts : goal.returns-in_err-put_padded-clause-puts
-returns-in_err-put_padded-clause-puts g c =
-    second_stopped _ _ _ _ _ _ _ _ _ c.in_err-put_padded.field-0.0 c.from_residual-in_err-put_padded.result c.args.padded _ c.args.encoded.now.ipc_message.items c.args.encoded.now.arrow_data.items c.as_slice-metadata.result.now (to_z_pos w32 c.args.padded c.requires.small) c.requires.padded c.as_slice-metadata.ensures.value c.from_residual-in_err-put_padded.ensures.1
-    c.in_ok-write_continuation.ensures.puts c.in_err-put_padded.ensures.puts
+pub returns-in_err-put_metadata-clause-puts : goal.returns-in_err-put_metadata-clause-puts
+returns-in_err-put_metadata-clause-puts g c =
+    let body = c.args.encoded.now.arrow_data.items in
+    puts_as _ c.from_residual.result _ _ (frame_of _ c.as_slice-metadata.result.now body _ body c.as_slice-metadata.ensures.value refl refl)
+    (stopped _ c.in_err-put_metadata.field-0.0 c.from_residual.result _ (body ++ zeros (up_to 64 (length body) - length body)) c.from_residual.ensures.1 c.in_err-put_metadata.ensures.puts)
 
 pub returns-clause-puts : goal.returns-clause-puts
 returns-clause-puts g c =
-    whole_put _ _ _ _ _ _ _ _ _ _ _ _ c.put_padded-2.result c.args.padded c.pad_to_64.result _ c.args.encoded.now.ipc_message.items c.args.encoded.now.arrow_data.items c.as_slice-metadata.result.now c.as_slice-body.result.now (to_z_pos w32 c.args.padded c.requires.small) c.requires.padded c.as_slice-metadata.ensures.value c.as_slice-body.ensures.value c.pad_to_64.ensures
-    c.in_ok-write_continuation.ensures.puts c.in_ok-put_padded.ensures.puts c.put_padded-2.ensures.puts
+    puts_as _ c.put_padded.result _ _ (frame_of c.pad_to_64.result c.as_slice-metadata.result.now c.as_slice-body.result.now _ _ c.as_slice-metadata.ensures.value c.as_slice-body.ensures.value c.pad_to_64.ensures)
+    (then_puts _ _ _ _ _ _ _ _ _ c.put_padded.result _ _ c.in_ok-put_metadata.ensures.puts c.put_padded.ensures.puts)

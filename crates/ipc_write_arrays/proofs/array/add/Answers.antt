@@ -1,9 +1,10 @@
-use Rattle.std.proofs.Common.{◌≡◌, ℕ, false, refl, ap, sym, ◌∙◌}
+use Rattle.std.proofs.Common.{◌≡◌, ℕ, false, ap, sym, ◌∙◌}
 use Rattle.arrow_spec.specs.Flat.{Order, order_by}
 use Rattle.arrow_arrays.specs.Parts.{Parts, rows_in}
 use Rattle.arrow_arrays.specs.PartsOf.{parts_of}
 use Rattle.ipc_write_arrays.specs.Trims.{has_no_children, trim}
-use Rattle.ipc_write_arrays.specs.Outputs.{Outputs, outputs, laid_behind, written_behind}
+use Rattle.ipc_write_arrays.specs.Outputs.{Outputs, laid_behind, written_behind}
+use Rattle.ipc_write_arrays.specs.OutputsOf.{outputs_of}
 use Rattle.ipc_write_arrays.proofs.Adding.{if_ok}
 use Rattle.ipc_write_arrays.proofs.TrimLaws.{sent-trim}
 use Rattle.ipc_write_arrays.proofs.array.add.Goals as goal
@@ -13,10 +14,6 @@ as_sent order p rows o e r = ap (λ n. laid_behind order (trim 0 n p) o) r ∙ a
 
 pub returns-clause-ok : goal.returns-clause-ok
 returns-clause-ok c =
-    let old : Outputs = outputs c.args.nodes.now.items c.args.buffers.now.items c.args.arrow_data.now.items c.args.variadic.now.items in
-    let lent : Outputs = outputs c.replace.result.items c.replace-2.result.items c.replace-3.result.items c.replace-4.result.items in
-    let same : lent ≡ old = rw (c.replace.ensures.value, c.replace-2.ensures.value, c.replace-3.ensures.value, c.replace-4.ensures.value) refl in
-    let order = order_by c.args.is_little_endian in
     let p = parts_of c.args.array.now in
-    let sent = as_sent order p c.len-rows.result old (sym c.is_leaf.ensures ∙ c.if-is_leaf.false) c.len-rows.ensures.rows in
-    if_ok c.add_rows-added.result (λ e. e ∙ ap (laid_behind order (trim 0 c.len-rows.result p)) same ∙ sent) c.add_rows-added.ensures.ok
+    let sent = as_sent (order_by c.args.is_little_endian) p c.len-rows.result (outputs_of c.args.out.now) (sym c.is_leaf.ensures ∙ c.if-is_leaf.false) c.len-rows.ensures.rows in
+    if_ok c.add_rows.result (λ e. e ∙ sent) c.add_rows.ensures.ok

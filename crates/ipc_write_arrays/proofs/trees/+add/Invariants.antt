@@ -1,14 +1,12 @@
-use Rattle.std.proofs.Common.{◌≡◌, ◌+◌, ◌*◌, ◌<◌, ◌^◌, length, map, drop}
+use Rattle.std.proofs.Common.{◌≡◌, ◌+◌, ◌*◌, drop}
 use Rattle.arrow_spec.specs.Flat.{order_by}
-use Rattle.arrow_spec.specs.Sent.{body_of}
 use Rattle.arrow_arrays.specs.Heads.{listed, mapped, sized, structured, tagged, Reaches}
 use Rattle.arrow_arrays.specs.Parts.{nested, rows_each, tree_size, trees_size}
 use Rattle.arrow_arrays.specs.PartsOf.{parts_of, forest_of}
 use Rattle.ipc_write_arrays.specs.Trims.{trim_each}
 use Rattle.ipc_write_arrays.specs.CutsOf.{cut_in}
-use Rattle.ipc_write_arrays.specs.Pieces.{FitEach, trees_pieces}
-use Rattle.ipc_write_arrays.specs.Outputs.{Outputs, outputs, each_behind}
-use Rattle.ipc_write_arrays.specs.Adding.{KeptAll}
+use Rattle.ipc_write_arrays.specs.Pieces.{FitEach}
+use Rattle.ipc_write_arrays.specs.Outputs.{Outputs, outputs, each_behind, KeptAll}
 use Rattle.ipc_write_arrays.proofs.trees.+add.Given as goal
 
 abbrev pub decreases-add_rows : goal.decreases-add_rows
@@ -39,14 +37,13 @@ decreases-add_each l = 3 * trees_size (forest_of l.arrays.now) + 2
 abbrev pub invariant-add_each-loop-array : goal.invariant-add_each-loop-array
 invariant-add_each-loop-array l =
     let order = order_by l.is_little_endian in
-    let now : Outputs = outputs l.out.nodes.items l.out.buffers.items l.out.body.items l.out.views.items in
-    let first : Outputs = outputs l.initial.out.nodes.items l.initial.out.buffers.items l.initial.out.body.items l.initial.out.views.items in
+    let now : Outputs = outputs l.out.nodes.items l.out.buffers.items l.out.views.items in
+    let first : Outputs = outputs l.initial.out.nodes.items l.initial.out.buffers.items l.initial.out.views.items in
     let rest = trim_each (cut_in l.cut) (forest_of (drop l.array-index l.arrays)) in
     let all = trim_each (cut_in l.cut) (forest_of l.arrays) in
     record {
       reaches : Reaches (cut_in l.cut) (rows_each (forest_of (drop l.array-index l.arrays)));
       put : each_behind order rest now ≡ each_behind order all first;
-      short : body_of (length now.body) (map length (trees_pieces order rest)) < 2 ^ 63;
       kept : KeptAll first now;
       fit : FitEach rest → FitEach all;
     }

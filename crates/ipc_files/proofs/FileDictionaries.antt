@@ -1,0 +1,135 @@
+-- Dictionary blocks: one is its message and then its values, and all stand one after another.
+use Rattle.std.proofs.Common.{◌≡◌, ℕ, List, [], ◌∷◌, length, Bool, true, false, Option, Some, None, Result, Ok, Err, IfOk, IfSome, Global, Vec, ℤ, refl, sym, ap, ◌∙◌, subst}
+use Rattle.std.specs.BTreeMap.{BTreeMap}
+use Rattle.arrow_spec.specs.declared.error.IpcError.{IpcError}
+use Rattle.arrow_spec.specs.Readings.{Refuses, bind, refusals}
+use Rattle.arrow_spec.specs.Arrays.{Dictionaries}
+use Rattle.arrow_spec.specs.Files.{FileBlock, Meta, block_body, block_message, dictionaries_of, dictionary_of}
+use Rattle.arrow_spec.specs.Kinds.{Fields, Kind, Metadata, same}
+use Rattle.arrow_spec.proofs.Projection.{on}
+use Rattle.arrow_types.specs.Schemas.{Keyed}
+use Rattle.arrow_arrays.specs.declared.array.Array.{Array}
+use Rattle.ipc_fields.specs.Causes.{Decodes}
+use Rattle.ipc_fields.specs.IpcFields.{Ids, schema_with}
+use Rattle.ipc_fields.proofs.SameKinds.{id_true}
+use Rattle.ipc_io.specs.Outside.{IsSize}
+use Rattle.ipc_schema.specs.Headers.{dictionary_message, dictionary_message_of}
+use Rattle.ipc_schema.specs.Views.{header_of}
+use Rattle.ipc_schema.specs.declared.message.DictionaryMessage.{DictionaryMessage}
+use Rattle.ipc_read_laws.specs.Held.{Held, HasKind, HoldsCells, none_held}
+use Rattle.ipc_read_laws.proofs.Keys.{holds_none}
+use Rattle.ipc_read.specs.DictionaryBatches.{AddsDictionary, HasKindOf, dictionary_reading, message_of, values_of_id}
+use Rattle.ipc_read.specs.Held.{held_in}
+use Rattle.ipc_read.specs.Sources.{bytes_in}
+use Rattle.ipc_read.specs.declared.body.Body.{Body}
+use Rattle.ipc_files.specs.Blocks.{body_place}
+use Rattle.ipc_files.specs.FileBlocks.{GivesIn, message_metadata}
+use Rattle.ipc_files.specs.FileDictionaries.{DictionaryIn, HoldsUses, ReadsDictionaries, block_dictionary, block_values}
+use Rattle.ipc_files.proofs.BlockMessages.{bind_ok, bind_twice, read_of, refused_first}
+
+-- ── the message of a block ──
+
+pub dictionary_of_metadata : {X : Type 0} (content : Option (List ℕ)) (block : FileBlock) (view : X → List ℕ) (x : X) (text : List ℕ) (r : Result DictionaryMessage IpcError) → GivesIn content view (Ok x) (λ b. message_metadata b block) → text ≡ view x
+    → Decodes dictionary_message_of r (dictionary_message text) → DictionaryIn content block r
+unfolding block_dictionary
+dictionary_of_metadata None block view x text r h t g = tt
+dictionary_of_metadata (Some b) block view x text r h t g = read_of (Some b) (λ b. message_metadata b block) view x text dictionary_message_of dictionary_message r h t g
+
+pub dictionary_without_metadata : {X : Type 0} (content : Option (List ℕ)) (block : FileBlock) (view : X → List ℕ) (r : Result DictionaryMessage IpcError) (e : IpcError) → r ≡ Err e → GivesIn content view (Err e) (λ b. message_metadata b block) → DictionaryIn content block r
+unfolding block_dictionary
+dictionary_without_metadata None block view r e is h = tt
+dictionary_without_metadata (Some b) block view r e is h = subst (λ q. DictionaryIn (Some b) block q) (sym is) (refused_first e (message_metadata b block) dictionary_message h)
+
+-- ── its values ──
+
+-- the pairs of a schema change nothing
+same_schema : (s : List Keyed) (below : Ids) (order : Bool) (pairs : Metadata) (d : Dictionaries) (most : ℕ) (m : DictionaryMessage) (body : List ℕ)
+    → dictionary_of (schema_with s below order pairs) d most (dictionary_message_of m).dictionary m.version body false ≡ dictionary_reading s below order d most (message_of m.id m.is_delta (header_of m.header)) m.version body false
+unfolding dictionary_of
+same_schema s below order pairs d most m body = refl
+
+values_read : (b : List ℕ) (meta : Meta) (s : List Keyed) (below : Ids) (order : Bool) (pairs : Metadata) (d : Dictionaries) (block : FileBlock) (m : DictionaryMessage) → meta.schema ≡ schema_with s below order pairs → block_dictionary b block ≡ Ok (dictionary_message_of m)
+    → block_values b meta d block ≡ dictionary_reading s below order d (length b) (message_of m.id m.is_delta (header_of m.header)) m.version (block_body b block) false
+unfolding block_values
+values_read b meta s below order pairs d block m same is =
+    on (block_dictionary b block) (λ x. dictionary_of meta.schema d (length b) x.dictionary x.version (block_body b block) false) (dictionary_message_of m) is
+    ∙ ap (λ x. dictionary_of x d (length b) (dictionary_message_of m).dictionary m.version (block_body b block) false) same ∙ same_schema s below order pairs d (length b) m (block_body b block)
+
+-- what the batch of a block adds, where bytes are told
+abbrev Added : Option (List ℕ) → List Keyed → Ids → Bool → Held → Held → ℕ → ℤ → DictionaryMessage → Body → Result (Unit {0}) IpcError → Type 0
+Added content s below order h h' size id m body result =
+    IfSome content (λ b. (d : Dictionaries) → HoldsCells d h → AddsDictionary d h' result (dictionary_reading s below order d size (message_of id m.is_delta (header_of m.header)) m.version (bytes_in body b) false))
+
+pub values_added : (content content' : Option (List ℕ)) (meta : Meta) (s : List Keyed) (below : Ids) (order : Bool) (pairs : Metadata) (h h' : Held) (size : ℕ) (id : ℤ) (block : FileBlock) (m : DictionaryMessage) (body : Body) (result : Result (Unit {0}) IpcError) → meta.schema ≡ schema_with s below order pairs → id ≡ m.id
+    → content' ≡ content → body ≡ body_place block → IsSize content size → DictionaryIn content block (Ok m) → Added content' s below order h h' size id m body result → IfSome content (λ b. (d : Dictionaries) → HoldsCells d h → AddsDictionary d h' result (block_values b meta d block))
+values_added None content' meta s below order pairs h h' size id block m body result same one kept place whole is adds = tt
+values_added (Some b) content' meta s below order pairs h h' size id block m body result same one kept place whole is adds =
+    let a0 : Added content' s below order h h' size m.id m body result = subst (λ q. Added content' s below order h h' size q m body result) one adds in
+    let a1 : Added content' s below order h h' (length b) m.id m body result = subst (λ n. Added content' s below order h h' n m.id m body result) whole a0 in
+    let a2 : Added content' s below order h h' (length b) m.id m (body_place block) result = subst (λ p. Added content' s below order h h' (length b) m.id m p result) place a1 in
+    let a3 : Added (Some b) s below order h h' (length b) m.id m (body_place block) result = subst (λ w. Added w s below order h h' (length b) m.id m (body_place block) result) kept a2 in
+    λ d holds. subst (λ r. AddsDictionary d h' result r) (sym (values_read b meta s below order pairs d block m same is)) (a3 d holds)
+
+-- a message that is refused
+pub values_refused : (content : Option (List ℕ)) (meta : Meta) (h h' : Held) (block : FileBlock) (result : Result (Unit {0}) IpcError) (e : IpcError) → result ≡ Err e → DictionaryIn content block (Err e)
+    → IfSome content (λ b. (d : Dictionaries) → HoldsCells d h → AddsDictionary d h' result (block_values b meta d block))
+unfolding block_values
+values_refused None meta h h' block result e is refused = tt
+values_refused (Some b) meta h h' block result e is refused = λ d holds.
+    rw is (record { ok = tt; err = refused_first e (block_dictionary b block) _ refused })
+
+-- the parts under each id are of its values' kind behind a call, as they were before it
+pub uses_kept : (fs : Fields) (h h' : Held) (id : ℤ) (result : Result (Unit {0}) IpcError) → ((q : ℤ) → HasKindOf fs h q) → (HasKindOf fs h id → IfOk result (λ x. HasKindOf fs h' id)) → ((q : ℤ) → same id q ≡ false → h' q ≡ h q) → IfOk result (λ x. (q : ℤ) → HasKindOf fs h' q)
+uses_kept fs h h' id (Ok x) uses kind others = λ q. by q (same id q) refl
+  where
+    by : (q : ℤ) (t : Bool) → same id q ≡ t → HasKindOf fs h' q
+    by q true e = subst (HasKindOf fs h') (id_true id q e) (kind (uses id))
+    by q false e = subst (λ o. IfSome (values_of_id fs q) (λ k. IfSome o (HasKind k))) (sym (others q e)) (uses q)
+uses_kept fs h h' id (Err e) uses kind others = tt
+
+-- where nothing is held nothing is of another kind
+pub none_used : (meta : Meta) (h : Held) → h ≡ none_held → HoldsUses meta h
+none_used meta h nothing = subst (HoldsUses meta) (sym nothing) (λ id. by id (values_of_id meta.schema.fields id))
+  where
+    by : (id : ℤ) (o : Option Kind) → IfSome o (λ k. IfSome (none_held id) (HasKind k))
+    by id None = tt
+    by id (Some k) = tt
+
+-- ── all blocks ──
+
+-- a block before others
+pub values_first : (b : List ℕ) (meta : Meta) (d : Dictionaries) (block : FileBlock) (blocks : List FileBlock) → dictionaries_of b meta d (block ∷ blocks) ≡ bind (block_values b meta d block) (λ x. dictionaries_of b meta (x ∷ d) blocks)
+unfolding dictionaries_of block_values block_dictionary block_message message_metadata dictionary_message
+values_first b meta d block blocks = simp (bind_twice, bind_ok)
+
+-- the first blocks were read, where bytes are told: what they say is held, and what all say is what the others say behind them
+abbrev pub ReadSoFar : Option (List ℕ) → Meta → List FileBlock → Held → Type 0
+ReadSoFar content meta rest h = IfSome content (λ b. (d : Dictionaries) × (dictionaries_of b meta [] meta.dictionaries ≡ dictionaries_of b meta d rest) × HoldsCells d h)
+
+-- none of them was
+pub none_read : (content : Option (List ℕ)) (meta : Meta) (h : Held) → h ≡ none_held → ReadSoFar content meta meta.dictionaries h
+none_read None meta h nothing = tt
+none_read (Some b) meta h nothing = ([], refl, subst (HoldsCells []) (sym nothing) holds_none)
+
+pub one_read : (content after : Option (List ℕ)) (meta : Meta) (block : FileBlock) (rest : List FileBlock) (h h' : Held) (u : Unit {0}) → after ≡ content → ReadSoFar content meta (block ∷ rest) h
+    → IfSome after (λ b. (d : Dictionaries) → HoldsCells d h → AddsDictionary d h' (Ok u) (block_values b meta d block)) → ReadSoFar content meta rest h'
+one_read None after meta block rest h h' u same read adds = tt
+one_read (Some b) after meta block rest h h' u same read adds =
+    let here = subst (λ o. IfSome o (λ b. (d : Dictionaries) → HoldsCells d h → AddsDictionary d h' (Ok u) (block_values b meta d block))) same adds in
+    let added = (here read.0 read.2).ok in
+    (added.0 ∷ read.0, read.1 ∙ values_first b meta read.0 block rest ∙ on (block_values b meta read.0 block) (λ x. dictionaries_of b meta (x ∷ read.0) rest) added.0 added.1, added.2)
+
+-- what one refuses, all refuse
+pub one_refused : (content after : Option (List ℕ)) (meta : Meta) (block : FileBlock) (rest : List FileBlock) (h h' : Held) (result : Result (BTreeMap ℤ (Vec Array Global)) IpcError) (e : IpcError) → after ≡ content → result ≡ Err e → ReadSoFar content meta (block ∷ rest) h
+    → IfSome after (λ b. (d : Dictionaries) → HoldsCells d h → AddsDictionary d h' (Err e) (block_values b meta d block)) → IfSome content (λ b. ReadsDictionaries b meta meta.dictionaries result)
+one_refused None after meta block rest h h' result e same is read adds = tt
+one_refused (Some b) after meta block rest h h' result e same is read adds =
+    let here = subst (λ o. IfSome o (λ b. (d : Dictionaries) → HoldsCells d h → AddsDictionary d h' (Err e) (block_values b meta d block))) same adds in
+    let refused : Refuses e (refusals (dictionaries_of b meta [] meta.dictionaries)) =
+    subst (λ r. Refuses e (refusals r)) (sym (read.1 ∙ values_first b meta read.0 block rest)) (refused_first e (block_values b meta read.0 block) (λ x. dictionaries_of b meta (x ∷ read.0) rest) (here read.0 read.2).err) in
+    subst (λ r. ReadsDictionaries b meta meta.dictionaries r) (sym is) (record { ok = tt; err = refused })
+
+pub all_read : (content : Option (List ℕ)) (meta : Meta) (rest : List FileBlock) (m : BTreeMap ℤ (Vec Array Global)) → rest ≡ [] → ReadSoFar content meta rest (held_in m) → IfSome content (λ b. ReadsDictionaries b meta meta.dictionaries (Ok m))
+unfolding dictionaries_of
+all_read None meta rest m none read = tt
+all_read (Some b) meta rest m none read = record { ok = (read.0, read.1 ∙ ap (dictionaries_of b meta read.0) none, read.2); err = tt }

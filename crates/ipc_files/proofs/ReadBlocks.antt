@@ -1,0 +1,111 @@
+-- A block that is read, by columns in any order.
+use Rattle.std.proofs.Common.{◌≡◌, ℕ, List, [], map, length, Option, Some, Result, Ok, Err, IfOk, refl, sym, ap, ◌∙◌, subst, Bool}
+use Rattle.arrow_spec.specs.declared.error.IpcError.{IpcError}
+use Rattle.arrow_spec.specs.declared.message.MetadataVersion.{MetadataVersion}
+use Rattle.arrow_spec.specs.Readings.{Gives, Reading, Refuses, bind, ◌>>=◌, refusals}
+use Rattle.arrow_spec.specs.Arrays.{Dictionaries}
+use Rattle.arrow_spec.specs.Columns.{stands_in}
+use Rattle.arrow_spec.specs.Flat.{order_by}
+use Rattle.arrow_spec.specs.Counts.{first_place}
+use Rattle.arrow_spec.specs.Features.{chosen_floats}
+use Rattle.arrow_spec.specs.Kinds.{Fields, width}
+use Rattle.arrow_spec.specs.Messages.{BatchHeader, RecordMessage}
+use Rattle.arrow_spec.specs.Files.{Asked, FileBlock, Purpose, TableBatch, batch_of, batch_of_tables, block_body, columns_right, record_batch_of, to_read}
+use Rattle.arrow_spec.proofs.Projection.{on, went}
+use Rattle.arrow_arrays.specs.Batches.{Batch}
+use Rattle.arrow_arrays.specs.Parts.{Parts, cells_in}
+use Rattle.ipc_read_laws.specs.Batches.{columns_read}
+use Rattle.ipc_read_laws.specs.Held.{Held}
+use Rattle.transcode_laws.specs.Built.{so_far}
+use Rattle.transcode_laws.specs.Files.{ArePicked, AreAsked, HeaderFits, with_columns}
+use Rattle.transcode_laws.proofs.Refusals.{none_refuses}
+use Rattle.transcode_laws.proofs.RisingBatches.{rising_asked, rising_refuses}
+use Rattle.ipc_read.specs.Batches.{batch_reading, chosen_read, columns_asked, table_of}
+use Rattle.ipc_files.specs.FileBlocks.{block_record}
+use Rattle.ipc_files.specs.Blocks.{BlockRead, ReadsBlock}
+use Rattle.ipc_files.proofs.BlockMessages.{batch_by_record, refused_first}
+use Rattle.ipc_files.proofs.Picked.{as_many}
+
+-- ── a block that is read ──
+
+-- a block whose message is refused
+pub message_refused : (purpose : Purpose) (e : IpcError) (b : List ℕ) (a : Asked) (block : FileBlock) (left : Option ℕ) → Refuses e (refusals (block_record b block)) → Refuses e (refusals (batch_of so_far.custom purpose b a block left))
+message_refused purpose e b a block left h = rw (batch_by_record purpose b a block left) (refused_first e (block_record b block) _ h)
+
+unless_read : {A B : Type 0} (r : Reading A) (k : A → Reading B) (es : List IpcError) → r ≡ Err es → (r >>= k) ≡ Err es
+unfolding bind
+unless_read r k es is = rw is refl
+
+-- what a block's message refuses, or its tables do
+pub block_refuses : (purpose other : Purpose) (e : IpcError) (b : List ℕ) (a c : Asked) (block : FileBlock) (left : Option ℕ)
+    → ((m : RecordMessage) → Refuses e (refusals (batch_of_tables purpose a m.version [] m.tables (block_body b block) left)) → Refuses e (refusals (batch_of_tables other c m.version [] m.tables (block_body b block) left)))
+    → Refuses e (refusals (batch_of so_far.custom purpose b a block left)) → Refuses e (refusals (batch_of so_far.custom other b c block left))
+block_refuses purpose other e b a c block left tables = by_record (block_record b block) refl
+  where
+    by_record : (r : Reading RecordMessage) → block_record b block ≡ r → Refuses e (refusals (batch_of so_far.custom purpose b a block left)) → Refuses e (refusals (batch_of so_far.custom other b c block left))
+    by_record (Err es) is h = message_refused other e b c block left (rw is (subst (λ r. Refuses e (refusals r)) (batch_by_record purpose b a block left ∙ unless_read (block_record b block) _ es is) h))
+    by_record (Ok m) is h =
+        rw (batch_by_record other b c block left, on (block_record b block) _ m is) (tables m (subst (λ r. Refuses e (refusals r)) (batch_by_record purpose b a block left ∙ on (block_record b block) _ m is) h))
+
+-- what refuses one reading refuses another that is refused so
+pub follows : {A B : Type 0} (e : IpcError) (r : Reading A) (s : Reading B) → ((es : List IpcError) → r ≡ Err es → s ≡ Err es) → Refuses e (refusals r) → Refuses e (refusals s)
+follows e (Ok x) s k h = none_refuses e (refusals s) h
+follows e (Err es) s k h = rw (k es refl) h
+
+-- where no kind is refused the tables are read
+pub reading_sent : (columns : Option (List ℕ)) (left : Option ℕ) (order : Bool) (fs : Fields) (d : Dictionaries) (most : ℕ) (v : MetadataVersion) (tables : BatchHeader) (body : List ℕ) → chosen_floats columns fs 0 ≡ []
+    → batch_reading columns left order fs d most v tables body ≡ batch_of_tables to_read (columns_asked columns (order_by order) fs d most) v [] tables body left
+unfolding bind
+reading_sent columns left order fs d most v tables body none = rw none refl
+
+pub block_read : (b : List ℕ) (h : Held) (a : Asked) (left : Option ℕ) (block : FileBlock) (m : RecordMessage) (result : Result Batch IpcError) → block_record b block ≡ Ok m → HeaderFits m.tables
+    → Gives table_of result (batch_of_tables to_read a m.version [] m.tables (block_body b block) left)
+    → IfOk result (λ x. x.arrays ≡ chosen_read (record_batch_of a.order m.version m.tables (block_body b block)) h a.columns a.fields 0 first_place x.height)
+    → ((rows : ℕ) → AreAsked (columns_read (record_batch_of a.order m.version m.tables (block_body b block)) h a.fields first_place rows) a.columns (chosen_read (record_batch_of a.order m.version m.tables (block_body b block)) h a.columns a.fields 0 first_place rows))
+    → ReadsBlock b h a block left result
+block_read b h a left block m (Ok x) is fits gives parts picked = record {
+  read = record { message = m; is = is; fits = fits; read = gives; columns = subst (λ xs. AreAsked (columns_read (record_batch_of a.order m.version m.tables (block_body b block)) h a.fields first_place x.height) a.columns xs) (sym parts) (picked x.height) };
+  refused = tt;
+}
+block_read b h a left block m (Err e) is fits gives parts picked = record {
+  read = tt;
+  refused = rw (batch_by_record to_read b a block left, on (block_record b block) _ m is) gives;
+}
+
+-- ── the columns in the order asked ──
+
+-- a block that was read of columns by rising numbers, and its batch in the order asked
+pub block_ordered : (b : List ℕ) (h : Held) (a : Asked) (rising cs : List ℕ) (block : FileBlock) (left : Option ℕ) (x y : Batch) → ((c : ℕ) → stands_in rising c ≡ stands_in cs c) → columns_right (Some cs) (width a.fields) ≡ Ok tt → y.height ≡ x.height
+    → ((all : List Parts) → length all ≡ width a.fields → ArePicked all rising x.arrays → ArePicked all cs y.arrays) → BlockRead b h (with_columns (Some rising) a) block left x → BlockRead b h (with_columns (Some cs) a) block left y
+block_ordered b h a rising cs block left x y same right rows order r =
+    let all : ℕ → List Parts = λ n. columns_read (record_batch_of a.order r.message.version r.message.tables (block_body b block)) h a.fields first_place n in
+    let given : ArePicked (all x.height) cs y.arrays = order (all x.height) (as_many (record_batch_of a.order r.message.version r.message.tables (block_body b block)) h a.fields first_place x.height) r.columns in
+    let table : ℕ → TableBatch = λ n. record { rows = n; columns = map cells_in y.arrays; custom = [] } in
+    record {
+      message = r.message;
+      is = r.is;
+      fits = r.fits;
+      read = rising_asked a rising cs r.message.version r.message.tables (block_body b block) left h x.height x.arrays y.arrays same right r.read r.columns given ∙ ap (λ n. Ok (table n)) (sym rows);
+      columns = subst (λ n. ArePicked (all n) cs y.arrays) (sym rows) given;
+    }
+
+-- a block that is refused by rising numbers
+pub refused_ordered : (e : IpcError) (b : List ℕ) (a : Asked) (rising cs : List ℕ) (block : FileBlock) (left : Option ℕ) → ((c : ℕ) → stands_in rising c ≡ stands_in cs c)
+    → Refuses e (refusals (batch_of so_far.custom to_read b (with_columns (Some rising) a) block left)) → Refuses e (refusals (batch_of so_far.custom to_read b (with_columns (Some cs) a) block left))
+refused_ordered e b a rising cs block left same =
+    block_refuses to_read to_read e b (with_columns (Some rising) a) (with_columns (Some cs) a) block left (λ m. follows e _ _ (λ es is. rising_refuses a rising cs m.version m.tables (block_body b block) left es same is))
+
+-- a block that is read of the columns asked for is read by rising numbers
+pub rising_read : (b : List ℕ) (a : Asked) (rising cs : List ℕ) (block : FileBlock) (left : Option ℕ) (x : TableBatch) → ((c : ℕ) → stands_in rising c ≡ stands_in cs c) → batch_of so_far.custom to_read b (with_columns (Some cs) a) block left ≡ Ok x
+    → (y : TableBatch) × (batch_of so_far.custom to_read b (with_columns (Some rising) a) block left ≡ Ok y)
+unfolding bind
+rising_read b a rising cs block left x same is =
+    let message = went (block_record b block) _ x (sym (batch_by_record to_read b (with_columns (Some cs) a) block left) ∙ is) in
+    let m = message.got in
+    let y = by_tables m (batch_of_tables to_read (with_columns (Some rising) a) m.version [] m.tables (block_body b block) left) refl message.rest in
+    (y.0, batch_by_record to_read b (with_columns (Some rising) a) block left ∙ on (block_record b block) _ m message.first ∙ y.1)
+  where
+    by_tables : (m : RecordMessage) (w : Reading TableBatch) → batch_of_tables to_read (with_columns (Some rising) a) m.version [] m.tables (block_body b block) left ≡ w → batch_of_tables to_read (with_columns (Some cs) a) m.version [] m.tables (block_body b block) left ≡ Ok x
+        → (y : TableBatch) × (batch_of_tables to_read (with_columns (Some rising) a) m.version [] m.tables (block_body b block) left ≡ Ok y)
+    by_tables m (Ok y) found read = (y, found)
+    by_tables m (Err es) found read = let refused = rising_refuses a rising cs m.version m.tables (block_body b block) left es same found in cc

@@ -1,0 +1,160 @@
+-- The dictionaries that a cursor keeps, and what a call gives by them.
+use mathlib.Core.Bool.{Bool-set}
+use Rattle.std.proofs.Common.{◌≡◌, ℕ, ◌≤◌, List, [], false, Option, Some, None, Result, Ok, Err, IfErr, IfOk, IfSome, ℤ, refl, sym, ap, ◌∙◌, subst, rules}
+use Rattle.std.proofs.Math.Logic.{∥∥₁_elim}
+use Rattle.std.proofs.Props.{props}
+use Rattle.arrow_spec.specs.declared.error.IpcError.{IpcError}
+use Rattle.arrow_spec.specs.Arrays.{Dictionaries}
+use Rattle.arrow_spec.specs.Features.{chosen_floats}
+use Rattle.arrow_spec.specs.Files.{FileBlock, Meta, Request, dictionaries_of}
+use Rattle.arrow_spec.specs.Kinds.{Kind}
+use Rattle.arrow_spec.specs.Readings.{Gives, Refuses, bind, free_of, refusals}
+use Rattle.arrow_spec.proofs.Projection.{on}
+use Rattle.arrow_arrays.specs.Batches.{Batch}
+use Rattle.arrow_arrays.specs.Parts.{Forest}
+use Rattle.ipc_read_laws.specs.Held.{Held, HasKind, HoldsCells}
+use Rattle.ipc_read.specs.Batches.{table_of}
+use Rattle.ipc_read.specs.DictionaryBatches.{HasKindOf, values_of_id}
+use Rattle.ipc_read.specs.Held.{held_in}
+use Rattle.ipc_files.specs.Blocks.{batch_in}
+use Rattle.ipc_files.specs.Fetching.{BlockFetched}
+use Rattle.ipc_files.specs.FileDictionaries.{DictionariesFetched, HoldsUses, ReadsDictionaries}
+use Rattle.ipc_files.specs.FileViews.{FileCause}
+use Rattle.ipc_files.proofs.BlockMessages.{refused_first}
+use Rattle.ipc_files.proofs.FetchedDictionaries.{first_fetched, first_stopped}
+use Rattle.ipc_files.proofs.ReadBatches.{refused_place}
+use Rattle.ipc_reader.specs.Kept.{FetchedBy, GivesBy, GivesHeld, HeldParts, IsRefusedBy, KeepsUses, KeptAfter, dictionaries_in, first_in, is_refused}
+use Rattle.ipc_reader.specs.declared.kept.KeptDictionaries.{KeptDictionaries}
+use Rattle.ipc_reader.specs.declared.kept.KeptDictionaries.TheVariants as kept
+
+-- ── what is held is of the kinds of its uses ──
+
+-- that is so in one way
+use_once : (o : Option Kind) (p : Option Forest) → IsProp (IfSome o (λ k. IfSome p (HasKind k)))
+use_once None p = λ x y. refl
+use_once (Some k) None = λ x y. refl
+use_once (Some k) (Some parts) = Bool-set _ _
+
+uses_once : (meta : Meta) (h : Held) → IsProp (HoldsUses meta h)
+uses_once meta h =
+    let each : (id : ℤ) → IsProp (HasKindOf meta.schema.fields h id) = λ id. use_once (values_of_id meta.schema.fields id) (h id) in
+    hlevel (props, each)
+
+pub held_uses : (meta : Meta) (k : KeptDictionaries) (m : HeldParts) → k ≡ kept.Held m → ∥ KeepsUses meta k ∥₁ → HoldsUses meta (held_in m)
+held_uses meta k m is h = ∥∥₁_elim (subst (λ q. ∥ KeepsUses meta q ∥₁) is h) (uses_once meta (held_in m)) (λ w. w)
+
+-- where nothing is held nothing is of another kind
+pub not_held_uses : (meta : Meta) (k : KeptDictionaries) → k ≡ kept.NotRead → KeepsUses meta k
+not_held_uses meta k is = subst (KeepsUses meta) (sym is) tt
+
+-- what is neither held nor refused was not read
+pub is_not_read : (k : KeptDictionaries) → is_refused k ≡ false → ((m : HeldParts) → k ≡ kept.Held m → ⊥) → k ≡ kept.NotRead
+is_not_read kept.NotRead live held = refl
+is_not_read (kept.Held m) live held = absurd (held m refl)
+is_not_read kept.Refused live held = cc
+
+-- a refusal gives nothing
+pub ok_none : {X : Type 0} (result : Result X IpcError) (e : IpcError) (P : X → Type 0) → result ≡ Err e → IfOk result P
+ok_none result e P is = subst (λ q. IfOk q P) (sym is) tt
+
+-- a fault behind a call before it is one since that call
+pub cause_since : (result : Result Batch IpcError) (f mid f' : ℕ) → f ≤ mid → IfErr result (λ e. FileCause e mid f') → IfErr result (λ e. FileCause e f f')
+cause_since result f mid f' h cause = search rules
+
+-- ── the dictionaries are read ──
+
+-- the features of the columns are refused
+pub kinds_stop : (content : Option (List ℕ)) (meta : Meta) (columns : Option (List ℕ)) (result : Result HeldParts IpcError) (e : IpcError) → result ≡ Err e → Refuses e (chosen_floats columns meta.schema.fields 0) → IfSome content (λ b. GivesHeld result (dictionaries_in columns b meta))
+unfolding dictionaries_in
+kinds_stop None meta columns result e is refused = tt
+kinds_stop (Some b) meta columns result e is refused =
+    let fs = meta.schema.fields in
+    subst (λ r. GivesHeld r (dictionaries_in columns b meta)) (sym is) (refused_first e (free_of (chosen_floats columns fs 0)) (λ _. dictionaries_of b meta [] meta.dictionaries) (refused_place e (chosen_floats columns fs 0) refused))
+
+pub kinds_kept : (content : Option (List ℕ)) (meta : Meta) (columns : Option (List ℕ)) (after : KeptDictionaries) (result : Result HeldParts IpcError) (e : IpcError) → after ≡ kept.NotRead → result ≡ Err e → Refuses e (chosen_floats columns meta.schema.fields 0)
+    → IfErr result (λ _. KeptAfter content meta columns kept.NotRead after result)
+kinds_kept content meta columns after result e k is refused =
+    subst (λ q. IfErr result (λ _. KeptAfter content meta columns kept.NotRead q result)) (sym k) (subst (λ r. IfErr r (λ _. KeptAfter content meta columns kept.NotRead kept.NotRead r)) (sym is) refused)
+
+-- behind the features of the columns
+behind_kinds : (columns : Option (List ℕ)) (b : List ℕ) (meta : Meta) → chosen_floats columns meta.schema.fields 0 ≡ [] → dictionaries_in columns b meta ≡ dictionaries_of b meta [] meta.dictionaries
+unfolding dictionaries_in bind
+behind_kinds columns b meta floats = let place : free_of (chosen_floats columns meta.schema.fields 0) ≡ Ok tt = ap free_of floats in rw place refl
+
+pub all_held : (content : Option (List ℕ)) (meta : Meta) (columns : Option (List ℕ)) (m : HeldParts) → chosen_floats columns meta.schema.fields 0 ≡ [] → IfSome content (λ b. ReadsDictionaries b meta meta.dictionaries (Ok m)) → IfSome content (λ b. GivesHeld (Ok m) (dictionaries_in columns b meta))
+all_held None meta columns m floats read = tt
+all_held (Some b) meta columns m floats read = (read.ok.0, behind_kinds columns b meta floats ∙ read.ok.1, read.ok.2)
+
+pub dictionaries_stop : (content : Option (List ℕ)) (meta : Meta) (columns : Option (List ℕ)) (e : IpcError) → chosen_floats columns meta.schema.fields 0 ≡ [] → IfSome content (λ b. ReadsDictionaries b meta meta.dictionaries (Err e)) → IfSome content (λ b. GivesHeld (Err e) (dictionaries_in columns b meta))
+dictionaries_stop None meta columns e floats read = tt
+dictionaries_stop (Some b) meta columns e floats read = subst (λ r. Refuses e (refusals r)) (sym (behind_kinds columns b meta floats)) read.err
+
+pub dictionaries_kept : (content : Option (List ℕ)) (meta : Meta) (columns : Option (List ℕ)) (e : IpcError) → IfSome content (λ b. ReadsDictionaries b meta meta.dictionaries (Err e)) → KeptAfter {X = HeldParts} content meta columns kept.NotRead kept.Refused (Err e)
+dictionaries_kept None meta columns e read = tt
+dictionaries_kept (Some b) meta columns e read = read.err
+
+-- ── the batch ──
+
+-- where they are refused the first batch is
+first_refused : (b : List ℕ) (r : Request) (meta : Meta) (block : FileBlock) (e : IpcError) → Refuses e (refusals (dictionaries_in r.columns b meta)) → Refuses e (refusals (first_in r b meta block))
+unfolding first_in
+first_refused b r meta block e h = refused_first e (dictionaries_in r.columns b meta) (λ d. batch_in r b meta d block) h
+
+pub batch_stops : (content : Option (List ℕ)) (k : KeptDictionaries) (r : Request) (meta : Meta) (block : FileBlock) (e : IpcError) (result : Result Batch IpcError) → is_refused k ≡ false → result ≡ Err e → ((m : HeldParts) → k ≡ kept.Held m → Err e ≡ Ok m)
+    → (k ≡ kept.NotRead → IfSome content (λ b. GivesHeld (Err e) (dictionaries_in r.columns b meta))) → IfSome content (λ b. GivesBy k r b meta block result)
+batch_stops None k r meta block e result live is held first = tt
+batch_stops (Some b) kept.Refused r meta block e result live is held first = cc
+batch_stops (Some b) (kept.Held m) r meta block e result live is held first = let no = held m refl in cc
+batch_stops (Some b) kept.NotRead r meta block e result live is held first = subst (λ q. Gives table_of q (first_in r b meta block)) (sym is) (first_refused b r meta block e (first refl))
+
+-- and else it is read under them
+first_read : (b : List ℕ) (r : Request) (meta : Meta) (block : FileBlock) (d : Dictionaries) → dictionaries_in r.columns b meta ≡ Ok d → batch_in r b meta d block ≡ first_in r b meta block
+unfolding first_in
+first_read b r meta block d is = sym (on (dictionaries_in r.columns b meta) (λ x. batch_in r b meta x block) d is)
+
+pub batch_goes : (content after : Option (List ℕ)) (k : KeptDictionaries) (r : Request) (meta : Meta) (block : FileBlock) (m : HeldParts) (result : Result Batch IpcError) → is_refused k ≡ false → after ≡ content → ((n : HeldParts) → k ≡ kept.Held n → ◌≡◌ {A = Result HeldParts IpcError} (Ok m) (Ok n))
+    → (k ≡ kept.NotRead → IfSome content (λ b. GivesHeld (Ok m) (dictionaries_in r.columns b meta))) → IfSome after (λ b. (d : Dictionaries) → HoldsCells d (held_in m) → Gives table_of result (batch_in r b meta d block)) → IfSome content (λ b. GivesBy k r b meta block result)
+batch_goes None after k r meta block m result live same held first gives = tt
+batch_goes (Some b) after kept.Refused r meta block m result live same held first gives = cc
+batch_goes (Some b) after (kept.Held n) r meta block m result live same held first gives =
+    let one : m ≡ n = let e = held n refl in cc in
+    subst (λ q. (d : Dictionaries) → HoldsCells d (held_in q) → Gives table_of result (batch_in r b meta d block)) one (subst (λ o. IfSome o (λ b. (d : Dictionaries) → HoldsCells d (held_in m) → Gives table_of result (batch_in r b meta d block))) same gives)
+batch_goes (Some b) after kept.NotRead r meta block m result live same held first gives =
+    let here = subst (λ o. IfSome o (λ b. (d : Dictionaries) → HoldsCells d (held_in m) → Gives table_of result (batch_in r b meta d block))) same gives in
+    let read = first refl in
+    subst (Gives table_of result) (first_read b r meta block read.0 read.1) (here read.0 read.2)
+
+-- ── what is kept behind it ──
+
+refused_by : (result : Result Batch IpcError) (e : IpcError) (P : IpcError → Type 0) → result ≡ Err e → P e → IsRefusedBy result P
+refused_by result e P is h = subst (λ z. IsRefusedBy z P) (sym is) h
+
+refused_kept : (content : Option (List ℕ)) (meta : Meta) (columns : Option (List ℕ)) (after : KeptDictionaries) (e : IpcError) (result : Result Batch IpcError) → result ≡ Err e → KeptAfter {X = HeldParts} content meta columns kept.NotRead after (Err e) → KeptAfter content meta columns kept.NotRead after result
+refused_kept content meta columns kept.NotRead e result is h = refused_by result e (λ e. Refuses e (chosen_floats columns meta.schema.fields 0)) is h
+refused_kept content meta columns (kept.Held m) e result is h = h
+refused_kept content meta columns kept.Refused e result is h = refused_by result e (λ e. IfSome content (λ b. Refuses e (refusals (dictionaries_of b meta [] meta.dictionaries)))) is h
+
+pub stops_kept : (content : Option (List ℕ)) (meta : Meta) (columns : Option (List ℕ)) (k after : KeptDictionaries) (e : IpcError) (result : Result Batch IpcError) → is_refused k ≡ false → result ≡ Err e → ((m : HeldParts) → k ≡ kept.Held m → Err e ≡ Ok m)
+    → (k ≡ kept.NotRead → KeptAfter {X = HeldParts} content meta columns kept.NotRead after (Err e)) → KeptAfter content meta columns k after result
+stops_kept content meta columns kept.Refused after e result live is held first = cc
+stops_kept content meta columns (kept.Held m) after e result live is held first = let no = held m refl in cc
+stops_kept content meta columns kept.NotRead after e result live is held first = refused_kept content meta columns after e result is (first refl)
+
+pub goes_kept : (content : Option (List ℕ)) (meta : Meta) (columns : Option (List ℕ)) (k : KeptDictionaries) (m : HeldParts) (result : Result Batch IpcError) → is_refused k ≡ false → ((n : HeldParts) → k ≡ kept.Held n → ◌≡◌ {A = Result HeldParts IpcError} (Ok m) (Ok n))
+    → (k ≡ kept.NotRead → IfSome content (λ b. GivesHeld (Ok m) (dictionaries_in columns b meta))) → KeptAfter content meta columns k (kept.Held m) result
+goes_kept content meta columns kept.Refused m result live held first = cc
+goes_kept content meta columns (kept.Held n) m result live held first = let one : m ≡ n = let e = held n refl in cc in ap kept.Held one
+goes_kept content meta columns kept.NotRead m result live held first = first refl
+
+-- ── what is fetched ──
+
+pub fetched_stopping : (content : Option (List ℕ)) (k : KeptDictionaries) (meta : Meta) (r : Request) (block : FileBlock) (left : Option ℕ) (f f' : ℕ) (e : IpcError) → ((m : HeldParts) → k ≡ kept.Held m → Err e ≡ Ok m) → (k ≡ kept.NotRead → DictionariesFetched content meta f f') → FetchedBy k content meta r block left f f'
+fetched_stopping content kept.Refused meta r block left f f' e held first = tt
+fetched_stopping content (kept.Held m) meta r block left f f' e held first = let no = held m refl in cc
+fetched_stopping content kept.NotRead meta r block left f f' e held first = first_stopped content meta r block left f f' (first refl)
+
+pub fetched_going : (content after : Option (List ℕ)) (k : KeptDictionaries) (meta : Meta) (r : Request) (block : FileBlock) (left : Option ℕ) (f mid f' : ℕ) → after ≡ content → (k ≡ kept.NotRead → DictionariesFetched content meta f mid) → ((m : HeldParts) → k ≡ kept.Held m → mid ≡ f)
+    → BlockFetched after meta r block left mid f' → FetchedBy k content meta r block left f f'
+fetched_going content after kept.Refused meta r block left f mid f' same first stays one = tt
+fetched_going content after (kept.Held m) meta r block left f mid f' same first stays one = subst (λ n. BlockFetched content meta r block left n f') (stays m refl) (subst (λ o. BlockFetched o meta r block left mid f') same one)
+fetched_going content after kept.NotRead meta r block left f mid f' same first stays one = first_fetched content after meta r block left f mid f' same (first refl) one

@@ -1,0 +1,62 @@
+use Rattle.std.proofs.Common.{◌≡◌, Err, Option, IfOk, refl, subst, sym}
+use Rattle.std.specs.Rc.{rc_value}
+use Rattle.ipc_io.proofs.Kept.{source_kept_on}
+use Rattle.ipc_files.proofs.Errors.{is_err}
+use Rattle.ipc_files.proofs.ReadFiles.{of_err}
+use Rattle.ipc_files.specs.FileViews.{meta_view}
+use Rattle.ipc_files.specs.Selections.{IsMade, MayProject, schema_shown}
+use Rattle.ipc_files.specs.Requests.{asked}
+use Rattle.ipc_projection.specs.declared.projection.ProjectionInfo.{ProjectionInfo}
+use Rattle.ipc_reader.proofs.HeldDictionaries.{batch_goes, batch_stops, cause_since, fetched_going, fetched_stopping, goes_kept, ok_none, stops_kept}
+use Rattle.ipc_reader.proofs.cursor.FileCursor.read_current.Goals as goal
+
+pub take-requires-clause-made : goal.take-requires-clause-made
+take-requires-clause-made g c = subst (IsMade (rc_value c.args.self.now.metadata.schema)) (sym c.as_ref.ensures.value) c.args.self.now.made
+
+pub returns-in_err-held : goal.returns-in_err-held
+returns-in_err-held g c =
+    let content = g.S.Source.content c.args.source.now in
+    let s = rc_value c.args.self.now.metadata.schema in
+    let meta = meta_view c.args.self.now.metadata in
+    let k = c.args.self.now.dictionaries in
+    let err = c.in_err-held.field-0.0 in
+    let e : c.from_residual.result ≡ Err err = is_err _ _ _ c.from_residual.ensures.0 c.from_residual.ensures.1 (λ f h. h) in
+    record {
+      gives = λ columns block may at. batch_stops content k (asked columns c.args.self.now.left) meta block err c.from_residual.result c.requires.not_refused e c.in_err-held.ensures.held (λ is. c.in_err-held.ensures.gives columns is (subst (MayProject s columns) (sym c.as_ref.ensures.value) may));
+      dictionaries = λ columns may. stops_kept content meta columns k _ err c.from_residual.result c.requires.not_refused e c.in_err-held.ensures.held (λ is. c.in_err-held.ensures.behind columns is (subst (MayProject s columns) (sym c.as_ref.ensures.value) may));
+      schema = λ columns may. ok_none c.from_residual.result err _ e;
+      left = refl;
+      block = refl;
+      projection = refl;
+      metadata = refl;
+      cause = of_err c.from_residual.result err _ e c.in_err-held.ensures.cause;
+      fetched = λ columns block may at. fetched_stopping content k meta (asked columns c.args.self.now.left) block c.args.self.now.left _ _ err c.in_err-held.ensures.held c.in_err-held.ensures.fetched;
+      kept = c.in_err-held.ensures.kept;
+    }
+
+pub read_projected_batch-read-requires-clause-made : goal.read_projected_batch-read-requires-clause-made
+read_projected_batch-read-requires-clause-made g c = subst (IsMade (rc_value c.args.self.now.metadata.schema)) (sym c.as_ref-2.ensures.value) c.args.self.now.made
+
+pub returns : goal.returns
+returns g c =
+    let content = g.S.Source.content c.args.source.now in
+    let s = rc_value c.args.self.now.metadata.schema in
+    let meta = meta_view c.args.self.now.metadata in
+    let k = c.args.self.now.dictionaries in
+    let held = c.in_ok-held.held in
+    let read = c.read_projected_batch-read in
+    record {
+      gives = λ columns block may at. batch_goes content _ k (asked columns c.args.self.now.left) meta block held read.result c.requires.not_refused c.in_ok-held.ensures.kept.content c.in_ok-held.ensures.held (λ is. c.in_ok-held.ensures.gives columns is (subst (MayProject s columns) (sym c.as_ref.ensures.value) may))
+          (read.ensures.gives columns block (subst (MayProject s columns) (sym c.as_ref-2.ensures.value) may) at);
+      dictionaries = λ columns may. goes_kept content meta columns k held read.result c.requires.not_refused c.in_ok-held.ensures.held (λ is. c.in_ok-held.ensures.gives columns is (subst (MayProject s columns) (sym c.as_ref.ensures.value) may));
+      schema = λ columns may.
+          subst (λ (p : Option ProjectionInfo). IfOk read.result (λ x. x.schema ≡ schema_shown s p)) c.as_ref-2.ensures.value
+          (read.ensures.schema columns (subst (MayProject s columns) (sym c.as_ref-2.ensures.value) may));
+      left = refl;
+      block = refl;
+      projection = refl;
+      metadata = refl;
+      cause = cause_since read.result _ _ _ c.in_ok-held.ensures.kept.faults read.ensures.cause;
+      fetched = λ columns block may at. fetched_going content _ k meta (asked columns c.args.self.now.left) block c.args.self.now.left _ _ _ c.in_ok-held.ensures.kept.content c.in_ok-held.ensures.fetched c.in_ok-held.ensures.stays (read.ensures.fetched columns block (subst (MayProject s columns) (sym c.as_ref-2.ensures.value) may) at);
+      kept = source_kept_on c.in_ok-held.ensures.kept read.ensures.kept;
+    }

@@ -1,0 +1,115 @@
+-- What a cursor keeps of the dictionaries of its file, and what a call gives by them.
+use Rattle.std.specs.Prelude.{◌≡◌, ℕ, List, [], Bool, true, false, Option, Some, None, Result, Ok, Err, IfErr, IfOk, IfSome, ⊤, ℤ}
+use Rattle.std.specs.BTreeMap.{BTreeMap}
+use Rattle.std.specs.Rc.{rc_value}
+use Rattle.std.specs.declared.alloc.Global.{Global}
+use Rattle.std.specs.declared.vec.Vec.{Vec}
+use Rattle.arrow_spec.specs.declared.error.IpcError.{IpcError}
+use Rattle.arrow_spec.specs.Arrays.{Dictionaries}
+use Rattle.arrow_spec.specs.Features.{chosen_floats}
+use Rattle.arrow_spec.specs.Files.{FileBlock, Meta, Request, TableBatch, dictionaries_of}
+use Rattle.arrow_spec.specs.Readings.{Gives, Reading, Refuses, free_of, refusals, ◌>>=◌}
+use Rattle.arrow_arrays.specs.Batches.{Batch}
+use Rattle.arrow_arrays.specs.declared.array.Array.{Array}
+use Rattle.ipc_io.specs.Outside.{SourceKept}
+use Rattle.ipc_read_laws.specs.Held.{HoldsCells}
+use Rattle.ipc_read.specs.Batches.{table_of}
+use Rattle.ipc_read.specs.Held.{held_in}
+use Rattle.ipc_projection.specs.declared.projection.ProjectionInfo.{ProjectionInfo}
+use Rattle.ipc_files.specs.Blocks.{batch_in}
+use Rattle.ipc_files.specs.FileDictionaries.{DictionariesFetched, FirstFetched, HoldsUses}
+use Rattle.ipc_files.specs.Fetching.{BlockFetched}
+use Rattle.ipc_files.specs.FileViews.{meta_view, FileCause}
+use Rattle.ipc_files.specs.Selections.{MayProject}
+use Rattle.ipc_files.specs.declared.metadata.FileMetadata.{FileMetadata}
+use Rattle.ipc_reader.specs.declared.kept.KeptDictionaries.{KeptDictionaries}
+use Rattle.ipc_reader.specs.declared.kept.KeptDictionaries.TheVariants.{NotRead, Held, Refused}
+
+-- the parts under each id
+abbrev pub HeldParts : Type 0
+HeldParts = BTreeMap ℤ (Vec Array Global)
+
+abbrev pub is_refused : KeptDictionaries → Bool
+is_refused Refused = true
+is_refused NotRead = false
+is_refused (Held m) = false
+
+-- what is held under each id of a file's schema is of the kind of its values
+abbrev pub KeepsUses : Meta → KeptDictionaries → Type 0
+KeepsUses meta NotRead = ⊤
+KeepsUses meta (Held m) = HoldsUses meta (held_in m)
+KeepsUses meta Refused = ⊤
+
+-- ── the dictionaries ──
+
+-- those of a file, behind the features of the columns that are asked for
+unfoldable pub dictionaries_in : Option (List ℕ) → List ℕ → Meta → Reading Dictionaries
+dictionaries_in columns b meta = do
+  floats ← free_of (chosen_floats columns meta.schema.fields 0)
+  dictionaries_of b meta [] meta.dictionaries
+
+-- the first batch that is read: the features of its columns, the dictionaries, and its block
+unfoldable pub first_in : Request → List ℕ → Meta → FileBlock → Reading TableBatch
+first_in r b meta block = do
+  d ← dictionaries_in r.columns b meta
+  batch_in r b meta d block
+
+-- a map holds what was read, or the call answers a refusal of it
+abbrev pub GivesHeld : Result HeldParts IpcError → Reading Dictionaries → Type 0
+GivesHeld (Ok m) reading = (d : Dictionaries) × (reading ≡ Ok d) × HoldsCells d (held_in m)
+GivesHeld (Err e) reading = Refuses e (refusals reading)
+
+-- what a call gives of a block by what was kept before it: the first batch reads the dictionaries, and the others are read under those that are held
+abbrev pub GivesBy : KeptDictionaries → Request → List ℕ → Meta → FileBlock → Result Batch IpcError → Type 0
+GivesBy NotRead r b meta block result = Gives table_of result (first_in r b meta block)
+GivesBy (Held m) r b meta block result = (d : Dictionaries) → HoldsCells d (held_in m) → Gives table_of result (batch_in r b meta d block)
+GivesBy Refused r b meta block result = Gives table_of result (first_in r b meta block)
+
+-- what is fetched by a call that reads a block, by what was kept before it
+abbrev pub FetchedBy : KeptDictionaries → Option (List ℕ) → Meta → Request → FileBlock → Option ℕ → ℕ → ℕ → Type 0
+FetchedBy NotRead content meta r block left fetched fetched' = FirstFetched content meta r block left fetched fetched'
+FetchedBy (Held m) content meta r block left fetched fetched' = BlockFetched content meta r block left fetched fetched'
+FetchedBy Refused content meta r block left fetched fetched' = ⊤
+
+-- a call was refused
+abbrev pub IsRefusedBy : {X : Type 0} → Result X IpcError → (IpcError → Type 0) → Type 0
+IsRefusedBy (Ok x) P = ⊥
+IsRefusedBy (Err e) P = P e
+
+-- what is kept behind a call that reads a batch, by what was kept before it: the dictionaries that were read at the first batch stay; they were refused, or the features of the columns were, before the dictionaries are looked at
+abbrev pub KeptAfter : {X : Type 0} → Option (List ℕ) → Meta → Option (List ℕ) → KeptDictionaries → KeptDictionaries → Result X IpcError → Type 0
+KeptAfter content meta columns (Held m) kept result = kept ≡ Held m
+KeptAfter content meta columns Refused kept result = kept ≡ Refused
+KeptAfter content meta columns NotRead (Held m) result = IfSome content (λ b. GivesHeld (Ok m) (dictionaries_in columns b meta))
+KeptAfter content meta columns NotRead Refused result = IsRefusedBy result (λ e. IfSome content (λ b. Refuses e (refusals (dictionaries_of b meta [] meta.dictionaries))))
+KeptAfter content meta columns NotRead NotRead result = IsRefusedBy result (λ e. Refuses e (chosen_floats columns meta.schema.fields 0))
+
+-- the same where there may be no batch to read
+abbrev pub KeptBehind : Option (List ℕ) → Meta → Option (List ℕ) → KeptDictionaries → KeptDictionaries → Option (Result Batch IpcError) → Type 0
+KeptBehind content meta columns kept kept' None = kept' ≡ kept
+KeptBehind content meta columns kept kept' (Some result) = KeptAfter content meta columns kept kept' result
+
+-- ── calls that read dictionaries, behind which the kept ones are k' ──
+
+module _ {S : Type 0} (content_of : S → Option (List ℕ)) (faults_of fetched_of : S → ℕ) (references_of : S → List ℕ) (s s' : S) (file : FileMetadata) (projection : Option ProjectionInfo) where
+  -- those of the file are read, which were not before
+  pub record ReadsHeld (k' : KeptDictionaries) (result : Result HeldParts IpcError) : Type 0 where
+    pub gives : (columns : Option (List ℕ)) → MayProject (rc_value file.schema) columns projection → IfSome (content_of s) (λ b. GivesHeld result (dictionaries_in columns b (meta_view file)))
+    pub behind : (columns : Option (List ℕ)) → MayProject (rc_value file.schema) columns projection → IfErr result (λ e. KeptAfter (content_of s) (meta_view file) columns NotRead k' result)
+    pub uses : IfOk result (λ m. HoldsUses (meta_view file) (held_in m))
+    pub keeps : KeepsUses (meta_view file) k'
+    pub cause : IfErr result (λ e. FileCause e (faults_of s) (faults_of s'))
+    pub fetched : DictionariesFetched (content_of s) (meta_view file) (fetched_of s) (fetched_of s')
+    pub kept : SourceKept content_of faults_of references_of s s'
+
+  -- they are taken: those that are held, or those of the file
+  pub record TakesHeld (k k' : KeptDictionaries) (result : Result HeldParts IpcError) : Type 0 where
+    pub held : (m : HeldParts) → k ≡ Held m → result ≡ Ok m
+    pub gives : (columns : Option (List ℕ)) → k ≡ NotRead → MayProject (rc_value file.schema) columns projection → IfSome (content_of s) (λ b. GivesHeld result (dictionaries_in columns b (meta_view file)))
+    pub behind : (columns : Option (List ℕ)) → k ≡ NotRead → MayProject (rc_value file.schema) columns projection → IfErr result (λ e. KeptAfter (content_of s) (meta_view file) columns NotRead k' result)
+    pub uses : IfOk result (λ m. HoldsUses (meta_view file) (held_in m))
+    pub keeps : KeepsUses (meta_view file) k'
+    pub cause : IfErr result (λ e. FileCause e (faults_of s) (faults_of s'))
+    pub fetched : k ≡ NotRead → DictionariesFetched (content_of s) (meta_view file) (fetched_of s) (fetched_of s')
+    pub stays : (m : HeldParts) → k ≡ Held m → fetched_of s' ≡ fetched_of s
+    pub kept : SourceKept content_of faults_of references_of s s'

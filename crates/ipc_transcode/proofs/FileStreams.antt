@@ -1,0 +1,42 @@
+-- What is put of a file that is built: fronts of a stream, and the whole stream.
+use Rattle.std.proofs.Common.{◌≡◌, ℕ, List, [], ◌++◌, length, take, Some, None, Ok, sym, ◌∙◌, subst}
+use Rattle.arrow_spec.specs.Readings.{meaning}
+use Rattle.arrow_spec.specs.Kinds.{width}
+use Rattle.arrow_spec.specs.Files.{ArrowTable, Meta, Request, «all», columns_right, cut, fields_as_asked, file_reading, meta_of, project, to_read}
+use Rattle.arrow_spec.specs.Streams.{end_mark}
+use Rattle.arrow_spec.proofs.Projection.{some_meaning}
+use Rattle.arrow_spec.proofs.ReadPairs.{same_read}
+use Rattle.file_laws.specs.Laws.{whole_file_table}
+use Rattle.file_laws.proofs.Cuts.{file-cut}
+use Rattle.ipc_write_laws.specs.Streams.{WrittenBatch, bare_table}
+use Rattle.transcode_laws.specs.Built.{so_far}
+use Rattle.transcode_laws.specs.Files.{IsFrontOf, IsSentFile, IsStreamOf, SentSoFar, asked_of}
+use Rattle.transcode_laws.proofs.Everything.{means_so}
+use Rattle.transcode_laws.proofs.Streams as streams
+use Rattle.ipc_transcode.specs.Sends.{front_bytes}
+
+-- the table of what was sent
+abbrev pub sent_table : Meta → Request → List WrittenBatch → ArrowTable
+sent_table meta r xs = bare_table (fields_as_asked r.columns meta.schema.fields) meta.schema.metadata [] xs
+
+-- after some blocks the bytes are a front of the stream
+pub front_of : (b : List ℕ) (meta : Meta) (r : Request) (n : ℕ) (xs : List WrittenBatch) → IsSentFile so_far b r meta [] → SentSoFar so_far b (asked_of b meta r) (take n meta.blocks) r.limit xs → length xs ≡ n
+    → IsFrontOf so_far b r (front_bytes meta r xs) (sent_table meta r xs)
+front_of b meta r n xs file s count = streams.front_of so_far b r meta [] n xs file s count
+
+-- after all blocks and the end mark they are the stream
+pub stream_of : (b : List ℕ) (meta : Meta) (r : Request) (xs : List WrittenBatch) → IsSentFile so_far b r meta [] → SentSoFar so_far b (asked_of b meta r) meta.blocks r.limit xs
+    → IsStreamOf so_far b r (front_bytes meta r xs ++ end_mark) (sent_table meta r xs)
+stream_of b meta r xs file s = streams.stream_of so_far b r meta [] xs file s
+
+-- before the first block the schema's message is a front
+pub schema_front : (b : List ℕ) (meta : Meta) (r : Request) → IsSentFile so_far b r meta [] → IsFrontOf so_far b r (front_bytes meta r []) (sent_table meta r [])
+schema_front b meta r file = streams.schema_front so_far b r meta [] file
+
+-- where the whole file means a table, a file that is sent means the cut of its projection
+pub cut_as_asked : (b : List ℕ) (meta : Meta) (r : Request) (x : ArrowTable) → IsSentFile so_far b r meta [] → meaning (file_reading so_far to_read b r None) ≡ Some x → (t : ArrowTable) → whole_file_table b «all» ≡ Some t
+    → x ≡ cut (project t r.columns) r.limit
+cut_as_asked b meta r x file means t whole =
+    let right : (m : Meta) → meta_of b ≡ Ok m → width t.fields ≡ width m.schema.fields → columns_right r.columns (width m.schema.fields) ≡ Ok tt
+    = λ m is count. subst (λ (y : Meta). columns_right r.columns (width y.schema.fields) ≡ Ok tt) (same_read meta m (sym file.read ∙ is)) file.columns in
+    same_read x _ (sym (means_so so_far to_read b r None x (some_meaning _ x means)) ∙ file-cut b r t right (some_meaning _ t whole))

@@ -1,0 +1,19 @@
+pub mod Sending
+mod Pieces
+pub mod SentFields
+pub mod WrittenMessages
+pub mod WrittenBatches
+pub mod Refusing
+pub mod SentBlocks
+pub mod SentFiles
+pub mod FileStreams
+pub mod BlockSteps
+pub mod StreamSteps
+pub mod Asking
+pub mod MissingFeatures
+pub mod Fetching
+pub mod FetchedFiles
+pub mod AskedFields
+pub mod Counted
+pub mod Picked
+pub mod Selected

@@ -1,0 +1,76 @@
+-- Columns that are asked for by their numbers, and their projection.
+use Rattle.std.proofs.Common.{◌≡◌, ◌⊎◌, inl, inr, ℕ, List, [], ◌∷◌, length, Option, Some, None, Result, Err, IfSome, true, refl, sym, subst, Bor}
+use Rattle.std.specs.Rc.{rc_value}
+use Rattle.arrow_spec.specs.declared.error.IpcError.{IpcError}
+use Rattle.arrow_spec.specs.declared.error.IpcError.TheVariants as errors
+use Rattle.arrow_spec.specs.Arrays.{Dictionaries}
+use Rattle.arrow_spec.specs.Files.{FileBlock, columns_right}
+use Rattle.arrow_types.specs.Schemas.{Keyed}
+use Rattle.arrow_arrays.specs.Batches.{Batch}
+use Rattle.transcode_laws.specs.Files.{AreAsked}
+use Rattle.ipc_read.specs.Projection.{are_columns, chosen, columns_of}
+use Rattle.ipc_projection.specs.Places.{IsPermutation}
+use Rattle.ipc_projection.specs.Projections.{IsProjection}
+use Rattle.ipc_projection.specs.declared.projection.ProjectionInfo.{ProjectionInfo}
+use Rattle.ipc_projection.proofs.Projected.{applicable}
+use Rattle.ipc_read_laws.specs.Held.{Held}
+use Rattle.ipc_files.specs.Blocks.{ReadsBlock, asked_under}
+use Rattle.ipc_files.specs.FileViews.{meta_view}
+use Rattle.ipc_transcode.specs.FileViews.{IsBuilt}
+use Rattle.ipc_files.specs.Selections.{MayProject}
+use Rattle.ipc_transcode.specs.Selections.{Projects}
+use Rattle.ipc_transcode.specs.Sends.{SendCause}
+use Rattle.ipc_files.specs.Requests.{asked}
+use Rattle.ipc_files.specs.declared.metadata.FileMetadata.{FileMetadata}
+use Rattle.ipc_transcode.proofs.AskedFields.{built_from, numbers_sent, same_columns}
+use Rattle.ipc_files.proofs.Picked.{picked_from}
+use Rattle.ipc_transcode.proofs.StreamSteps.{wrong_is}
+use Rattle.ipc_transcode.proofs.SentFiles.{columns_sent, ordered_refused}
+use Rattle.ipc_files.proofs.Selected.{IsSelected, asked_below, ReadsRising}
+
+pub selected : (s : List Keyed) (columns : Option (Bor (List ℕ))) (projection : Option (Bor ProjectionInfo)) (p : Bor ProjectionInfo) → projection ≡ Some p → Projects s columns projection → IsSelected s (columns_of columns) p.now
+selected s None None p e h = cc
+selected s None (Some q) p e h = absurd h
+selected s (Some cs) None p e h = absurd h
+selected s (Some cs) (Some q) p e h = let same : q ≡ p = cc in record { numbers = cs.now; are = refl; is = subst (λ (x : Bor ProjectionInfo). IsProjection s cs.now x.now) same h }
+
+-- where there is no projection all columns are asked for
+pub all_selected : (s : List Keyed) (columns : Option (Bor (List ℕ))) (projection : Option (Bor ProjectionInfo)) → projection ≡ None → Projects s columns projection → columns_of columns ≡ None
+all_selected s None None e h = refl
+all_selected s None (Some q) e h = absurd h
+all_selected s (Some cs) None e h = absurd h
+all_selected s (Some cs) (Some q) e h = cc
+
+pub schema_asked : (s : List Keyed) (columns : Option (List ℕ)) (p : ProjectionInfo) → IsSelected s columns p → AreAsked s columns (rc_value p.schema)
+schema_asked s columns p h = subst (λ cs. AreAsked s cs (rc_value p.schema)) (sym h.are) (picked_from s h.numbers (rc_value p.schema) (asked_below s h.numbers p h.is) h.is.fields)
+
+-- a projection's numbers are in range
+pub projected_range : (s : List Keyed) (columns : Option (List ℕ)) (p : Option ProjectionInfo) → MayProject s columns p → are_columns columns (length s) ≡ true
+projected_range s None None h = refl
+projected_range s None (Some p) h = absurd h
+projected_range s (Some cs) None h = absurd h
+projected_range s (Some cs) (Some p) h = asked_below s cs p h
+
+-- why numbers are refused
+pub numbers_cause : (e : IpcError) (columns : Option (List ℕ)) (count reads reads' writes writes' : ℕ) → (e ≡ errors.Memory) ⊎ (columns_right columns count ≡ Err (e ∷ [])) → SendCause e reads reads' writes writes'
+numbers_cause e columns count reads reads' writes writes' (inl memory) = rw memory tt
+numbers_cause e columns count reads reads' writes writes' (inr wrong) = let is = wrong_is columns count e wrong in rw is.1 tt
+
+-- the rising numbers are built where those asked for are
+pub built_rising : (file : FileMetadata) (columns : Option (List ℕ)) (p : ProjectionInfo) (rising : List ℕ) → rising ≡ p.columns.items → IsSelected (rc_value file.schema) columns p → IsBuilt (meta_view file) columns → IsBuilt (meta_view file) (Some rising)
+built_rising file columns p rising same h built =
+    let s = rc_value file.schema in
+    let sent = columns_sent file (Some h.numbers) (subst (IsBuilt (meta_view file)) h.are built) in
+    subst (λ ds. IsBuilt (meta_view file) (Some ds)) (sym same) (built_from file (Some p.columns.items) s refl (numbers_sent s p.columns.items (same_columns s h.numbers p.columns.items h.is.same sent)))
+
+-- a batch of the rising numbers is put in the order asked
+pub may_apply : (s : List Keyed) (columns : Option (List ℕ)) (p : ProjectionInfo) (rising : List ℕ) (x : Batch) → rising ≡ p.columns.items → IsSelected s columns p → x.schema ≡ chosen (Some rising) 0 s → IsPermutation p.map (length x.schema)
+may_apply s columns p rising x same h schema = applicable s h.numbers p h.is s x.schema refl (subst (λ ds. x.schema ≡ chosen (Some ds) 0 s) same schema)
+
+-- ── what a block means then ──
+
+pub selected_refused : (content : Option (List ℕ)) (held : Held) (file : FileMetadata) (d : Dictionaries) (columns : Option (List ℕ)) (p : ProjectionInfo) (rising : List ℕ) (left : Option ℕ) (block : FileBlock) (result : Result Batch IpcError) (e : IpcError) → rising ≡ p.columns.items → result ≡ Err e → IsSelected (rc_value file.schema) columns p
+    → IfSome content (λ b. ReadsBlock b held (asked_under b (meta_view file) d (asked (Some rising) left)) block left (Err e)) → IfSome content (λ b. ReadsBlock b held (asked_under b (meta_view file) d (asked columns left)) block left result)
+selected_refused content held file d columns p rising left block result e same is h read =
+    subst (λ cs. IfSome content (λ b. ReadsBlock b held (asked_under b (meta_view file) d (asked cs left)) block left result)) (sym h.are)
+    (ordered_refused content held (meta_view file) d p.columns.items h.numbers left block result e is h.is.same (subst (λ ds. ReadsRising content held file d ds block left (Err e)) same read))

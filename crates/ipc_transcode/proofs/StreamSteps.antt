@@ -1,0 +1,259 @@
+-- The steps of sending a file's table: the schema's message, the blocks, the end mark.
+use Rattle.std.proofs.Common.{◌≡◌, inl, inr, ℕ, ◌+◌, ◌≤◌, List, [], ◌∷◌, ◌++◌, ◌⊎◌, ◌&&◌, not, length, take, Option, Some, None, Ok, Err, IfSome, refl, sym, ap, ◌∙◌, subst, true, false, Bool, append-nil, arith, sum_by}
+use Rattle.std.specs.Prelude.{map, nat_lt}
+use Rattle.std.proofs.Math.Seq.{take-length}
+use Rattle.std.proofs.lemmas.List.{length-append, length-map}
+use Rattle.std.proofs.lemmas.List.Sums.{sum_by-cons}
+use Rattle.std.specs.Io.KnownBytes.{Appends}
+use Rattle.hex.specs.Hex.{encode_with}
+use Rattle.arrow_spec.specs.declared.error.IpcError.{IpcError}
+use Rattle.arrow_spec.specs.declared.error.IpcError.TheVariants as errors
+use Rattle.arrow_spec.specs.declared.error.Feature.TheVariants as features
+use Rattle.arrow_spec.specs.Readings.{IsAmong, Reading, Refuses, bind, ◌>>=◌, free_of, refusals, unless}
+use Rattle.arrow_spec.specs.Columns.{stands_in}
+use Rattle.arrow_spec.specs.Features.{chosen_floats, feature_faults}
+use Rattle.arrow_spec.specs.Files.{Meta, Request, TableBatch, columns_right, dictionaries_read, fields_as_asked, file_reading, has_any, to_send, wrong_columns}
+use Rattle.arrow_spec.specs.Framing.{message_bytes}
+use Rattle.arrow_spec.specs.Kinds.{Fields, Metadata, width}
+use Rattle.arrow_spec.specs.Sent.{may_be_sent, stream_schema}
+use Rattle.arrow_spec.specs.Streams.{end_mark}
+use Rattle.ipc_write_laws.specs.Streams.{WrittenBatch, table_batch}
+use Rattle.transcode_laws.specs.Built.{so_far}
+use Rattle.transcode_laws.specs.Files.{IsSendable, IsSentFile, asked_schema}
+use Rattle.transcode_laws.proofs.Readings.{columns_refused, dictionaries_refused, features_refused, schema_refused}
+use Rattle.ipc_io.proofs.Known.{Appends-kept_nil}
+use Rattle.arrow_types.specs.Schemas.{Keyed, fields_in}
+use Rattle.ipc_fields.specs.IpcFields.{Ids, fields_with}
+use Rattle.ipc_files.specs.FileViews.{FileCause, FileSays}
+use Rattle.ipc_transcode.specs.FileViews.{IsBuilt}
+use Rattle.ipc_transcode.specs.Sends.{Begun, Refused, SentBlocks, front_bytes}
+use Rattle.ipc_files.specs.Requests.{asked}
+use Rattle.ipc_transcode.specs.Transcode.{AddsFront, AddsPart, PutsText, PutTextCause, Transcodes, text_of}
+use Rattle.ipc_transcode.specs.Written.{Writes}
+use Rattle.ipc_transcode.specs.declared.conversion.Summary.{Summary}
+use Rattle.ipc_transcode.proofs.BlockSteps.{front_so_far, put_refuses}
+use Rattle.ipc_transcode.proofs.FileStreams.{cut_as_asked, schema_front, sent_table, stream_of}
+use Rattle.ipc_transcode.proofs.Sending.{Appends-text, IsNext, in_one_put, piece_refused, refused_later}
+use Rattle.ipc_transcode.proofs.SentFiles.{keeps_same}
+use Rattle.arrow_spec.specs.declared.error.Feature.{Feature}
+use Rattle.ipc_transcode.proofs.MissingFeatures.{features_with}
+use Rattle.arrow_spec.proofs.FeatureFaults.{features-refused}
+use Rattle.ipc_transcode.specs.declared.encoding.Encoding.{Encoding}
+use Rattle.ipc_transcode.specs.declared.encoding.Encoding.TheVariants.{Bytes, HexText}
+
+-- a file whose schema may be sent in the columns that are asked for
+pub record CanSend (meta : Meta) (r : Request) : Type 0 where
+  pub right : columns_right r.columns (width meta.schema.fields) ≡ Ok tt
+  pub readable : chosen_floats r.columns meta.schema.fields 0 ≡ []
+  pub schema : IsSendable so_far (asked_schema meta.schema r.columns)
+
+-- ── nothing was added ──
+
+text_nil : (encoding : Encoding) → text_of encoding [] ≡ []
+unfolding encode_with
+text_nil Bytes = refl
+text_nil HexText = refl
+
+-- where reading fails nothing was added
+nothing_added : (e : IpcError) (faults faults' wants wants' : ℕ) (b : List ℕ) (r : Request) (text : List ℕ → List ℕ) (o : Option (List ℕ)) → FileCause e faults faults' → AddsPart e wants wants' b r text o o
+nothing_added errors.Memory faults faults' wants wants' b r text o c = inl (inl (keeps_same o))
+nothing_added errors.ReadFault faults faults' wants wants' b r text o c = inl (keeps_same o)
+nothing_added (errors.OutOfSpec kind) faults faults' wants wants' b r text o c = inl (keeps_same o)
+nothing_added (errors.Unsupported feature) faults faults' wants wants' b r text o c = inl (keeps_same o)
+nothing_added errors.TooDeep faults faults' wants wants' b r text o c = inl (keeps_same o)
+nothing_added (errors.TooMany counted) faults faults' wants wants' b r text o c = inl (keeps_same o)
+nothing_added errors.WriteFault faults faults' wants wants' b r text o c = absurd c
+nothing_added (errors.Projection index) faults faults' wants wants' b r text o c = absurd c
+nothing_added errors.TooLarge faults faults' wants wants' b r text o c = absurd c
+nothing_added errors.SchemaMismatch faults faults' wants wants' b r text o c = absurd c
+nothing_added (errors.DictionaryReplaced id) faults faults' wants wants' b r text o c = absurd c
+nothing_added errors.NotRepresentable faults faults' wants wants' b r text o c = absurd c
+nothing_added errors.State faults faults' wants wants' b r text o c = absurd c
+
+-- ── the schema ──
+
+-- the schema's message as it is asked for
+abbrev SchemaMay : Fields → Metadata → Bool
+SchemaMay fields pairs = may_be_sent (stream_schema fields pairs [])
+
+abbrev pub SchemaNotWritten : IpcError → Fields → Metadata → Type 0
+SchemaNotWritten e fields pairs = Writes (Err e) (stream_schema fields pairs []) (message_bytes (stream_schema fields pairs []).node [])
+
+too_large : (b : List ℕ) (meta : Meta) (r : Request) → FileSays b meta → CanSend meta r → SchemaMay (fields_as_asked r.columns meta.schema.fields) meta.schema.metadata ≡ false → Refuses errors.TooLarge (refusals (file_reading so_far to_send b r None))
+too_large b meta r h is size = rw (schema_refused so_far b r meta [] refl h.read h.no_pairs is.right is.readable is.schema size) (inl refl)
+
+pub schema_not_written : (e : IpcError) (b : List ℕ) (meta : Meta) (r : Request) (encoding : Encoding) (o : Option (List ℕ)) (wants wants' : ℕ) → FileSays b meta → CanSend meta r → SchemaNotWritten e (fields_as_asked r.columns meta.schema.fields) meta.schema.metadata → Refused e b r encoding o o wants wants'
+schema_not_written errors.TooLarge b meta r encoding o wants wants' h is w = record { refused = too_large b meta r h is w; part = inl (keeps_same o) }
+schema_not_written errors.Memory b meta r encoding o wants wants' h is w = record { refused = tt; part = inl (inl (keeps_same o)) }
+schema_not_written errors.ReadFault b meta r encoding o wants wants' h is w = absurd w
+schema_not_written errors.WriteFault b meta r encoding o wants wants' h is w = absurd w
+schema_not_written (errors.OutOfSpec kind) b meta r encoding o wants wants' h is w = absurd w
+schema_not_written (errors.Unsupported feature) b meta r encoding o wants wants' h is w = absurd w
+schema_not_written errors.TooDeep b meta r encoding o wants wants' h is w = absurd w
+schema_not_written (errors.TooMany counted) b meta r encoding o wants wants' h is w = absurd w
+schema_not_written (errors.Projection index) b meta r encoding o wants wants' h is w = absurd w
+schema_not_written errors.SchemaMismatch b meta r encoding o wants wants' h is w = absurd w
+schema_not_written (errors.DictionaryReplaced id) b meta r encoding o wants wants' h is w = absurd w
+schema_not_written errors.NotRepresentable b meta r encoding o wants wants' h is w = absurd w
+schema_not_written errors.State b meta r encoding o wants wants' h is w = absurd w
+
+pub dictionaries_not_built : (b : List ℕ) (meta : Meta) (r : Request) (encoding : Encoding) (o : Option (List ℕ)) (wants wants' : ℕ) → FileSays b meta → CanSend meta r → SchemaMay (fields_as_asked r.columns meta.schema.fields) meta.schema.metadata ≡ true → has_any (dictionaries_read meta.blocks meta.dictionaries) ≡ true
+    → Refused (errors.Unsupported features.NotYet) b r encoding o o wants wants'
+dictionaries_not_built b meta r encoding o wants wants' h is size any = record { refused = rw (dictionaries_refused so_far b r meta [] refl refl h.read h.no_pairs is.right is.readable is.schema size any) (inl refl); part = inl (keeps_same o) }
+
+-- the file, its schema's message and that no dictionary is read
+sent_file : (b : List ℕ) (meta : Meta) (r : Request) → FileSays b meta → CanSend meta r → SchemaMay (fields_as_asked r.columns meta.schema.fields) meta.schema.metadata ≡ true → has_any (dictionaries_read meta.blocks meta.dictionaries) ≡ false → IsSentFile so_far b r meta []
+sent_file b meta r h is size any = record { known = refl; read = h.read; pairs = h.no_pairs; columns = is.right; readable = is.readable; schema = is.schema; small = size; no_dictionaries = any }
+
+-- the schema's message is what is written before the first batch
+first_written : (meta : Meta) (r : Request) (m : List ℕ) → m ≡ message_bytes (stream_schema (fields_as_asked r.columns meta.schema.fields) meta.schema.metadata []).node [] → m ≡ front_bytes meta r []
+first_written meta r m is = is ∙ sym (append-nil (message_bytes (stream_schema (fields_as_asked r.columns meta.schema.fields) meta.schema.metadata []).node []))
+
+-- a schema's message that was written, of a file of which no dictionary is read
+pub record IsSchemaWritten (meta : Meta) (r : Request) (m : List ℕ) : Type 0 where
+  pub can : CanSend meta r
+  pub small : SchemaMay (fields_as_asked r.columns meta.schema.fields) meta.schema.metadata ≡ true
+  pub no_dictionaries : has_any (dictionaries_read meta.blocks meta.dictionaries) ≡ false
+  pub is : m ≡ message_bytes (stream_schema (fields_as_asked r.columns meta.schema.fields) meta.schema.metadata []).node []
+
+pub schema_put : (b : List ℕ) (meta : Meta) (r : Request) (encoding : Encoding) (o new : Option (List ℕ)) (m : List ℕ) (n : ℕ) → FileSays b meta → IsSchemaWritten meta r m → n ≡ length m → Appends o new (text_of encoding m) → Begun b meta r encoding o new n
+schema_put b meta r encoding o new m n h w count put =
+    let same = first_written meta r m w.is in
+    record { file = sent_file b meta r h w.can w.small w.no_dictionaries; added = subst (λ k. Appends o new (text_of encoding k)) same put; bytes_are = count ∙ ap length same }
+
+pub schema_not_put : (e : IpcError) (b : List ℕ) (meta : Meta) (r : Request) (encoding : Encoding) (o new : Option (List ℕ)) (m : List ℕ) (faults faults' wants wants' : ℕ) → FileSays b meta → IsSchemaWritten meta r m → PutsText o new (Err e) (text_of encoding m) → PutTextCause e faults faults' → Refused e b r encoding o new wants wants'
+schema_not_put e b meta r encoding o new m faults faults' wants wants' h w put cause =
+    let next : IsNext b r (front_bytes meta r []) = record { table = sent_table meta r []; stream = inr (schema_front b meta r (sent_file b meta r h w.can w.small w.no_dictionaries)) } in
+    let none : Appends o o (text_of encoding []) = rw (text_nil encoding) (Appends-kept_nil o o (keeps_same o)) in
+    record {
+      refused = put_refuses e (refusals (file_reading so_far to_send b r None)) faults faults' cause;
+      part = piece_refused e b r encoding o o new [] (front_bytes meta r []) faults faults' wants wants' (inl (keeps_same o)) none next (in_one_put o new wants wants' e _ (subst (λ k. PutsText o new (Err e) (text_of encoding k)) (first_written meta r m w.is) put)) cause;
+    }
+
+-- ── the end mark ──
+
+-- a front stands before it
+front_before : (b : List ℕ) (meta : Meta) (r : Request) (encoding : Encoding) (start old mid : Option (List ℕ)) (n : ℕ) (s : Summary) → Begun b meta r encoding start old n → SentBlocks b meta r meta.blocks encoding start mid s → AddsFront b r (text_of encoding) start mid
+front_before b meta r encoding start old mid n s begun sent =
+    let whole : take (length meta.blocks) meta.blocks ≡ meta.blocks = take-length meta.blocks in
+    front_so_far b meta r (length meta.blocks) encoding start old mid n s (omega arith) begun (subst (λ l. SentBlocks b meta r l encoding start mid s) (sym whole) sent)
+
+end_not_put : (e : IpcError) (b : List ℕ) (meta : Meta) (r : Request) (encoding : Encoding) (start old mid new : Option (List ℕ)) (n : ℕ) (s : Summary) (faults faults' wants wants' : ℕ) → Begun b meta r encoding start old n → SentBlocks b meta r meta.blocks encoding start mid s → PutsText mid new (Err e) (text_of encoding end_mark) → PutTextCause e faults faults' → Refused e b r encoding start new wants wants'
+end_not_put e b meta r encoding start old mid new n s faults faults' wants wants' begun sent put cause =
+    let next : IsNext b r (front_bytes meta r sent.batches ++ end_mark) = record { table = sent_table meta r sent.batches; stream = inl (stream_of b meta r sent.batches begun.file sent.sent) } in
+    record {
+      refused = put_refuses e (refusals (file_reading so_far to_send b r None)) faults faults' cause;
+      part = piece_refused e b r encoding start mid new (front_bytes meta r sent.batches) end_mark faults faults' wants wants' (inr (front_before b meta r encoding start old mid n s begun sent)) sent.added next (in_one_put mid new wants wants' e _ put) cause;
+    }
+
+rows_same : (xs : List WrittenBatch) → sum_by (λ x. x.rows) xs ≡ sum_by (λ batch. batch.rows) (map table_batch xs)
+rows_same [] = refl
+rows_same (x ∷ xs) = sum_by-cons (λ (y : WrittenBatch). y.rows) x xs ∙ ap (λ n. x.rows + n) (rows_same xs) ∙ sym (sum_by-cons (λ (y : TableBatch). y.rows) (table_batch x) (map table_batch xs))
+
+table_whole : (b : List ℕ) (meta : Meta) (r : Request) (encoding : Encoding) (start old mid new : Option (List ℕ)) (n : ℕ) (s : Summary) → Begun b meta r encoding start old n → SentBlocks b meta r meta.blocks encoding start mid s → Appends mid new (text_of encoding end_mark)
+    → Transcodes (record { batches = s.batches; rows = s.rows; bytes = s.bytes + 8 }) b r (text_of encoding) start new
+table_whole b meta r encoding start old mid new n s begun sent put =
+    let is = stream_of b meta r sent.batches begun.file sent.sent in
+    record {
+      stream = record {
+        bytes = front_bytes meta r sent.batches ++ end_mark;
+        table = sent_table meta r sent.batches;
+        stream = is;
+        added = Appends-text encoding start mid new (front_bytes meta r sent.batches) end_mark sent.added put;
+      };
+      summary = record {
+        batches = sent.batches_are ∙ sym (length-map sent.batches table_batch);
+        rows = sent.rows_are ∙ rows_same sent.batches;
+        bytes = ap (λ k. k + 8) sent.bytes_are ∙ sym (length-append (front_bytes meta r sent.batches) end_mark);
+      };
+      cut = cut_as_asked b meta r (sent_table meta r sent.batches) begun.file is.file;
+    }
+
+-- ── as the calls have them ──
+
+-- what is said of all blocks of a file behind its schema's message
+abbrev OfBlocks : (List ℕ → Option (List ℕ) → Type 0) → List ℕ → Meta → Request → Encoding → Option (List ℕ) → ℕ → Type 0
+OfBlocks P b meta r encoding old n = (start : Option (List ℕ)) → Begun b meta r encoding start old n → P b start
+
+abbrev IsBegun : Meta → Option (List ℕ) → Encoding → Option (List ℕ) → Option (List ℕ) → ℕ → Type 0
+IsBegun meta columns encoding start old n = (b : List ℕ) (limit : Option ℕ) → FileSays b meta → Begun b meta (asked columns limit) encoding start old n
+
+pub table_sent : (content : Option (List ℕ)) (meta : Meta) (columns : Option (List ℕ)) (limit : Option ℕ) (encoding : Encoding) (start old mid new : Option (List ℕ)) (n : ℕ) (s : Summary) (m : List ℕ) → IsBegun meta columns encoding start old n
+    → IfSome content (λ b. OfBlocks (λ b start. SentBlocks b meta (asked columns limit) meta.blocks encoding start mid s) b meta (asked columns limit) encoding old n) → m ≡ end_mark → Appends mid new (text_of encoding m)
+    → IfSome content (λ b. FileSays b meta → Transcodes (record { batches = s.batches; rows = s.rows; bytes = s.bytes + 8 }) b (asked columns limit) (text_of encoding) start new)
+table_sent None meta columns limit encoding start old mid new n s m begun sent mark put = tt
+table_sent (Some b) meta columns limit encoding start old mid new n s m begun sent mark put = λ h.
+    let began = begun b limit h in
+    table_whole b meta (asked columns limit) encoding start old mid new n s began (sent start began) (subst (λ k. Appends mid new (text_of encoding k)) mark put)
+
+pub table_not_ended : (e : IpcError) (content : Option (List ℕ)) (meta : Meta) (columns : Option (List ℕ)) (limit : Option ℕ) (encoding : Encoding) (start old mid new : Option (List ℕ)) (n : ℕ) (s : Summary) (m : List ℕ) (faults faults' wants wants' : ℕ) → IsBegun meta columns encoding start old n
+    → IfSome content (λ b. OfBlocks (λ b start. SentBlocks b meta (asked columns limit) meta.blocks encoding start mid s) b meta (asked columns limit) encoding old n) → m ≡ end_mark → PutsText mid new (Err e) (text_of encoding m) → PutTextCause e faults faults'
+    → IfSome content (λ b. FileSays b meta → Refused e b (asked columns limit) encoding start new wants wants')
+table_not_ended e None meta columns limit encoding start old mid new n s m faults faults' wants wants' begun sent mark put cause = tt
+table_not_ended e (Some b) meta columns limit encoding start old mid new n s m faults faults' wants wants' begun sent mark put cause = λ h.
+    let began = begun b limit h in
+    end_not_put e b meta (asked columns limit) encoding start old mid new n s faults faults' wants wants' began (sent start began) (subst (λ k. PutsText mid new (Err e) (text_of encoding k)) mark put) cause
+
+pub table_refused : (e : IpcError) (content : Option (List ℕ)) (meta : Meta) (columns : Option (List ℕ)) (limit : Option ℕ) (encoding : Encoding) (start old new : Option (List ℕ)) (n before wants wants' : ℕ) → before ≤ wants → IsBegun meta columns encoding start old n
+    → IfSome content (λ b. OfBlocks (λ b start. Refused e b (asked columns limit) encoding start new wants wants') b meta (asked columns limit) encoding old n) → IfSome content (λ b. FileSays b meta → Refused e b (asked columns limit) encoding start new before wants')
+table_refused e None meta columns limit encoding start old new n before wants wants' later begun sent = tt
+table_refused e (Some b) meta columns limit encoding start old new n before wants wants' later begun sent = λ h.
+    refused_later e b (asked columns limit) encoding start new before wants wants' later (sent start (begun b limit h))
+
+-- want of memory before anything is put
+pub table_wanted : (content : Option (List ℕ)) (meta : Meta) (r : Request) (encoding : Encoding) (o : Option (List ℕ)) (wants wants' : ℕ) → IfSome content (λ b. FileSays b meta → Refused errors.Memory b r encoding o o wants wants')
+table_wanted None meta r encoding o wants wants' = tt
+table_wanted (Some b) meta r encoding o wants wants' = λ h. record { refused = tt; part = inl (inl (keeps_same o)) }
+
+-- ── the file ──
+
+pub not_true : (x : Bool) → (x ≡ true → ⊥) → x ≡ false
+not_true true h = absurd (h refl)
+not_true false h = refl
+
+pub file_refused : (e : IpcError) (content : Option (List ℕ)) (r : Request) (encoding : Encoding) (o : Option (List ℕ)) (faults faults' wants wants' : ℕ) → FileCause e faults faults' → IfSome content (λ b. (r : Request) → Refuses e (refusals (file_reading so_far to_send b r None))) → IfSome content (λ b. Refused e b r encoding o o wants wants')
+file_refused e None r encoding o faults faults' wants wants' cause h = tt
+file_refused e (Some b) r encoding o faults faults' wants wants' cause h = record { refused = h r; part = nothing_added e faults faults' wants wants' b r (text_of encoding) o cause }
+
+-- what its metadata says goes on
+pub file_follows : (content after : Option (List ℕ)) (meta : Meta) (P : List ℕ → Type 0) → after ≡ content → IfSome content (λ b. FileSays b meta) → IfSome after (λ b. FileSays b meta → P b) → IfSome content P
+file_follows None after meta P same says h = tt
+file_follows (Some b) after meta P same says h = subst (λ o. IfSome o (λ b. FileSays b meta → P b)) same h says
+
+-- only a number that is asked for is refused
+wrong_step : (t : Bool) (c : ℕ) (r : Reading (Unit {0})) (e : IpcError) → (unless t (errors.Projection c) >>= λ right. r) ≡ Err (e ∷ []) → (r ≡ Err (e ∷ [])) ⊎ (e ≡ errors.Projection c)
+unfolding bind
+wrong_step true c r e h = inl h
+wrong_step false c r e h = inr cc
+
+wrong_index : (count : ℕ) (earlier cs : List ℕ) (e : IpcError) → wrong_columns count earlier cs ≡ Err (e ∷ []) → (i : ℕ) × (e ≡ errors.Projection i)
+wrong_index count earlier [] e h = cc
+wrong_index count earlier (c ∷ cs) e h = elim (wrong_step (nat_lt c count && not (stands_in earlier c)) c (wrong_columns count (c ∷ earlier) cs) e h) [ inl k ↦ wrong_index count (c ∷ earlier) cs e k | inr k ↦ (c, k) ]
+
+pub wrong_is : (columns : Option (List ℕ)) (count : ℕ) (e : IpcError) → columns_right columns count ≡ Err (e ∷ []) → (i : ℕ) × (e ≡ errors.Projection i)
+wrong_is None count e h = cc
+wrong_is (Some cs) count e h = wrong_index count [] cs e h
+
+-- columns that are none, or want of memory
+pub columns_not_right : (e : IpcError) (content : Option (List ℕ)) (meta : Meta) (columns : Option (List ℕ)) (limit : Option ℕ) (count : ℕ) (encoding : Encoding) (o : Option (List ℕ)) (wants wants' : ℕ) → count ≡ width meta.schema.fields → (e ≡ errors.Memory) ⊎ (columns_right columns count ≡ Err (e ∷ []))
+    → IfSome content (λ b. FileSays b meta → Refused e b (asked columns limit) encoding o o wants wants')
+columns_not_right e None meta columns limit count encoding o wants wants' same h = tt
+columns_not_right e (Some b) meta columns limit count encoding o wants wants' same (inl memory) = λ says. rw memory (record { refused = tt; part = inl (inl (keeps_same o)) })
+columns_not_right e (Some b) meta columns limit count encoding o wants wants' same (inr wrong) = λ says.
+    let is = wrong_is columns count e wrong in
+    let place : columns_right columns (width meta.schema.fields) ≡ Err (e ∷ []) = subst (λ n. columns_right columns n ≡ Err (e ∷ [])) same wrong in
+    rw is.1 (record {
+      refused = rw (columns_refused so_far to_send b (asked columns limit) None meta [] (e ∷ []) refl says.read says.no_pairs place) (inl is.1);
+      part = inl (keeps_same o);
+    })
+
+-- columns that are not built
+pub file_not_built : (content : Option (List ℕ)) (meta : Meta) (columns : Option (List ℕ)) (limit : Option ℕ) (keyed : List Keyed) (below : Ids) (f : Feature) (encoding : Encoding) (o : Option (List ℕ)) (wants wants' : ℕ) → (IsBuilt meta columns → ⊥) → columns_right columns (width meta.schema.fields) ≡ Ok tt → meta.schema.fields ≡ fields_with (fields_in keyed) below
+    → IsAmong (feature_faults columns (fields_in keyed) false) (errors.Unsupported f) → IfSome content (λ b. FileSays b meta → Refused (errors.Unsupported f) b (asked columns limit) encoding o o wants wants')
+file_not_built None meta columns limit keyed below f encoding o wants wants' beyond right is named = tt
+file_not_built (Some b) meta columns limit keyed below f encoding o wants wants' beyond right is named = λ h.
+    let fs = meta.schema.fields in
+    let same : feature_faults columns fs false ≡ feature_faults columns (fields_in keyed) false = ap (λ gs. feature_faults columns gs false) is ∙ features_with columns (fields_in keyed) below false in
+    let here = subst (λ es. IsAmong es (errors.Unsupported f)) (sym same) named in
+    let place : free_of (feature_faults columns fs (so_far.chosen meta.schema.order (fields_as_asked columns fs))) ≡ Err (feature_faults columns fs false) = rw (not_true _ beyond) (features-refused columns fs) in
+    record { refused = rw (features_refused so_far to_send b (asked columns limit) None meta [] (feature_faults columns fs false) refl h.read h.no_pairs right place) here; part = inl (keeps_same o) }

@@ -1,0 +1,6 @@
+pub mod FileViews
+pub mod Transcode
+pub mod Sends
+pub mod Fetching
+pub mod Written
+pub mod Selections

@@ -1,0 +1,12 @@
+//! From an Arrow file to the stream that means the same, for columns without dictionaries, whole or in the columns and the rows asked for (Arrow Columnar Format, "IPC File Format" and "IPC Streaming Format").
+#![tactic(auto)]
+
+mod built;
+mod conversion;
+mod encoding;
+mod messages;
+mod selection;
+mod send;
+
+pub use conversion::{Summary, transcode, transcode_as};
+pub use encoding::Encoding;

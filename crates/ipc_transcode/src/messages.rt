@@ -1,0 +1,51 @@
+//! Messages, in one piece or planned (Arrow Columnar Format, "Encapsulated message format").
+ghost use Rattle.std.specs.Prelude.{◌≡◌, ◌^◌, ◌<◌, [], map, IfOk, Ok};
+ghost use Rattle.std.specs.List.{AllByRecursion};
+ghost use Rattle.arrow_spec.specs.Files.{columns_right, fields_as_asked};
+ghost use Rattle.arrow_spec.specs.Flat.{little};
+ghost use Rattle.arrow_spec.specs.Kinds.{width};
+ghost use Rattle.arrow_arrays.specs.Parts.{cells_in};
+ghost use Rattle.ipc_write_laws.specs.Columns.{Means};
+ghost use Rattle.ipc_write_laws.specs.Streams.{batch_bytes, written_batch};
+ghost use Rattle.ipc_write_arrays.specs.Dictionaries.{HoldsValues};
+ghost use Rattle.ipc_write.specs.Batches.{written_batch_of};
+ghost use Rattle.ipc_read.specs.Projection.{columns_of};
+ghost use Rattle.ipc_files.specs.FileViews.{meta_view, WasRead};
+ghost use Rattle.ipc_transcode.specs.FileViews.{IsBuilt};
+ghost use Rattle.ipc_transcode.specs.Selections.{IsSelection};
+ghost use Rattle.ipc_transcode.specs.Written.{PlansMessage, WritesSchema};
+
+use crate::selection::{Selection, selected_schema};
+use arrow_arrays::RecordBatch;
+use arrow_spec::IpcError;
+use ipc_files::metadata_of;
+use ipc_schema::{default_ipc_fields, schema_to_bytes};
+use ipc_write::{BodyPlan, WriteOptions, message_to_bytes, plan_batch};
+use std::alloc::Global;
+
+/// The end of a stream: a prefix of length 0.
+pub(crate) const END_MARK: [u8; 8] = [255, 255, 255, 255, 0, 0, 0, 0];
+
+/// The message of the schema of the columns that are asked for, with the file's metadata and without dictionaries.
+pub(crate) fn schema_message(alloc: Global, selection: &Selection<'_>) -> Result<Vec<u8>, IpcError>
+    requires selected { IsSelection selection.now }
+    requires built { IsBuilt (meta_view selection.now.file.now) (columns_of selection.now.columns) }
+    requires read { WasRead selection.now.file.now }
+    requires right { columns_right (columns_of selection.now.columns) (width (meta_view selection.now.file.now).schema.fields) ≡ Ok tt }
+    ensures { WritesSchema result (fields_as_asked (columns_of selection.now.columns) (meta_view selection.now.file.now).schema.fields) (meta_view selection.now.file.now).schema.metadata }
+{
+    let schema = selected_schema(selection);
+    let ipc_fields = default_ipc_fields(alloc, schema)?;
+    let metadata = schema_to_bytes(alloc, schema, &ipc_fields, metadata_of(selection.file))?;
+    message_to_bytes(alloc, &metadata, &[])
+}
+
+/// The message of a record batch, with the buffers of its body.
+pub(crate) fn batch_plan(alloc: Global, batch: &RecordBatch) -> Result<BodyPlan, IpcError>
+    requires few { batch.now.height < 2 ^ 63 }
+    ensures plans { PlansMessage result (written_batch (written_batch_of batch.now)) (batch_bytes (written_batch_of batch.now)) }
+    ensures means { IfOk result (λ _. AllByRecursion (λ p. HoldsValues [] p) batch.now.arrays → AllByRecursion (λ c. Means little [] batch.now.height c) (written_batch_of batch.now).columns) }
+    ensures cells { IfOk result (λ _. map (λ c. c.cells) (written_batch_of batch.now).columns ≡ map cells_in batch.now.arrays) }
+{
+    plan_batch(alloc, batch, &WriteOptions::default())
+}

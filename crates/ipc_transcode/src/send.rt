@@ -1,0 +1,256 @@
+//! A file's table, sent batch by batch.
+ghost use Rattle.std.specs.Prelude.{◌≡◌, ◌+◌, ◌*◌, ◌^◌, ◌<◌, ◌≤◌, List, Option, length, IfOk, IfErr, IfSome, Ok, ℕ};
+ghost use Rattle.arrow_spec.specs.Files.{columns_right, dictionaries_read, has_any, what_is_left};
+ghost use Rattle.arrow_spec.specs.Kinds.{width};
+ghost use Rattle.transcode_laws.specs.Files.{asked_of};
+ghost use Rattle.ipc_io.specs.Outside.{IsSize, SourceKept, SinkKept};
+ghost use Rattle.ipc_read.specs.Projection.{columns_of};
+ghost use Rattle.ipc_files.specs.FileBlocks.{file_block};
+ghost use Rattle.ipc_files.specs.FileViews.{meta_view, FileSays, WasRead};
+ghost use Rattle.ipc_transcode.specs.FileViews.{IsBuilt};
+ghost use Rattle.ipc_files.specs.Fetching.{BlockFetched};
+ghost use Rattle.ipc_transcode.specs.Fetching.{BlocksFetched, FileFetched};
+ghost use Rattle.ipc_transcode.specs.Selections.{IsSelection};
+ghost use Rattle.ipc_transcode.specs.Sends.{Begun, BlockRefused, BlockSent, Refused, SendCause, SentBlocks};
+ghost use Rattle.ipc_files.specs.Requests.{asked};
+ghost use Rattle.ipc_transcode.specs.Transcode.{text_of, Transcodes};
+
+use crate::built::{is_built, missing_feature};
+use crate::conversion::Summary;
+use crate::encoding::{Encoding, put_plan, put_text};
+use crate::messages::{END_MARK, batch_plan, schema_message};
+use crate::selection::{Selection, project, read_selected};
+use arrow_spec::{Block, Feature, IpcError};
+use ipc_files::{FileMetadata, read_plain_metadata};
+use ipc_schema::{Sink, Source};
+use std::alloc::{AllocError, Global};
+
+/// The most bytes of a body that are put at once.
+const PIECE_BYTES: usize = 65_536;
+
+/// What was sent of a block: its rows, and the bytes of its message.
+#[derive(Clone, Copy, Debug, PartialEq, Eq)]
+struct SentBlock {
+    rows: usize,
+    bytes: usize,
+}
+
+/// Reads a block as far as rows are left, and puts its message.
+fn send_block<S: Source, W: Sink>(
+    alloc: Global,
+    source: &mut S,
+    sink: &mut W,
+    block: &Block,
+    selection: &Selection<'_>,
+    left: Option<usize>,
+    scratch: &mut Vec<u8>,
+    pieces: &mut [u8],
+    encoding: Encoding,
+) -> Result<SentBlock, IpcError>
+    requires selected { IsSelection selection.now }
+    requires right { columns_right (columns_of selection.now.columns) (width (meta_view selection.now.file.now).schema.fields) ≡ Ok tt }
+    requires built { IsBuilt (meta_view selection.now.file.now) (columns_of selection.now.columns) }
+    requires read { WasRead selection.now.file.now }
+    requires whole { IsSize (S.content source.old) selection.now.file.now.size }
+    requires pieces { length pieces.old ≡ 65536 }
+    ensures sent { IfOk result (λ s. IfSome (S.content source.old) (λ b. BlockSent b (asked_of b (meta_view selection.now.file.now) (asked (columns_of selection.now.columns) left)) (file_block block.now) left encoding (W.written sink.old) (W.written sink.new) s.rows s.bytes)) }
+    ensures refused { IfErr result (λ e. IfSome (S.content source.old) (λ b. BlockRefused b (asked_of b (meta_view selection.now.file.now) (asked (columns_of selection.now.columns) left)) (file_block block.now) left encoding (W.written sink.old) (W.written sink.new) e (W.faults sink.old) (W.faults sink.new) (W.wants sink.old) (W.wants sink.new))) }
+    ensures small { IfOk result (λ s. s.bytes < 2 ^ 64) }
+    ensures few { IfOk result (λ s. s.rows < 2 ^ 63) }
+    ensures cause { IfErr result (λ e. SendCause e (S.faults source.old) (S.faults source.new) (W.faults sink.old) (W.faults sink.new)) }
+    ensures fetched { BlockFetched (S.content source.old) (meta_view selection.now.file.now) (asked (columns_of selection.now.columns) left) (file_block block.now) left (S.fetched source.old) (S.fetched source.new) }
+    ensures kept { SourceKept S.content S.faults S.references source.old source.new }
+    ensures sink { SinkKept W.faults W.wants W.references sink.old sink.new }
+    ensures pieces { length pieces.new ≡ length pieces.old }
+{
+    let batch = read_selected(alloc, source, block, selection, left, scratch)?;
+    let rows = batch.height();
+    let plan = batch_plan(alloc, &batch)?;
+    drop(batch);
+    let bytes = put_plan(alloc, sink, &plan, pieces, encoding)?;
+    Ok(SentBlock { rows, bytes })
+}
+
+/// How many rows are left of a limit behind some rows.
+fn rows_left(limit: Option<usize>, rows: u128) -> Option<usize>
+    ensures { result ≡ what_is_left limit rows }
+{
+    match limit {
+        None => None,
+        Some(limit) => Some((limit as u128).saturating_sub(rows) as usize),
+    }
+}
+
+/// Sends the blocks of a file, in their order, behind the schema's message of so many bytes.
+fn send_blocks<S: Source, W: Sink>(
+    alloc: Global,
+    source: &mut S,
+    sink: &mut W,
+    selection: &Selection<'_>,
+    limit: Option<usize>,
+    schema_length: usize,
+    pieces: &mut [u8],
+    encoding: Encoding,
+) -> Result<Summary, IpcError>
+    requires selected { IsSelection selection.now }
+    requires right { columns_right (columns_of selection.now.columns) (width (meta_view selection.now.file.now).schema.fields) ≡ Ok tt }
+    requires built { IsBuilt (meta_view selection.now.file.now) (columns_of selection.now.columns) }
+    requires read { WasRead selection.now.file.now }
+    requires whole { IsSize (S.content source.old) selection.now.file.now.size }
+    requires pieces { length pieces.old ≡ 65536 }
+    ensures sent { IfOk result (λ s. IfSome (S.content source.old) (λ b. (start : Option (List ℕ)) → Begun b (meta_view selection.now.file.now) (asked (columns_of selection.now.columns) limit) encoding start (W.written sink.old) schema_length → SentBlocks b (meta_view selection.now.file.now) (asked (columns_of selection.now.columns) limit) (meta_view selection.now.file.now).blocks encoding start (W.written sink.new) s)) }
+    ensures refused { IfErr result (λ e. IfSome (S.content source.old) (λ b. (start : Option (List ℕ)) → Begun b (meta_view selection.now.file.now) (asked (columns_of selection.now.columns) limit) encoding start (W.written sink.old) schema_length → Refused e b (asked (columns_of selection.now.columns) limit) encoding start (W.written sink.new) (W.wants sink.old) (W.wants sink.new))) }
+    ensures small { IfOk result (λ s. s.bytes ≤ (length selection.now.file.now.blocks.items + 1) * 2 ^ 64) }
+    ensures cause { IfErr result (λ e. SendCause e (S.faults source.old) (S.faults source.new) (W.faults sink.old) (W.faults sink.new)) }
+    ensures fetched { BlocksFetched (S.content source.old) (meta_view selection.now.file.now) (asked (columns_of selection.now.columns) limit) (meta_view selection.now.file.now).blocks (S.fetched source.old) (S.fetched source.new) }
+    ensures kept { SourceKept S.content S.faults S.references source.old source.new }
+    ensures sink { SinkKept W.faults W.wants W.references sink.old sink.new }
+    ensures pieces { length pieces.new ≡ length pieces.old }
+{
+    let mut scratch = Vec::new(alloc);
+    let mut summary = Summary {
+        batches: 0,
+        rows: 0,
+        bytes: schema_length as u128,
+    };
+    for block in &selection.file.blocks {
+        let left = rows_left(limit, summary.rows);
+        let sent = send_block(
+            alloc,
+            source,
+            sink,
+            block,
+            selection,
+            left,
+            &mut scratch,
+            pieces,
+            encoding,
+        )?;
+        summary.batches += 1;
+        summary.rows += sent.rows as u128;
+        summary.bytes += sent.bytes as u128;
+    }
+    Ok(summary)
+}
+
+/// Whether dictionaries have to be read before the first batch.
+fn reads_dictionaries(file: &FileMetadata) -> bool
+    ensures { result ≡ has_any (dictionaries_read (meta_view file.now).blocks (meta_view file.now).dictionaries) }
+{
+    !file.blocks.is_empty() && !file.dictionaries.is_empty()
+}
+
+/// Puts the schema's message, and answers how many bytes it has.
+fn begin_stream<W: Sink>(
+    alloc: Global,
+    sink: &mut W,
+    selection: &Selection<'_>,
+    encoding: Encoding,
+) -> Result<usize, IpcError>
+    requires selected { IsSelection selection.now }
+    requires right { columns_right (columns_of selection.now.columns) (width (meta_view selection.now.file.now).schema.fields) ≡ Ok tt }
+    requires built { IsBuilt (meta_view selection.now.file.now) (columns_of selection.now.columns) }
+    requires read { WasRead selection.now.file.now }
+    ensures begun { IfOk result (λ n. (b : List ℕ) (limit : Option ℕ) → FileSays b (meta_view selection.now.file.now) → Begun b (meta_view selection.now.file.now) (asked (columns_of selection.now.columns) limit) encoding (W.written sink.old) (W.written sink.new) n) }
+    ensures refused { IfErr result (λ e. (b : List ℕ) (limit : Option ℕ) → FileSays b (meta_view selection.now.file.now) → Refused e b (asked (columns_of selection.now.columns) limit) encoding (W.written sink.old) (W.written sink.new) (W.wants sink.old) (W.wants sink.new)) }
+    ensures small { IfOk result (λ n. n < 2 ^ 63) }
+    ensures cause { IfErr result (λ e. SendCause e 0 0 (W.faults sink.old) (W.faults sink.new)) }
+    ensures sink { SinkKept W.faults W.wants W.references sink.old sink.new }
+{
+    let message = schema_message(alloc, selection)?;
+    if reads_dictionaries(selection.file) {
+        return Err(IpcError::Unsupported(Feature::NotYet));
+    }
+    put_text(alloc, sink, &message, encoding)?;
+    Ok(message.len())
+}
+
+/// So many zeros, through which the bodies of batches are put.
+fn zeros(alloc: Global, count: usize) -> Result<Vec<u8>, AllocError>
+    ensures { IfOk result (λ v. length v.items ≡ count) }
+{
+    vec![in alloc; 0; count]
+}
+
+/// Sends the table of a file whose metadata was read.
+fn send_table<S: Source, W: Sink>(
+    alloc: Global,
+    source: &mut S,
+    sink: &mut W,
+    selection: &Selection<'_>,
+    limit: Option<usize>,
+    encoding: Encoding,
+) -> Result<Summary, IpcError>
+    requires selected { IsSelection selection.now }
+    requires right { columns_right (columns_of selection.now.columns) (width (meta_view selection.now.file.now).schema.fields) ≡ Ok tt }
+    requires built { IsBuilt (meta_view selection.now.file.now) (columns_of selection.now.columns) }
+    requires read { WasRead selection.now.file.now }
+    requires whole { IsSize (S.content source.old) selection.now.file.now.size }
+    ensures whole { IfOk result (λ s. IfSome (S.content source.old) (λ b. FileSays b (meta_view selection.now.file.now) → Transcodes s b (asked (columns_of selection.now.columns) limit) (text_of encoding) (W.written sink.old) (W.written sink.new))) }
+    ensures refused { IfErr result (λ e. IfSome (S.content source.old) (λ b. FileSays b (meta_view selection.now.file.now) → Refused e b (asked (columns_of selection.now.columns) limit) encoding (W.written sink.old) (W.written sink.new) (W.wants sink.old) (W.wants sink.new))) }
+    ensures cause { IfErr result (λ e. SendCause e (S.faults source.old) (S.faults source.new) (W.faults sink.old) (W.faults sink.new)) }
+    ensures fetched { BlocksFetched (S.content source.old) (meta_view selection.now.file.now) (asked (columns_of selection.now.columns) limit) (meta_view selection.now.file.now).blocks (S.fetched source.old) (S.fetched source.new) }
+    ensures kept { SourceKept S.content S.faults S.references source.old source.new }
+    ensures sink { SinkKept W.faults W.wants W.references sink.old sink.new }
+{
+    let mut zeros = zeros(alloc, PIECE_BYTES)?;
+    let pieces = zeros.as_mut_slice();
+    let begun = begin_stream(alloc, sink, selection, encoding)?;
+    let mut summary = send_blocks(
+        alloc, source, sink, selection, limit, begun, pieces, encoding,
+    )?;
+    put_text(alloc, sink, &END_MARK, encoding)?;
+    summary.bytes += 8;
+    Ok(summary)
+}
+
+/// Sends the columns of a file that are asked for, once its metadata was read.
+fn send_columns<'x, S: Source, W: Sink>(
+    alloc: Global,
+    source: &mut S,
+    sink: &mut W,
+    file: &'x FileMetadata,
+    columns: Option<&'x [usize]>,
+    limit: Option<usize>,
+    encoding: Encoding,
+) -> Result<Summary, IpcError>
+    requires read { WasRead file.now }
+    requires whole { IsSize (S.content source.old) file.now.size }
+    ensures whole { IfOk result (λ s. IfSome (S.content source.old) (λ b. FileSays b (meta_view file.now) → Transcodes s b (asked (columns_of columns.entry) limit) (text_of encoding) (W.written sink.old) (W.written sink.new))) }
+    ensures refused { IfErr result (λ e. IfSome (S.content source.old) (λ b. FileSays b (meta_view file.now) → Refused e b (asked (columns_of columns.entry) limit) encoding (W.written sink.old) (W.written sink.new) (W.wants sink.old) (W.wants sink.new))) }
+    ensures cause { IfErr result (λ e. SendCause e (S.faults source.old) (S.faults source.new) (W.faults sink.old) (W.faults sink.new)) }
+    ensures fetched { BlocksFetched (S.content source.old) (meta_view file.now) (asked (columns_of columns.entry) limit) (meta_view file.now).blocks (S.fetched source.old) (S.fetched source.new) }
+    ensures kept { SourceKept S.content S.faults S.references source.old source.new }
+    ensures sink { SinkKept W.faults W.wants W.references sink.old sink.new }
+{
+    let projection = project(alloc, &file.schema, columns)?;
+    if !is_built(&file.schema, columns) {
+        return Err(IpcError::Unsupported(missing_feature(&file.schema, columns)));
+    }
+    let selection = Selection {
+        file,
+        columns,
+        projection: projection.as_ref(),
+    };
+    send_table(alloc, source, sink, &selection, limit, encoding)
+}
+
+/// Reads a file and sends its table, in the columns and the rows that are asked for, as one stream.
+pub(crate) fn send_file<S: Source, W: Sink>(
+    alloc: Global,
+    source: &mut S,
+    sink: &mut W,
+    columns: Option<&[usize]>,
+    limit: Option<usize>,
+    encoding: Encoding,
+) -> Result<Summary, IpcError>
+    ensures whole { IfOk result (λ s. IfSome (S.content source.old) (λ b. Transcodes s b (asked (columns_of columns.entry) limit) (text_of encoding) (W.written sink.old) (W.written sink.new))) }
+    ensures refused { IfErr result (λ e. IfSome (S.content source.old) (λ b. Refused e b (asked (columns_of columns.entry) limit) encoding (W.written sink.old) (W.written sink.new) (W.wants sink.old) (W.wants sink.new))) }
+    ensures cause { IfErr result (λ e. SendCause e (S.faults source.old) (S.faults source.new) (W.faults sink.old) (W.faults sink.new)) }
+    ensures fetched { FileFetched (S.content source.old) (asked (columns_of columns.entry) limit) (S.fetched source.old) (S.fetched source.new) }
+    ensures kept { SourceKept S.content S.faults S.references source.old source.new }
+    ensures sink { SinkKept W.faults W.wants W.references sink.old sink.new }
+{
+    let file = read_plain_metadata(alloc, source)?;
+    send_columns(alloc, source, sink, &file, columns, limit, encoding)
+}

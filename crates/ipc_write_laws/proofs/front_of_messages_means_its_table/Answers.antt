@@ -1,0 +1,5 @@
+use Rattle.ipc_write_laws.proofs.Messages.{messages_front_means}
+use Rattle.ipc_write_laws.proofs.front_of_messages_means_its_table.Goals as goal
+
+pub returns : goal.returns
+returns c = messages_front_means
