@@ -89,8 +89,8 @@ class Column:
         self.rows, self.nulls, self.pieces, self.views = rows, nulls, pieces, views
 
 
-def batch(rows, columns, step=64):
-    """The message and the body of a batch, whose buffers each begin at a multiple of step; the body has whole 64s."""
+def batch_tables(rows, columns, step=64):
+    """The tables of a batch and its body, whose buffers each begin at a multiple of step; the body has whole 64s."""
     body = bytearray()
     buffers = []
     for column in columns:
@@ -101,8 +101,13 @@ def batch(rows, columns, step=64):
     body += bytes(up_to(64, len(body)) - len(body))
     nodes = [struct.pack("<qq", c.rows, c.nulls) for c in columns]
     views = [c.views for c in columns if c.views is not None]
-    header = Table(number(8, rows), Structs(nodes), Structs(buffers), None, Numbers64(views) if views else None)
-    return message(3, header, len(body)), bytes(body)
+    return Table(number(8, rows), Structs(nodes), Structs(buffers), None, Numbers64(views) if views else None), bytes(body)
+
+
+def batch(rows, columns, step=64):
+    """The message and the body of a batch."""
+    header, body = batch_tables(rows, columns, step)
+    return message(3, header, len(body)), body
 
 
 MAGIC = b"ARROW1\0\0"

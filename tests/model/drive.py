@@ -1,4 +1,4 @@
-"""Runs the built program on random files of all kinds but dictionaries, by their names and as hex text, in random columns and up
+"""Runs the built program on random files of all kinds, half of them with dictionaries, by their names and as hex text, in random columns and up
 to random limits, as bytes and as hex text: python3 drive.py PROGRAM COUNT SEED. Prints what differs; the status is 0 where nothing does."""
 import random
 import subprocess
@@ -7,6 +7,7 @@ import tempfile
 from argparse import Namespace
 from pathlib import Path
 
+import fuzz_dictionaries
 import fuzz_nested
 
 
@@ -28,7 +29,7 @@ def words_of(asked):
 
 def differs(program, folder, r):
     asked = request_of(r)
-    file, stream = fuzz_nested.case(r, asked)
+    file, stream = r.choice([fuzz_nested, fuzz_dictionaries]).case(r, asked)
     words = words_of(asked)
     by_name, raw = r.choice([True, False]), r.choice([True, False])
     given = b""

@@ -27,11 +27,13 @@ def schema_kind(kind):
         return name, [schemas.field(f"f{i}", schema_kind(k)) for i, k in enumerate(kind[1:])]
     if name == "union":
         return name, kind[1], list(kind[2]), [schemas.field(f"u{i}", schema_kind(k)) for i, k in enumerate(kind[3:])]
+    if name == "dictionary":
+        return (*kind[:4], schema_kind(kind[4]))
     return kind
 
 
-def held_batch(r, rows, columns, version):
-    """Buffers at multiples of 8 in any order, with gaps."""
+def held_tables(r, rows, columns):
+    """The tables of a batch and its body, with buffers at multiples of 8 in any order, with gaps."""
     pieces = [(c, p, piece) for c, held in enumerate(columns) for p, piece in enumerate(held.pieces)]
     r.shuffle(pieces)
     body, places = b"", {}
@@ -42,23 +44,27 @@ def held_batch(r, rows, columns, version):
     buffers = [struct.pack("<qq", places[c, p], len(piece)) for c, held in enumerate(columns) for p, piece in enumerate(held.pieces)]
     nodes = [struct.pack("<qq", c.rows, c.nulls) for c in columns]
     views = [c.views for c in columns if c.views is not None]
-    header = Table(number(8, rows), Structs(nodes), Structs(buffers), None, Numbers64(views) if views else None)
+    return Table(number(8, rows), Structs(nodes), Structs(buffers), None, Numbers64(views) if views else None), body
+
+
+def held_batch(r, rows, columns, version):
+    header, body = held_tables(r, rows, columns)
     return arrow.message(3, header, len(body), version), body
 
 
-def file_of(fields, order, batches, version):
+def file_of(fields, order, batches, version, dictionaries=()):
+    """The dictionary messages stand before the batches, and both in the footer in this order."""
     table = schemas.schema_table(fields, {}, order)
     parts = [arrow.MAGIC, arrow.message(1, table, 0, version)]
-    blocks = []
-    for head, body in batches:
-        blocks.append(struct.pack("<qiiq", sum(map(len, parts)), len(head), 0, len(body)))
-        parts += [head, body]
-    footer = lay(footer_table(fields, order, blocks, version))
+    lists = []
+    for messages in (dictionaries, batches):
+        blocks = []
+        for head, body in messages:
+            blocks.append(struct.pack("<qiiq", sum(map(len, parts)), len(head), 0, len(body)))
+            parts += [head, body]
+        lists.append(Structs(blocks))
+    footer = lay(Table(Value(2, version), table, *lists))
     return b"".join(parts + [arrow.END, footer + struct.pack("<i", len(footer)) + b"ARROW1"])
-
-
-def footer_table(fields, order, blocks, version):
-    return Table(Value(2, version), schemas.schema_table(fields, {}, order), Structs([]), Structs(blocks))
 
 
 def case(r, asked):
@@ -90,7 +96,7 @@ def top_kind(r, unions, order):
             return kind
 
 
-def main():
+def main(case):
     words = argparse.ArgumentParser()
     words.add_argument("folder")
     words.add_argument("count", type=int)
@@ -110,4 +116,4 @@ def main():
 
 
 if __name__ == "__main__":
-    main()
+    main(case)

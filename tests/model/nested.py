@@ -1,7 +1,8 @@
-"""Columns of any kind but dictionaries, with their children: what a file holds of them, and what its stream does.
+"""Columns of any kind, with their children: what a file holds of them, and what its stream does.
 
 A kind is a tuple as in arrow.py, or ("list", kind), ("large_list", kind), ("fixed_list", size, kind),
-("map", key kind, value kind), ("struct", kind, ..) or ("union", mode, ids, kind, ..).
+("map", key kind, value kind), ("struct", kind, ..), ("union", mode, ids, kind, ..) or ("dictionary", index, is ordered, id, kind),
+whose values stand in messages of their own.
 """
 import struct
 
@@ -46,6 +47,8 @@ INTERVALS = {"year_month": [4], "day_time": [4, 4], "month_day_nano": [4, 4, 8]}
 def widths_of(kind):
     if kind[0] == "interval":
         return INTERVALS[kind[1]]
+    if kind[0] == "dictionary":
+        return WIDTHS[kind[1]]
     return WIDTHS.get(kind[0])
 
 
@@ -228,6 +231,8 @@ def random_array(r, kind, rows):
         return random_union(r, kind, rows)
     if name == "null":
         return Array(kind, rows, None)
+    if name == "dictionary":
+        return random_keys(r, kind, rows, flags)
     if name == "boolean":
         return Array(kind, rows, flags, values=[r.random() < 0.5 for _ in range(rows)])
     if name in ("utf8", "large_utf8", "binary", "large_binary"):
@@ -236,6 +241,20 @@ def random_array(r, kind, rows):
         return random_views(r, kind, rows, flags)
     width = kind[1] if name == "fixed" else sum(widths_of(kind))
     return Array(kind, rows, flags, data=garbage(r, width * rows), width=width)
+
+
+def random_keys(r, kind, rows, flags):
+    """Keys of the values that stand under the id, whose number r.cells tells; where there are none, all rows are null."""
+    cells, (width,) = r.cells[kind[3]], widths_of(kind)
+    if cells == 0:
+        flags = [False] * rows
+    keys = b""
+    for i in range(rows):
+        if flags is None or flags[i]:
+            keys += r.randrange(cells).to_bytes(width, "little")
+        else:
+            keys += garbage(r, width)
+    return Array(kind, rows, flags, data=keys, width=width)
 
 
 def random_union(r, kind, rows):

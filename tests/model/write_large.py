@@ -1,4 +1,4 @@
-"""Writes crates/tests_files/src/large_parts.rt, which `rt fmt` in that crate then lays out: hex text of files and streams, of
+"""Writes crates/tests_streams/src/large_parts.rt, which `rt fmt` in that crate then lays out: hex text of files and streams, of
 which one piece stands again and again."""
 import struct
 from pathlib import Path
@@ -7,7 +7,7 @@ import arrow
 from arrow import Column
 from layout import Structs, Table, Value, lay
 
-OUT = Path(__file__).parents[2] / "crates/tests_files/src/large_parts.rt"
+OUT = Path(__file__).parents[2] / "crates/tests_streams/src/large_parts.rt"
 EIGHT = struct.pack("<8q", *range(1, 9))
 TEXT = ("Ünwiderruflich " * 4).encode()
 assert len(EIGHT) == 64 and len(TEXT) == 64

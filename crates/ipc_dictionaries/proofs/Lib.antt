@@ -1,2 +1,12 @@
 pub mod Runs
 pub mod Places
+pub mod Rests
+pub mod ShapeSteps
+pub mod Ids
+pub mod ChangeSteps
+pub mod UsedSteps
+pub mod Walking
+pub mod PartSteps
+pub mod Leaves
+pub mod ColumnSteps
+pub mod BatchSteps

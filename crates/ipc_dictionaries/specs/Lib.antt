@@ -1,2 +1,9 @@
 pub mod Standing
 pub mod Tracker
+pub mod NewDictionaries
+pub mod Used
+pub mod Changes
+pub mod Walks
+pub mod Shapes
+pub mod Columns
+pub mod Batches

@@ -1,5 +1,5 @@
 //! How the values of a dictionary stand to those that are held under its id: by the rows of all parts, one after another.
-ghost use Rattle.std.specs.Prelude.{◌≡◌, ◌⊎◌, ◌≢◌, ◌↔◌, ◌≤◌, ◌++◌, length, take, slice_index_or, IfSome, IfNone, IsTrue, Some, true};
+ghost use Rattle.std.specs.Prelude.{◌≡◌, ◌≢◌, ◌↔◌, ◌++◌, length, take, slice_index_or, IfSome, IfNone, IsTrue, Some, true};
 ghost use Rattle.std.specs.List.{sum};
 ghost use Rattle.arrow_types.specs.KindOf.{kind_of};
 ghost use Rattle.arrow_arrays.specs.Heads.{each_of, values_kind};
@@ -30,14 +30,6 @@ pub(crate) struct Place {
     row: usize,
 }
 
-fn lesser(a: usize, b: usize) -> usize
-    ensures a { result ≤ a }
-    ensures b { result ≤ b }
-    ensures one { (result ≡ a) ⊎ (result ≡ b) }
-{
-    if a < b { a } else { b }
-}
-
 /// The place behind an array's rows, where they are those that stand from a place on.
 fn place_behind(array: &Array, parts: &[Array], from: Place) -> Option<Place>
     requires { IsPlace parts.now from }
@@ -53,7 +45,7 @@ fn place_behind(array: &Array, parts: &[Array], from: Place) -> Option<Place>
     for i in from.part..parts.len() {
         let part = &parts[i];
         let others = part.len();
-        let count = lesser(rows - row, others - start);
+        let count = (rows - row).min(others - start);
         if !have_same_rows(array, row, count, part, start, count) {
             return None;
         }

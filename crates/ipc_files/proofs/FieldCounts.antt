@@ -3,7 +3,7 @@ use Rattle.std.proofs.Common.{◌≡◌, suc, List, [], ◌∷◌, length, map, 
 use Rattle.std.specs.Rc.{rc_value}
 use Rattle.std.proofs.lemmas.Bool.{and_parts}
 use Rattle.arrow_types.specs.Schemas.{Keyed, fields_in}
-use Rattle.ipc_fields.specs.IpcFields.{ids_from, have_shapes, tree_of, Tree}
+use Rattle.ipc_fields.specs.IpcFields.{ids_from, ids_of, have_shapes, tree_of, Tree}
 use Rattle.ipc_fields.specs.declared.ipc_field.IpcField.{IpcField}
 use Rattle.ipc_files.specs.FileViews.{IsReadable}
 use Rattle.ipc_files.specs.declared.metadata.FileMetadata.{FileMetadata}
@@ -21,5 +21,8 @@ as_many_trees [] = refl
 as_many_trees (f ∷ fs) = ap (λ n. suc n) (as_many_trees fs)
 
 -- there is one for each field
+pub fields_counted : (s : List Keyed) (fs : List IpcField) → have_shapes (fields_in s) (ids_of fs) ≡ true → length fs ≡ length s
+fields_counted s fs h = sym (as_many_trees fs) ∙ as_many s (map tree_of fs) h
+
 pub field_count : (file : FileMetadata) → IsReadable file → length file.ipc_schema.fields.items ≡ length (rc_value file.schema)
-field_count file w = sym (as_many_trees file.ipc_schema.fields.items) ∙ as_many (rc_value file.schema) (map tree_of file.ipc_schema.fields.items) w.shapes
+field_count file w = fields_counted (rc_value file.schema) file.ipc_schema.fields.items w.shapes

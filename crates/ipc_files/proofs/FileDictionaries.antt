@@ -4,13 +4,16 @@ use Rattle.std.specs.BTreeMap.{BTreeMap}
 use Rattle.arrow_spec.specs.declared.error.IpcError.{IpcError}
 use Rattle.arrow_spec.specs.Readings.{Refuses, bind, refusals}
 use Rattle.arrow_spec.specs.Arrays.{Dictionaries}
-use Rattle.arrow_spec.specs.Files.{FileBlock, Meta, block_body, block_message, dictionaries_of, dictionary_of}
+use Rattle.arrow_spec.specs.Files.{FileBlock, Meta, block_body, block_message, dictionaries_of, dictionary_of, record_batch_of}
+use Rattle.arrow_spec.specs.Counts.{magnitude}
+use Rattle.arrow_spec.specs.Flat.{order_by}
+use Rattle.arrow_spec.specs.Schema.{Schema}
 use Rattle.arrow_spec.specs.Kinds.{Fields, Kind, Metadata, same}
 use Rattle.arrow_spec.proofs.Projection.{on}
-use Rattle.arrow_types.specs.Schemas.{Keyed}
+use Rattle.arrow_types.specs.Schemas.{Keyed, fields_in}
 use Rattle.arrow_arrays.specs.declared.array.Array.{Array}
 use Rattle.ipc_fields.specs.Causes.{Decodes}
-use Rattle.ipc_fields.specs.IpcFields.{Ids, schema_with}
+use Rattle.ipc_fields.specs.IpcFields.{Ids, fields_with, schema_with}
 use Rattle.ipc_fields.proofs.SameKinds.{id_true}
 use Rattle.ipc_io.specs.Outside.{IsSize}
 use Rattle.ipc_schema.specs.Headers.{dictionary_message, dictionary_message_of}
@@ -18,13 +21,15 @@ use Rattle.ipc_schema.specs.Views.{header_of}
 use Rattle.ipc_schema.specs.declared.message.DictionaryMessage.{DictionaryMessage}
 use Rattle.ipc_read_laws.specs.Held.{Held, HasKind, HoldsCells, none_held}
 use Rattle.ipc_read_laws.proofs.Keys.{holds_none}
-use Rattle.ipc_read.specs.DictionaryBatches.{AddsDictionary, HasKindOf, dictionary_reading, message_of, values_of_id}
+use Rattle.transcode_laws.specs.Files.{HeaderFits}
+use Rattle.ipc_read.specs.DictionaryBatches.{AddsDictionary, HasKindOf, HoldsPart, dictionary_reading, message_of, values_of_id}
 use Rattle.ipc_read.specs.Held.{held_in}
 use Rattle.ipc_read.specs.Sources.{bytes_in}
 use Rattle.ipc_read.specs.declared.body.Body.{Body}
 use Rattle.ipc_files.specs.Blocks.{body_place}
 use Rattle.ipc_files.specs.FileBlocks.{GivesIn, message_metadata}
-use Rattle.ipc_files.specs.FileDictionaries.{DictionaryIn, HoldsUses, ReadsDictionaries, block_dictionary, block_values}
+use Rattle.ipc_files.specs.FileDictionaries.{DictionaryIn, HoldsBlock, HoldsUses, ReadsDictionaries, block_dictionary, block_values}
+use Rattle.ipc_files.proofs.ReadFiles.{order_as}
 use Rattle.ipc_files.proofs.BlockMessages.{bind_ok, bind_twice, read_of, refused_first}
 
 -- ── the message of a block ──
@@ -69,6 +74,37 @@ values_added (Some b) content' meta s below order pairs h h' size id block m bod
     let a2 : Added content' s below order h h' (length b) m.id m (body_place block) result = subst (λ p. Added content' s below order h h' (length b) m.id m p result) place a1 in
     let a3 : Added (Some b) s below order h h' (length b) m.id m (body_place block) result = subst (λ w. Added w s below order h h' (length b) m.id m (body_place block) result) kept a2 in
     λ d holds. subst (λ r. AddsDictionary d h' result r) (sym (values_read b meta s below order pairs d block m same is)) (a3 d holds)
+
+-- the same of a result that is another's
+pub added_as : (content : Option (List ℕ)) (meta : Meta) (h h' : Held) (block : FileBlock) (r r' : Result (Unit {0}) IpcError) → r ≡ r' → IfSome content (λ b. (d : Dictionaries) → HoldsCells d h → AddsDictionary d h' r (block_values b meta d block))
+    → IfSome content (λ b. (d : Dictionaries) → HoldsCells d h → AddsDictionary d h' r' (block_values b meta d block))
+added_as content meta h h' block r r' same adds = subst (λ q. IfSome content (λ b. (d : Dictionaries) → HoldsCells d h → AddsDictionary d h' q (block_values b meta d block))) same adds
+
+-- what a batch of a block holds, where bytes are told
+abbrev HeldFrom : Option (List ℕ) → List Keyed → Ids → Bool → Held → Held → ℤ → DictionaryMessage → Body → Type 0
+HeldFrom content s below order h h' id m body =
+    IfSome content (λ b. (d : Dictionaries) → HoldsCells d h → HoldsPart h h' id m.is_delta (values_of_id (fields_with (fields_in s) below) id) (record_batch_of (order_by order) m.version (header_of m.header) (bytes_in body b)) (magnitude (header_of m.header).length))
+
+pub values_held : (content content' : Option (List ℕ)) (meta : Meta) (s : List Keyed) (below : Ids) (order : Bool) (pairs : Metadata) (h h' : Held) (id : ℤ) (block : FileBlock) (m : DictionaryMessage) (body : Body) → meta.schema ≡ schema_with s below order pairs → id ≡ m.id
+    → content' ≡ content → body ≡ body_place block → DictionaryIn content block (Ok m) → HeaderFits (header_of m.header) → HeldFrom content' s below order h h' id m body → ((q : ℤ) → same id q ≡ false → h' q ≡ h q)
+    → IfSome content (λ b. (d : Dictionaries) → HoldsCells d h → HoldsBlock b meta block h h' m.id)
+values_held None content' meta s below order pairs h h' id block m body schema one kept place is fits part others = tt
+values_held (Some b) content' meta s below order pairs h h' id block m body schema one kept place is fits part others =
+    let p0 : HeldFrom content' s below order h h' m.id m body = subst (λ q. HeldFrom content' s below order h h' q m body) one part in
+    let p1 : HeldFrom content' s below order h h' m.id m (body_place block) = subst (λ p. HeldFrom content' s below order h h' m.id m p) place p0 in
+    let p2 : HeldFrom (Some b) s below order h h' m.id m (body_place block) = subst (λ w. HeldFrom w s below order h h' m.id m (body_place block)) kept p1 in
+    let s1 : Schema = schema_with s below order pairs in
+    λ d holds.
+    let p3 : HoldsPart h h' m.id m.is_delta (values_of_id s1.fields m.id) (record_batch_of s1.order m.version (header_of m.header) (block_body b block)) (magnitude (header_of m.header).length) =
+    subst (λ o. HoldsPart h h' m.id m.is_delta (values_of_id (fields_with (fields_in s) below) m.id) (record_batch_of o m.version (header_of m.header) (block_body b block)) (magnitude (header_of m.header).length)) (order_as order) (p2 d holds) in
+    record {
+      message = dictionary_message_of m;
+      is = is;
+      fits = fits;
+      under = refl;
+      part = subst (λ (x : Schema). HoldsPart h h' m.id m.is_delta (values_of_id x.fields m.id) (record_batch_of x.order m.version (header_of m.header) (block_body b block)) (magnitude (header_of m.header).length)) (sym schema) p3;
+      others = subst (λ i. (q : ℤ) → same i q ≡ false → h' q ≡ h q) one others;
+    }
 
 -- a message that is refused
 pub values_refused : (content : Option (List ℕ)) (meta : Meta) (h h' : Held) (block : FileBlock) (result : Result (Unit {0}) IpcError) (e : IpcError) → result ≡ Err e → DictionaryIn content block (Err e)

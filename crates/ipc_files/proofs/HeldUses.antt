@@ -55,10 +55,10 @@ kind_through k l (Some parts) e h = each_same (plain_kind k) (plain_kind l) (kin
 -- ── uses that agree ──
 
 -- a use is of one kind with the first of its id
-record Agrees (whole : List Use) (u : Use) : Type 0 where
-  values : Kind
-  first : values_under u.id whole ≡ Some values
-  one : is_same_kind values u.values ≡ true
+pub record Agrees (whole : List Use) (u : Use) : Type 0 where
+  pub values : Kind
+  pub first : values_under u.id whole ≡ Some values
+  pub one : is_same_kind values u.values ≡ true
 
 -- what is known of an id behind some uses: its first use among them is of one kind with its first one of all, and an id that is none of theirs has its first one among those that follow
 record Known (whole done us : List Use) (id : ℤ) : Type 0 where
@@ -99,6 +99,10 @@ all_agree whole done (u ∷ us) known h =
     let agree = agrees whole done us u (known u.id) (only_true _ _ _ step.first) in
     (agree, all_agree whole (u ∷ done) us (λ id. known_next whole done us u id (known id) agree) step.rest)
 
+-- each use in fields is of one kind with the first of its id
+pub uses_one : (fs : Fields) → uses_agree [] (uses_in fs) ≡ Ok tt → AllByRecursion (Agrees (uses_in fs)) (uses_in fs)
+uses_one fs agree = all_agree (uses_in fs) [] (uses_in fs) (λ id. record { some = λ k is. cc; none = λ is. refl }) agree
+
 -- what is held under the id of a use is of the kind of its values
 abbrev pub IsHeld : Held → Use → Type 0
 IsHeld h u = IfSome (h u.id) (HasKind u.values)
@@ -110,15 +114,15 @@ held_uses h whole (u ∷ us) each all =
     (kind_through all.0.values u.values (h u.id) all.0.one first, held_uses h whole us each all.1)
 
 pub each_use : (h : Held) (fs : Fields) → uses_agree [] (uses_in fs) ≡ Ok tt → ((id : ℤ) → HasKindOf fs h id) → AllByRecursion (IsHeld h) (uses_in fs)
-each_use h fs agree each = held_uses h (uses_in fs) (uses_in fs) each (all_agree (uses_in fs) [] (uses_in fs) (λ id. record { some = λ k is. cc; none = λ is. refl }) agree)
+each_use h fs agree each = held_uses h (uses_in fs) (uses_in fs) each (uses_one fs agree)
 
 -- ── the uses of kinds and of fields ──
 
-split : (P : Use → Type 0) (us vs : List Use) → AllByRecursion P (us ++ vs) → AllByRecursion P us × AllByRecursion P vs
+pub split : (P : Use → Type 0) (us vs : List Use) → AllByRecursion P (us ++ vs) → AllByRecursion P us × AllByRecursion P vs
 split P [] vs h = (tt, h)
 split P (u ∷ us) vs h = let both = split P us vs h.1 in ((h.0, both.0), both.1)
 
-join : (P : Use → Type 0) (us vs : List Use) → AllByRecursion P us → AllByRecursion P vs → AllByRecursion P (us ++ vs)
+pub join : (P : Use → Type 0) (us vs : List Use) → AllByRecursion P us → AllByRecursion P vs → AllByRecursion P (us ++ vs)
 join P [] vs h g = g
 join P (u ∷ us) vs h g = (h.0, join P us vs h.1 g)
 

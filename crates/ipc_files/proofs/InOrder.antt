@@ -113,7 +113,7 @@ right_from n earlier (c ∷ cs) below once free =
         absurd (omega arith)
     by j d at false e = free (suc j) d at
 
-right_of_projection : (s : List Keyed) (columns : Option (List ℕ)) (p : ProjectionInfo) → MayProject s columns (Some p) → columns_right columns (length s) ≡ Ok tt
+pub right_of_projection : (s : List Keyed) (columns : Option (List ℕ)) (p : ProjectionInfo) → MayProject s columns (Some p) → columns_right columns (length s) ≡ Ok tt
 right_of_projection s None p h = absurd h
 right_of_projection s (Some cs) p h = right_from (length s) [] cs below once (λ j c at. refl)
   where

@@ -19,7 +19,7 @@ use Rattle.ipc_read_laws.specs.Held.{Held}
 use Rattle.transcode_laws.specs.Built.{so_far}
 use Rattle.transcode_laws.specs.Files.{ArePicked, AreAsked, HeaderFits, with_columns}
 use Rattle.transcode_laws.proofs.Refusals.{none_refuses}
-use Rattle.transcode_laws.proofs.RisingBatches.{rising_asked, rising_refuses}
+use Rattle.column_laws.proofs.RisingBatches.{rising_asked, rising_refuses}
 use Rattle.ipc_read.specs.Batches.{batch_reading, chosen_read, columns_asked, table_of}
 use Rattle.ipc_files.specs.FileBlocks.{block_record}
 use Rattle.ipc_files.specs.Blocks.{BlockRead, ReadsBlock}

@@ -44,7 +44,7 @@ of_err result e P is h = rw is h
 
 -- ── the columns of a file that are built ──
 
-order_as : (x : Bool) → order_by x ≡ (if x then little else big)
+pub order_as : (x : Bool) → order_by x ≡ (if x then little else big)
 order_as true = refl
 order_as false = refl
 

@@ -4,7 +4,8 @@ use Rattle.std.specs.Rc.{rc_value}
 use Rattle.arrow_spec.specs.declared.error.IpcError.{IpcError}
 use Rattle.arrow_spec.specs.Files.{Meta, meta_in}
 use Rattle.arrow_spec.specs.Laws.{AreBytes}
-use Rattle.arrow_spec.specs.Messages.{record_message}
+use Rattle.arrow_spec.specs.Messages.{DictionaryBatch, dictionary_at, record_message}
+use Rattle.arrow_spec.proofs.ReadPairs.{same_read, through}
 use Rattle.ipc_fields.specs.Causes.{Decodes}
 use Rattle.arrow_spec.specs.Kinds.{uses_in}
 use Rattle.arrow_spec.specs.Schema.{uses_agree}
@@ -13,8 +14,10 @@ use Rattle.arrow_spec.proofs.ReadFiles.{footer_schema_may}
 use Rattle.arrow_types.specs.Schemas.{Keyed, fields_in}
 use Rattle.ipc_fields.specs.IpcFields.{have_shapes, ids_of, schema_view}
 use Rattle.ipc_schema.specs.Footers.{footer_view}
-use Rattle.ipc_schema.specs.Views.{message_of}
+use Rattle.ipc_schema.specs.Headers.{DictionaryTables, dictionary_message, dictionary_message_of}
+use Rattle.ipc_schema.specs.Views.{header_of, message_of}
 use Rattle.ipc_schema.specs.declared.footer.Footer.{Footer}
+use Rattle.ipc_schema.specs.declared.message.DictionaryMessage.{DictionaryMessage}
 use Rattle.ipc_schema.specs.declared.message.RecordMessage.{RecordMessage}
 use Rattle.transcode_laws.specs.Files.{HeaderFits}
 use Rattle.transcode_laws.proofs.Headers as headers
@@ -26,6 +29,20 @@ use Rattle.ipc_files.proofs.ReadColumns.{fields_column}
 pub header_fits : (bytes : List ℕ) (r : Result RecordMessage IpcError) → AreBytes bytes → Decodes message_of r (record_message bytes) → IfOk r (λ m. HeaderFits (message_of m).tables)
 header_fits bytes (Ok m) b h = headers.message_read bytes (message_of m) b h
 header_fits bytes (Err e) b h = tt
+
+-- the message of a dictionary
+values_fits : (bytes : List ℕ) (x : DictionaryTables) → AreBytes bytes → dictionary_message bytes ≡ Ok x → HeaderFits x.dictionary.values
+unfolding dictionary_message dictionary_at
+values_fits bytes x b h =
+    through _ _ x h λ found found_is h1. through _ _ x h1 λ y y_is h2. through _ _ x h2 λ version version_is h3.
+    let values : HeaderFits y.values =
+    through _ _ y y_is λ id id_is k1. through _ _ y k1 λ delta delta_is k2. through _ _ y k2 λ t t_is k3. through _ _ y k3 λ tables tables_are k4.
+    subst (λ (z : DictionaryBatch). HeaderFits z.values) (same_read _ y k4) (headers.header_read bytes t tables b tables_are) in
+    subst (λ (z : DictionaryTables). HeaderFits z.dictionary.values) (same_read _ x h3) values
+
+pub dictionary_fits : (bytes : List ℕ) (r : Result DictionaryMessage IpcError) → AreBytes bytes → Decodes dictionary_message_of r (dictionary_message bytes) → IfOk r (λ m. HeaderFits (header_of m.header))
+dictionary_fits bytes (Ok m) b h = values_fits bytes (dictionary_message_of m) b h
+dictionary_fits bytes (Err e) b h = tt
 
 -- metadata means what its footer does, whose schema it shares
 pub same_meta : (m : FileMetadata) (footer : Footer) → rc_value m.schema ≡ footer.schema → m.ipc_schema ≡ footer.ipc_schema → m.custom_schema_metadata ≡ footer.custom_metadata → m.blocks ≡ footer.blocks → m.dictionaries ≡ footer.dictionaries → meta_view m ≡ footer_view footer

@@ -1,20 +1,23 @@
 -- What is read of a file's dictionary blocks. (Arrow Columnar Format, "IPC File Format", "Dictionary Messages".)
-use Rattle.std.specs.Prelude.{◌≡◌, ℕ, ◌+◌, ◌≤◌, List, [], length, sum_by, false, ⊤, Option, Some, None, Ok, Result, IfOk, IfErr, ℤ}
+use Rattle.std.specs.Prelude.{◌≡◌, ℕ, ◌+◌, ◌≤◌, List, [], length, sum_by, false, ⊤, Option, Some, None, Ok, Err, Result, IfOk, IfErr, ℤ}
 use Rattle.std.specs.BTreeMap.{BTreeMap}
 use Rattle.std.specs.declared.alloc.Global.{Global}
 use Rattle.std.specs.declared.vec.Vec.{Vec}
 use Rattle.arrow_spec.specs.declared.error.IpcError.{IpcError}
 use Rattle.arrow_spec.specs.Readings.{Reading, Gives, Refuses, meaning, refusals, ◌>>=◌}
 use Rattle.arrow_spec.specs.Arrays.{Dictionaries, HeldDictionary}
-use Rattle.arrow_spec.specs.Files.{FileBlock, Meta, Request, TableBatch, batch_of, block_body, dictionaries_of, dictionary_of, to_read}
+use Rattle.arrow_spec.specs.Files.{FileBlock, Meta, Request, TableBatch, batch_of, block_body, dictionaries_of, dictionary_of, record_batch_of, to_read}
+use Rattle.arrow_spec.specs.Counts.{magnitude}
+use Rattle.arrow_spec.specs.Kinds.{same}
 use Rattle.arrow_spec.specs.Needed.{lengths, or_nothing}
 use Rattle.arrow_arrays.specs.declared.array.Array.{Array}
 use Rattle.file_laws.specs.Fetched.{dictionary_fetched}
 use Rattle.transcode_laws.specs.Built.{so_far}
+use Rattle.transcode_laws.specs.Files.{HeaderFits}
 use Rattle.ipc_schema.specs.Headers.{DictionaryTables, dictionary_message, dictionary_message_of}
 use Rattle.ipc_schema.specs.declared.message.DictionaryMessage.{DictionaryMessage}
 use Rattle.ipc_read_laws.specs.Held.{Held, HoldsCells}
-use Rattle.ipc_read.specs.DictionaryBatches.{HasKindOf}
+use Rattle.ipc_read.specs.DictionaryBatches.{HasKindOf, HoldsPart, values_of_id}
 use Rattle.ipc_read.specs.Held.{held_in}
 use Rattle.ipc_files.specs.Blocks.{asked_under}
 use Rattle.ipc_files.specs.Fetching.{block_cost}
@@ -35,6 +38,21 @@ block_values b meta d block = block_dictionary b block >>= λ m. dictionary_of m
 -- under each id of a file's schema the parts are of the kind of its values
 abbrev pub HoldsUses : Meta → Held → Type 0
 HoldsUses meta h = (id : ℤ) → HasKindOf meta.schema.fields h id
+
+-- The values of a dictionary block are held under its id: the part behind those before it is the one of the block's buffers, whose numbers have 64 bits.
+pub record HoldsBlock (b : List ℕ) (meta : Meta) (block : FileBlock) (old new : Held) (id : ℤ) : Type 0 where
+  pub message : DictionaryTables
+  pub is : block_dictionary b block ≡ Ok message
+  pub fits : HeaderFits message.dictionary.values
+  pub under : id ≡ message.dictionary.id
+  pub part : HoldsPart old new id message.dictionary.is_delta (values_of_id meta.schema.fields id)
+      (record_batch_of meta.schema.order message.version message.dictionary.values (block_body b block)) (magnitude message.dictionary.values.length)
+  pub others : (q : ℤ) → same id q ≡ false → new q ≡ old q
+
+-- that something was done, or why not
+abbrev pub done : {A : Type 0} → Result A IpcError → Result (Unit {0}) IpcError
+done (Ok x) = Ok tt
+done (Err e) = Err e
 
 -- a map holds what these blocks say behind those that were read before, or they are refused
 pub record ReadsDictionaries (b : List ℕ) (meta : Meta) (blocks : List FileBlock) (result : Result (BTreeMap ℤ (Vec Array Global)) IpcError) : Type 0 where

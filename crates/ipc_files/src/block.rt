@@ -2,7 +2,8 @@
 ghost use Rattle.std.specs.Prelude.{◌≡◌, ◌+◌, ◌≤◌, ◌<◌, ◌^◌, IfOk, IfErr, OnOk};
 ghost use Rattle.ipc_fields.specs.Causes.{Decodes};
 ghost use Rattle.ipc_io.specs.Outside.{IsSize, SourceKept};
-ghost use Rattle.ipc_schema.specs.Views.{message_of};
+ghost use Rattle.ipc_schema.specs.Headers.{dictionary_message, dictionary_message_of};
+ghost use Rattle.ipc_schema.specs.Views.{header_of, message_of};
 ghost use Rattle.transcode_laws.specs.Files.{HeaderFits};
 ghost use Rattle.ipc_files.specs.FileBlocks.{block_header, message_metadata, plain_message, Lies, PrefixIn, BlockIn, GivesIn, file_block};
 ghost use Rattle.ipc_files.specs.FileDictionaries.{DictionaryIn};
@@ -58,6 +59,14 @@ fn message_in(alloc: Global, bytes: &[u8]) -> Result<RecordMessage, IpcError>
     let message = read_record_message(alloc, bytes)?;
     refuse_message_pairs(bytes)?;
     Ok(message)
+}
+
+/// The message of a dictionary in some bytes.
+fn dictionary_in(alloc: Global, bytes: &[u8]) -> Result<DictionaryMessage, IpcError>
+    ensures gives { Decodes dictionary_message_of result (dictionary_message bytes.now) }
+    ensures fits { IfOk result (λ m. HeaderFits (header_of m.header)) }
+{
+    read_dictionary_message(alloc, bytes)
 }
 
 /// The metadata of the message in a block of a file of `size` bytes, behind its prefix.
@@ -120,12 +129,13 @@ pub(crate) fn read_block_dictionary<S: Source>(
     requires { IsSize (S.content source.old) size }
     ensures within { OnOk result ((file_block block.now).offset + (file_block block.now).metadata + (file_block block.now).body ≤ size) }
     ensures message { DictionaryIn (S.content source.old) (file_block block.now) result }
+    ensures fits { IfOk result (λ m. HeaderFits (header_of m.header)) }
     ensures cause { IfErr result (λ e. FileCause e (S.faults source.old) (S.faults source.new)) }
     ensures fetched { MetadataFetched (S.content source.old) (file_block block.now) (S.fetched source.old) (S.fetched source.new) }
     ensures kept { SourceKept S.content S.faults S.references source.old source.new }
 {
     let bytes = fetch_metadata(alloc, source, block, size)?;
-    read_dictionary_message(alloc, &bytes)
+    dictionary_in(alloc, &bytes)
 }
 
 /// The message of a record batch in a block of a file of `size` bytes, whatever pairs it has; of the block, the prefix and

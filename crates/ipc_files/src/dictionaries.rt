@@ -6,7 +6,7 @@ ghost use Rattle.ipc_read.specs.DictionaryBatches.{AddsDictionary};
 ghost use Rattle.ipc_read.specs.Held.{held_in};
 ghost use Rattle.ipc_read_laws.specs.Held.{HoldsCells};
 ghost use Rattle.ipc_files.specs.FileBlocks.{file_block};
-ghost use Rattle.ipc_files.specs.FileDictionaries.{block_values, DictionariesFetched, DictionaryFetched, HoldsUses, ReadsDictionaries};
+ghost use Rattle.ipc_files.specs.FileDictionaries.{block_values, done, DictionariesFetched, DictionaryFetched, HoldsBlock, HoldsUses, ReadsDictionaries};
 ghost use Rattle.ipc_files.specs.FileViews.{meta_view, FileCause, IsReadable};
 
 use crate::batch::place_of_body;
@@ -17,19 +17,27 @@ use ipc_read::{Dictionaries, read_dictionary_batch};
 use ipc_schema::Source;
 use std::alloc::Global;
 
-/// The values of a dictionary block, behind those of the blocks before it.
-fn read_dictionary_block<S: Source>(
+/// Reads the values of a dictionary block, behind those of the blocks before it, and answers their id. The first values of
+/// an id are no delta, and all others are.
+///
+/// # Errors
+///
+/// As of `read_file_dictionaries`; then the map is as it was.
+pub fn read_dictionary_block<S: Source>(
     alloc: Global,
     source: &mut S,
     block: &Block,
     file: &FileMetadata,
     dictionaries: &mut Dictionaries,
     scratch: &mut Vec<u8>,
-) -> Result<(), IpcError>
+) -> Result<i64, IpcError>
     requires read { IsReadable file.now }
     requires uses { HoldsUses (meta_view file.now) (held_in dictionaries.old) }
     requires whole { IsSize (S.content source.old) file.now.size }
-    ensures adds { IfSome (S.content source.old) (λ b. (d : History) → HoldsCells d (held_in dictionaries.old) → AddsDictionary d (held_in dictionaries.new) result (block_values b (meta_view file.now) d (file_block block.now))) }
+    ensures adds { IfSome (S.content source.old) (λ b. (d : History) → HoldsCells d (held_in dictionaries.old) → AddsDictionary d (held_in dictionaries.new) (done result) (block_values b (meta_view file.now) d (file_block block.now))) }
+
+    // The last part under the id is the one of the block's buffers.
+    ensures part { IfOk result (λ id. IfSome (S.content source.old) (λ b. (d : History) → HoldsCells d (held_in dictionaries.old) → HoldsBlock b (meta_view file.now) (file_block block.now) (held_in dictionaries.old) (held_in dictionaries.new) id)) }
     ensures uses { IfOk result (λ _. HoldsUses (meta_view file.now) (held_in dictionaries.new)) }
     ensures cause { IfErr result (λ e. FileCause e (S.faults source.old) (S.faults source.new)) }
     ensures fetched { DictionaryFetched (S.content source.old) (meta_view file.now) (file_block block.now) (S.fetched source.old) (S.fetched source.new) }
@@ -50,7 +58,8 @@ fn read_dictionary_block<S: Source>(
         place_of_body(block),
         file.size,
         scratch,
-    )
+    )?;
+    Ok(message.id)
 }
 
 /// Reads the dictionaries of a file, in the footer's order: of each id at most one that is no delta, and it is the first.

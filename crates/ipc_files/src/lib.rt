@@ -12,7 +12,7 @@ mod row_counts;
 
 pub use batch::{read_batch, read_block};
 pub use block::read_block_header;
-pub use dictionaries::read_file_dictionaries;
+pub use dictionaries::{read_dictionary_block, read_file_dictionaries};
 pub use ipc_read::Dictionaries;
 pub use ipc_schema::{Footer, RecordMessage, decode_footer_len, deserialize_footer};
 pub use metadata::{FileMetadata, metadata_of, read_file_metadata, read_plain_metadata};

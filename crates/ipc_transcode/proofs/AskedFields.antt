@@ -1,21 +1,22 @@
 -- The fields that are asked for by their numbers: which of them are sent, and that dictionary ids change nothing in those.
-use Rattle.std.proofs.Common.{◌≡◌, ℕ, zero, suc, ◌+◌, List, [], ◌∷◌, length, map, drop, get_or, ◌<◌, Option, Some, None, Bool, true, false, ◌&&◌, ◌||◌, refl, sym, ap, ◌∙◌, subst, arith}
+use Rattle.std.proofs.Common.{◌≡◌, ℕ, zero, suc, ◌+◌, List, [], ◌∷◌, ◌++◌, length, map, drop, get_or, ◌<◌, Option, Some, None, Bool, true, false, ◌&&◌, ◌||◌, refl, sym, ap, ◌∙◌, subst, arith}
 use Rattle.std.specs.Prelude.{slice_get, nat_eq}
 use Rattle.std.proofs.lemmas.Option.{slice_get-get_or}
 use Rattle.std.proofs.lemmas.Bool.{and_parts, and_from, eqb-true, or_left, or_right}
 use Rattle.arrow_spec.specs.Columns.{stands_in}
 use Rattle.arrow_spec.specs.Files.{fields_as_asked, fields_asked, with_field_at}
-use Rattle.arrow_spec.specs.Kinds.{Fields, none, field}
+use Rattle.arrow_spec.specs.Kinds.{Fields, none, field, numbered}
 use Rattle.arrow_types.specs.Child.{Child}
 use Rattle.arrow_types.specs.Schemas.{Keyed, fields_in}
 use Rattle.std.specs.Rc.{rc_value}
-use Rattle.ipc_fields.specs.IpcFields.{Ids, no_fields, ids, ids_of, fields_with}
+use Rattle.ipc_fields.specs.IpcFields.{Ids, no_fields, ids, ids_of, fields_with, Tree, ids_from, kind_with, tree_of}
 use Rattle.transcode_laws.specs.Built.{are_sent_fields, is_sent_kind}
 use Rattle.transcode_laws.specs.Files.{ArePicked, AreAsked}
 use Rattle.ipc_files.specs.FileViews.{meta_view}
 use Rattle.ipc_transcode.specs.FileViews.{AreSentColumns, IsBuilt}
 use Rattle.ipc_files.specs.declared.metadata.FileMetadata.{FileMetadata}
-use Rattle.ipc_transcode.proofs.SentFields.{child_in, fields_stay, ids_aside, kind_stays, same_sent}
+use Rattle.ipc_transcode.proofs.SentFields.{child_in, ids_aside, numbers_put, numbers_with, same_sent}
+use Rattle.ipc_fields.specs.declared.ipc_field.IpcField.{IpcField}
 
 -- ── fields at numbers ──
 
@@ -60,21 +61,14 @@ rest_sent none c others h = h
 rest_sent (field name nullable metadata k fs) zero others h = (and_parts (is_sent_kind k) (are_sent_fields others) h).1
 rest_sent (field name nullable metadata k fs) (suc c) others h = rest_sent fs c others h
 
--- and change nothing in those that are sent
-put_stays : (fs : Fields) (below : Ids) (c : ℕ) (others : Fields) → are_sent_fields (with_field_at fs c others) ≡ true → with_field_at (fields_with fs below) c others ≡ with_field_at fs c others
-put_stays none below c others h = refl
-put_stays (field name nullable metadata k fs) no_fields zero others h = ap (λ l. field name nullable metadata l others) (kind_stays k None no_fields (and_parts (is_sent_kind k) (are_sent_fields others) h).0)
-put_stays (field name nullable metadata k fs) (ids id below more) zero others h = ap (λ l. field name nullable metadata l others) (kind_stays k id below (and_parts (is_sent_kind k) (are_sent_fields others) h).0)
-put_stays (field name nullable metadata k fs) no_fields (suc c) others h = put_stays fs no_fields c others h
-put_stays (field name nullable metadata k fs) (ids id below more) (suc c) others h = put_stays fs more c others h
+-- nor in how they are numbered
+numbers_renewed : (fs : Fields) (below : Ids) (cs : List ℕ) (n : ℕ) → numbered (fields_asked (fields_with fs below) cs) n ≡ numbered (fields_asked fs cs) n
+numbers_renewed fs below [] n = refl
+numbers_renewed fs below (c ∷ cs) n = numbers_put fs below c (fields_asked (fields_with fs below) cs) (fields_asked fs cs) n (λ m. numbers_renewed fs below cs m)
 
-numbers_stay : (fs : Fields) (below : Ids) (cs : List ℕ) → are_sent_fields (fields_asked fs cs) ≡ true → fields_asked (fields_with fs below) cs ≡ fields_asked fs cs
-numbers_stay fs below [] h = refl
-numbers_stay fs below (c ∷ cs) h = ap (λ others. with_field_at (fields_with fs below) c others) (numbers_stay fs below cs (rest_sent fs c (fields_asked fs cs) h)) ∙ put_stays fs below c (fields_asked fs cs) h
-
-pub asked_stay : (fs : Fields) (below : Ids) (columns : Option (List ℕ)) → are_sent_fields (fields_as_asked columns fs) ≡ true → fields_as_asked columns (fields_with fs below) ≡ fields_as_asked columns fs
-asked_stay fs below None h = fields_stay fs below h
-asked_stay fs below (Some cs) h = numbers_stay fs below cs h
+pub asked_renewed : (fs : Fields) (below : Ids) (columns : Option (List ℕ)) (n : ℕ) → numbered (fields_as_asked columns (fields_with fs below)) n ≡ numbered (fields_as_asked columns fs) n
+asked_renewed fs below None n = numbers_with fs below n
+asked_renewed fs below (Some cs) n = numbers_renewed fs below cs n
 
 -- ── each of them ──
 
@@ -137,3 +131,37 @@ built_as_read file columns s is h = ap (λ x. are_sent_fields (fields_as_asked c
 
 pub built_from : (file : FileMetadata) (columns : Option (List ℕ)) (s : List Keyed) → s ≡ rc_value file.schema → are_sent_fields (fields_as_asked columns (fields_in s)) ≡ true → IsBuilt (meta_view file) columns
 built_from file columns s is h = asked_aside (fields_in (rc_value file.schema)) (ids_of file.ipc_schema.fields.items) columns ∙ ap (λ x. are_sent_fields (fields_as_asked columns (fields_in x))) (sym is) ∙ h
+
+-- ── the IPC fields at numbers ──
+
+-- one number more
+pub pick_more : {A : Type 0} (all : List A) (cs : List ℕ) (xs : List A) (c : ℕ) (x : A) → ArePicked all cs xs → slice_get all c ≡ Some x → ArePicked all (cs ++ c ∷ []) (xs ++ x ∷ [])
+pick_more all [] [] c x h at = (at, tt)
+pick_more all [] (y ∷ xs) c x h at = absurd h
+pick_more all (d ∷ cs) [] c x h at = absurd h
+pick_more all (d ∷ cs) (y ∷ xs) c x h at = (h.0, pick_more all cs xs c x h.1 at)
+
+tree_put : (s : List Keyed) (ts : List Tree) (i : ℕ) (x : Keyed) (t : Tree) (others : Fields) → slice_get s i ≡ Some x → slice_get ts i ≡ Some t
+    → with_field_at (fields_with (fields_in s) (ids_from ts)) i others ≡ field x.1.name x.1.nullable x.1.metadata (kind_with x.1.kind t.id t.children) others
+tree_put [] ts i x t others h g = cc
+tree_put (y ∷ ys) [] i x t others h g = cc
+tree_put (y ∷ ys) (u ∷ us) zero x t others h g =
+    let e : y ≡ x = cc in
+    let f : u ≡ t = cc in
+    ap (λ (z : Keyed). field z.1.name z.1.nullable z.1.metadata (kind_with z.1.kind u.id u.children) others) e ∙ ap (λ (v : Tree). field x.1.name x.1.nullable x.1.metadata (kind_with x.1.kind v.id v.children) others) f
+tree_put (y ∷ ys) (u ∷ us) (suc i) x t others h g = tree_put ys us i x t others h g
+
+picked_with : (s : List Keyed) (ts : List Tree) (cs : List ℕ) (xs : List Keyed) (us : List Tree) → ArePicked s cs xs → ArePicked ts cs us → fields_with (fields_in xs) (ids_from us) ≡ fields_asked (fields_with (fields_in s) (ids_from ts)) cs
+picked_with s ts [] [] [] h g = refl
+picked_with s ts [] [] (u ∷ us) h g = absurd g
+picked_with s ts [] (x ∷ xs) us h g = absurd h
+picked_with s ts (c ∷ cs) [] us h g = absurd h
+picked_with s ts (c ∷ cs) (x ∷ xs) [] h g = absurd g
+picked_with s ts (c ∷ cs) (x ∷ xs) (u ∷ us) h g =
+    ap (λ fs. field x.1.name x.1.nullable x.1.metadata (kind_with x.1.kind u.id u.children) fs) (picked_with s ts cs xs us h.1 g.1) ∙ sym (tree_put s ts c x u (fields_asked (fields_with (fields_in s) (ids_from ts)) cs) h.0 g.0)
+
+-- the fields that are asked for, with the ids of their IPC fields
+pub asked_with : (s : List Keyed) (own : List IpcField) (columns : Option (List ℕ)) (xs : List Keyed) (out : List IpcField) → AreAsked s columns xs → AreAsked (map tree_of own) columns (map tree_of out)
+    → fields_with (fields_in xs) (ids_of out) ≡ fields_as_asked columns (fields_with (fields_in s) (ids_of own))
+asked_with s own None xs out h g = ap (λ ys. fields_with (fields_in ys) (ids_of out)) h ∙ ap (λ ts. fields_with (fields_in s) (ids_from ts)) g
+asked_with s own (Some cs) xs out h g = picked_with s (map tree_of own) cs xs (map tree_of out) h g

@@ -1,7 +1,9 @@
--- What is put of a file that is built: fronts of a stream, and the whole stream.
+-- What is put of a file that is sent: fronts of a stream, and the whole stream.
 use Rattle.std.proofs.Common.{◌≡◌, ℕ, List, [], ◌++◌, length, take, Some, None, Ok, sym, ◌∙◌, subst}
+use Rattle.std.specs.Prelude.{map}
 use Rattle.arrow_spec.specs.Readings.{meaning}
 use Rattle.arrow_spec.specs.Kinds.{width}
+use Rattle.arrow_spec.specs.Arrays.{Dictionaries}
 use Rattle.arrow_spec.specs.Files.{ArrowTable, Meta, Request, «all», columns_right, cut, fields_as_asked, file_reading, meta_of, project, to_read}
 use Rattle.arrow_spec.specs.Streams.{end_mark}
 use Rattle.arrow_spec.proofs.Projection.{some_meaning}
@@ -9,29 +11,38 @@ use Rattle.arrow_spec.proofs.ReadPairs.{same_read}
 use Rattle.file_laws.specs.Laws.{whole_file_table}
 use Rattle.file_laws.proofs.Cuts.{file-cut}
 use Rattle.ipc_write_laws.specs.Streams.{WrittenBatch, bare_table}
+use Rattle.ipc_write_laws.specs.Messages.{WrittenValues, values}
+use Rattle.dictionary_laws.specs.Sending.{Columns, dictionary_values}
 use Rattle.transcode_laws.specs.Built.{so_far}
-use Rattle.transcode_laws.specs.Files.{IsFrontOf, IsSentFile, IsStreamOf, SentSoFar, asked_of}
+use Rattle.transcode_laws.specs.Files.{HasRead, IsFrontOf, IsSentFile, IsStreamOf, SentSoFar, asked_of, messages_sent}
 use Rattle.transcode_laws.proofs.Everything.{means_so}
 use Rattle.transcode_laws.proofs.Streams as streams
-use Rattle.ipc_transcode.specs.Sends.{front_bytes}
+use Rattle.ipc_transcode.specs.Sends.{MayBePut, front_bytes}
 
 -- the table of what was sent
 abbrev pub sent_table : Meta → Request → List WrittenBatch → ArrowTable
 sent_table meta r xs = bare_table (fields_as_asked r.columns meta.schema.fields) meta.schema.metadata [] xs
 
 -- after some blocks the bytes are a front of the stream
-pub front_of : (b : List ℕ) (meta : Meta) (r : Request) (n : ℕ) (xs : List WrittenBatch) → IsSentFile so_far b r meta [] → SentSoFar so_far b (asked_of b meta r) (take n meta.blocks) r.limit xs → length xs ≡ n
-    → IsFrontOf so_far b r (front_bytes meta r xs) (sent_table meta r xs)
-front_of b meta r n xs file s count = streams.front_of so_far b r meta [] n xs file s count
+pub front_of : (b : List ℕ) (meta : Meta) (r : Request) (d : Dictionaries) (columns : Columns) (n : ℕ) (xs : List WrittenBatch) → IsSentFile so_far b r meta [] → HasRead so_far b meta d
+    → ((xs ≡ [] → ⊥) → MayBePut columns d (fields_as_asked r.columns meta.schema.fields)) → SentSoFar so_far b columns (asked_of b meta r d) (take n meta.blocks) r.limit xs → length xs ≡ n
+    → IsFrontOf so_far b r (front_bytes meta r (messages_sent columns (asked_of b meta r d) xs)) (sent_table meta r xs)
+front_of b meta r d columns n xs file has may s count = streams.front_of so_far b r meta [] d columns n xs file has (λ any. (may any).columns_are) s count
 
 -- after all blocks and the end mark they are the stream
-pub stream_of : (b : List ℕ) (meta : Meta) (r : Request) (xs : List WrittenBatch) → IsSentFile so_far b r meta [] → SentSoFar so_far b (asked_of b meta r) meta.blocks r.limit xs
-    → IsStreamOf so_far b r (front_bytes meta r xs ++ end_mark) (sent_table meta r xs)
-stream_of b meta r xs file s = streams.stream_of so_far b r meta [] xs file s
+pub stream_of : (b : List ℕ) (meta : Meta) (r : Request) (d : Dictionaries) (columns : Columns) (xs : List WrittenBatch) → IsSentFile so_far b r meta [] → HasRead so_far b meta d
+    → ((xs ≡ [] → ⊥) → MayBePut columns d (fields_as_asked r.columns meta.schema.fields)) → SentSoFar so_far b columns (asked_of b meta r d) meta.blocks r.limit xs
+    → IsStreamOf so_far b r (front_bytes meta r (messages_sent columns (asked_of b meta r d) xs) ++ end_mark) (sent_table meta r xs)
+stream_of b meta r d columns xs file has may s = streams.stream_of so_far b r meta [] d columns xs file has (λ any. (may any).columns_are) s
 
 -- before the first block the schema's message is a front
 pub schema_front : (b : List ℕ) (meta : Meta) (r : Request) → IsSentFile so_far b r meta [] → IsFrontOf so_far b r (front_bytes meta r []) (sent_table meta r [])
 schema_front b meta r file = streams.schema_front so_far b r meta [] file
+
+-- and so are some messages of the dictionaries behind it
+pub values_front : (b : List ℕ) (meta : Meta) (r : Request) (d : Dictionaries) (columns : Columns) (first rest : List WrittenValues) → IsSentFile so_far b r meta [] → HasRead so_far b meta d → MayBePut columns d (fields_as_asked r.columns meta.schema.fields)
+    → dictionary_values columns d (fields_as_asked r.columns meta.schema.fields) ≡ first ++ rest → IsFrontOf so_far b r (front_bytes meta r (map values first)) (sent_table meta r [])
+values_front b meta r d columns first rest file has may whole = streams.values_front so_far b r meta [] d columns first rest file has may.columns_are may.may whole
 
 -- where the whole file means a table, a file that is sent means the cut of its projection
 pub cut_as_asked : (b : List ℕ) (meta : Meta) (r : Request) (x : ArrowTable) → IsSentFile so_far b r meta [] → meaning (file_reading so_far to_read b r None) ≡ Some x → (t : ArrowTable) → whole_file_table b «all» ≡ Some t

@@ -17,3 +17,5 @@ pub mod AskedFields
 pub mod Counted
 pub mod Picked
 pub mod Selected
+pub mod PutValues
+pub mod FileParts

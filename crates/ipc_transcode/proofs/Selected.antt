@@ -1,5 +1,5 @@
 -- Columns that are asked for by their numbers, and their projection.
-use Rattle.std.proofs.Common.{◌≡◌, ◌⊎◌, inl, inr, ℕ, List, [], ◌∷◌, length, Option, Some, None, Result, Err, IfSome, true, refl, sym, subst, Bor}
+use Rattle.std.proofs.Common.{◌≡◌, ◌⊎◌, inl, inr, ℕ, List, [], ◌∷◌, length, Option, Some, None, Result, Err, IfSome, true, refl, sym, subst, Bor, Ok, IfOk, IfErr}
 use Rattle.std.specs.Rc.{rc_value}
 use Rattle.arrow_spec.specs.declared.error.IpcError.{IpcError}
 use Rattle.arrow_spec.specs.declared.error.IpcError.TheVariants as errors
@@ -8,12 +8,12 @@ use Rattle.arrow_spec.specs.Files.{FileBlock, columns_right}
 use Rattle.arrow_types.specs.Schemas.{Keyed}
 use Rattle.arrow_arrays.specs.Batches.{Batch}
 use Rattle.transcode_laws.specs.Files.{AreAsked}
-use Rattle.ipc_read.specs.Projection.{are_columns, chosen, columns_of}
+use Rattle.ipc_read.specs.Projection.{are_below, are_columns, chosen, columns_of}
 use Rattle.ipc_projection.specs.Places.{IsPermutation}
-use Rattle.ipc_projection.specs.Projections.{IsProjection}
+use Rattle.ipc_projection.specs.Projections.{IsProjection, IsReordered}
 use Rattle.ipc_projection.specs.declared.projection.ProjectionInfo.{ProjectionInfo}
 use Rattle.ipc_projection.proofs.Projected.{applicable}
-use Rattle.ipc_read_laws.specs.Held.{Held}
+use Rattle.ipc_read_laws.specs.Held.{Held, HoldsCells}
 use Rattle.ipc_files.specs.Blocks.{ReadsBlock, asked_under}
 use Rattle.ipc_files.specs.FileViews.{meta_view}
 use Rattle.ipc_transcode.specs.FileViews.{IsBuilt}
@@ -26,13 +26,20 @@ use Rattle.ipc_transcode.proofs.AskedFields.{built_from, numbers_sent, same_colu
 use Rattle.ipc_files.proofs.Picked.{picked_from}
 use Rattle.ipc_transcode.proofs.StreamSteps.{wrong_is}
 use Rattle.ipc_transcode.proofs.SentFiles.{columns_sent, ordered_refused}
-use Rattle.ipc_files.proofs.Selected.{IsSelected, asked_below, ReadsRising}
+use Rattle.ipc_files.proofs.Selected.{IsSelected, asked_below, ReadsRising, selected_answer}
+use Rattle.arrow_spec.specs.Kinds.{width}
 
 pub selected : (s : List Keyed) (columns : Option (Bor (List ℕ))) (projection : Option (Bor ProjectionInfo)) (p : Bor ProjectionInfo) → projection ≡ Some p → Projects s columns projection → IsSelected s (columns_of columns) p.now
 selected s None None p e h = cc
 selected s None (Some q) p e h = absurd h
 selected s (Some cs) None p e h = absurd h
 selected s (Some cs) (Some q) p e h = let same : q ≡ p = cc in record { numbers = cs.now; are = refl; is = subst (λ (x : Bor ProjectionInfo). IsProjection s cs.now x.now) same h }
+
+-- numbers that are lent are in range
+pub lent_below : (s : List Keyed) (columns : Option (Bor (List ℕ))) (projection : Option (Bor ProjectionInfo)) (cs : Bor (List ℕ)) → columns ≡ Some cs → Projects s columns projection → are_below (length s) cs.now ≡ true
+lent_below s None projection cs e h = cc
+lent_below s (Some ds) None cs e h = absurd h
+lent_below s (Some ds) (Some p) cs e h = let same : ds ≡ cs = cc in subst (λ (x : Bor (List ℕ)). are_below (length s) x.now ≡ true) same (asked_below s ds.now p.now h)
 
 -- where there is no projection all columns are asked for
 pub all_selected : (s : List Keyed) (columns : Option (Bor (List ℕ))) (projection : Option (Bor ProjectionInfo)) → projection ≡ None → Projects s columns projection → columns_of columns ≡ None
@@ -74,3 +81,17 @@ pub selected_refused : (content : Option (List ℕ)) (held : Held) (file : FileM
 selected_refused content held file d columns p rising left block result e same is h read =
     subst (λ cs. IfSome content (λ b. ReadsBlock b held (asked_under b (meta_view file) d (asked cs left)) block left result)) (sym h.are)
     (ordered_refused content held (meta_view file) d p.columns.items h.numbers left block result e is h.is.same (subst (λ ds. ReadsRising content held file d ds block left (Err e)) same read))
+
+-- under each dictionaries that were read
+pub each_refused : (content : Option (List ℕ)) (held : Held) (file : FileMetadata) (columns : Option (List ℕ)) (p : ProjectionInfo) (rising : List ℕ) (left : Option ℕ) (block : FileBlock) (result : Result Batch IpcError) (e : IpcError) → rising ≡ p.columns.items → result ≡ Err e → IsSelected (rc_value file.schema) columns p
+    → IfSome content (λ b. (d : Dictionaries) → HoldsCells d held → ReadsBlock b held (asked_under b (meta_view file) d (asked (Some rising) left)) block left (Err e))
+    → IfSome content (λ b. (d : Dictionaries) → HoldsCells d held → ReadsBlock b held (asked_under b (meta_view file) d (asked columns left)) block left result)
+each_refused None held file columns p rising left block result e same is h read = tt
+each_refused (Some b) held file columns p rising left block result e same is h read = λ d holds. selected_refused (Some b) held file d columns p rising left block result e same is h (read d holds)
+
+pub each_answer : (content : Option (List ℕ)) (held : Held) (file : FileMetadata) (columns : Option (List ℕ)) (p : ProjectionInfo) (rising : List ℕ) (left : Option ℕ) (block : FileBlock) (x : Batch) (result : Result Batch IpcError) → rising ≡ p.columns.items → IsSelected (rc_value file.schema) columns p
+    → columns_right columns (width (meta_view file).schema.fields) ≡ Ok tt → IfOk result (IsReordered p.map x) → IfErr result (λ e. e ≡ errors.Memory)
+    → IfSome content (λ b. (d : Dictionaries) → HoldsCells d held → ReadsBlock b held (asked_under b (meta_view file) d (asked (Some rising) left)) block left (Ok x))
+    → IfSome content (λ b. (d : Dictionaries) → HoldsCells d held → ReadsBlock b held (asked_under b (meta_view file) d (asked columns left)) block left result)
+each_answer None held file columns p rising left block x result same h right order memory read = tt
+each_answer (Some b) held file columns p rising left block x result same h right order memory read = λ d holds. selected_answer (Some b) held file d columns p rising left block x result same h right order memory (read d holds)

@@ -81,3 +81,10 @@ part_later e before wants wants' b r text old new h p = p
 
 pub refused_later : (e : IpcError) (b : List ℕ) (r : Request) (encoding : Encoding) (start new : Option (List ℕ)) (before wants wants' : ℕ) → before ≤ wants → Refused e b r encoding start new wants wants' → Refused e b r encoding start new before wants'
 refused_later e b r encoding start new before wants wants' h x = record { refused = x.refused; part = part_later e before wants wants' b r (text_of encoding) start new h x.part }
+
+-- what was put, by the wants of the sink before
+pub puts_later : (e : IpcError) (before wants wants' : ℕ) (old new : Option (List ℕ)) (text : List ℕ) → before ≤ wants → PutsSome old new wants wants' e text → PutsSome old new before wants' e text
+puts_later errors.Memory before wants wants' old new text h (inl kept) = inl kept
+puts_later errors.Memory before wants wants' old new text h (inr p) = inr (rose_later before wants wants' h p.0, p.1)
+puts_later errors.WriteFault before wants wants' old new text h p = p
+puts_later e before wants wants' old new text h p = p

@@ -1,43 +1,45 @@
 -- A block that is read, and sent.
-use Rattle.std.proofs.Common.{◌≡◌, inl, ℕ, List, [], map, Option, Ok, refl, sym, ap, ◌∙◌, subst, true, false}
-use Rattle.std.specs.List.{AllByRecursion}
+use Rattle.std.proofs.Common.{◌≡◌, inl, ℕ, List, [], ◌∷◌, ◌++◌, map, Option, Ok, refl, sym, ap, ◌∙◌, true, false}
+use Rattle.std.proofs.lemmas.List.Concat.{flat_map-cons}
 use Rattle.arrow_spec.specs.declared.error.IpcError.{IpcError}
 use Rattle.arrow_spec.specs.declared.error.IpcError.TheVariants as errors
 use Rattle.arrow_spec.specs.Readings.{Refuses, bind, ◌>>=◌, refusals}
-use Rattle.arrow_spec.specs.Flat.{little}
-use Rattle.arrow_spec.specs.Kinds.{width}
-use Rattle.arrow_spec.specs.Files.{Asked, FileBlock, TableBatch, batch_of, block_body, columns_right, if_sent, to_read, to_send}
-use Rattle.arrow_spec.specs.Sent.{may_be_sent}
+use Rattle.arrow_spec.specs.Framing.{body_bytes, message_bytes}
+use Rattle.arrow_spec.specs.Kinds.{Fields, width}
+use Rattle.arrow_spec.specs.Files.{Asked, FileBlock, batch_of, block_body, columns_right, if_sent, to_read, to_send}
+use Rattle.arrow_spec.specs.Sent.{SentMessage, may_be_sent}
 use Rattle.arrow_spec.specs.WrittenSchemas.{FieldsFit}
 use Rattle.arrow_spec.proofs.Projection.{on}
 use Rattle.arrow_arrays.specs.Batches.{Batch}
-use Rattle.arrow_arrays.specs.Parts.{cells_in}
-use Rattle.ipc_read_laws.specs.Held.{HoldsCells, none_held}
-use Rattle.ipc_read_laws.proofs.Keys.{holds_none}
-use Rattle.ipc_write_laws.specs.Columns.{Means}
-use Rattle.ipc_write_laws.specs.Streams.{MayBeWritten, table_batch, written_batch}
+use Rattle.arrow_arrays.specs.Parts.{Parts}
+use Rattle.ipc_read_laws.specs.Held.{Held, HoldsCells, HoldsFields}
+use Rattle.ipc_write_laws.specs.Columns.{WrittenColumn}
+use Rattle.ipc_write_laws.specs.Messages.{Known}
+use Rattle.ipc_write_laws.specs.Streams.{batch_bytes, body_for, pieces_of, table_batch, written_batch}
+use Rattle.dictionary_laws.specs.Sending.{AllAreKnown}
 use Rattle.transcode_laws.specs.Built.{are_sent_fields, so_far}
-use Rattle.transcode_laws.specs.Files.{IsSentBatch, asked_fields}
+use Rattle.transcode_laws.specs.Files.{IsSentBatch, asked_fields, stream_fields}
 use Rattle.transcode_laws.proofs.Batches.{block_is_sent, tables_refused}
-use Rattle.transcode_laws.proofs.ReadBatches.{read_batch_sendable, read_batch_sent}
-use Rattle.transcode_laws.proofs.SentFields.{fields_carried, no_dictionaries}
-use Rattle.ipc_write_arrays.specs.Dictionaries.{HoldsValues}
-use Rattle.ipc_write.specs.Batches.{written_batch_of}
+use Rattle.column_laws.specs.Laws.{batch_under}
+use Rattle.column_laws.proofs.CarriedFields.{fields_carried}
+use Rattle.column_laws.proofs.ReadBatches.{read_batch_sendable, read_batch_sent}
+use Rattle.ipc_write_arrays.specs.Dictionaries.{first_kind, other_fields}
+use Rattle.ipc_write_arrays.specs.Pieces.{with_kind}
+use Rattle.ipc_write.specs.Batches.{top_column, written_batch_of}
+use Rattle.ipc_write.specs.Encoding.{AllMean, columns_under}
 use Rattle.ipc_read.specs.Batches.{table_of}
 use Rattle.ipc_files.specs.FileBlocks.{block_record}
 use Rattle.ipc_files.specs.Blocks.{BlockRead}
 use Rattle.ipc_files.proofs.BlockMessages.{batch_by_record}
 use Rattle.ipc_files.proofs.ReadBlocks.{block_refuses, follows}
 
--- fields that are asked for are sent, and fit their tables; no dictionary is held
-pub record AreSent (a : Asked) : Type 0 where
+-- fields that are asked for are sent, and fit their tables; what is held of the dictionaries that were read are arrays of the values' kinds
+pub record AreSent (a : Asked) (h : Held) : Type 0 where
   pub sent : are_sent_fields (asked_fields a) ≡ true
   pub fit : FieldsFit 64 (asked_fields a)
   pub right : columns_right a.columns (width a.fields) ≡ Ok tt
-  pub none : a.dictionaries ≡ []
-
-holds_nothing : (a : Asked) → a.dictionaries ≡ [] → HoldsCells a.dictionaries none_held
-holds_nothing a none = subst (λ d. HoldsCells d none_held) (sym none) holds_none
+  pub holds : HoldsCells a.dictionaries h
+  pub kinds : HoldsFields h a.fields
 
 -- ── a block that is read ──
 
@@ -45,28 +47,43 @@ holds_nothing a none = subst (λ d. HoldsCells d none_held) (sym none) holds_non
 pub refused_sent : (e : IpcError) (b : List ℕ) (a : Asked) (block : FileBlock) (left : Option ℕ) → Refuses e (refusals (batch_of so_far.custom to_read b a block left)) → Refuses e (refusals (batch_of so_far.custom to_send b a block left))
 refused_sent e b a block left = block_refuses to_read to_send e b a a block left (λ m. follows e _ _ (λ es is. tables_refused a m.version [] m.tables (block_body b block) left es is))
 
+-- the batch of a block that is read
+pub block_means : (b : List ℕ) (a : Asked) (h : Held) (block : FileBlock) (left : Option ℕ) (x : Batch) → BlockRead b h a block left x → batch_of so_far.custom to_read b a block left ≡ Ok (table_of x)
+block_means b a h block left x r = batch_by_record to_read b a block left ∙ on (block_record b block) _ r.message r.is ∙ r.read
+
 -- ── a block that is sent ──
 
--- the batch as it is written has the rows and the cells that were read
-pub same_table : (x : Batch) → map (λ c. c.cells) (written_batch_of x).columns ≡ map cells_in x.arrays → table_batch (written_batch_of x) ≡ table_of x
-same_table x cells = let table : List (List Rattle.arrow_spec.specs.Cells.Cell) → TableBatch = λ cs. record { rows = x.height; columns = cs; custom = [] } in ap table cells
-
 -- it is sent where its message may be
-block_sent : (b : List ℕ) (a : Asked) (block : FileBlock) (left : Option ℕ) (x : Batch) → AreSent a → BlockRead b none_held a block left x → batch_of so_far.custom to_send b a block left ≡ (if_sent to_send (may_be_sent (written_batch (written_batch_of x))) >>= λ size. Ok (table_of x))
-block_sent b a block left x are r =
+block_sent : (b : List ℕ) (a : Asked) (h : Held) (block : FileBlock) (left : Option ℕ) (x : Batch) → AreSent a h → BlockRead b h a block left x → batch_of so_far.custom to_send b a block left ≡ (if_sent to_send (may_be_sent (written_batch (written_batch_of x))) >>= λ size. Ok (table_of x))
+block_sent b a h block left x are r =
     batch_by_record to_send b a block left ∙ on (block_record b block) _ r.message r.is
-    ∙ read_batch_sent a r.message.version r.message.tables (block_body b block) left none_held x are.none (holds_nothing a are.none) (no_dictionaries (asked_fields a) are.sent) (fields_carried 64 (asked_fields a) are.sent are.fit) are.right r.read r.columns
+    ∙ read_batch_sent a r.message.version r.message.tables (block_body b block) left h x are.holds are.kinds (fields_carried 64 (asked_fields a) are.sent are.fit) are.right r.read r.columns
 
-pub sent_batch : (b : List ℕ) (a : Asked) (block : FileBlock) (left : Option ℕ) (x : Batch) → AreSent a → BlockRead b none_held a block left x → may_be_sent (written_batch (written_batch_of x)) ≡ true
-    → (AllByRecursion (λ p. HoldsValues [] p) x.arrays → AllByRecursion (λ c. Means little [] x.height c) (written_batch_of x).columns) → map (λ c. c.cells) (written_batch_of x).columns ≡ map cells_in x.arrays → IsSentBatch so_far b a block left (written_batch_of x)
-sent_batch b a block left x are r size means cells =
-    let table = same_table x cells in
-    let read = batch_by_record to_read b a block left ∙ on (block_record b block) _ r.message r.is ∙ r.read in
-    let all = read_batch_sendable a r.message.version r.message.tables (block_body b block) left none_held x r.fits are.none (holds_nothing a are.none) (no_dictionaries (asked_fields a) are.sent) (fields_carried 64 (asked_fields a) are.sent are.fit) are.right r.read r.columns means cells in
-    let fit : MayBeWritten (asked_fields a) (written_batch_of x) = all.2 size in
-    block_is_sent so_far b a block left (written_batch_of x) (read ∙ ap Ok (sym table)) (block_sent b a block left x are r ∙ ap (λ t. if_sent to_send (may_be_sent (written_batch (written_batch_of x))) >>= λ size. Ok t) (sym table)) fit
+pub block_may : (b : List ℕ) (a : Asked) (h : Held) (block : FileBlock) (left : Option ℕ) (x : Batch) → AreSent a h → BlockRead b h a block left x → may_be_sent (written_batch (written_batch_of x)) ≡ true → batch_of so_far.custom to_send b a block left ≡ Ok (table_of x)
+unfolding bind
+block_may b a h block left x are r size = block_sent b a h block left x are r ∙ ap (λ k. if_sent to_send k >>= λ size. Ok (table_of x)) size
 
 -- and refused where it may not
-pub block_too_large : (b : List ℕ) (a : Asked) (block : FileBlock) (left : Option ℕ) (x : Batch) → AreSent a → BlockRead b none_held a block left x → may_be_sent (written_batch (written_batch_of x)) ≡ false → Refuses errors.TooLarge (refusals (batch_of so_far.custom to_send b a block left))
+pub block_too_large : (b : List ℕ) (a : Asked) (h : Held) (block : FileBlock) (left : Option ℕ) (x : Batch) → AreSent a h → BlockRead b h a block left x → may_be_sent (written_batch (written_batch_of x)) ≡ false → Refuses errors.TooLarge (refusals (batch_of so_far.custom to_send b a block left))
 unfolding bind
-block_too_large b a block left x are r size = rw (block_sent b a block left x are r, size) (inl refl)
+block_too_large b a h block left x are r size = rw (block_sent b a h block left x are r, size) (inl refl)
+
+-- behind the values of its dictionaries it may be written, under the kinds of the stream's fields
+pub sent_batch : (b : List ℕ) (a : Asked) (h : Held) (c : Known) (block : FileBlock) (left : Option ℕ) (x : Batch) → AreSent a h → AllAreKnown a.dictionaries (asked_fields a) 0 c → BlockRead b h a block left x → may_be_sent (written_batch (written_batch_of x)) ≡ true → AllMean x.height x.arrays
+    → IsSentBatch so_far b a c block left (batch_under (stream_fields a) x) × (written_batch (batch_under (stream_fields a) x) ≡ written_batch (written_batch_of x))
+sent_batch b a h c block left x are known r size good =
+    let all = read_batch_sendable a c r.message.version r.message.tables (block_body b block) left h x r.fits are.holds are.kinds (fields_carried 64 (asked_fields a) are.sent are.fit) are.right known r.read r.columns good in
+    let y = batch_under (stream_fields a) x in
+    let read : batch_of so_far.custom to_read b a block left ≡ Ok (table_batch y) = batch_by_record to_read b a block left ∙ on (block_record b block) _ r.message r.is ∙ all.1 in
+    let sent : batch_of so_far.custom to_send b a block left ≡ (if_sent to_send (may_be_sent (written_batch y)) >>= λ size. Ok (table_batch y)) =
+    batch_by_record to_send b a block left ∙ on (block_record b block) _ r.message r.is ∙ all.4 ∙ ap (λ (m : SentMessage). if_sent to_send (may_be_sent m) >>= λ size. Ok (table_batch y)) (sym all.2) in
+    (block_is_sent so_far b a c block left y read sent (all.3 size), all.2)
+
+-- its bytes are those of the arrays alone
+pieces_under : (gs : Fields) (ps : List Parts) → pieces_of (columns_under gs ps) ≡ pieces_of (map top_column ps)
+pieces_under gs [] = refl
+pieces_under gs (p ∷ ps) =
+    flat_map-cons (λ (c : WrittenColumn). c.pieces) (with_kind (first_kind gs) (top_column p)) (columns_under (other_fields gs) ps) ∙ ap (λ xs. (top_column p).pieces ++ xs) (pieces_under (other_fields gs) ps) ∙ sym (flat_map-cons (λ (c : WrittenColumn). c.pieces) (top_column p) (map top_column ps))
+
+pub same_bytes : (gs : Fields) (x : Batch) → written_batch (batch_under gs x) ≡ written_batch (written_batch_of x) → batch_bytes (batch_under gs x) ≡ batch_bytes (written_batch_of x)
+same_bytes gs x same = ap (λ (m : SentMessage). message_bytes m.node (body_for (columns_under gs x.arrays))) same ∙ ap (λ ps. message_bytes (written_batch (written_batch_of x)).node (body_bytes 0 ps)) (pieces_under gs x.arrays)

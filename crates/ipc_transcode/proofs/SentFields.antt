@@ -1,30 +1,32 @@
 -- Fields that are sent: their ids, and that a stream takes a schema of them as it is.
 use Rattle.std.proofs.Common.{◌≡◌, ℕ, zero, suc, ◌+◌, ◌^◌, ◌<◌, List, [], ◌∷◌, length, map, Option, None, Ok, Bool, true, false, ◌&&◌, ◌||◌, refl, sym, ap, ◌∙◌, arith, rules}
-use Rattle.std.specs.Prelude.{ℤ, nat_eq, nat_lt, drop, get_or, slice_get, Some}
-use Rattle.std.proofs.lemmas.Bool.{and_parts, and_from}
+use Rattle.std.specs.Prelude.{ℤ, pos, negsuc, nat_eq, nat_lt, drop, get_or, slice_get, Some, FitsSigned}
+use Rattle.std.specs.Int.{w64}
+use Rattle.std.proofs.lemmas.Bool.{and_from, le-leb}
 use Rattle.std.proofs.lemmas.Option.{slice_get-get_or, slice_get-map}
-use Rattle.arrow_spec.specs.Kinds.{Kind, Fields, none, field, decimal, decimal256, fixed_size_binary, «list», fixed_size_list, struct, union, dictionary, extension, width, same, are_same_ids, numbered, uses_in, uses_of}
+use Rattle.arrow_spec.specs.Kinds.{Kind, Fields, Metadata, none, field, decimal, decimal256, fixed_size_binary, «list», fixed_size_list, struct, union, dictionary, dictionary_count, dictionary_counts, extension, width, same, are_same_ids, numbered, numbered_kind, uses_in, uses_of}
 use Rattle.arrow_spec.specs.Kinds as kind
 use Rattle.arrow_spec.specs.Features.{chosen_floats}
-use Rattle.arrow_spec.specs.Files.{columns_right}
+use Rattle.arrow_spec.specs.Files.{columns_right, with_field_at}
 use Rattle.arrow_spec.specs.Schema.{are_ids, counted_ids}
-use Rattle.arrow_spec.specs.Regular.{is_no_dictionary, is_representable_kind, is_size, representable}
-use Rattle.arrow_spec.specs.WrittenSchemas.{AreStated, FieldsFit, KindFits, Part, of_dictionary, of_extension, of_field}
+use Rattle.arrow_spec.specs.Regular.{is_dictionary_id, is_no_dictionary, is_representable_kind, is_size, representable}
+use Rattle.arrow_spec.specs.WrittenSchemas.{AreIds, AreStated, FieldsFit, KindFits, Part, SchemaMayBeWritten, of_dictionary, of_extension, of_field}
+use Rattle.arrow_spec.proofs.NumberedFields.{numbered_may}
 use Rattle.arrow_types.specs.Child.{Child}
 use Rattle.arrow_types.specs.Child as child
 use Rattle.arrow_types.specs.KindOf.{child_of, kind_of}
 use Rattle.arrow_types.specs.Schemas.{Keyed}
 use Rattle.arrow_types.specs.declared.data_type.Field.{Field, the_lemmas}
-use Rattle.ipc_fields.specs.IpcFields.{Ids, no_fields, ids, fields_with, kind_with}
+use Rattle.ipc_fields.specs.IpcFields.{Ids, no_fields, ids, fields_with, is_encoded, kind_with}
 use Rattle.ipc_fields.proofs.KindSteps.{ids_equal}
+use Rattle.schema_writer.specs.Defaults.{are_apart, is_apart}
 use Rattle.schema_writer.specs.Tables.{all_fit, fits_below}
 use Rattle.schema_writer.proofs.Saying.{representable_is}
-use Rattle.ipc_write_laws.proofs.PlainFields as plain
 use Rattle.transcode_laws.specs.Built.{are_sent_fields, is_sent_kind, so_far}
 use Rattle.transcode_laws.specs.Files.{IsSendable, asked_schema}
 use Rattle.transcode_laws.proofs.AskedSchemas.{asked_sendable}
-use Rattle.transcode_laws.proofs.SentFields.{no_dictionaries}
 use Rattle.ipc_files.specs.FileViews.{meta_view, WasRead}
+use Rattle.ipc_files.proofs.HeldUses.{split}
 use Rattle.ipc_transcode.specs.FileViews.{IsBuilt}
 use Rattle.ipc_files.specs.declared.metadata.FileMetadata.{FileMetadata}
 
@@ -45,6 +47,7 @@ mutual
   same_sent (struct fs) id below = ids_aside fs below
   same_sent (kind.map sorted fs) id below = ids_aside fs below
   same_sent (union mode stated types fs) id below = ids_aside fs below
+  same_sent (dictionary t ordered old k) id below = same_sent k None below
   same_sent (extension name metadata k) id below = same_sent k id below
   same_sent k id below = refl
 
@@ -53,58 +56,112 @@ mutual
   ids_aside (field name nullable metadata k others) no_fields = rw (same_sent k None no_fields, ids_aside others no_fields) refl
   ids_aside (field name nullable metadata k others) (ids id below rest) = rw (same_sent k id below, ids_aside others rest) refl
 
--- and nothing in fields that are sent
+-- nor in how they are numbered
 mutual
-  pub kind_stays : (k : Kind) (id : Option ℤ) (below : Ids) → is_sent_kind k ≡ true → kind_with k id below ≡ k
-  kind_stays («list» o fs) id below h = ap (λ gs. «list» o gs) (fields_stay fs below h)
-  kind_stays (fixed_size_list n fs) id below h = ap (λ gs. fixed_size_list n gs) (fields_stay fs below h)
-  kind_stays (struct fs) id below h = ap struct (fields_stay fs below h)
-  kind_stays (kind.map sorted fs) id below h = ap (λ gs. kind.map sorted gs) (fields_stay fs below h)
-  kind_stays (union mode stated types fs) id below h = ap (λ gs. union mode stated types gs) (fields_stay fs below h)
-  kind_stays (dictionary t ordered old k) id below h = cc
-  kind_stays (extension name metadata k) id below h = ap (λ l. extension name metadata l) (kind_stays k id below h)
-  kind_stays k id below h = refl
+  count_with : (k : Kind) (id : Option ℤ) (below : Ids) → dictionary_count (kind_with k id below) ≡ dictionary_count k
+  count_with («list» o fs) id below = counts_with fs below
+  count_with (fixed_size_list n fs) id below = counts_with fs below
+  count_with (struct fs) id below = counts_with fs below
+  count_with (kind.map sorted fs) id below = counts_with fs below
+  count_with (union mode stated types fs) id below = counts_with fs below
+  count_with (dictionary t ordered old k) id below = ap suc (count_with k None below)
+  count_with (extension name metadata k) id below = count_with k id below
+  count_with k id below = refl
 
-  pub fields_stay : (fs : Fields) (below : Ids) → are_sent_fields fs ≡ true → fields_with fs below ≡ fs
-  fields_stay none below h = refl
-  fields_stay (field name nullable metadata k others) no_fields h =
-      let both = and_parts (is_sent_kind k) (are_sent_fields others) h in
-      rw (kind_stays k None no_fields both.0, fields_stay others no_fields both.1) refl
-  fields_stay (field name nullable metadata k others) (ids id below rest) h =
-      let both = and_parts (is_sent_kind k) (are_sent_fields others) h in
-      rw (kind_stays k id below both.0, fields_stay others rest both.1) refl
-
--- as they are numbered, they are
-pub numbers_aside : (fs : Fields) → are_sent_fields fs ≡ true → numbered fs 0 ≡ fs
-numbers_aside fs h = plain.fields_stay fs 0 (no_dictionaries fs h)
-
--- ── dictionaries ──
+  counts_with : (fs : Fields) (below : Ids) → dictionary_counts (fields_with fs below) ≡ dictionary_counts fs
+  counts_with none below = refl
+  counts_with (field name nullable metadata k others) no_fields = rw (count_with k None no_fields, counts_with others no_fields) refl
+  counts_with (field name nullable metadata k others) (ids id below rest) = rw (count_with k id below, counts_with others rest) refl
 
 mutual
-  kind_has_no_uses : (k : Kind) → is_sent_kind k ≡ true → uses_of k ≡ []
-  kind_has_no_uses («list» o fs) h = no_uses fs h
-  kind_has_no_uses (fixed_size_list n fs) h = no_uses fs h
-  kind_has_no_uses (struct fs) h = no_uses fs h
-  kind_has_no_uses (kind.map sorted fs) h = no_uses fs h
-  kind_has_no_uses (union mode stated types fs) h = no_uses fs h
-  kind_has_no_uses (dictionary t ordered old k) h = cc
-  kind_has_no_uses (extension name metadata k) h = kind_has_no_uses k h
-  kind_has_no_uses k h = refl
+  pub kind_numbers : (k : Kind) (id : Option ℤ) (below : Ids) (n : ℕ) → numbered_kind (kind_with k id below) n ≡ numbered_kind k n
+  kind_numbers («list» o fs) id below n = ap («list» o) (numbers_with fs below n)
+  kind_numbers (fixed_size_list size fs) id below n = ap (fixed_size_list size) (numbers_with fs below n)
+  kind_numbers (struct fs) id below n = ap struct (numbers_with fs below n)
+  kind_numbers (kind.map sorted fs) id below n = ap (kind.map sorted) (numbers_with fs below n)
+  kind_numbers (union mode stated types fs) id below n = ap (union mode stated types) (numbers_with fs below n)
+  kind_numbers (dictionary t ordered old k) id below n = ap (dictionary t ordered (pos n)) (kind_numbers k None below (suc n))
+  kind_numbers (extension name metadata k) id below n = ap (extension name metadata) (kind_numbers k id below n)
+  kind_numbers k id below n = refl
 
-  pub no_uses : (fs : Fields) → are_sent_fields fs ≡ true → uses_in fs ≡ []
-  no_uses none h = refl
-  no_uses (field name nullable metadata k others) h =
-      let both = and_parts (is_sent_kind k) (are_sent_fields others) h in
-      rw (kind_has_no_uses k both.0, no_uses others both.1) refl
+  pub numbers_with : (fs : Fields) (below : Ids) (n : ℕ) → numbered (fields_with fs below) n ≡ numbered fs n
+  numbers_with none below n = refl
+  numbers_with (field name nullable metadata k others) no_fields n = rw (count_with k None no_fields, kind_numbers k None no_fields n, numbers_with others no_fields (n + dictionary_count k)) refl
+  numbers_with (field name nullable metadata k others) (ids id below rest) n = rw (count_with k id below, kind_numbers k id below n, numbers_with others rest (n + dictionary_count k)) refl
+
+-- a field before others
+pub numbers_put : (fs : Fields) (below : Ids) (c : ℕ) (others rest : Fields) (n : ℕ) → ((m : ℕ) → numbered others m ≡ numbered rest m) → numbered (with_field_at (fields_with fs below) c others) n ≡ numbered (with_field_at fs c rest) n
+numbers_put none below c others rest n h = h n
+numbers_put (field name nullable metadata k fs) no_fields zero others rest n h = rw (count_with k None no_fields, kind_numbers k None no_fields n, h (n + dictionary_count k)) refl
+numbers_put (field name nullable metadata k fs) (ids id below more) zero others rest n h = rw (count_with k id below, kind_numbers k id below n, h (n + dictionary_count k)) refl
+numbers_put (field name nullable metadata k fs) no_fields (suc c) others rest n h = numbers_put fs no_fields c others rest n h
+numbers_put (field name nullable metadata k fs) (ids id below more) (suc c) others rest n h = numbers_put fs more c others rest n h
+
+-- ── dictionaries stand apart ──
+
+-- numbers change nothing in that
+encoded_numbered : (k : Kind) (n : ℕ) → is_encoded (numbered_kind k n) ≡ is_encoded k
+encoded_numbered (extension name metadata k) n = encoded_numbered k n
+encoded_numbered k n = refl
+
+mutual
+  apart_numbered : (k : Kind) (n : ℕ) → is_apart (numbered_kind k n) ≡ is_apart k
+  apart_numbered («list» o fs) n = all_apart_numbered fs n
+  apart_numbered (fixed_size_list size fs) n = all_apart_numbered fs n
+  apart_numbered (struct fs) n = all_apart_numbered fs n
+  apart_numbered (kind.map sorted fs) n = all_apart_numbered fs n
+  apart_numbered (union mode stated types fs) n = all_apart_numbered fs n
+  apart_numbered (dictionary t ordered old k) n = rw (encoded_numbered k (suc n), apart_numbered k (suc n)) refl
+  apart_numbered (extension name metadata k) n = apart_numbered k n
+  apart_numbered k n = refl
+
+  pub all_apart_numbered : (fs : Fields) (n : ℕ) → are_apart (numbered fs n) ≡ are_apart fs
+  all_apart_numbered none n = refl
+  all_apart_numbered (field name nullable metadata k others) n = rw (apart_numbered k n, all_apart_numbered others (n + dictionary_count k)) refl
+
+-- the values of a dictionary that fits are no dictionary
+not_encoded : (at : Part) (levels : ℕ) (k : Kind) → (at ≡ of_field → ⊥) → KindFits at levels k → is_encoded k ≡ false
+not_encoded of_field levels k inside fit = absurd (inside refl)
+not_encoded of_dictionary levels (dictionary t ordered old k) inside fit = absurd fit
+not_encoded of_extension levels (dictionary t ordered old k) inside fit = absurd fit
+not_encoded of_dictionary levels (extension name metadata k) inside fit = not_encoded of_extension levels k (λ e. cc) fit.2
+not_encoded of_extension levels (extension name metadata k) inside fit = absurd fit
+not_encoded at levels k inside fit = refl
+
+mutual
+  kind_apart : (at : Part) (levels : ℕ) (k : Kind) → KindFits at levels k → is_apart k ≡ true
+  kind_apart at levels («list» o fs) fit = fields_apart levels fs fit.1
+  kind_apart at levels (fixed_size_list n fs) fit = fields_apart levels fs fit.3
+  kind_apart at levels (struct fs) fit = fields_apart levels fs fit
+  kind_apart at levels (kind.map sorted fs) fit = fields_apart levels fs fit.2
+  kind_apart at levels (union mode stated types fs) fit = fields_apart levels fs fit.2
+  kind_apart of_field levels (dictionary t ordered old k) fit = rw (not_encoded of_dictionary levels k (λ e. cc) fit) (kind_apart of_dictionary levels k fit)
+  kind_apart of_dictionary levels (dictionary t ordered old k) fit = absurd fit
+  kind_apart of_extension levels (dictionary t ordered old k) fit = absurd fit
+  kind_apart of_field levels (extension name metadata k) fit = kind_apart of_extension levels k fit.2
+  kind_apart of_dictionary levels (extension name metadata k) fit = kind_apart of_extension levels k fit.2
+  kind_apart of_extension levels (extension name metadata k) fit = absurd fit
+  kind_apart at levels k fit = refl
+
+  pub fields_apart : (levels : ℕ) (fs : Fields) → FieldsFit levels fs → are_apart fs ≡ true
+  fields_apart levels none fit = refl
+  fields_apart zero (field name nullable metadata k others) fit = absurd fit
+  fields_apart (suc levels) (field name nullable metadata k others) fit = and_from (is_apart k) (are_apart others) (kind_apart of_field levels k fit.2) (fields_apart (suc levels) others fit.3)
 
 -- ── what the tables of a schema can say ──
 
 is_small : (n : ℕ) → n < 2 ^ 31 → is_size n ≡ true
 is_small n h = grind arith
 
-no_dictionary : (k : Kind) → is_sent_kind k ≡ true → is_no_dictionary k ≡ true
-no_dictionary (dictionary t ordered old k) h = cc
-no_dictionary k h = refl
+no_dictionary : (at : Part) (levels : ℕ) (k : Kind) → (at ≡ of_field → ⊥) → KindFits at levels k → is_no_dictionary k ≡ true
+no_dictionary of_field levels k inside fit = absurd (inside refl)
+no_dictionary of_dictionary levels (dictionary t ordered old k) inside fit = absurd fit
+no_dictionary of_extension levels (dictionary t ordered old k) inside fit = absurd fit
+no_dictionary at levels k inside fit = refl
+
+is_id : (z : ℤ) → FitsSigned w64 z → is_dictionary_id z ≡ true
+is_id (pos n) h = le-leb n 9223372036854775807 (omega (arith, h.sfits))
+is_id (negsuc n) h = le-leb n 9223372036854775807 (omega (arith, h.sfits))
 
 -- ids that are not stated are counted
 same_itself : (types : List ℤ) → are_same_ids types types ≡ true
@@ -115,41 +172,48 @@ stated_said : (stated : Bool) (types : List ℤ) (n : ℕ) → AreStated stated 
 stated_said true types n h = refl
 stated_said false types n h = ap (are_same_ids types) (sym h) ∙ same_itself types
 
-kind_said : (at : Part) (levels : ℕ) (k : Kind) → is_sent_kind k ≡ true → KindFits at levels k → is_representable_kind k ≡ true
-kind_said at levels (decimal p s) h fit = and_from (is_size p) (is_size s) (is_small p fit.0) (is_small s fit.1)
-kind_said at levels (fixed_size_binary n) h fit = is_small n fit.1
-kind_said at levels (fixed_size_list n fs) h fit = is_small n fit.2
-kind_said of_field levels (extension name metadata k) h fit = and_from (is_no_dictionary k) (is_representable_kind k) (no_dictionary k h) (kind_said of_extension levels k h fit.2)
-kind_said of_dictionary levels (extension name metadata k) h fit = and_from (is_no_dictionary k) (is_representable_kind k) (no_dictionary k h) (kind_said of_extension levels k h fit.2)
-kind_said of_extension levels (extension name metadata k) h fit = absurd fit
-kind_said at levels (decimal256 p s) h fit = cc
-kind_said at levels (union mode stated types fs) h fit = and_from (are_ids types && nat_eq (length types) (width fs) && nat_lt 0 (width fs)) (stated || are_same_ids types (counted_ids 0 (width fs))) fit.0 (stated_said stated types (width fs) fit.1)
-kind_said at levels (dictionary t ordered old k) h fit = cc
-kind_said at levels k h fit = refl
+kind_said : (at : Part) (levels : ℕ) (k : Kind) → KindFits at levels k → AreIds (uses_of k) → is_representable_kind k ≡ true
+kind_said at levels (decimal p s) fit ok = and_from (is_size p) (is_size s) (is_small p fit.0) (is_small s fit.1)
+kind_said at levels (decimal256 p s) fit ok = and_from (is_size p) (is_size s) (is_small p fit.0) (is_small s fit.1)
+kind_said at levels (fixed_size_binary n) fit ok = is_small n fit.1
+kind_said at levels (fixed_size_list n fs) fit ok = is_small n fit.2
+kind_said of_field levels (extension name metadata k) fit ok = and_from (is_no_dictionary k) (is_representable_kind k) (no_dictionary of_extension levels k (λ e. cc) fit.2) (kind_said of_extension levels k fit.2 ok)
+kind_said of_dictionary levels (extension name metadata k) fit ok = and_from (is_no_dictionary k) (is_representable_kind k) (no_dictionary of_extension levels k (λ e. cc) fit.2) (kind_said of_extension levels k fit.2 ok)
+kind_said of_extension levels (extension name metadata k) fit ok = absurd fit
+kind_said at levels (union mode stated types fs) fit ok = and_from (are_ids types && nat_eq (length types) (width fs) && nat_lt 0 (width fs)) (stated || are_same_ids types (counted_ids 0 (width fs))) fit.0 (stated_said stated types (width fs) fit.1)
+kind_said of_field levels (dictionary t ordered old k) fit ok =
+    and_from (is_dictionary_id old && is_no_dictionary k) (is_representable_kind k) (and_from (is_dictionary_id old) (is_no_dictionary k) (is_id old ok.0) (no_dictionary of_dictionary levels k (λ e. cc) fit)) (kind_said of_dictionary levels k fit ok.1)
+kind_said of_dictionary levels (dictionary t ordered old k) fit ok = absurd fit
+kind_said of_extension levels (dictionary t ordered old k) fit ok = absurd fit
+kind_said at levels k fit ok = refl
 
 mutual
-  below_said : (at : Part) (levels : ℕ) (k : Kind) → is_sent_kind k ≡ true → KindFits at levels k → fits_below k ≡ true
-  below_said at levels («list» o fs) h fit = fields_said levels fs h fit.1
-  below_said at levels (fixed_size_list n fs) h fit = fields_said levels fs h fit.3
-  below_said at levels (struct fs) h fit = fields_said levels fs h fit
-  below_said at levels (kind.map sorted fs) h fit = fields_said levels fs h fit.2
-  below_said at levels (union mode stated types fs) h fit = fields_said levels fs h fit.2
-  below_said at levels (dictionary t ordered old k) h fit = cc
-  below_said of_field levels (extension name metadata k) h fit = below_said of_extension levels k h fit.2
-  below_said of_dictionary levels (extension name metadata k) h fit = below_said of_extension levels k h fit.2
-  below_said of_extension levels (extension name metadata k) h fit = absurd fit
-  below_said at levels k h fit = refl
+  below_said : (at : Part) (levels : ℕ) (k : Kind) → KindFits at levels k → AreIds (uses_of k) → fits_below k ≡ true
+  below_said at levels («list» o fs) fit ok = fields_said levels fs fit.1 ok
+  below_said at levels (fixed_size_list n fs) fit ok = fields_said levels fs fit.3 ok
+  below_said at levels (struct fs) fit ok = fields_said levels fs fit ok
+  below_said at levels (kind.map sorted fs) fit ok = fields_said levels fs fit.2 ok
+  below_said at levels (union mode stated types fs) fit ok = fields_said levels fs fit.2 ok
+  below_said of_field levels (dictionary t ordered old k) fit ok = below_said of_dictionary levels k fit ok.1
+  below_said of_dictionary levels (dictionary t ordered old k) fit ok = absurd fit
+  below_said of_extension levels (dictionary t ordered old k) fit ok = absurd fit
+  below_said of_field levels (extension name metadata k) fit ok = below_said of_extension levels k fit.2 ok
+  below_said of_dictionary levels (extension name metadata k) fit ok = below_said of_extension levels k fit.2 ok
+  below_said of_extension levels (extension name metadata k) fit ok = absurd fit
+  below_said at levels k fit ok = refl
 
-  fields_said : (levels : ℕ) (fs : Fields) → are_sent_fields fs ≡ true → FieldsFit levels fs → all_fit fs ≡ true
-  fields_said levels none h fit = refl
-  fields_said zero (field name nullable metadata k others) h fit = absurd fit
-  fields_said (suc levels) (field name nullable metadata k others) h fit =
-      let both = and_parts (is_sent_kind k) (are_sent_fields others) h in
-      and_from (is_representable_kind k && fits_below k) (all_fit others) (and_from (is_representable_kind k) (fits_below k) (kind_said of_field levels k both.0 fit.2) (below_said of_field levels k both.0 fit.2)) (fields_said (suc levels) others both.1 fit.3)
+  fields_said : (levels : ℕ) (fs : Fields) → FieldsFit levels fs → AreIds (uses_in fs) → all_fit fs ≡ true
+  fields_said levels none fit ok = refl
+  fields_said zero (field name nullable metadata k others) fit ok = absurd fit
+  fields_said (suc levels) (field name nullable metadata k others) fit ok =
+      let both = split (λ u. FitsSigned w64 u.id) (uses_of k) (uses_in others) ok in
+      and_from (is_representable_kind k && fits_below k) (all_fit others) (and_from (is_representable_kind k) (fits_below k) (kind_said of_field levels k fit.2 both.0) (below_said of_field levels k fit.2 both.0)) (fields_said (suc levels) others fit.3 both.1)
 
--- fields that are sent can be said where they fit
-pub can_be_said : (levels : ℕ) (fs : Fields) → are_sent_fields fs ≡ true → FieldsFit levels fs → representable fs ≡ true
-can_be_said levels fs h fit = representable_is fs ∙ fields_said levels fs h fit
+-- the fields of a schema that may be written can be said under ids that count from 0
+pub can_be_said : (fs : Fields) (pairs : Metadata) → SchemaMayBeWritten fs pairs → representable (numbered fs 0) ≡ true
+can_be_said fs pairs may =
+    let own = numbered_may fs pairs may in
+    representable_is (numbered fs 0) ∙ fields_said 64 (numbered fs 0) own.0.fit own.1.within
 
 -- ── what is built, looked at field by field ──
 

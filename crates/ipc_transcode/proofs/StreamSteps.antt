@@ -1,6 +1,9 @@
 -- The steps of sending a file's table: the schema's message, the blocks, the end mark.
-use Rattle.std.proofs.Common.{◌≡◌, inl, inr, ℕ, ◌+◌, ◌≤◌, List, [], ◌∷◌, ◌++◌, ◌⊎◌, ◌&&◌, not, length, take, Option, Some, None, Ok, Err, IfSome, refl, sym, ap, ◌∙◌, subst, true, false, Bool, append-nil, arith, sum_by}
-use Rattle.std.specs.Prelude.{map, nat_lt}
+use Rattle.std.proofs.Common.{◌≡◌, inl, inr, ℕ, ◌+◌, ◌≤◌, List, [], ◌∷◌, ◌++◌, ◌⊎◌, ◌&&◌, not, length, take, Option, Some, None, Result, Ok, Err, IfOk, IfErr, IfSome, refl, sym, ap, ◌∙◌, subst, true, false, Bool, append-nil, arith, sum_by}
+use Rattle.std.specs.Prelude.{map, nat_eq, nat_lt}
+use Rattle.std.proofs.lemmas.Bool.{eq-eqb, eqb-true}
+use Rattle.arrow_spec.specs.declared.message.Block.{Block}
+use Rattle.ipc_files.specs.FileBlocks.{file_block}
 use Rattle.std.proofs.Math.Seq.{take-length}
 use Rattle.std.proofs.lemmas.List.{length-append, length-map}
 use Rattle.std.proofs.lemmas.List.Sums.{sum_by-cons}
@@ -8,30 +11,35 @@ use Rattle.std.specs.Io.KnownBytes.{Appends}
 use Rattle.hex.specs.Hex.{encode_with}
 use Rattle.arrow_spec.specs.declared.error.IpcError.{IpcError}
 use Rattle.arrow_spec.specs.declared.error.IpcError.TheVariants as errors
-use Rattle.arrow_spec.specs.declared.error.Feature.TheVariants as features
 use Rattle.arrow_spec.specs.Readings.{IsAmong, Reading, Refuses, bind, ◌>>=◌, free_of, refusals, unless}
 use Rattle.arrow_spec.specs.Columns.{stands_in}
 use Rattle.arrow_spec.specs.Features.{chosen_floats, feature_faults}
-use Rattle.arrow_spec.specs.Files.{Meta, Request, TableBatch, columns_right, dictionaries_read, fields_as_asked, file_reading, has_any, to_send, wrong_columns}
+use Rattle.arrow_spec.specs.Files.{FileBlock, Meta, Request, TableBatch, columns_right, dictionaries_of, dictionaries_read, fields_as_asked, file_reading, to_send, wrong_columns}
 use Rattle.arrow_spec.specs.Framing.{message_bytes}
-use Rattle.arrow_spec.specs.Kinds.{Fields, Metadata, width}
-use Rattle.arrow_spec.specs.Sent.{may_be_sent, stream_schema}
+use Rattle.arrow_spec.specs.Flat.{little}
+use Rattle.arrow_spec.specs.Kinds.{Fields, Metadata, numbered, width}
+use Rattle.transcode_laws.proofs.StreamFields.{numbered_twice}
+use Rattle.arrow_spec.specs.Sent.{may_be_sent, schema_message, stream_schema}
 use Rattle.arrow_spec.specs.Streams.{end_mark}
 use Rattle.ipc_write_laws.specs.Streams.{WrittenBatch, table_batch}
 use Rattle.transcode_laws.specs.Built.{so_far}
-use Rattle.transcode_laws.specs.Files.{IsSendable, IsSentFile, asked_schema}
-use Rattle.transcode_laws.proofs.Readings.{columns_refused, dictionaries_refused, features_refused, schema_refused}
+use Rattle.transcode_laws.specs.Files.{IsSendable, IsSentFile, asked_of, asked_schema, messages_sent}
+use Rattle.transcode_laws.proofs.Readings.{columns_refused, features_refused, schema_refused}
+use Rattle.transcode_laws.proofs.Refusals.{dictionaries_refuse_so}
+use Rattle.ipc_read_laws.specs.Held.{Held}
+use Rattle.arrow_spec.specs.Arrays.{Dictionaries}
+use Rattle.file_dictionaries.specs.Parts.{PartTree, columns_in}
 use Rattle.ipc_io.proofs.Known.{Appends-kept_nil}
 use Rattle.arrow_types.specs.Schemas.{Keyed, fields_in}
 use Rattle.ipc_fields.specs.IpcFields.{Ids, fields_with}
 use Rattle.ipc_files.specs.FileViews.{FileCause, FileSays}
 use Rattle.ipc_transcode.specs.FileViews.{IsBuilt}
-use Rattle.ipc_transcode.specs.Sends.{Begun, Refused, SentBlocks, front_bytes}
+use Rattle.ipc_transcode.specs.Sends.{AllSent, Begun, DictionariesRead, Refused, SentBlocks, front_bytes}
 use Rattle.ipc_files.specs.Requests.{asked}
 use Rattle.ipc_transcode.specs.Transcode.{AddsFront, AddsPart, PutsText, PutTextCause, Transcodes, text_of}
 use Rattle.ipc_transcode.specs.Written.{Writes}
 use Rattle.ipc_transcode.specs.declared.conversion.Summary.{Summary}
-use Rattle.ipc_transcode.proofs.BlockSteps.{front_so_far, put_refuses}
+use Rattle.ipc_transcode.proofs.BlockSteps.{blocks_begun, front_so_far, put_refuses, stays_refused}
 use Rattle.ipc_transcode.proofs.FileStreams.{cut_as_asked, schema_front, sent_table, stream_of}
 use Rattle.ipc_transcode.proofs.Sending.{Appends-text, IsNext, in_one_put, piece_refused, refused_later}
 use Rattle.ipc_transcode.proofs.SentFiles.{keeps_same}
@@ -49,7 +57,7 @@ pub record CanSend (meta : Meta) (r : Request) : Type 0 where
 
 -- ── nothing was added ──
 
-text_nil : (encoding : Encoding) → text_of encoding [] ≡ []
+pub text_nil : (encoding : Encoding) → text_of encoding [] ≡ []
 unfolding encode_with
 text_nil Bytes = refl
 text_nil HexText = refl
@@ -97,33 +105,30 @@ schema_not_written (errors.DictionaryReplaced id) b meta r encoding o wants want
 schema_not_written errors.NotRepresentable b meta r encoding o wants wants' h is w = absurd w
 schema_not_written errors.State b meta r encoding o wants wants' h is w = absurd w
 
-pub dictionaries_not_built : (b : List ℕ) (meta : Meta) (r : Request) (encoding : Encoding) (o : Option (List ℕ)) (wants wants' : ℕ) → FileSays b meta → CanSend meta r → SchemaMay (fields_as_asked r.columns meta.schema.fields) meta.schema.metadata ≡ true → has_any (dictionaries_read meta.blocks meta.dictionaries) ≡ true
-    → Refused (errors.Unsupported features.NotYet) b r encoding o o wants wants'
-dictionaries_not_built b meta r encoding o wants wants' h is size any = record { refused = rw (dictionaries_refused so_far b r meta [] refl refl h.read h.no_pairs is.right is.readable is.schema size any) (inl refl); part = inl (keeps_same o) }
-
--- the file, its schema's message and that no dictionary is read
-sent_file : (b : List ℕ) (meta : Meta) (r : Request) → FileSays b meta → CanSend meta r → SchemaMay (fields_as_asked r.columns meta.schema.fields) meta.schema.metadata ≡ true → has_any (dictionaries_read meta.blocks meta.dictionaries) ≡ false → IsSentFile so_far b r meta []
-sent_file b meta r h is size any = record { known = refl; read = h.read; pairs = h.no_pairs; columns = is.right; readable = is.readable; schema = is.schema; small = size; no_dictionaries = any }
+-- the file, and its schema's message
+sent_file : (b : List ℕ) (meta : Meta) (r : Request) → FileSays b meta → CanSend meta r → SchemaMay (fields_as_asked r.columns meta.schema.fields) meta.schema.metadata ≡ true → IsSentFile so_far b r meta []
+sent_file b meta r h is size = record { known = refl; read = h.read; pairs = h.no_pairs; columns = is.right; readable = is.readable; schema = is.schema; small = size }
 
 -- the schema's message is what is written before the first batch
 first_written : (meta : Meta) (r : Request) (m : List ℕ) → m ≡ message_bytes (stream_schema (fields_as_asked r.columns meta.schema.fields) meta.schema.metadata []).node [] → m ≡ front_bytes meta r []
-first_written meta r m is = is ∙ sym (append-nil (message_bytes (stream_schema (fields_as_asked r.columns meta.schema.fields) meta.schema.metadata []).node []))
+first_written meta r m is =
+    let fs = fields_as_asked r.columns meta.schema.fields in
+    is ∙ ap (λ gs. message_bytes (schema_message little gs meta.schema.metadata []).node []) (sym (numbered_twice fs 0 0)) ∙ sym (append-nil (message_bytes (stream_schema (numbered fs 0) meta.schema.metadata []).node []))
 
--- a schema's message that was written, of a file of which no dictionary is read
+-- a schema's message that was written
 pub record IsSchemaWritten (meta : Meta) (r : Request) (m : List ℕ) : Type 0 where
   pub can : CanSend meta r
   pub small : SchemaMay (fields_as_asked r.columns meta.schema.fields) meta.schema.metadata ≡ true
-  pub no_dictionaries : has_any (dictionaries_read meta.blocks meta.dictionaries) ≡ false
   pub is : m ≡ message_bytes (stream_schema (fields_as_asked r.columns meta.schema.fields) meta.schema.metadata []).node []
 
 pub schema_put : (b : List ℕ) (meta : Meta) (r : Request) (encoding : Encoding) (o new : Option (List ℕ)) (m : List ℕ) (n : ℕ) → FileSays b meta → IsSchemaWritten meta r m → n ≡ length m → Appends o new (text_of encoding m) → Begun b meta r encoding o new n
 schema_put b meta r encoding o new m n h w count put =
     let same = first_written meta r m w.is in
-    record { file = sent_file b meta r h w.can w.small w.no_dictionaries; added = subst (λ k. Appends o new (text_of encoding k)) same put; bytes_are = count ∙ ap length same }
+    record { file = sent_file b meta r h w.can w.small; added = subst (λ k. Appends o new (text_of encoding k)) same put; bytes_are = count ∙ ap length same }
 
 pub schema_not_put : (e : IpcError) (b : List ℕ) (meta : Meta) (r : Request) (encoding : Encoding) (o new : Option (List ℕ)) (m : List ℕ) (faults faults' wants wants' : ℕ) → FileSays b meta → IsSchemaWritten meta r m → PutsText o new (Err e) (text_of encoding m) → PutTextCause e faults faults' → Refused e b r encoding o new wants wants'
 schema_not_put e b meta r encoding o new m faults faults' wants wants' h w put cause =
-    let next : IsNext b r (front_bytes meta r []) = record { table = sent_table meta r []; stream = inr (schema_front b meta r (sent_file b meta r h w.can w.small w.no_dictionaries)) } in
+    let next : IsNext b r (front_bytes meta r []) = record { table = sent_table meta r []; stream = inr (schema_front b meta r (sent_file b meta r h w.can w.small)) } in
     let none : Appends o o (text_of encoding []) = rw (text_nil encoding) (Appends-kept_nil o o (keeps_same o)) in
     record {
       refused = put_refuses e (refusals (file_reading so_far to_send b r None)) faults faults' cause;
@@ -133,41 +138,107 @@ schema_not_put e b meta r encoding o new m faults faults' wants wants' h w put c
 -- ── the end mark ──
 
 -- a front stands before it
-front_before : (b : List ℕ) (meta : Meta) (r : Request) (encoding : Encoding) (start old mid : Option (List ℕ)) (n : ℕ) (s : Summary) → Begun b meta r encoding start old n → SentBlocks b meta r meta.blocks encoding start mid s → AddsFront b r (text_of encoding) start mid
-front_before b meta r encoding start old mid n s begun sent =
+front_before : (b : List ℕ) (meta : Meta) (r : Request) (encoding : Encoding) (start old mid : Option (List ℕ)) (n : ℕ) (s : Summary) → Begun b meta r encoding start old n → AllSent b meta r encoding start mid s → AddsFront b r (text_of encoding) start mid
+front_before b meta r encoding start old mid n s begun all =
     let whole : take (length meta.blocks) meta.blocks ≡ meta.blocks = take-length meta.blocks in
-    front_so_far b meta r (length meta.blocks) encoding start old mid n s (omega arith) begun (subst (λ l. SentBlocks b meta r l encoding start mid s) (sym whole) sent)
+    front_so_far b meta r all.dictionaries all.columns (length meta.blocks) encoding start old mid n s (omega arith) begun all.has (subst (λ l. SentBlocks b meta r all.dictionaries all.columns l encoding start mid s) (sym whole) all.blocks)
 
-end_not_put : (e : IpcError) (b : List ℕ) (meta : Meta) (r : Request) (encoding : Encoding) (start old mid new : Option (List ℕ)) (n : ℕ) (s : Summary) (faults faults' wants wants' : ℕ) → Begun b meta r encoding start old n → SentBlocks b meta r meta.blocks encoding start mid s → PutsText mid new (Err e) (text_of encoding end_mark) → PutTextCause e faults faults' → Refused e b r encoding start new wants wants'
-end_not_put e b meta r encoding start old mid new n s faults faults' wants wants' begun sent put cause =
-    let next : IsNext b r (front_bytes meta r sent.batches ++ end_mark) = record { table = sent_table meta r sent.batches; stream = inl (stream_of b meta r sent.batches begun.file sent.sent) } in
+end_not_put : (e : IpcError) (b : List ℕ) (meta : Meta) (r : Request) (encoding : Encoding) (start old mid new : Option (List ℕ)) (n : ℕ) (s : Summary) (faults faults' wants wants' : ℕ) → Begun b meta r encoding start old n → AllSent b meta r encoding start mid s → PutsText mid new (Err e) (text_of encoding end_mark) → PutTextCause e faults faults' → Refused e b r encoding start new wants wants'
+end_not_put e b meta r encoding start old mid new n s faults faults' wants wants' begun all put cause =
+    let bytes = front_bytes meta r (messages_sent all.columns (asked_of b meta r all.dictionaries) all.blocks.batches) in
+    let next : IsNext b r (bytes ++ end_mark) = record { table = sent_table meta r all.blocks.batches; stream = inl (stream_of b meta r all.dictionaries all.columns all.blocks.batches begun.file all.has all.blocks.may all.blocks.sent) } in
     record {
       refused = put_refuses e (refusals (file_reading so_far to_send b r None)) faults faults' cause;
-      part = piece_refused e b r encoding start mid new (front_bytes meta r sent.batches) end_mark faults faults' wants wants' (inr (front_before b meta r encoding start old mid n s begun sent)) sent.added next (in_one_put mid new wants wants' e _ put) cause;
+      part = piece_refused e b r encoding start mid new bytes end_mark faults faults' wants wants' (inr (front_before b meta r encoding start old mid n s begun all)) all.blocks.added next (in_one_put mid new wants wants' e _ put) cause;
     }
 
 rows_same : (xs : List WrittenBatch) → sum_by (λ x. x.rows) xs ≡ sum_by (λ batch. batch.rows) (map table_batch xs)
 rows_same [] = refl
 rows_same (x ∷ xs) = sum_by-cons (λ (y : WrittenBatch). y.rows) x xs ∙ ap (λ n. x.rows + n) (rows_same xs) ∙ sym (sum_by-cons (λ (y : TableBatch). y.rows) (table_batch x) (map table_batch xs))
 
-table_whole : (b : List ℕ) (meta : Meta) (r : Request) (encoding : Encoding) (start old mid new : Option (List ℕ)) (n : ℕ) (s : Summary) → Begun b meta r encoding start old n → SentBlocks b meta r meta.blocks encoding start mid s → Appends mid new (text_of encoding end_mark)
+table_whole : (b : List ℕ) (meta : Meta) (r : Request) (encoding : Encoding) (start old mid new : Option (List ℕ)) (n : ℕ) (s : Summary) → Begun b meta r encoding start old n → AllSent b meta r encoding start mid s → Appends mid new (text_of encoding end_mark)
     → Transcodes (record { batches = s.batches; rows = s.rows; bytes = s.bytes + 8 }) b r (text_of encoding) start new
-table_whole b meta r encoding start old mid new n s begun sent put =
-    let is = stream_of b meta r sent.batches begun.file sent.sent in
+table_whole b meta r encoding start old mid new n s begun all put =
+    let sent = all.blocks in
+    let bytes = front_bytes meta r (messages_sent all.columns (asked_of b meta r all.dictionaries) sent.batches) in
+    let is = stream_of b meta r all.dictionaries all.columns sent.batches begun.file all.has sent.may sent.sent in
     record {
       stream = record {
-        bytes = front_bytes meta r sent.batches ++ end_mark;
+        bytes = bytes ++ end_mark;
         table = sent_table meta r sent.batches;
         stream = is;
-        added = Appends-text encoding start mid new (front_bytes meta r sent.batches) end_mark sent.added put;
+        added = Appends-text encoding start mid new bytes end_mark sent.added put;
       };
       summary = record {
         batches = sent.batches_are ∙ sym (length-map sent.batches table_batch);
         rows = sent.rows_are ∙ rows_same sent.batches;
-        bytes = ap (λ k. k + 8) sent.bytes_are ∙ sym (length-append (front_bytes meta r sent.batches) end_mark);
+        bytes = ap (λ k. k + 8) sent.bytes_are ∙ sym (length-append bytes end_mark);
       };
       cut = cut_as_asked b meta r (sent_table meta r sent.batches) begun.file is.file;
     }
+
+-- ── the dictionaries and the blocks ──
+
+-- of a file without a block nothing is read, and nothing put
+pub nothing_sent : (content : Option (List ℕ)) (meta : Meta) (r : Request) (encoding : Encoding) (old : Option (List ℕ)) (n : ℕ) → meta.blocks ≡ [] → IfSome content (λ b. (start : Option (List ℕ)) → Begun b meta r encoding start old n → AllSent b meta r encoding start old (record { batches = 0; rows = 0; bytes = n }))
+unfolding dictionaries_of
+nothing_sent None meta r encoding old n none = tt
+nothing_sent (Some b) meta r encoding old n none = λ start begun. record {
+  dictionaries = [];
+  columns = columns_in [];
+  has = record { known = refl; read = rw none refl };
+  blocks = subst (λ l. SentBlocks b meta r [] (columns_in []) l encoding start old (record { batches = 0; rows = 0; bytes = n })) (sym none) (blocks_begun b meta r [] (columns_in []) encoding start old n begun);
+}
+
+-- all blocks behind the dictionaries
+pub all_sent : (content after : Option (List ℕ)) (meta : Meta) (r : Request) (h : Held) (ps : List PartTree) (encoding : Encoding) (old new : Option (List ℕ)) (n : ℕ) (s : Summary) → dictionaries_read meta.blocks meta.dictionaries ≡ meta.dictionaries → after ≡ content
+    → IfSome content (λ b. (d : Dictionaries) × DictionariesRead b meta h ps d)
+    → IfSome after (λ b. (d : Dictionaries) (start : Option (List ℕ)) → DictionariesRead b meta h ps d → Begun b meta r encoding start old n → SentBlocks b meta r d (columns_in ps) meta.blocks encoding start new s)
+    → IfSome content (λ b. (start : Option (List ℕ)) → Begun b meta r encoding start old n → AllSent b meta r encoding start new s)
+all_sent None after meta r h ps encoding old new n s same kept read sent = tt
+all_sent (Some b) after meta r h ps encoding old new n s same kept read sent = λ start begun.
+    let here = subst (λ o. IfSome o (λ b. (d : Dictionaries) (start : Option (List ℕ)) → DictionariesRead b meta h ps d → Begun b meta r encoding start old n → SentBlocks b meta r d (columns_in ps) meta.blocks encoding start new s)) kept sent in
+    record { dictionaries = read.0; columns = columns_in ps; has = record { known = refl; read = ap (dictionaries_of b meta []) same ∙ read.1.read }; blocks = here read.0 start read.1 begun }
+
+-- or one of them is refused
+pub blocks_stopped : (e : IpcError) (wants wants' : ℕ) (content after : Option (List ℕ)) (meta : Meta) (r : Request) (h : Held) (ps : List PartTree) (encoding : Encoding) (old new : Option (List ℕ)) (n : ℕ) → after ≡ content → IfSome content (λ b. (d : Dictionaries) × DictionariesRead b meta h ps d)
+    → IfSome after (λ b. (d : Dictionaries) (start : Option (List ℕ)) → DictionariesRead b meta h ps d → Begun b meta r encoding start old n → Refused e b r encoding start new wants wants') → IfSome content (λ b. (start : Option (List ℕ)) → Begun b meta r encoding start old n → Refused e b r encoding start new wants wants')
+blocks_stopped e wants wants' None after meta r h ps encoding old new n kept read sent = tt
+blocks_stopped e wants wants' (Some b) after meta r h ps encoding old new n kept read sent = λ start begun.
+    let here = subst (λ o. IfSome o (λ b. (d : Dictionaries) (start : Option (List ℕ)) → DictionariesRead b meta h ps d → Begun b meta r encoding start old n → Refused e b r encoding start new wants wants')) kept sent in
+    here read.0 start read.1 begun
+
+pub all_sent_of : (result : Result Summary IpcError) (content after : Option (List ℕ)) (meta : Meta) (r : Request) (h : Held) (ps : List PartTree) (encoding : Encoding) (old new : Option (List ℕ)) (n : ℕ) → dictionaries_read meta.blocks meta.dictionaries ≡ meta.dictionaries → after ≡ content
+    → IfSome content (λ b. (d : Dictionaries) × DictionariesRead b meta h ps d)
+    → IfOk result (λ s. IfSome after (λ b. (d : Dictionaries) (start : Option (List ℕ)) → DictionariesRead b meta h ps d → Begun b meta r encoding start old n → SentBlocks b meta r d (columns_in ps) meta.blocks encoding start new s))
+    → IfOk result (λ s. IfSome content (λ b. (start : Option (List ℕ)) → Begun b meta r encoding start old n → AllSent b meta r encoding start new s))
+all_sent_of (Ok s) content after meta r h ps encoding old new n same kept read sent = all_sent content after meta r h ps encoding old new n s same kept read sent
+all_sent_of (Err e) content after meta r h ps encoding old new n same kept read sent = tt
+
+pub blocks_stopped_of : (result : Result Summary IpcError) (wants wants' : ℕ) (content after : Option (List ℕ)) (meta : Meta) (r : Request) (h : Held) (ps : List PartTree) (encoding : Encoding) (old new : Option (List ℕ)) (n : ℕ) → after ≡ content → IfSome content (λ b. (d : Dictionaries) × DictionariesRead b meta h ps d)
+    → IfErr result (λ e. IfSome after (λ b. (d : Dictionaries) (start : Option (List ℕ)) → DictionariesRead b meta h ps d → Begun b meta r encoding start old n → Refused e b r encoding start new wants wants'))
+    → IfErr result (λ e. IfSome content (λ b. (start : Option (List ℕ)) → Begun b meta r encoding start old n → Refused e b r encoding start new wants wants'))
+blocks_stopped_of (Ok s) wants wants' content after meta r h ps encoding old new n kept read sent = tt
+blocks_stopped_of (Err e) wants wants' content after meta r h ps encoding old new n kept read sent = blocks_stopped e wants wants' content after meta r h ps encoding old new n kept read sent
+
+-- the dictionaries are refused
+pub dictionaries_stopped : (e : IpcError) (wants wants' : ℕ) (content : Option (List ℕ)) (meta : Meta) (r : Request) (encoding : Encoding) (old : Option (List ℕ)) (n : ℕ) → dictionaries_read meta.blocks meta.dictionaries ≡ meta.dictionaries → IfSome content (λ b. Refuses e (refusals (dictionaries_of b meta [] meta.dictionaries)))
+    → IfSome content (λ b. (start : Option (List ℕ)) → Begun b meta r encoding start old n → Refused e b r encoding start old wants wants')
+dictionaries_stopped e wants wants' None meta r encoding old n same h = tt
+dictionaries_stopped e wants wants' (Some b) meta r encoding old n same h = λ start begun.
+    let here : Refuses e (refusals (dictionaries_of b meta [] (dictionaries_read meta.blocks meta.dictionaries))) = subst (λ l. Refuses e (refusals (dictionaries_of b meta [] l))) (sym same) h in
+    let both = dictionaries_refuse_so so_far e b r meta [] begun.file refl here in
+    let front : AddsFront b r (text_of encoding) start old = record { bytes = front_bytes meta r []; table = sent_table meta r []; stream = schema_front b meta r begun.file; added = begun.added } in
+    stays_refused e wants wants' b r encoding start old old front (keeps_same old) both.0 both.1
+
+-- a file without a block, and with one
+pub empty_blocks : (items : List Block) (n : ℕ) → n ≡ length items → nat_eq n 0 ≡ true → map file_block items ≡ []
+empty_blocks [] n h e = refl
+empty_blocks (x ∷ xs) n h e = absurd (omega (arith, eqb-true n 0 e, h))
+
+pub some_blocks : (items : List Block) (n : ℕ) (dictionaries : List FileBlock) → n ≡ length items → nat_eq n 0 ≡ false → dictionaries_read (map file_block items) dictionaries ≡ dictionaries
+some_blocks [] n dictionaries h e = let clash : false ≡ true = sym e ∙ eq-eqb n 0 h in let z : ◌≡◌ {A = ℕ} 0 1 = cc in absurd (omega (arith, z))
+some_blocks (x ∷ xs) n dictionaries h e = refl
 
 -- ── as the calls have them ──
 
@@ -179,7 +250,7 @@ abbrev IsBegun : Meta → Option (List ℕ) → Encoding → Option (List ℕ) �
 IsBegun meta columns encoding start old n = (b : List ℕ) (limit : Option ℕ) → FileSays b meta → Begun b meta (asked columns limit) encoding start old n
 
 pub table_sent : (content : Option (List ℕ)) (meta : Meta) (columns : Option (List ℕ)) (limit : Option ℕ) (encoding : Encoding) (start old mid new : Option (List ℕ)) (n : ℕ) (s : Summary) (m : List ℕ) → IsBegun meta columns encoding start old n
-    → IfSome content (λ b. OfBlocks (λ b start. SentBlocks b meta (asked columns limit) meta.blocks encoding start mid s) b meta (asked columns limit) encoding old n) → m ≡ end_mark → Appends mid new (text_of encoding m)
+    → IfSome content (λ b. OfBlocks (λ b start. AllSent b meta (asked columns limit) encoding start mid s) b meta (asked columns limit) encoding old n) → m ≡ end_mark → Appends mid new (text_of encoding m)
     → IfSome content (λ b. FileSays b meta → Transcodes (record { batches = s.batches; rows = s.rows; bytes = s.bytes + 8 }) b (asked columns limit) (text_of encoding) start new)
 table_sent None meta columns limit encoding start old mid new n s m begun sent mark put = tt
 table_sent (Some b) meta columns limit encoding start old mid new n s m begun sent mark put = λ h.
@@ -187,7 +258,7 @@ table_sent (Some b) meta columns limit encoding start old mid new n s m begun se
     table_whole b meta (asked columns limit) encoding start old mid new n s began (sent start began) (subst (λ k. Appends mid new (text_of encoding k)) mark put)
 
 pub table_not_ended : (e : IpcError) (content : Option (List ℕ)) (meta : Meta) (columns : Option (List ℕ)) (limit : Option ℕ) (encoding : Encoding) (start old mid new : Option (List ℕ)) (n : ℕ) (s : Summary) (m : List ℕ) (faults faults' wants wants' : ℕ) → IsBegun meta columns encoding start old n
-    → IfSome content (λ b. OfBlocks (λ b start. SentBlocks b meta (asked columns limit) meta.blocks encoding start mid s) b meta (asked columns limit) encoding old n) → m ≡ end_mark → PutsText mid new (Err e) (text_of encoding m) → PutTextCause e faults faults'
+    → IfSome content (λ b. OfBlocks (λ b start. AllSent b meta (asked columns limit) encoding start mid s) b meta (asked columns limit) encoding old n) → m ≡ end_mark → PutsText mid new (Err e) (text_of encoding m) → PutTextCause e faults faults'
     → IfSome content (λ b. FileSays b meta → Refused e b (asked columns limit) encoding start new wants wants')
 table_not_ended e None meta columns limit encoding start old mid new n s m faults faults' wants wants' begun sent mark put cause = tt
 table_not_ended e (Some b) meta columns limit encoding start old mid new n s m faults faults' wants wants' begun sent mark put cause = λ h.

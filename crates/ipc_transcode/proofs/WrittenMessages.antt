@@ -12,23 +12,24 @@ use Rattle.arrow_spec.specs.Framing.{message_bytes, padded_size}
 use Rattle.arrow_spec.specs.Files.{columns_right, fields_as_asked}
 use Rattle.arrow_spec.specs.Kinds.{Fields, Metadata, numbered, uses_in, width}
 use Rattle.arrow_spec.specs.Layout.{layout, size, up_to}
-use Rattle.arrow_spec.specs.Readings.{Gives, Reading, bind, unless}
+use Rattle.arrow_spec.specs.Readings.{Gives, bind, unless}
 use Rattle.arrow_spec.specs.Regular.{representable}
 use Rattle.arrow_spec.specs.Sent.{SentMessage, may_be_sent, schema_message, stream_schema}
-use Rattle.arrow_spec.specs.WrittenSchemas.{FieldsFit}
+use Rattle.arrow_spec.specs.Schema.{uses_agree}
+use Rattle.arrow_spec.proofs.NumberedFields.{uses_numbered}
 use Rattle.arrow_spec.proofs.NextMessages.{length-layout}
 use Rattle.arrow_types.specs.Schemas.{Keyed, fields_in}
 use Rattle.ipc_fields.specs.IpcFields.{Ids, fields_with, have_shapes, ids_of}
 use Rattle.schema_writer.specs.Serialized.{IsOfMessage, serialized, written}
-use Rattle.transcode_laws.specs.Built.{are_sent_fields}
+use Rattle.schema_writer.specs.Defaults.{are_apart}
 use Rattle.transcode_laws.specs.Files.{AreAsked}
 use Rattle.ipc_write.specs.Outcomes.{message_frame}
 use Rattle.ipc_files.specs.FileViews.{meta_view, WasRead}
 use Rattle.ipc_transcode.specs.FileViews.{IsBuilt}
 use Rattle.ipc_transcode.specs.Written.{Writes, WritesSchema}
 use Rattle.ipc_files.specs.declared.metadata.FileMetadata.{FileMetadata}
-use Rattle.ipc_transcode.proofs.AskedFields.{asked_aside, asked_schema_fields, asked_stay}
-use Rattle.ipc_transcode.proofs.SentFields.{can_be_said, fields_stay, no_uses, numbers_aside, sendable}
+use Rattle.ipc_transcode.proofs.AskedFields.{asked_renewed, asked_schema_fields}
+use Rattle.ipc_transcode.proofs.SentFields.{all_apart_numbered, can_be_said, fields_apart, sendable}
 use Rattle.ipc_write.proofs.Written.{framed_whole}
 
 -- ── what may be sent ──
@@ -68,18 +69,22 @@ alone_written (Err e) m metadata none is f = frame_refused e m (message_bytes m.
 
 -- ── the message of a schema ──
 
--- fields without dictionaries that can be said are written, where their message is small
-written_is : (fs : Fields) (own : Ids) (pairs : Metadata) → fields_with fs own ≡ fs → have_shapes fs own ≡ true → uses_in fs ≡ [] → representable fs ≡ true
-    → written little fs own pairs ≡ bind (unless (nat_le (size (schema_message little fs pairs []).node) 2147483647) errors.TooLarge) (λ small. Ok (layout (schema_message little fs pairs []).node))
+-- fields that can be said are written under their ids, where their message is small
+written_is : (fs gs : Fields) (own : Ids) (pairs : Metadata) → fields_with fs own ≡ gs → have_shapes fs own ≡ true → uses_agree [] (uses_in gs) ≡ Ok tt → representable gs ≡ true
+    → written little fs own pairs ≡ bind (unless (nat_le (size (schema_message little gs pairs []).node) 2147483647) errors.TooLarge) (λ small. Ok (layout (schema_message little gs pairs []).node))
 unfolding written serialized bind
-written_is fs own pairs same shape uses said = rw (same, shape, uses, said) refl
+written_is fs gs own pairs same shape uses said = rw (same, shape, uses, said) refl
 
--- so fields that are sent are, whose numbering changes nothing
-sent_written : (fs : Fields) (own : Ids) (pairs : Metadata) → are_sent_fields fs ≡ true → FieldsFit 64 fs → have_shapes fs own ≡ true
-    → written little fs own pairs ≡ bind (unless (nat_le (size (stream_schema fs pairs []).node) 2147483647) errors.TooLarge) (λ small. Ok (layout (stream_schema fs pairs []).node))
-sent_written fs own pairs sent fit shape =
-    let by : SentMessage → Reading (List ℕ) = λ m. bind (unless (nat_le (size m.node) 2147483647) errors.TooLarge) (λ small. Ok (layout m.node)) in
-    written_is fs own pairs (fields_stay fs own sent) shape (no_uses fs sent) (can_be_said 64 fs sent fit) ∙ ap by (ap (λ gs. schema_message little gs pairs []) (sym (numbers_aside fs sent)))
+-- what is given to be written of fields: they can be said under ids that count from 0, which are their own
+pub record IsOfFields (gs fs : Fields) (own : Ids) : Type 0 where
+  pub numbers : fields_with fs own ≡ numbered gs 0
+  pub shape : have_shapes fs own ≡ true
+  pub said : representable (numbered gs 0) ≡ true
+
+-- so they are written as a stream's
+sent_written : (gs fs : Fields) (own : Ids) (pairs : Metadata) → IsOfFields gs fs own
+    → written little fs own pairs ≡ bind (unless (nat_le (size (stream_schema gs pairs []).node) 2147483647) errors.TooLarge) (λ small. Ok (layout (stream_schema gs pairs []).node))
+sent_written gs fs own pairs of = written_is fs (numbered gs 0) own pairs of.numbers of.shape (uses_numbered gs) of.said
 
 tested : (m : SentMessage) (test : Bool) (x : List ℕ) → bind (unless test errors.TooLarge) (λ small. Ok (layout m.node)) ≡ Ok x → x ≡ layout m.node
 unfolding bind
@@ -87,8 +92,8 @@ tested m true x h = cc
 tested m false x h = cc
 
 -- the bytes that were written of a schema
-pub schema_written : (fs : Fields) (own : Ids) (pairs : Metadata) (v : Vec ℕ Global) → are_sent_fields fs ≡ true → FieldsFit 64 fs → have_shapes fs own ≡ true → Gives (λ (w : Vec ℕ Global). w.items) (Ok v) (written little fs own pairs) → v.items ≡ layout (stream_schema fs pairs []).node
-schema_written fs own pairs v sent fit shape h = tested (stream_schema fs pairs []) (nat_le (size (stream_schema fs pairs []).node) 2147483647) v.items (sym (sent_written fs own pairs sent fit shape) ∙ h)
+pub schema_written : (gs fs : Fields) (own : Ids) (pairs : Metadata) (v : Vec ℕ Global) → IsOfFields gs fs own → Gives (λ (w : Vec ℕ Global). w.items) (Ok v) (written little fs own pairs) → v.items ≡ layout (stream_schema gs pairs []).node
+schema_written gs fs own pairs v of h = tested (stream_schema gs pairs []) (nat_le (size (stream_schema gs pairs []).node) 2147483647) v.items (sym (sent_written gs fs own pairs of) ∙ h)
 
 -- why it is refused: the message is too large, or there is no memory
 test_refused : (m : SentMessage) (e : IpcError) (test : Bool) (expected : List ℕ) → nat_le (size m.node) 2147483647 ≡ test → Gives (λ (w : Vec ℕ Global). w.items) (Err e) (bind (unless test errors.TooLarge) (λ small. Ok (layout m.node))) → IsOfMessage e → Writes (Err e) m expected
@@ -116,62 +121,52 @@ test_refused m (errors.Projection index) test expected is g k = absurd k
 test_refused m (errors.DictionaryReplaced id) test expected is g k = absurd k
 test_refused m errors.State test expected is g k = absurd k
 
-pub schema_refused : (r : Result (Vec ℕ Global) IpcError) (fs : Fields) (own : Ids) (pairs : Metadata) (e : IpcError) (expected : List ℕ) → are_sent_fields fs ≡ true → FieldsFit 64 fs → have_shapes fs own ≡ true → r ≡ Err e → Gives (λ (w : Vec ℕ Global). w.items) (Err e) (written little fs own pairs) → IsOfMessage e
-    → Writes r (stream_schema fs pairs []) expected
-schema_refused r fs own pairs e expected sent fit shape is g k =
-    let m = stream_schema fs pairs [] in
-    let h = subst (Gives (λ (w : Vec ℕ Global). w.items) (Err e)) (sent_written fs own pairs sent fit shape) g in
+pub schema_refused : (r : Result (Vec ℕ Global) IpcError) (gs fs : Fields) (own : Ids) (pairs : Metadata) (e : IpcError) (expected : List ℕ) → IsOfFields gs fs own → r ≡ Err e → Gives (λ (w : Vec ℕ Global). w.items) (Err e) (written little fs own pairs) → IsOfMessage e
+    → Writes r (stream_schema gs pairs []) expected
+schema_refused r gs fs own pairs e expected of is g k =
+    let m = stream_schema gs pairs [] in
+    let h = subst (Gives (λ (w : Vec ℕ Global). w.items) (Err e)) (sent_written gs fs own pairs of) g in
     subst (λ q. Writes q m expected) (sym is) (test_refused m e (nat_le (size m.node) 2147483647) expected refl h k)
 
 -- ── the message of the columns of a file ──
 
--- what of the schema is given to be written: the fields that are asked for, and the file's pairs
-record IsOfFile (file : FileMetadata) (columns : Option (List ℕ)) (s : List Keyed) (pairs : Metadata) : Type 0 where
-  fields : fields_in s ≡ fields_as_asked columns (meta_view file).schema.fields
-  pairs_are : pairs ≡ (meta_view file).schema.metadata
-  sent : are_sent_fields (fields_in s) ≡ true
-  fit : FieldsFit 64 (fields_in s)
-
--- what is asked for of a file, and may be sent
-pub record MayBeSent (file : FileMetadata) (columns : Option (List ℕ)) (s : List Keyed) (pairs : Metadata) : Type 0 where
+-- what is asked for of a file, and may be sent: a schema of its fields, with ids that count from 0 where dictionaries stand apart
+pub record MayBeSent (file : FileMetadata) (columns : Option (List ℕ)) (s : List Keyed) (own : Ids) (pairs : Metadata) : Type 0 where
   pub built : IsBuilt (meta_view file) columns
   pub read : WasRead file
   pub right : columns_right columns (width (meta_view file).schema.fields) ≡ Ok tt
   pub asked : AreAsked (rc_value file.schema) columns s
+  pub shape : have_shapes (fields_in s) own ≡ true
+  pub numbers : are_apart (fields_in s) ≡ true → fields_with (fields_in s) own ≡ numbered (fields_in s) 0
   pub pairs_are : pairs ≡ (meta_view file).schema.metadata
 
-of_file : (file : FileMetadata) (columns : Option (List ℕ)) (s : List Keyed) (pairs : Metadata) → MayBeSent file columns s pairs → IsOfFile file columns s pairs
-of_file file columns s pairs may =
-    let below = ids_of file.ipc_schema.fields.items in
+of_file : (file : FileMetadata) (columns : Option (List ℕ)) (s : List Keyed) (own : Ids) (pairs : Metadata) → MayBeSent file columns s own pairs → IsOfFields (fields_as_asked columns (meta_view file).schema.fields) (fields_in s) own
+of_file file columns s own pairs may =
+    let gs = fields_as_asked columns (meta_view file).schema.fields in
     let all = fields_in (rc_value file.schema) in
-    let sent : are_sent_fields (fields_as_asked columns all) ≡ true = sym (asked_aside all below columns) ∙ may.built in
-    let picked = asked_schema_fields (rc_value file.schema) columns s may.asked in
-    let fields : fields_in s ≡ fields_as_asked columns (meta_view file).schema.fields = picked ∙ sym (asked_stay all below columns sent) in
-    record {
-      fields = fields;
-      pairs_are = may.pairs_are;
-      sent = ap are_sent_fields picked ∙ sent;
-      fit = subst (λ fs. FieldsFit 64 fs) (sym fields) (sendable file columns may.right may.built may.read).0.may.fit;
-    }
+    let schema = (sendable file columns may.right may.built may.read).0.may in
+    let numbers : numbered (fields_in s) 0 ≡ numbered gs 0 = ap (λ fs. numbered fs 0) (asked_schema_fields (rc_value file.schema) columns s may.asked) ∙ sym (asked_renewed all (ids_of file.ipc_schema.fields.items) columns 0) in
+    let apart : are_apart (fields_in s) ≡ true = sym (all_apart_numbered (fields_in s) 0) ∙ ap are_apart numbers ∙ all_apart_numbered gs 0 ∙ fields_apart 64 gs schema.fit in
+    record { numbers = may.numbers apart ∙ numbers; shape = may.shape; said = can_be_said gs (meta_view file).schema.metadata schema }
 
-as_of_file : (file : FileMetadata) (columns : Option (List ℕ)) (s : List Keyed) (pairs : Metadata) (r : Result (Vec ℕ Global) IpcError) → IsOfFile file columns s pairs → WritesSchema r (fields_in s) pairs → WritesSchema r (fields_as_asked columns (meta_view file).schema.fields) (meta_view file).schema.metadata
-as_of_file file columns s pairs r of w = subst (λ fs. WritesSchema r fs (meta_view file).schema.metadata) of.fields (subst (λ ps. WritesSchema r (fields_in s) ps) of.pairs_are w)
+as_of_file : (file : FileMetadata) (gs : Fields) (pairs : Metadata) (r : Result (Vec ℕ Global) IpcError) → pairs ≡ (meta_view file).schema.metadata → WritesSchema r gs pairs → WritesSchema r gs (meta_view file).schema.metadata
+as_of_file file gs pairs r same w = subst (λ ps. WritesSchema r gs ps) same w
 
 -- it is refused
-pub file_schema_refused : (file : FileMetadata) (columns : Option (List ℕ)) (r : Result (Vec ℕ Global) IpcError) (s : List Keyed) (own : Ids) (pairs : Metadata) (e : IpcError) → MayBeSent file columns s pairs → have_shapes (fields_in s) own ≡ true
+pub file_schema_refused : (file : FileMetadata) (columns : Option (List ℕ)) (r : Result (Vec ℕ Global) IpcError) (s : List Keyed) (own : Ids) (pairs : Metadata) (e : IpcError) → MayBeSent file columns s own pairs
     → r ≡ Err e → Gives (λ (v : Vec ℕ Global). v.items) (Err e) (written little (fields_in s) own pairs) → IsOfMessage e → WritesSchema r (fields_as_asked columns (meta_view file).schema.fields) (meta_view file).schema.metadata
-file_schema_refused file columns r s own pairs e may shape err g k =
-    let of = of_file file columns s pairs may in
-    as_of_file file columns s pairs r of (schema_refused r (fields_in s) own pairs e _ of.sent of.fit shape err g k)
+file_schema_refused file columns r s own pairs e may err g k =
+    let gs = fields_as_asked columns (meta_view file).schema.fields in
+    as_of_file file gs pairs r may.pairs_are (schema_refused r gs (fields_in s) own pairs e _ (of_file file columns s own pairs may) err g k)
 
 no_body : (fs : Fields) (pairs : Metadata) → (schema_message little fs pairs []).body ≡ 0
 unfolding schema_message
 no_body fs pairs = refl
 
 -- its frame
-pub file_schema_framed : (file : FileMetadata) (columns : Option (List ℕ)) (r : Result (Vec ℕ Global) IpcError) (s : List Keyed) (own : Ids) (pairs : Metadata) (v : Vec ℕ Global) (metadata body : List ℕ) → MayBeSent file columns s pairs
-    → have_shapes (fields_in s) own ≡ true → Gives (λ (w : Vec ℕ Global). w.items) (Ok v) (written little (fields_in s) own pairs) → metadata ≡ v.items → body ≡ [] → Framed r metadata body → WritesSchema r (fields_as_asked columns (meta_view file).schema.fields) (meta_view file).schema.metadata
-file_schema_framed file columns r s own pairs v metadata body may shape g items none f =
-    let of = of_file file columns s pairs may in
-    let m = stream_schema (fields_in s) pairs [] in
-    as_of_file file columns s pairs r of (alone_written r m metadata (no_body (numbered (fields_in s) 0) pairs) (items ∙ schema_written (fields_in s) own pairs v of.sent of.fit shape g) (subst (λ x. Framed r metadata x) none f))
+pub file_schema_framed : (file : FileMetadata) (columns : Option (List ℕ)) (r : Result (Vec ℕ Global) IpcError) (s : List Keyed) (own : Ids) (pairs : Metadata) (v : Vec ℕ Global) (metadata body : List ℕ) → MayBeSent file columns s own pairs
+    → Gives (λ (w : Vec ℕ Global). w.items) (Ok v) (written little (fields_in s) own pairs) → metadata ≡ v.items → body ≡ [] → Framed r metadata body → WritesSchema r (fields_as_asked columns (meta_view file).schema.fields) (meta_view file).schema.metadata
+file_schema_framed file columns r s own pairs v metadata body may g items none f =
+    let gs = fields_as_asked columns (meta_view file).schema.fields in
+    let m = stream_schema gs pairs [] in
+    as_of_file file gs pairs r may.pairs_are (alone_written r m metadata (no_body (numbered gs 0) pairs) (items ∙ schema_written gs (fields_in s) own pairs v (of_file file columns s own pairs may) g) (subst (λ x. Framed r metadata x) none f))

@@ -1,5 +1,5 @@
 -- What writers of messages answer.
-use Rattle.std.specs.Prelude.{◌≡◌, ℕ, ◌^◌, ◌<◌, true, false, List, [], length, ⊤, Result, Ok, Err}
+use Rattle.std.specs.Prelude.{◌≡◌, ℕ, ◌^◌, ◌<◌, ◌≤◌, true, false, List, [], length, ⊤, Result, Ok, Err}
 use Rattle.std.specs.declared.alloc.Global.{Global}
 use Rattle.std.specs.declared.vec.Vec.{Vec}
 use Rattle.arrow_spec.specs.declared.error.IpcError.{IpcError}
@@ -8,6 +8,7 @@ use Rattle.arrow_spec.specs.Sent.{SentMessage, may_be_sent, stream_schema}
 use Rattle.arrow_spec.specs.Kinds.{Fields, Metadata}
 use Rattle.arrow_spec.specs.Framing.{body_bytes, message_bytes}
 use Rattle.arrow_spec.specs.Layout.{up_to}
+use Rattle.ipc_io.specs.Outside.{Rose}
 use Rattle.ipc_write.specs.Outcomes.{message_frame}
 use Rattle.ipc_write.specs.declared.encoded.BodyPlan.{BodyPlan}
 
@@ -27,6 +28,13 @@ pub record IsInLimits (p : BodyPlan) : Type 0 where
   pub body : p.body_length ≡ length (body_bytes 0 p.buffers.items)
   pub small : up_to 8 (length p.ipc_message.items) < 2 ^ 31
   pub short : p.body_length < 2 ^ 63
+
+-- why a planned message was not put: a fault, want of memory, or its metadata is too large
+abbrev pub PutPlanCause : BodyPlan → IpcError → ℕ → ℕ → Type 0
+PutPlanCause p errors.WriteFault faults faults' = Rose faults faults'
+PutPlanCause p errors.Memory faults faults' = ⊤
+PutPlanCause p errors.TooLarge faults faults' = 2 ^ 31 ≤ up_to 8 (length p.ipc_message.items)
+PutPlanCause p e faults faults' = ⊥
 
 -- it has these bytes, and may be sent
 pub record IsPlanned (p : BodyPlan) (message : SentMessage) (bytes : List ℕ) : Type 0 where

@@ -1,4 +1,4 @@
-//! What of a file is built so far: columns that have no dictionaries, no floats and no decimals of 256 bits at any depth.
+//! What of a file is built so far: columns that have no floats and no decimals of 256 bits at any depth.
 ghost use Rattle.std.specs.Prelude.{◌≡◌, ◌<◌, false, true, None, Some, length, map, slice_get};
 ghost use Rattle.arrow_spec.specs.Features.{feature_faults};
 ghost use Rattle.arrow_spec.specs.Files.{fields_as_asked, fields_asked};
@@ -23,8 +23,8 @@ fn is_sent(dtype: &ArrowDataType) -> bool
         ArrowDataType::Float16
         | ArrowDataType::Float32
         | ArrowDataType::Float64
-        | ArrowDataType::Decimal256(_, _)
-        | ArrowDataType::Dictionary(_, _, _) => false,
+        | ArrowDataType::Decimal256(_, _) => false,
+        ArrowDataType::Dictionary(_, values, _) => is_sent(values),
         ArrowDataType::List(field) => is_field_sent(field),
         ArrowDataType::LargeList(field) => is_field_sent(field),
         ArrowDataType::FixedSizeList(field, _) => is_field_sent(field),

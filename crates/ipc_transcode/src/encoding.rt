@@ -1,7 +1,7 @@
 //! The bytes of a stream as they are put.
-ghost use Rattle.std.specs.Prelude.{◌≡◌, ◌≤◌, length, IfErr, IfOk};
+ghost use Rattle.std.specs.Prelude.{◌≡◌, ◌≤◌, ◌+◌, ◌^◌, ◌<◌, length, IfErr, IfOk};
 ghost use Rattle.ipc_transcode.specs.Transcode.{text_of, PutsPieces, PutsText, PutTextCause};
-ghost use Rattle.ipc_transcode.specs.Written.{plan_bytes, IsInLimits};
+ghost use Rattle.ipc_transcode.specs.Written.{plan_bytes, IsInLimits, PutPlanCause};
 ghost use Rattle.ipc_transcode.specs.declared.encoding.Encoding.TheVariants as encodings;
 ghost use Rattle.ipc_io.specs.Outside.{SinkKept};
 
@@ -14,7 +14,7 @@ use std::alloc::Global;
 /// How the bytes of a stream are put.
 #[derive(Clone, Copy, Debug, PartialEq, Eq)]
 pub enum Encoding {
-    /// As they are: the bodies of record batches in pieces of at most 65,536 bytes.
+    /// As they are: the bodies of dictionaries and record batches in pieces of at most 65,536 bytes.
     Bytes,
     /// As lower-case hex text, each message in one piece, which takes twice the memory of its bytes.
     HexText,
@@ -43,25 +43,25 @@ fn put_in_pieces<W: Sink>(
     sink: &mut W,
     plan: &BodyPlan,
     pieces: &mut [u8],
-) -> Result<usize, IpcError>
-    requires limits { IsInLimits plan.now }
+) -> Result<u128, IpcError>
     requires pieces { length pieces.old ≡ 65536 }
-    ensures length { IfOk result (λ n. n ≡ length (plan_bytes plan.now)) }
+    ensures length { IfOk result (λ n. IsInLimits plan.now → n ≡ length (plan_bytes plan.now)) }
+    ensures small { IfOk result (λ n. n < 2 ^ 64 + 2 ^ 32) }
     ensures bytes { PutsPieces (W.written sink.old) (W.written sink.new) (W.wants sink.old) (W.wants sink.new) result (plan_bytes plan.now) }
-    ensures cause { IfErr result (λ e. PutTextCause e (W.faults sink.old) (W.faults sink.new)) }
+    ensures cause { IfErr result (λ e. PutPlanCause plan.now e (W.faults sink.old) (W.faults sink.new)) }
     ensures sink { SinkKept W.faults W.wants W.references sink.old sink.new }
     ensures pieces { length pieces.new ≡ length pieces.old }
 {
     let (front, body) = write_plan(sink, plan, pieces)?;
-    Ok(front + body)
+    Ok(front as u128 + body as u128)
 }
 
 /// Puts a planned message as hex text, and answers how many bytes it has.
-fn put_as_hex<W: Sink>(alloc: Global, sink: &mut W, plan: &BodyPlan) -> Result<usize, IpcError>
-    requires { IsInLimits plan.now }
+fn put_as_hex<W: Sink>(alloc: Global, sink: &mut W, plan: &BodyPlan) -> Result<u128, IpcError>
     ensures length { IfOk result (λ n. n ≡ length (plan_bytes plan.now)) }
+    ensures small { IfOk result (λ n. n < 2 ^ 64) }
     ensures bytes { PutsPieces (W.written sink.old) (W.written sink.new) (W.wants sink.old) (W.wants sink.new) result (text_of encodings.HexText (plan_bytes plan.now)) }
-    ensures cause { IfErr result (λ e. PutTextCause e (W.faults sink.old) (W.faults sink.new)) }
+    ensures cause { IfErr result (λ e. PutPlanCause plan.now e (W.faults sink.old) (W.faults sink.new)) }
     ensures sink { SinkKept W.faults W.wants W.references sink.old sink.new }
 {
     let mut body = Vec::with_capacity(alloc, plan.body_length)?;
@@ -69,7 +69,7 @@ fn put_as_hex<W: Sink>(alloc: Global, sink: &mut W, plan: &BodyPlan) -> Result<u
     let message = message_to_bytes(alloc, &plan.ipc_message, &body)?;
     drop(body);
     put_text(alloc, sink, &message, Encoding::HexText)?;
-    Ok(message.len())
+    Ok(message.len() as u128)
 }
 
 /// Puts a planned message, and answers how many bytes it has.
@@ -79,12 +79,12 @@ pub(crate) fn put_plan<W: Sink>(
     plan: &BodyPlan,
     pieces: &mut [u8],
     encoding: Encoding,
-) -> Result<usize, IpcError>
-    requires limits { IsInLimits plan.now }
+) -> Result<u128, IpcError>
     requires pieces { length pieces.old ≡ 65536 }
-    ensures length { IfOk result (λ n. n ≡ length (plan_bytes plan.now)) }
+    ensures length { IfOk result (λ n. IsInLimits plan.now → n ≡ length (plan_bytes plan.now)) }
+    ensures small { IfOk result (λ n. n < 2 ^ 64 + 2 ^ 32) }
     ensures bytes { PutsPieces (W.written sink.old) (W.written sink.new) (W.wants sink.old) (W.wants sink.new) result (text_of encoding (plan_bytes plan.now)) }
-    ensures cause { IfErr result (λ e. PutTextCause e (W.faults sink.old) (W.faults sink.new)) }
+    ensures cause { IfErr result (λ e. PutPlanCause plan.now e (W.faults sink.old) (W.faults sink.new)) }
     ensures sink { SinkKept W.faults W.wants W.references sink.old sink.new }
     ensures pieces { length pieces.new ≡ length pieces.old }
 {

@@ -1,8 +1,9 @@
-//! From an Arrow file to the stream that means the same, for columns without dictionaries, whole or in the columns and the rows asked for (Arrow Columnar Format, "IPC File Format" and "IPC Streaming Format").
+//! From an Arrow file to the stream that means the same, with its dictionaries, whole or in the columns and the rows asked for (Arrow Columnar Format, "IPC File Format" and "IPC Streaming Format").
 #![tactic(auto)]
 
 mod built;
 mod conversion;
+mod dictionaries;
 mod encoding;
 mod messages;
 mod selection;

@@ -1,14 +1,10 @@
 //! Messages, in one piece or planned (Arrow Columnar Format, "Encapsulated message format").
-ghost use Rattle.std.specs.Prelude.{◌≡◌, ◌^◌, ◌<◌, [], map, IfOk, Ok};
-ghost use Rattle.std.specs.List.{AllByRecursion};
+ghost use Rattle.std.specs.Prelude.{◌≡◌, ◌^◌, ◌<◌, IfOk, Ok};
 ghost use Rattle.arrow_spec.specs.Files.{columns_right, fields_as_asked};
-ghost use Rattle.arrow_spec.specs.Flat.{little};
 ghost use Rattle.arrow_spec.specs.Kinds.{width};
-ghost use Rattle.arrow_arrays.specs.Parts.{cells_in};
-ghost use Rattle.ipc_write_laws.specs.Columns.{Means};
 ghost use Rattle.ipc_write_laws.specs.Streams.{batch_bytes, written_batch};
-ghost use Rattle.ipc_write_arrays.specs.Dictionaries.{HoldsValues};
 ghost use Rattle.ipc_write.specs.Batches.{written_batch_of};
+ghost use Rattle.ipc_write.specs.Encoding.{AllMean};
 ghost use Rattle.ipc_read.specs.Projection.{columns_of};
 ghost use Rattle.ipc_files.specs.FileViews.{meta_view, WasRead};
 ghost use Rattle.ipc_transcode.specs.FileViews.{IsBuilt};
@@ -26,7 +22,8 @@ use std::alloc::Global;
 /// The end of a stream: a prefix of length 0.
 pub(crate) const END_MARK: [u8; 8] = [255, 255, 255, 255, 0, 0, 0, 0];
 
-/// The message of the schema of the columns that are asked for, with the file's metadata and without dictionaries.
+/// The message of the schema of the columns that are asked for, with the file's metadata. The ids of its
+/// dictionaries count from 0 in preorder.
 pub(crate) fn schema_message(alloc: Global, selection: &Selection<'_>) -> Result<Vec<u8>, IpcError>
     requires selected { IsSelection selection.now }
     requires built { IsBuilt (meta_view selection.now.file.now) (columns_of selection.now.columns) }
@@ -44,8 +41,7 @@ pub(crate) fn schema_message(alloc: Global, selection: &Selection<'_>) -> Result
 pub(crate) fn batch_plan(alloc: Global, batch: &RecordBatch) -> Result<BodyPlan, IpcError>
     requires few { batch.now.height < 2 ^ 63 }
     ensures plans { PlansMessage result (written_batch (written_batch_of batch.now)) (batch_bytes (written_batch_of batch.now)) }
-    ensures means { IfOk result (λ _. AllByRecursion (λ p. HoldsValues [] p) batch.now.arrays → AllByRecursion (λ c. Means little [] batch.now.height c) (written_batch_of batch.now).columns) }
-    ensures cells { IfOk result (λ _. map (λ c. c.cells) (written_batch_of batch.now).columns ≡ map cells_in batch.now.arrays) }
+    ensures means { IfOk result (λ _. AllMean batch.now.height batch.now.arrays) }
 {
     plan_batch(alloc, batch, &WriteOptions::default())
 }

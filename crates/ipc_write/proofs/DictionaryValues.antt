@@ -1,9 +1,11 @@
 -- The message of a planned array is that of a dictionary's values.
-use Rattle.std.proofs.Common.{◌≡◌, ℕ, Bool, None, length, map, refl, ap, ◌∙◌, arith, subst, Result, Ok, Err, ℤ, append-nil}
+use Rattle.std.proofs.Common.{◌≡◌, ℕ, Bool, None, length, map, refl, ap, ◌∙◌, arith, subst, sym, Result, Ok, Err, ℤ, append-nil}
+use Rattle.std.specs.Result.{IsErrAnd}
 use Rattle.arrow_spec.specs.declared.error.IpcError.{IpcError}
 use Rattle.arrow_spec.specs.declared.error.IpcError.TheVariants as errors
 use Rattle.arrow_spec.specs.Counts.{Written}
 use Rattle.arrow_spec.specs.Flat.{little}
+use Rattle.arrow_spec.specs.Framing.{body_bytes}
 use Rattle.arrow_spec.specs.Sent.{node_rows}
 use Rattle.arrow_arrays.specs.Nodes.{counts_in}
 use Rattle.arrow_arrays.specs.Parts.{Parts, leaf, nested, rows_in, fault_in}
@@ -15,8 +17,9 @@ use Rattle.ipc_write_arrays.proofs.TreeColumns.{own_node}
 use Rattle.ipc_write_arrays.proofs.TrimLaws.{all_rows-trim}
 use Rattle.ipc_write.specs.Encoding.{no_outputs}
 use Rattle.ipc_write.specs.Planned.{MakesMessage, planned_message}
-use Rattle.ipc_write.specs.Values.{PlansValues, message_of_values, values_message}
+use Rattle.ipc_write.specs.Values.{PlansValues, EncodesValues, IsOfValues, message_of_values, values_message}
 use Rattle.ipc_write.specs.declared.encoded.BodyPlan.{BodyPlan}
+use Rattle.ipc_write.specs.declared.encoded.EncodedData.{EncodedData}
 use Rattle.ipc_write.specs.declared.metadata.Content.TheVariants.{DictionaryBatch}
 use Rattle.ipc_write.specs.declared.options.WriteOptions.{WriteOptions}
 use Rattle.ipc_write.proofs.Messages.{header_same}
@@ -56,3 +59,17 @@ values_planned r options id is_delta p rows o e hr ho hc h =
     by (Err errors.TooLarge) k = (hc, k)
     by (Err errors.Memory) k = hc
     by (Err f) k = absurd k
+
+-- ── in one piece ──
+
+pub values_encoded : (p : BodyPlan) (m : EncodedData) (options : WriteOptions) (id : ℤ) (is_delta : Bool) (x : Parts) → PlansValues (Ok p) options id is_delta x
+    → m.ipc_message.items ≡ p.ipc_message.items → m.arrow_data.items ≡ body_bytes 0 p.buffers.items → IsOfValues options id is_delta x m
+values_encoded p m options id is_delta x h hm hb = record { uncompressed = h.0; short = h.1; message = hm ∙ h.2; body = hb ∙ ap (body_bytes 0) h.3 }
+
+pub values_refused : (r : Result EncodedData IpcError) (e : IpcError) (options : WriteOptions) (id : ℤ) (is_delta : Bool) (x : Parts) → IsErrAnd r (λ f. f ≡ e) → PlansValues (Err e) options id is_delta x → EncodesValues r options id is_delta x
+values_refused (Ok m) e options id is_delta x h k = absurd h
+values_refused (Err f) e options id is_delta x h k = subst (λ g. PlansValues (Err g) options id is_delta x) (sym h) k
+
+-- no message is made of values where compression is asked for
+pub values_uncompressed : (p : BodyPlan) (options : WriteOptions) (id : ℤ) (is_delta : Bool) (x : Parts) → PlansValues (Ok p) options id is_delta x → options.compression ≡ None
+values_uncompressed p options id is_delta x h = h.0

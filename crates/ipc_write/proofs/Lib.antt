@@ -11,3 +11,4 @@ pub mod Compacted
 pub mod Meanings
 pub mod Written
 mod SameRecords
+pub mod Additions

@@ -10,3 +10,4 @@ pub mod Bodies
 pub mod Outcomes
 pub mod RecordCode
 pub mod Records
+pub mod Additions

@@ -7,12 +7,14 @@ use Rattle.arrow_spec.specs.declared.error.Feature.TheVariants as features
 use Rattle.arrow_spec.specs.Flat.{little}
 use Rattle.arrow_spec.specs.Layout.{Slots, table, child, layout, no_more}
 use Rattle.arrow_spec.specs.Counts.{Written}
+use Rattle.arrow_spec.specs.Framing.{body_bytes}
 use Rattle.arrow_spec.specs.Sent.{SentMessage, batch_node, body_of, flag, message, node_rows, unless_zero}
 use Rattle.arrow_arrays.specs.Parts.{Parts, rows_in}
 use Rattle.ipc_write_laws.specs.Streams.{written_of}
 use Rattle.ipc_write_arrays.specs.Pieces.{column_in, pieces_in}
 use Rattle.ipc_write.specs.Planned.{is_short}
 use Rattle.ipc_write.specs.declared.encoded.BodyPlan.{BodyPlan}
+use Rattle.ipc_write.specs.declared.encoded.EncodedData.{EncodedData}
 use Rattle.ipc_write.specs.declared.options.WriteOptions.{WriteOptions}
 
 -- the slots of a dictionary batch under any id; under a natural number they are the `dictionary_slots` of what is sent (Message.fbs, DictionaryBatch)
@@ -35,3 +37,15 @@ PlansValues (Err (errors.Unsupported features.Compression)) options id is_delta 
 PlansValues (Err errors.TooLarge) options id is_delta x = (options.compression ≡ None) × (is_short options.metadata_limit (rows_in x) (values_message id is_delta x) ≡ false)
 PlansValues (Err errors.Memory) options id is_delta x = options.compression ≡ None
 PlansValues (Err e) options id is_delta x = ⊥
+
+-- a message is that of an array as values under an id
+pub record IsOfValues (options : WriteOptions) (id : ℤ) (is_delta : Bool) (x : Parts) (m : EncodedData) : Type 0 where
+  pub uncompressed : options.compression ≡ None
+  pub short : is_short options.metadata_limit (rows_in x) (values_message id is_delta x) ≡ true
+  pub message : m.ipc_message.items ≡ layout (values_message id is_delta x).node
+  pub body : m.arrow_data.items ≡ body_bytes 0 (pieces_in little x)
+
+-- it was encoded: its flatbuffer and its body; or it is refused as its plan is
+abbrev pub EncodesValues : Result EncodedData IpcError → WriteOptions → ℤ → Bool → Parts → Type 0
+EncodesValues (Ok m) options id is_delta x = IsOfValues options id is_delta x m
+EncodesValues (Err e) options id is_delta x = PlansValues (Err e) options id is_delta x

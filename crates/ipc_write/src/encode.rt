@@ -53,7 +53,7 @@ pub fn plan_batch(
 }
 
 /// The message with its body in one piece.
-fn in_one_piece(alloc: Global, plan: BodyPlan) -> Result<EncodedData, AllocError>
+pub(crate) fn in_one_piece(alloc: Global, plan: BodyPlan) -> Result<EncodedData, AllocError>
     ensures message { IfOk result (λ m. m.ipc_message.items ≡ plan.ipc_message.items) }
     ensures body { IfOk result (λ m. m.arrow_data.items ≡ body_bytes 0 plan.buffers.items) }
 {

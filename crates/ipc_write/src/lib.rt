@@ -4,6 +4,7 @@
 mod body;
 mod columns;
 mod compaction;
+mod dictionary;
 mod encode;
 mod encoded;
 mod frame;
@@ -13,6 +14,7 @@ mod planned;
 mod record;
 mod values;
 
+pub use dictionary::write_dictionary;
 pub use encode::{encode_record_batch, plan_batch};
 pub use encoded::{BodyPlan, EncodedData};
 pub use frame::{message_to_bytes, pad_to_64, write_continuation, write_message, write_plan};
@@ -20,4 +22,4 @@ pub use ipc_bodies::{BodyBuffer, put_body};
 pub use ipc_write_arrays::write;
 pub use options::{Compression, WriteOptions};
 pub use record::Record;
-pub use values::plan_values;
+pub use values::{encode_values, plan_values};

@@ -3,11 +3,12 @@ ghost use Rattle.std.specs.Prelude.{IfOk};
 ghost use Rattle.arrow_spec.specs.Flat.{little};
 ghost use Rattle.arrow_arrays.specs.PartsOf.{parts_of};
 ghost use Rattle.ipc_write_arrays.specs.Pieces.{IsMeant};
-ghost use Rattle.ipc_write.specs.Values.{PlansValues};
+ghost use Rattle.ipc_write.specs.Values.{PlansValues, EncodesValues};
 
+use crate::encode::in_one_piece;
 use crate::metadata::Content;
 use crate::planned::{MOST_ROWS, message_plan};
-use crate::{BodyPlan, WriteOptions};
+use crate::{BodyPlan, EncodedData, WriteOptions};
 use arrow_arrays::Array;
 use arrow_spec::{Feature, IpcError};
 use ipc_write_arrays::{Outputs, plan};
@@ -43,4 +44,25 @@ pub fn plan_values(
     plan(array, &mut column, true)?;
     let content = Content::DictionaryBatch(id, is_delta);
     message_plan(alloc, content, rows, column, options.metadata_limit)
+}
+
+/// The message of [`plan_values`], with its body in one piece.
+///
+/// # Errors
+///
+/// As for [`plan_values`].
+pub fn encode_values(
+    alloc: Global,
+    id: i64,
+    array: &Array,
+    is_delta: bool,
+    options: &WriteOptions,
+) -> Result<EncodedData, IpcError>
+    ensures encodes { EncodesValues result options.now id is_delta (parts_of array.now) }
+    // What was written means the array's cells, under any ids of dictionaries under which their values were read.
+    ensures means { IfOk result (λ _. IsMeant little (parts_of array.now)) }
+{
+    let plan = plan_values(alloc, id, array, is_delta, options)?;
+    let message = in_one_piece(alloc, plan)?;
+    Ok(message)
 }

@@ -99,6 +99,7 @@ fn too_much_metadata_leaves_what_was_there(rt: HostRuntime) -> Result<(), Fail> 
     let options = WriteOptions {
         compression: None,
         metadata_limit: 64,
+        deltas: false,
     };
     let mut encoded = EncodedData::new(alloc);
     encoded.arrow_data.push(7)?;

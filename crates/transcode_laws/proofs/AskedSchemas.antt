@@ -13,13 +13,10 @@ use Rattle.arrow_spec.specs.Schema.{Before, has_distinct_names, has_name}
 use Rattle.arrow_spec.specs.WrittenSchemas.{FieldsFit, SchemaMayBeWritten, after_fields, after_kind, pairs_for}
 use Rattle.arrow_spec.proofs.PairOrder.{key_same}
 use Rattle.arrow_spec.proofs.ReadPairs.{is_true, through}
-use Rattle.transcode_laws.specs.Built.{so_far}
-use Rattle.transcode_laws.specs.Files.{asked_schema}
 use Rattle.transcode_laws.specs.Laws.{AskedSchemaIsSendable}
 use Rattle.transcode_laws.proofs.AskedFeatures.{floats_asked}
 use Rattle.transcode_laws.proofs.ChosenColumns.{stands_first, stands_later}
-use Rattle.transcode_laws.proofs.Schemas.{plain_sendable}
-use Rattle.transcode_laws.proofs.SoFar.{let_through}
+use Rattle.transcode_laws.proofs.SentFields.{no_floats}
 
 -- ── each column once ──
 
@@ -222,5 +219,5 @@ asked_readable fs (Some cs) h = floats_asked fs cs h
 
 pub asked_sendable : AskedSchemaIsSendable
 asked_sendable s columns may right chosen =
-    let is = let_through s.order (fields_as_asked columns s.fields) chosen in
-    (plain_sendable so_far (asked_schema s columns) chosen is.readable is.no_dictionaries (asked_may s.fields s.metadata columns may right), asked_readable s.fields columns is.readable)
+    let readable = no_floats (fields_as_asked columns s.fields) 0 chosen in
+    (record { chosen = chosen; readable = readable; may = asked_may s.fields s.metadata columns may right }, asked_readable s.fields columns readable)

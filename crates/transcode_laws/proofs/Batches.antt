@@ -10,9 +10,11 @@ use Rattle.arrow_spec.specs.WrittenSchemas.{CustomMayBeWritten}
 use Rattle.arrow_spec.specs.Messages.{BatchHeader}
 use Rattle.arrow_spec.specs.Sent.{batch_message, columns_written, may_be_sent, written_as_asked}
 use Rattle.arrow_spec.specs.Files.{Asked, FileBlock, batch_of, batch_of_tables, if_sent, record_batch_of, to_read, to_send}
-use Rattle.ipc_write_laws.specs.Streams.{MayBeWritten, WrittenBatch, table_batch, written_batch, written_of}
+use Rattle.ipc_write_laws.specs.Streams.{WrittenBatch, table_batch, written_batch, written_of}
+use Rattle.ipc_write_laws.specs.Messages.{BatchMayBeWritten, Known}
 use Rattle.ipc_write_laws.proofs.SentBatches.{batch_same}
-use Rattle.transcode_laws.specs.Files.{HeaderFits, IsReadBatch, IsSentBatch, asked_fields}
+use Rattle.dictionary_laws.specs.Sending.{AllAreKnown}
+use Rattle.transcode_laws.specs.Files.{HeaderFits, IsReadBatch, IsSentBatch, asked_fields, stream_fields}
 use Rattle.transcode_laws.specs.Laws.{BatchIsSendable}
 use Rattle.transcode_laws.proofs.Numbers.{WrittenFits, batch_fits}
 pub use Rattle.transcode_laws.proofs.ReadTables.{tables_refused, tables_sent}
@@ -23,12 +25,12 @@ unfolding batch_message
 batch_sent m asked fs x h = rw h (batch_same x)
 
 -- it may be written where its message may be sent
-pub read_may_be_written : (a : Asked) (v : MetadataVersion) (tables : BatchHeader) (body : List ℕ) (left : Option ℕ) (x : WrittenBatch) → HeaderFits tables → CustomMayBeWritten x.custom → IsReadBatch a (record_batch_of a.order v tables body) x
-    → batch_of_tables to_read a v x.custom tables body left ≡ Ok (table_batch x) → may_be_sent (written_batch x) ≡ true → MayBeWritten (asked_fields a) x
-read_may_be_written a v tables body left x fit custom is h small =
+pub read_may_be_written : (a : Asked) (c : Known) (v : MetadataVersion) (tables : BatchHeader) (body : List ℕ) (left : Option ℕ) (x : WrittenBatch) → HeaderFits tables → CustomMayBeWritten x.custom → IsReadBatch a (record_batch_of a.order v tables body) x
+    → AllAreKnown a.dictionaries (asked_fields a) 0 c → batch_of_tables to_read a v x.custom tables body left ≡ Ok (table_batch x) → may_be_sent (written_batch x) ≡ true → BatchMayBeWritten (stream_fields a) c x
+read_may_be_written a c v tables body left x fit custom is known h small =
     let numbers = batch_fits a v x.custom tables body left (table_batch x) fit h in
     let fits : WrittenFits (written_of x.columns) = subst WrittenFits is.written numbers.1 in
-    record { kinds = is.kinds; good = is.good; few = numbers.0; nodes = fits.nodes_fit; views = fits.views_fit; custom = custom; size = small }
+    record { kinds = is.kinds; good = λ e held. is.good c e known held; few = numbers.0; nodes = fits.nodes_fit; views = fits.views_fit; custom = custom; size = small }
 
 -- and there it is sent
 pub read_sent : (a : Asked) (v : MetadataVersion) (tables : BatchHeader) (body : List ℕ) (left : Option ℕ) (x : WrittenBatch) → IsReadBatch a (record_batch_of a.order v tables body) x → batch_of_tables to_read a v x.custom tables body left ≡ Ok (table_batch x)
@@ -38,15 +40,15 @@ read_sent a v tables body left x is h =
 
 -- both
 pub batch_sendable : BatchIsSendable
-batch_sendable a v tables body left x fit custom is h = (read_may_be_written a v tables body left x fit custom is h, read_sent a v tables body left x is h)
+batch_sendable a c v tables body left x fit custom is known h = (read_may_be_written a c v tables body left x fit custom is known h, read_sent a v tables body left x is h)
 
 -- ── a block ──
 
 -- a block that is read as a batch, and sent where its message may be, is sent where the batch may be written
-pub block_is_sent : (built : Built) (b : List ℕ) (a : Asked) (block : FileBlock) (left : Option ℕ) (x : WrittenBatch) → batch_of built.custom to_read b a block left ≡ Ok (table_batch x) → batch_of built.custom to_send b a block left ≡ (if_sent to_send (may_be_sent (written_batch x)) >>= λ size. Ok (table_batch x)) → MayBeWritten (asked_fields a) x
-    → IsSentBatch built b a block left x
+pub block_is_sent : (built : Built) (b : List ℕ) (a : Asked) (c : Known) (block : FileBlock) (left : Option ℕ) (x : WrittenBatch) → batch_of built.custom to_read b a block left ≡ Ok (table_batch x) → batch_of built.custom to_send b a block left ≡ (if_sent to_send (may_be_sent (written_batch x)) >>= λ size. Ok (table_batch x)) → BatchMayBeWritten (stream_fields a) c x
+    → IsSentBatch built b a c block left x
 unfolding bind
-block_is_sent built b a block left x read sent fit = record { read = read; sent = sent ∙ ap (λ k. if_sent to_send k >>= λ u. Ok (table_batch x)) fit.size; fit = fit }
+block_is_sent built b a c block left x read sent fit = record { read = read; sent = sent ∙ ap (λ k. if_sent to_send k >>= λ u. Ok (table_batch x)) fit.size; fit = fit }
 
 -- and is refused where its message is too large
 pub block_too_large : (built : Built) (b : List ℕ) (a : Asked) (block : FileBlock) (left : Option ℕ) (x : WrittenBatch) → batch_of built.custom to_send b a block left ≡ (if_sent to_send (may_be_sent (written_batch x)) >>= λ size. Ok (table_batch x)) → may_be_sent (written_batch x) ≡ false

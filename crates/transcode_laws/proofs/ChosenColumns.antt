@@ -1,4 +1,4 @@
--- Columns by their numbers: the field of one that is asked for, what was read of it, and what is to be written of it.
+-- Columns by their numbers: the field of one that is asked for, what was made of it, and what is to be written of it.
 use Rattle.std.proofs.Common.{◌≡◌, ◌⊎◌, inl, inr, ℕ, zero, suc, ◌+◌, List, [], ◌∷◌, Bool, true, false, Option, Some, None, Ok, refl, arith, subst}
 use Rattle.std.specs.Prelude.{nat_eq, slice_get}
 use Rattle.std.proofs.lemmas.Bool.{eq-eqb, eqb-true, or_left, or_right}
@@ -13,10 +13,6 @@ use Rattle.arrow_spec.specs.Sent.{columns_written, nothing_written, top_written,
 use Rattle.arrow_spec.proofs.Fewer.{none_second}
 use Rattle.arrow_spec.proofs.Projection.{place-ok}
 use Rattle.arrow_spec.proofs.ReadPairs.{through}
-use Rattle.arrow_arrays.specs.Parts.{Parts}
-use Rattle.ipc_read_laws.specs.Batches.{columns_read}
-use Rattle.ipc_read_laws.specs.Held.{Held}
-use Rattle.ipc_read_laws.specs.PartsRead.{parts_read}
 
 -- ── numbers ──
 
@@ -41,21 +37,26 @@ same_columns m d x y (field name nullable metadata k others) c p rows few same =
 
 -- ── a column by its number ──
 
--- what is put before other fields, what was read and what is to be written are those of one column without faults, or there is none
-pub data ColumnAt (m : RecordBatch) (d : Dictionaries) (h : Held) (few : ℕ) (with_it : Fields → Fields) (read : Option Parts) (w : Written) : Type 0 where
-  there : (name : List ℕ) (nullable : Bool) (metadata : Metadata) (k : Kind) (p : Place) → ((others : Fields) → with_it others ≡ field name nullable metadata k others) → read ≡ Some (parts_read m h k p few) → w ≡ top_written m k p few
-      → array_faults m d k p few ≡ [] → ColumnAt m d h few with_it read w
-  not_there : read ≡ None → w ≡ nothing_written → ColumnAt m d h few with_it read w
+-- what is made of each column's kind at its place
+abbrev pub made_of : {A : Type 0} → (Kind → Place → A) → RecordBatch → Fields → Place → List A
+made_of make m none p = []
+made_of make m (field name nullable metadata k others) p = make k p ∷ made_of make m others (after m k p)
 
-pub column_at : (m : RecordBatch) (d : Dictionaries) (held : Held) (asked : Option (List ℕ)) (fs : Fields) (c : ℕ) (p : Place) (rows few : ℕ) (cells : List (List Cell)) (i j : ℕ) → columns_at m d asked fs c p rows few ≡ Ok cells → c + i ≡ j → is_chosen asked j ≡ true
-    → ColumnAt m d held few (λ others. with_field_at fs i others) (slice_get (columns_read m held fs p few) i) (written_at (columns_written m asked fs c p few) i)
+-- what is put before other fields, what was made and what is to be written are those of one column without faults, or there is none
+pub data ColumnAt {A : Type 0} (m : RecordBatch) (d : Dictionaries) (make : Kind → Place → A) (few : ℕ) (with_it : Fields → Fields) (made : Option A) (w : Written) : Type 0 where
+  there : (name : List ℕ) (nullable : Bool) (metadata : Metadata) (k : Kind) (p : Place) → ((others : Fields) → with_it others ≡ field name nullable metadata k others) → made ≡ Some (make k p) → w ≡ top_written m k p few
+      → array_faults m d k p few ≡ [] → ColumnAt m d make few with_it made w
+  not_there : made ≡ None → w ≡ nothing_written → ColumnAt m d make few with_it made w
+
+pub column_at : {A : Type 0} (m : RecordBatch) (d : Dictionaries) (make : Kind → Place → A) (asked : Option (List ℕ)) (fs : Fields) (c : ℕ) (p : Place) (rows few : ℕ) (cells : List (List Cell)) (i j : ℕ) → columns_at m d asked fs c p rows few ≡ Ok cells → c + i ≡ j → is_chosen asked j ≡ true
+    → ColumnAt m d make few (λ others. with_field_at fs i others) (slice_get (made_of make m fs p) i) (written_at (columns_written m asked fs c p few) i)
 unfolding columns_at column_faults
-column_at m d held asked none c p rows few cells i j h at is = not_there refl refl
-column_at m d held asked (field name nullable metadata k others) c p rows few cells zero j h at is =
+column_at m d make asked none c p rows few cells i j h at is = not_there refl refl
+column_at m d make asked (field name nullable metadata k others) c p rows few cells zero j h at is =
     let same : j ≡ c = omega (arith, at) in
     let here : is_chosen asked c ≡ true = rw same at is in
     through _ _ cells h λ u fits h1.
     let fine : chosen_faults true m d k p rows few ≡ [] = subst (λ b. chosen_faults b m d k p rows few ≡ []) here (place-ok _ fits) in
     there name nullable metadata k p (λ fs. refl) refl refl (none_second _ _ fine)
-column_at m d held asked (field name nullable metadata k others) c p rows few cells (suc i) j h at is =
-    through _ _ cells h λ u fits h1. through _ _ cells h1 λ rest rest_are h2. column_at m d held asked others (suc c) (after m k p) rows few rest i j rest_are (omega (arith, at)) is
+column_at m d make asked (field name nullable metadata k others) c p rows few cells (suc i) j h at is =
+    through _ _ cells h λ u fits h1. through _ _ cells h1 λ rest rest_are h2. column_at m d make asked others (suc c) (after m k p) rows few rest i j rest_are (omega (arith, at)) is

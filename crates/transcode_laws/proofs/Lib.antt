@@ -1,5 +1,7 @@
+pub mod StreamFields
 pub mod Schemas
 pub mod Readings
+pub mod Dictionaries
 pub mod Blocks
 pub mod Batches
 pub mod Files
@@ -10,13 +12,7 @@ pub mod Headers
 pub mod SoFar
 pub mod Everything
 pub mod SentFields
-pub mod Pieces
-pub mod LaidRows
-pub mod TreeLengths
-pub mod TopColumns
-pub mod ReadBatches
 pub mod ReadTables
 pub mod ChosenColumns
 pub mod AskedFeatures
 pub mod AskedSchemas
-pub mod RisingBatches

@@ -28,7 +28,6 @@ use Rattle.arrow_spec.specs.Sent.{all_written, columns_written, compacted, compa
 use Rattle.arrow_spec.proofs.Fewer.{cause-none, none_first, none_second, offset-fewer, sound_first, sound_second}
 use Rattle.arrow_spec.proofs.MessageTables.{fits_pos}
 use Rattle.arrow_spec.specs.Bodies.{BufferFits, NodeFits}
-use Rattle.ipc_read_laws.specs.Held.{none_held}
 use Rattle.transcode_laws.specs.Files.{HeaderFits}
 use Rattle.transcode_laws.proofs.ChosenColumns.{there, not_there, column_at, stands_first, stands_later}
 use Rattle.transcode_laws.proofs.ReadTables.{share_below, tables_read}
@@ -209,6 +208,11 @@ mutual
   parts_fit m d (field name nullable metadata k others) p read from rows fit h w =
       also_fits (part_fits m d k p (read p) from (rows p) fit (none_first _ _ h) (w p)) (parts_fit m d others (after m k p) read from rows fit (sound_second _ _ (none_second _ _ h)) w)
 
+-- an array that is written whole
+pub array_fits : (m : RecordBatch) (d : Dictionaries) (k : Kind) (p : Place) (rows : ℕ) → TablesHaveWidth m → array_faults m d k p rows ≡ [] → WrittenFits (written m k p rows 0 rows)
+unfolding written
+array_fits m d k p rows fit h = part_fits m d k p rows 0 rows fit h (λ positive. omega arith)
+
 -- ── top columns ──
 
 if_few : (b : Bool) (xs ys : List ℕ) (n : ℕ) → length xs ≤ n → length ys ≤ n → length (cond b xs ys) ≤ n
@@ -260,7 +264,7 @@ top_fits m d k p rows fit h = part_fits m d k p rows 0 rows fit h (λ positive. 
 
 -- a column that is asked for
 column_fits : (m : RecordBatch) (d : Dictionaries) (asked : Option (List ℕ)) (fs : Fields) (p : Place) (rows few : ℕ) (cells : List (List Cell)) (c : ℕ) → TablesHaveWidth m → columns_at m d asked fs 0 p rows few ≡ Ok cells → is_chosen asked c ≡ true → WrittenFits (written_at (columns_written m asked fs 0 p few) c)
-column_fits m d asked fs p rows few cells c fit h is = elim (column_at m d none_held asked fs 0 p rows few cells c c h (omega arith) is) [
+column_fits m d asked fs p rows few cells c fit h is = elim (column_at m d (λ k at. at) asked fs 0 p rows few cells c c h (omega arith) is) [
   | there name nullable metadata k at same read w fine ↦ subst WrittenFits (sym w) (top_fits m d k at few fit fine)
   | not_there read w ↦ subst WrittenFits (sym w) nothing_fits
 ]
@@ -279,7 +283,7 @@ asked_fit (Some cs) ws h = those_fit ws cs h
 
 -- ── a batch ──
 
-natural_small : (z : ℤ) (n : ℕ) → FitsSigned w64 z → natural z ≡ Ok n → n < 2 ^ 63
+pub natural_small : (z : ℤ) (n : ℕ) → FitsSigned w64 z → natural z ≡ Ok n → n < 2 ^ 63
 natural_small (pos k) n fit h = let e : k ≡ n = cc in subst (λ j. j < 2 ^ 63) e fit.sfits
 natural_small (negsuc k) n fit h = cc
 

@@ -1,5 +1,5 @@
 -- How a file is read under a request to be sent before its first block: its footer, the columns asked for, their kinds, the schema's size, the dictionaries.
-use Rattle.std.proofs.Common.{◌≡◌, ℕ, zero, suc, List, [], ◌∷◌, length, take, Option, Some, None, Ok, Err, refl, ap, ◌∙◌, true, false, Bool, not}
+use Rattle.std.proofs.Common.{◌≡◌, ℕ, zero, suc, List, [], ◌∷◌, take, Option, Some, None, Ok, Err, refl, sym, ap, ◌∙◌, true, false, Bool, not}
 use Rattle.std.specs.Prelude.{◌||◌, ◌&&◌}
 use Rattle.arrow_spec.specs.declared.error.IpcError.{IpcError}
 use Rattle.arrow_spec.specs.declared.error.IpcError.TheVariants.{Unsupported, TooLarge}
@@ -9,6 +9,7 @@ use Rattle.arrow_spec.specs.declared.error.OutOfSpecKind.TheVariants.{InvalidFla
 use Rattle.arrow_spec.specs.WrittenSchemas.{CustomMayBeWritten}
 use Rattle.arrow_spec.specs.Kinds.{Metadata, bare, width}
 use Rattle.arrow_spec.specs.Built.{Built}
+use Rattle.arrow_spec.specs.Arrays.{Dictionaries}
 use Rattle.arrow_spec.specs.Features.{chosen_floats, feature_faults}
 use Rattle.arrow_spec.specs.Sent.{stream_schema, may_be_sent}
 use Rattle.arrow_spec.specs.Files.{ArrowTable, FileBlock, Meta, Purpose, Request, batches_of, columns_right, dictionaries_of, dictionaries_read, fields_as_asked, file_reading, has_any, if_sent, custom_of, meta_of, taken, to_read, to_send}
@@ -17,7 +18,8 @@ use Rattle.arrow_spec.proofs.FeatureFaults.{features-none}
 use Rattle.arrow_spec.proofs.Projection.{on, ok-place}
 use Rattle.arrow_spec.proofs.ReadPairs.{through}
 use Rattle.arrow_spec.proofs.ReadPairs.{custom_may as pairs_may}
-use Rattle.transcode_laws.specs.Files.{IsSendable, IsSentFile, asked_of, asked_schema, table_of}
+use Rattle.transcode_laws.specs.Files.{HasRead, IsSendable, IsSentFile, asked_of, asked_schema, table_of}
+use Rattle.transcode_laws.specs.Laws.{DictionariesRefuseTheirFile}
 
 -- a place that refuses nothing
 nothing_refused : (x : Bool) (e : IpcError) → x ≡ true → unless x e ≡ Ok tt
@@ -54,18 +56,21 @@ features_refused built purpose b r j meta custom es known h pairs right refused 
 
 -- ── behind the kinds ──
 
--- the reading of a file behind its kinds
-behind_kinds : Built → Purpose → List ℕ → Request → Option ℕ → Meta → Metadata → Reading ArrowTable
-behind_kinds built purpose b r j meta custom =
-    if_sent purpose (may_be_sent (stream_schema (fields_as_asked r.columns meta.schema.fields) meta.schema.metadata custom)) >>= λ size.
-    unless (built.dictionaries || not (has_any (dictionaries_read (taken j meta.blocks) meta.dictionaries))) (Unsupported features.NotYet) >>= λ read.
-    dictionaries_of b meta [] (dictionaries_read (taken j meta.blocks) meta.dictionaries) >>= λ dictionaries.
-    batches_of built.custom purpose b (record { order = meta.schema.order; fields = meta.schema.fields; columns = r.columns; dictionaries = dictionaries; most = length b }) true (taken j meta.blocks) r.limit >>= λ batches.
-    Ok (table_of (bare (fields_as_asked r.columns meta.schema.fields)) meta.schema.metadata custom batches)
+-- the table of batches that are read of some blocks with some dictionaries
+blocks_read : Built → Purpose → List ℕ → Request → Meta → Metadata → List FileBlock → Dictionaries → Reading ArrowTable
+blocks_read built purpose b r meta custom blocks d =
+    batches_of built.custom purpose b (asked_of b meta r d) true blocks r.limit >>= λ batches. Ok (table_of (bare (fields_as_asked r.columns meta.schema.fields)) meta.schema.metadata custom batches)
+
+-- the reading of a file behind the schema's size: the dictionaries, and some blocks
+behind_size : Built → Purpose → List ℕ → Request → Meta → Metadata → List FileBlock → Reading ArrowTable
+behind_size built purpose b r meta custom blocks =
+    unless (built.dictionaries || not (has_any (dictionaries_read blocks meta.dictionaries))) (Unsupported features.NotYet) >>= λ read.
+    dictionaries_of b meta [] (dictionaries_read blocks meta.dictionaries) >>= λ d. blocks_read built purpose b r meta custom blocks d
 
 sendable_reading : (built : Built) (purpose : Purpose) (b : List ℕ) (r : Request) (j : Option ℕ) (meta : Meta) (custom : Metadata) → (built.requests || (is_absent r.columns && is_absent r.limit)) ≡ true → meta_of b ≡ Ok meta → custom_of built.custom b ≡ Ok custom → columns_right r.columns (width meta.schema.fields) ≡ Ok tt
-    → chosen_floats r.columns meta.schema.fields 0 ≡ [] → IsSendable built (asked_schema meta.schema r.columns) → file_reading built purpose b r j ≡ behind_kinds built purpose b r j meta custom
-unfolding file_reading behind_kinds
+    → chosen_floats r.columns meta.schema.fields 0 ≡ [] → IsSendable built (asked_schema meta.schema r.columns)
+    → file_reading built purpose b r j ≡ (if_sent purpose (may_be_sent (stream_schema (fields_as_asked r.columns meta.schema.fields) meta.schema.metadata custom)) >>= λ size. behind_size built purpose b r meta custom (taken j meta.blocks))
+unfolding file_reading behind_size blocks_read
 sendable_reading built purpose b r j meta custom known h pairs right readable is =
     let kinds : free_of (feature_faults r.columns meta.schema.fields (built.chosen meta.schema.order (fields_as_asked r.columns meta.schema.fields))) ≡ Ok tt =
     rw is.chosen (ok-place _ (features-none r.columns meta.schema.fields readable)) in
@@ -74,38 +79,19 @@ sendable_reading built purpose b r j meta custom known h pairs right readable is
 -- a schema message that is too large
 pub schema_refused : (built : Built) (b : List ℕ) (r : Request) (meta : Meta) (custom : Metadata) → (built.requests || (is_absent r.columns && is_absent r.limit)) ≡ true → meta_of b ≡ Ok meta → custom_of built.custom b ≡ Ok custom → columns_right r.columns (width meta.schema.fields) ≡ Ok tt
     → chosen_floats r.columns meta.schema.fields 0 ≡ [] → IsSendable built (asked_schema meta.schema r.columns) → may_be_sent (stream_schema (fields_as_asked r.columns meta.schema.fields) meta.schema.metadata custom) ≡ false → file_reading built to_send b r None ≡ Err (TooLarge ∷ [])
-unfolding behind_kinds
 schema_refused built b r meta custom known h pairs right readable is large =
     sendable_reading built to_send b r None meta custom known h pairs right readable is ∙ on_err _ _ (TooLarge ∷ []) (rw large refl)
-
--- dictionaries where there is a block, and none are built
-pub dictionaries_refused : (built : Built) (b : List ℕ) (r : Request) (meta : Meta) (custom : Metadata) → (built.requests || (is_absent r.columns && is_absent r.limit)) ≡ true → built.dictionaries ≡ false → meta_of b ≡ Ok meta → custom_of built.custom b ≡ Ok custom → columns_right r.columns (width meta.schema.fields) ≡ Ok tt
-    → chosen_floats r.columns meta.schema.fields 0 ≡ [] → IsSendable built (asked_schema meta.schema r.columns) → may_be_sent (stream_schema (fields_as_asked r.columns meta.schema.fields) meta.schema.metadata custom) ≡ true → has_any (dictionaries_read meta.blocks meta.dictionaries) ≡ true
-    → file_reading built to_send b r None ≡ Err (Unsupported features.NotYet ∷ [])
-unfolding behind_kinds
-dictionaries_refused built b r meta custom known none h pairs right readable is small some =
-    let size : if_sent to_send (may_be_sent (stream_schema (fields_as_asked r.columns meta.schema.fields) meta.schema.metadata custom)) ≡ Ok tt = rw small refl in
-    sendable_reading built to_send b r None meta custom known h pairs right readable is ∙ on _ _ tt size ∙ on_err _ _ (Unsupported features.NotYet ∷ []) (rw (none, some) refl)
-
--- no dictionary is read of the first blocks where none is read of all
-no_dictionaries : (n : ℕ) (blocks dictionaries : List FileBlock) → has_any (dictionaries_read blocks dictionaries) ≡ false → dictionaries_read (take n blocks) dictionaries ≡ []
-no_dictionaries zero blocks ds h = refl
-no_dictionaries (suc n) [] ds h = refl
-no_dictionaries (suc n) (x ∷ xs) [] h = refl
-no_dictionaries (suc n) (x ∷ xs) (d ∷ ds) h = cc
-
-none_of_all : (blocks dictionaries : List FileBlock) → has_any (dictionaries_read blocks dictionaries) ≡ false → dictionaries_read blocks dictionaries ≡ []
-none_of_all [] ds h = refl
-none_of_all (x ∷ xs) [] h = refl
-none_of_all (x ∷ xs) (d ∷ ds) h = cc
-
-none_taken : (j : Option ℕ) (blocks dictionaries : List FileBlock) → has_any (dictionaries_read blocks dictionaries) ≡ false → dictionaries_read (taken j blocks) dictionaries ≡ []
-none_taken None blocks ds h = none_of_all blocks ds h
-none_taken (Some n) blocks ds h = no_dictionaries n blocks ds h
 
 schema_fits : (purpose : Purpose) (b : Bool) → b ≡ true → if_sent purpose b ≡ Ok tt
 schema_fits to_read b h = refl
 schema_fits to_send b h = rw h refl
+
+-- a file whose schema may be sent is read behind the schema's size
+sent_reading : (built : Built) (purpose : Purpose) (b : List ℕ) (r : Request) (j : Option ℕ) (meta : Meta) (custom : Metadata) → IsSentFile built b r meta custom → file_reading built purpose b r j ≡ behind_size built purpose b r meta custom (taken j meta.blocks)
+sent_reading built purpose b r j meta custom file =
+    sendable_reading built purpose b r j meta custom file.known file.read file.pairs file.columns file.readable file.schema ∙ on _ _ tt (schema_fits purpose _ file.small)
+
+-- ── dictionaries and blocks ──
 
 nothing_read : (b : List ℕ) (meta : Meta) → dictionaries_of b meta [] [] ≡ Ok []
 unfolding dictionaries_of
@@ -115,11 +101,50 @@ either : (x : Bool) → (x || true) ≡ true
 either true = refl
 either false = refl
 
--- a file whose schema may be sent and that has no dictionaries is read block by block
-pub first_batches : (built : Built) (purpose : Purpose) (b : List ℕ) (r : Request) (j : Option ℕ) (meta : Meta) (custom : Metadata) → IsSentFile built b r meta custom
-    → file_reading built purpose b r j ≡ (batches_of built.custom purpose b (asked_of b meta r) true (taken j meta.blocks) r.limit >>= λ batches. Ok (table_of (bare (fields_as_asked r.columns meta.schema.fields)) meta.schema.metadata custom batches))
-unfolding behind_kinds
-first_batches built purpose b r j meta custom file =
-    let none = none_taken j meta.blocks meta.dictionaries file.no_dictionaries in
-    sendable_reading built purpose b r j meta custom file.known file.read file.pairs file.columns file.readable file.schema ∙ on _ _ tt (schema_fits purpose _ file.small)
-    ∙ rw none (on _ _ tt (nothing_refused _ (Unsupported features.NotYet) (either built.dictionaries)) ∙ on _ _ [] (nothing_read b meta))
+-- where no block is read no dictionary counts
+no_blocks : (built : Built) (purpose : Purpose) (b : List ℕ) (r : Request) (meta : Meta) (custom : Metadata) → behind_size built purpose b r meta custom [] ≡ Ok (table_of (bare (fields_as_asked r.columns meta.schema.fields)) meta.schema.metadata custom [])
+unfolding behind_size blocks_read batches_of
+no_blocks built purpose b r meta custom = on _ _ tt (nothing_refused _ (Unsupported features.NotYet) (either built.dictionaries)) ∙ on _ _ [] (nothing_read b meta) ∙ on _ _ [] refl
+
+-- where the first of some blocks is read, so are the dictionaries
+pub front_dictionaries : (n : ℕ) (blocks dictionaries : List FileBlock) → dictionaries_read (take (suc n) blocks) dictionaries ≡ dictionaries_read blocks dictionaries
+front_dictionaries n [] ds = refl
+front_dictionaries n (x ∷ xs) ds = refl
+
+some_taken : (j : Option ℕ) (blocks dictionaries : List FileBlock) (x : FileBlock) (xs : List FileBlock) → taken j blocks ≡ x ∷ xs → dictionaries_read blocks dictionaries ≡ dictionaries
+some_taken j (y ∷ ys) ds x xs h = refl
+some_taken None [] ds x xs h = cc
+some_taken (Some zero) [] ds x xs h = cc
+some_taken (Some (suc n)) [] ds x xs h = cc
+
+-- a file whose dictionaries were read is read block by block
+pub first_batches : (built : Built) (purpose : Purpose) (b : List ℕ) (r : Request) (j : Option ℕ) (meta : Meta) (custom : Metadata) (d : Dictionaries) → IsSentFile built b r meta custom → HasRead built b meta d
+    → file_reading built purpose b r j ≡ (batches_of built.custom purpose b (asked_of b meta r d) true (taken j meta.blocks) r.limit >>= λ batches. Ok (table_of (bare (fields_as_asked r.columns meta.schema.fields)) meta.schema.metadata custom batches))
+unfolding behind_size blocks_read batches_of
+first_batches built purpose b r j meta custom d file has = sent_reading built purpose b r j meta custom file ∙ by_blocks (taken j meta.blocks) refl
+  where
+    by_blocks : (blocks : List FileBlock) → taken j meta.blocks ≡ blocks → behind_size built purpose b r meta custom blocks ≡ blocks_read built purpose b r meta custom blocks d
+    by_blocks [] e = no_blocks built purpose b r meta custom ∙ sym (on _ _ [] refl)
+    by_blocks (x ∷ xs) e =
+        let all : dictionaries_read meta.blocks meta.dictionaries ≡ meta.dictionaries = some_taken j meta.blocks meta.dictionaries x xs e in
+        let known = rw all at has.known in
+        let read = rw all at has.read in
+        on _ _ tt (nothing_refused _ (Unsupported features.NotYet) known) ∙ on _ _ d read
+
+-- its schema alone is read whatever its dictionaries are
+pub no_batches : (built : Built) (purpose : Purpose) (b : List ℕ) (r : Request) (meta : Meta) (custom : Metadata) → IsSentFile built b r meta custom
+    → file_reading built purpose b r (Some 0) ≡ Ok (table_of (bare (fields_as_asked r.columns meta.schema.fields)) meta.schema.metadata custom [])
+no_batches built purpose b r meta custom file = sent_reading built purpose b r (Some 0) meta custom file ∙ no_blocks built purpose b r meta custom
+
+-- dictionaries that are refused before some blocks
+dictionaries_refused : (built : Built) (purpose : Purpose) (b : List ℕ) (r : Request) (meta : Meta) (custom : Metadata) (es : List IpcError) (blocks : List FileBlock) → (built.dictionaries || not (has_any (dictionaries_read blocks meta.dictionaries))) ≡ true
+    → dictionaries_of b meta [] (dictionaries_read blocks meta.dictionaries) ≡ Err es → behind_size built purpose b r meta custom blocks ≡ Err es
+unfolding behind_size
+dictionaries_refused built purpose b r meta custom es blocks known h = on _ _ tt (nothing_refused _ (Unsupported features.NotYet) known) ∙ on_err _ _ es h
+
+pub dictionaries_refuse : DictionariesRefuseTheirFile
+dictionaries_refuse built b r meta custom es file known h =
+    let same = front_dictionaries 0 meta.blocks meta.dictionaries in (
+      sent_reading built to_send b r None meta custom file ∙ dictionaries_refused built to_send b r meta custom es meta.blocks known h,
+      sent_reading built to_send b r (Some 1) meta custom file ∙ dictionaries_refused built to_send b r meta custom es (take 1 meta.blocks) (rw same known) (rw same h),
+    )

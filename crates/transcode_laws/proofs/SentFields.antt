@@ -1,21 +1,9 @@
--- Fields that are sent: no float and no dictionary stands in them, and arrays are read of them where they fit.
-use Rattle.std.proofs.Common.{◌≡◌, ℕ, zero, suc, [], None, ◌&&◌, true, refl, arith}
-use Rattle.std.specs.Prelude.{nat_eq, nat_lt}
-use Rattle.std.proofs.lemmas.Bool.{and_parts, and_from, eq-eqb, lt-ltb}
-use Rattle.arrow_spec.specs.declared.types.IntegerType.{IntegerType}
-use Rattle.arrow_spec.specs.declared.types.IntegerType.TheVariants.{Int8}
-use Rattle.arrow_spec.specs.declared.types.IntervalUnit.TheVariants.{YearMonth}
-use Rattle.arrow_spec.specs.Kinds.{Kind, Fields, none, field, integer, float, interval, decimal256, binary, utf8, fixed_size_binary, «list», fixed_size_list, struct, map, union, dictionary, extension, small, large, width, dictionary_count, dictionary_counts}
+-- Fields that are let through: no float stands in them.
+use Rattle.std.proofs.Common.{◌≡◌, ℕ, suc, [], None, true, refl}
+use Rattle.std.proofs.lemmas.Bool.{and_parts}
+use Rattle.arrow_spec.specs.Kinds.{Kind, Fields, none, field, float, decimal256, «list», fixed_size_list, struct, map, union, dictionary, extension}
 use Rattle.arrow_spec.specs.Features.{chosen_floats, float_faults, floats_in}
-use Rattle.arrow_spec.specs.Schema.{first_is_struct_of_two}
-use Rattle.arrow_spec.specs.WrittenSchemas.{Part, of_field, of_dictionary, of_extension, KindFits}
-use Rattle.arrow_types.specs.UnionIds.{are_right}
-use Rattle.arrow_arrays.specs.LeafKinds.{is_leaf_kind}
-use Rattle.arrow_arrays.specs.Carried.{is_carried, are_carried}
 use Rattle.transcode_laws.specs.Built.{is_sent_kind, are_sent_fields}
-use Rattle.transcode_laws.specs.ColumnLaws.{FittingFieldsAreCarried}
-
--- ── floats ──
 
 mutual
   kind_no_floats : (k : Kind) → is_sent_kind k ≡ true → float_faults k ≡ []
@@ -26,7 +14,7 @@ mutual
   kind_no_floats (struct fs) h = fields_no_floats fs h
   kind_no_floats (map sorted fs) h = fields_no_floats fs h
   kind_no_floats (union mode stated ids fs) h = fields_no_floats fs h
-  kind_no_floats (dictionary t ordered id k) h = cc
+  kind_no_floats (dictionary t ordered id k) h = kind_no_floats k h
   kind_no_floats (extension name metadata k) h = kind_no_floats k h
   kind_no_floats k h = refl
 
@@ -41,59 +29,3 @@ no_floats none c h = refl
 no_floats (field name nullable metadata k others) c h =
     let both = and_parts (is_sent_kind k) (are_sent_fields others) h in
     rw (kind_no_floats k both.0, no_floats others (suc c) both.1) refl
-
--- ── dictionaries ──
-
-mutual
-  kind_no_dictionaries : (k : Kind) → is_sent_kind k ≡ true → dictionary_count k ≡ 0
-  kind_no_dictionaries («list» o fs) h = no_dictionaries fs h
-  kind_no_dictionaries (fixed_size_list size fs) h = no_dictionaries fs h
-  kind_no_dictionaries (struct fs) h = no_dictionaries fs h
-  kind_no_dictionaries (map sorted fs) h = no_dictionaries fs h
-  kind_no_dictionaries (union mode stated ids fs) h = no_dictionaries fs h
-  kind_no_dictionaries (dictionary t ordered id k) h = cc
-  kind_no_dictionaries (extension name metadata k) h = kind_no_dictionaries k h
-  kind_no_dictionaries k h = refl
-
-  pub no_dictionaries : (fs : Fields) → are_sent_fields fs ≡ true → dictionary_counts fs ≡ 0
-  no_dictionaries none h = refl
-  no_dictionaries (field name nullable metadata k others) h =
-      let both = and_parts (is_sent_kind k) (are_sent_fields others) h in
-      omega (arith, kind_no_dictionaries k both.0, no_dictionaries others both.1)
-
--- ── in a schema that may be written ──
-
-integer_is_leaf : (t : IntegerType) → is_leaf_kind (integer t) ≡ true
-integer_is_leaf Int8 = refl
-integer_is_leaf t = refl
-
-mutual
-  kind_carried : (at : Part) (levels : ℕ) (k : Kind) → is_sent_kind k ≡ true → KindFits at levels k → is_carried k ≡ true
-  kind_carried at levels (integer t) h fit = integer_is_leaf t
-  kind_carried at levels (interval YearMonth) h fit = refl
-  kind_carried at levels (binary small) h fit = refl
-  kind_carried at levels (binary large) h fit = refl
-  kind_carried at levels (utf8 small) h fit = refl
-  kind_carried at levels (utf8 large) h fit = refl
-  kind_carried at levels (fixed_size_binary n) h fit = lt-ltb 0 n fit.0
-  kind_carried at levels («list» o fs) h fit = and_from (nat_eq (width fs) 1) (are_carried fs) (eq-eqb (width fs) 1 fit.0) (fields_carried levels fs h fit.1)
-  kind_carried at levels (fixed_size_list size fs) h fit =
-      and_from (nat_eq (width fs) 1 && nat_lt 0 size) (are_carried fs) (and_from (nat_eq (width fs) 1) (nat_lt 0 size) (eq-eqb (width fs) 1 fit.0) (lt-ltb 0 size fit.1)) (fields_carried levels fs h fit.3)
-  kind_carried at levels (struct fs) h fit = fields_carried levels fs h fit
-  kind_carried at levels (map sorted fs) h fit =
-      and_from (nat_eq (width fs) 1 && first_is_struct_of_two fs) (are_carried fs) (and_from (nat_eq (width fs) 1) (first_is_struct_of_two fs) (eq-eqb (width fs) 1 fit.0) fit.1) (fields_carried levels fs h fit.2)
-  kind_carried at levels (union mode stated ids fs) h fit = and_from (are_right ids (width fs)) (are_carried fs) fit.0 (fields_carried levels fs h fit.2)
-  kind_carried at levels (float t) h fit = cc
-  kind_carried at levels (decimal256 precision scale) h fit = cc
-  kind_carried at levels (dictionary t ordered id k) h fit = cc
-  kind_carried of_field levels (extension name metadata k) h fit = kind_carried of_extension levels k h fit.2
-  kind_carried of_dictionary levels (extension name metadata k) h fit = kind_carried of_extension levels k h fit.2
-  kind_carried of_extension levels (extension name metadata k) h fit = absurd fit
-  kind_carried at levels k h fit = refl
-
-  pub fields_carried : FittingFieldsAreCarried
-  fields_carried levels none h fit = refl
-  fields_carried zero (field name nullable metadata k others) h fit = absurd fit
-  fields_carried (suc levels) (field name nullable metadata k others) h fit =
-      let both = and_parts (is_sent_kind k) (are_sent_fields others) h in
-      and_from (is_carried k) (are_carried others) (kind_carried of_field levels k both.0 fit.2) (fields_carried (suc levels) others both.1 fit.3)

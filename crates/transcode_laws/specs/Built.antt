@@ -3,7 +3,7 @@ use Rattle.std.specs.Prelude.{Bool, true, false, ◌&&◌}
 use Rattle.arrow_spec.specs.Kinds.{Kind, Fields, none, field, float, decimal256, «list», fixed_size_list, struct, map, union, dictionary, extension}
 use Rattle.arrow_spec.specs.Built.{Built}
 
--- no dictionary, no float and no decimal of 256 bits stands in a kind at any depth
+-- no float and no decimal of 256 bits stands in a kind at any depth, nor in the values of a dictionary
 abbrev mutual
   pub is_sent_kind : Kind → Bool
   is_sent_kind (float t) = false
@@ -13,7 +13,7 @@ abbrev mutual
   is_sent_kind (struct fs) = are_sent_fields fs
   is_sent_kind (map sorted fs) = are_sent_fields fs
   is_sent_kind (union mode stated ids fs) = are_sent_fields fs
-  is_sent_kind (dictionary t ordered id k) = false
+  is_sent_kind (dictionary t ordered id k) = is_sent_kind k
   is_sent_kind (extension name metadata k) = is_sent_kind k
   is_sent_kind k = true
 
@@ -23,4 +23,4 @@ abbrev mutual
 
 -- files in either byte order whose chosen columns are all of such kinds, under any columns and limit, without pairs of the footer and of record messages
 abbrev pub so_far : Built
-so_far = record { chosen = λ o fs. are_sent_fields fs; custom = false; dictionaries = false; requests = true }
+so_far = record { chosen = λ o fs. are_sent_fields fs; custom = false; dictionaries = true; requests = true }

@@ -1,5 +1,5 @@
--- Files whose fields are of any kinds without dictionaries, as they are read under a request to be sent as a stream.
-use Rattle.std.specs.Prelude.{◌≡◌, ℕ, suc, List, [], ◌∷◌, length, map, slice_get, Option, Some, None, Ok, true, false, FitsSigned, ◌&&◌, ◌||◌}
+-- Files whose fields are of any kinds, as they are read under a request to be sent as a stream.
+use Rattle.std.specs.Prelude.{◌≡◌, ℕ, suc, List, [], ◌∷◌, ◌++◌, length, map, not, slice_get, Option, Some, None, Ok, true, FitsSigned, ◌&&◌, ◌||◌}
 use Rattle.std.specs.Int.{w64}
 use Rattle.std.specs.List.{AllByRecursion}
 use Rattle.arrow_spec.specs.declared.error.IpcError.{IpcError}
@@ -12,13 +12,15 @@ use Rattle.arrow_spec.specs.Counts.{RecordBatch, first_place}
 use Rattle.arrow_spec.specs.Arrays.{Dictionaries}
 use Rattle.arrow_spec.specs.Features.{chosen_floats}
 use Rattle.arrow_spec.specs.Messages.{BatchHeader}
-use Rattle.arrow_spec.specs.Sent.{Sending, columns_written, may_be_sent, send_fields, stream_schema, written_as_asked}
-use Rattle.arrow_spec.specs.Files.{ArrowTable, Asked, FileBlock, Meta, Request, TableBatch, batch_of, batches_of, columns_right, custom_of, dictionaries_read, fields_as_asked, file_reading, has_any, meta_of, to_read, to_send, what_is_left}
+use Rattle.arrow_spec.specs.Sent.{columns_written, may_be_sent, stream_schema, written_as_asked}
+use Rattle.arrow_spec.specs.Files.{ArrowTable, Asked, FileBlock, Meta, Request, TableBatch, batch_of, batches_of, columns_right, custom_of, dictionaries_of, dictionaries_read, fields_as_asked, file_reading, has_any, meta_of, to_read, to_send, what_is_left}
 use Rattle.arrow_spec.specs.Streams.{closed, stream_table, unended}
 use Rattle.arrow_spec.specs.WrittenSchemas.{SchemaMayBeWritten}
 use Rattle.arrow_spec.specs.Bodies.{BufferFits, NodeFits}
 use Rattle.ipc_write_laws.specs.Columns.{Means}
-use Rattle.ipc_write_laws.specs.Streams.{AreOf, MayBeWritten, WrittenBatch, table_batch, written_of}
+use Rattle.ipc_write_laws.specs.Streams.{AreOf, WrittenBatch, table_batch, written_of}
+use Rattle.ipc_write_laws.specs.Messages.{BatchMayBeWritten, IsKnown, Known, WrittenMessage, batch, none_known, values, with_messages}
+use Rattle.dictionary_laws.specs.Sending.{AllAreKnown, Columns, dictionary_values}
 
 -- ── what is asked for ──
 
@@ -46,9 +48,13 @@ asked_schema s columns = record { order = s.order; fields = fields_as_asked colu
 abbrev pub with_columns : Option (List ℕ) → Asked → Asked
 with_columns columns a = record { order = a.order; fields = a.fields; columns = columns; dictionaries = a.dictionaries; most = a.most }
 
--- what a request asks of a file of which no dictionary is read
-abbrev pub asked_of : List ℕ → Meta → Request → Asked
-asked_of b meta r = record { order = meta.schema.order; fields = meta.schema.fields; columns = r.columns; dictionaries = []; most = length b }
+-- what a request asks of a file, with the dictionaries that were read of it
+abbrev pub asked_of : List ℕ → Meta → Request → Dictionaries → Asked
+asked_of b meta r d = record { order = meta.schema.order; fields = meta.schema.fields; columns = r.columns; dictionaries = d; most = length b }
+
+-- the fields of the stream: the ids of their dictionaries count from 0 in preorder
+abbrev pub stream_fields : Asked → Fields
+stream_fields a = numbered (asked_fields a) 0
 
 -- what batches leave of a limit
 abbrev pub left_behind : Option ℕ → List WrittenBatch → Option ℕ
@@ -57,23 +63,17 @@ left_behind left (x ∷ xs) = left_behind (what_is_left left x.rows) xs
 
 -- ── the schema ──
 
--- no dictionary is to be sent of fields, whatever is held
-abbrev pub HaveNoDictionaries : Fields → Type 0
-HaveNoDictionaries fs = (d : Dictionaries) (id : ℕ) (s : Sending) → send_fields d fs id s ≡ s
-
--- a schema whose fields a stream takes as they are, in whatever byte order: of built kinds that can be read, without dictionaries, and may be written
+-- a schema that a stream takes, in whatever byte order: of built kinds that can be read, which may be written
 pub record IsSendable (built : Built) (s : Schema) : Type 0 where
   pub chosen : built.chosen s.order s.fields ≡ true
   pub readable : chosen_floats None s.fields 0 ≡ []
-  pub plain : numbered s.fields 0 ≡ s.fields
-  pub no_dictionaries : HaveNoDictionaries s.fields
   pub may : SchemaMayBeWritten s.fields s.metadata
 
 -- a table of some fields
 abbrev pub table_of : Fields → Metadata → Metadata → List TableBatch → ArrowTable
 table_of fs pairs custom batches = record { metadata = pairs; custom = custom; fields = fs; batches = batches }
 
--- a file whose schema under a request may be sent with these pairs of its footer, and of which no dictionary is read
+-- a file whose schema under a request may be sent with these pairs of its footer
 pub record IsSentFile (built : Built) (b : List ℕ) (r : Request) (meta : Meta) (custom : Metadata) : Type 0 where
   pub known : (built.requests || (is_absent r.columns && is_absent r.limit)) ≡ true
   pub read : meta_of b ≡ Ok meta
@@ -82,7 +82,11 @@ pub record IsSentFile (built : Built) (b : List ℕ) (r : Request) (meta : Meta)
   pub readable : chosen_floats r.columns meta.schema.fields 0 ≡ []
   pub schema : IsSendable built (asked_schema meta.schema r.columns)
   pub small : may_be_sent (stream_schema (fields_as_asked r.columns meta.schema.fields) meta.schema.metadata custom) ≡ true
-  pub no_dictionaries : has_any (dictionaries_read meta.blocks meta.dictionaries) ≡ false
+
+-- the dictionaries that are read of it before its first block, where they are built
+pub record HasRead (built : Built) (b : List ℕ) (meta : Meta) (d : Dictionaries) : Type 0 where
+  pub known : (built.dictionaries || not (has_any (dictionaries_read meta.blocks meta.dictionaries))) ≡ true
+  pub read : dictionaries_of b meta [] (dictionaries_read meta.blocks meta.dictionaries) ≡ Ok d
 
 -- ── batches ──
 
@@ -93,23 +97,33 @@ pub record HeaderFits (tables : BatchHeader) : Type 0 where
   pub buffers : AllByRecursion BufferFits tables.buffers
   pub views : AllByRecursion (λ x. FitsSigned w64 x) tables.variadic
 
--- columns that were read of a record batch: they are of the kinds of the fields asked for, mean their cells, and are written as is to be written of the record batch
+-- columns that were read of a record batch: they are of the kinds of the stream's fields, mean their cells where the dictionaries are known as they were read,
+-- and are written as is to be written of the record batch
 pub record IsReadBatch (a : Asked) (m : RecordBatch) (x : WrittenBatch) : Type 0 where
-  pub kinds : AreOf (asked_fields a) x.columns
-  pub good : AllByRecursion (λ c. Means little [] x.rows c) x.columns
+  pub kinds : AreOf (stream_fields a) x.columns
+  pub good : (c : Known) (e : Dictionaries) → AllAreKnown a.dictionaries (asked_fields a) 0 c → IsKnown c e → AllByRecursion (λ k. Means little e x.rows k) x.columns
   pub written : written_as_asked a.columns (columns_written m a.columns a.fields 0 first_place x.rows) ≡ written_of x.columns
 
--- a block that is read, where rows are left to be read, and sent as a batch that may be written
-pub record IsSentBatch (built : Built) (b : List ℕ) (a : Asked) (block : FileBlock) (left : Option ℕ) (x : WrittenBatch) : Type 0 where
+-- what the stream knows behind the dictionaries' values
+abbrev pub known_of : Columns → Asked → Known
+known_of columns a = with_messages (map values (dictionary_values columns a.dictionaries (asked_fields a))) none_known
+
+-- a block that is read, where rows are left to be read, and sent as a batch that may be written where so much is known
+pub record IsSentBatch (built : Built) (b : List ℕ) (a : Asked) (c : Known) (block : FileBlock) (left : Option ℕ) (x : WrittenBatch) : Type 0 where
   pub read : batch_of built.custom to_read b a block left ≡ Ok (table_batch x)
   pub sent : batch_of built.custom to_send b a block left ≡ Ok (table_batch x)
-  pub fit : MayBeWritten (asked_fields a) x
+  pub fit : BatchMayBeWritten (stream_fields a) c x
 
--- some blocks were read and sent as such batches
-pub record SentSoFar (built : Built) (b : List ℕ) (a : Asked) (blocks : List FileBlock) (left : Option ℕ) (xs : List WrittenBatch) : Type 0 where
+-- some blocks were read and sent as such batches, behind the values of the dictionaries
+pub record SentSoFar (built : Built) (b : List ℕ) (columns : Columns) (a : Asked) (blocks : List FileBlock) (left : Option ℕ) (xs : List WrittenBatch) : Type 0 where
   pub read : batches_of built.custom to_read b a true blocks left ≡ Ok (map table_batch xs)
   pub sent : batches_of built.custom to_send b a true blocks left ≡ Ok (map table_batch xs)
-  pub fit : AllByRecursion (λ x. MayBeWritten (asked_fields a) x) xs
+  pub fit : AllByRecursion (λ x. BatchMayBeWritten (stream_fields a) (known_of columns a) x) xs
+
+-- the messages behind the schema's: the dictionaries' values stand before the first batch, and nowhere where there is none
+abbrev pub messages_sent : Columns → Asked → List WrittenBatch → List WrittenMessage
+messages_sent columns a [] = []
+messages_sent columns a (x ∷ xs) = map values (dictionary_values columns a.dictionaries (asked_fields a)) ++ map batch (x ∷ xs)
 
 -- ── streams ──
 

@@ -2,4 +2,3 @@ pub mod Built
 pub mod Meaning
 pub mod Files
 pub mod Laws
-pub mod ColumnLaws

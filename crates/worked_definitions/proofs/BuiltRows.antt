@@ -57,6 +57,11 @@ pub extensions : option_fields (file_table extension_file «all») ≡ field (co
 unfolding computed file_table
 extensions = refl
 
+-- a dictionary of structs of a dictionary
+pub dictionaries : batches (file_table inner_first_file «all») ≡ ((cells.struct (cells_of (txt 121 ∷ [])) ∷ cells.struct (cells_of (txt 120 ∷ [])) ∷ []) ∷ []) ∷ []
+unfolding computed file_table
+dictionaries = refl
+
 -- lists whose offsets begin behind 0
 pub lists : batches (file_table list_offsets_file «all») ≡ ((cells.«list» (cells_of (int 8 ∷ int 9 ∷ [])) ∷ []) ∷ []) ∷ []
 unfolding computed file_table
@@ -105,10 +110,6 @@ float_passed_over = refl
 pub floats : why float_file «all» ≡ Unsupported Float ∷ []
 unfolding computed
 floats = refl
-
-pub dictionary : why inner_first_file «all» ≡ Unsupported NotYet ∷ []
-unfolding computed
-dictionary = refl
 
 -- pairs of the footer, whatever is in them, and pairs of a record message
 pub footer_pairs : why (file_with one []) «all» ≡ Unsupported NotYet ∷ []

@@ -2,8 +2,8 @@
 
 pub use arrow_spec::{Block, FieldNode, IpcBuffer, MetadataVersion};
 pub use ipc_files::{
-    Dictionaries, FileMetadata, Footer, decode_footer_len, deserialize_footer, get_row_count,
-    get_row_count_from_blocks, read_batch, read_block_header, read_block_rows,
+    Dictionaries, FileMetadata, Footer, check_columns, decode_footer_len, deserialize_footer,
+    get_row_count, get_row_count_from_blocks, read_batch, read_block_header, read_block_rows,
     read_file_dictionaries, read_file_metadata, read_projected_batch,
 };
 pub use ipc_projection::{

@@ -15,7 +15,7 @@ returns-in_err-bytes-clause-message g c =
 
 pub returns-clause-message : goal.returns-clause-message
 returns-clause-message g c =
-    dictionary_of_metadata (g.S.Source.content c.args.source.now) (file_block c.args.block.now) view c.in_ok-bytes.bytes c.deref.result.now c.read_dictionary_message.result c.in_ok-bytes.ensures.metadata c.deref.ensures.value c.read_dictionary_message.ensures.gives
+    dictionary_of_metadata (g.S.Source.content c.args.source.now) (file_block c.args.block.now) view c.in_ok-bytes.bytes c.deref.result.now c.dictionary_in.result c.in_ok-bytes.ensures.metadata c.deref.ensures.value c.dictionary_in.ensures.gives
 
 pub returns-clause-cause : goal.returns-clause-cause
-returns-clause-cause g c = bytes_cause dictionary_message_of c.read_dictionary_message.result _ _ _ c.read_dictionary_message.ensures.gives
+returns-clause-cause g c = bytes_cause dictionary_message_of c.dictionary_in.result _ _ _ c.dictionary_in.ensures.gives

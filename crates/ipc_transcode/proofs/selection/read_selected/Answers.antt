@@ -1,32 +1,21 @@
-use Rattle.std.proofs.Common.{◌≡◌, [], Err, IfSome, None, Ok, Some, subst, sym}
+use Rattle.std.proofs.Common.{◌≡◌, Err, None, Some, subst}
 use Rattle.std.specs.Rc.{rc_value}
-use Rattle.ipc_read_laws.specs.Held.{none_held}
 use Rattle.ipc_read.specs.Held.{held_in}
 use Rattle.ipc_read.specs.Projection.{columns_of}
-use Rattle.ipc_read.proofs.HeldKinds.{nothing_held}
-use Rattle.transcode_laws.specs.Files.{asked_of}
-use Rattle.ipc_files.specs.Blocks.{ReadsBlock}
 use Rattle.ipc_files.specs.FileBlocks.{file_block}
 use Rattle.ipc_files.specs.FileViews.{meta_view}
-use Rattle.ipc_files.specs.Requests.{asked}
 use Rattle.ipc_files.proofs.Errors.{is_err}
-use Rattle.ipc_files.proofs.FileDictionaries.{none_used}
-use Rattle.ipc_transcode.proofs.SentFiles.{block_alone, built_floats}
-use Rattle.ipc_files.proofs.Selected.{selected_answer, selected_fetched}
+use Rattle.ipc_transcode.proofs.SentFiles.{built_floats}
+use Rattle.ipc_files.proofs.Selected.{selected_fetched}
 use Rattle.ipc_transcode.specs.FileViews.{IsBuilt}
-use Rattle.ipc_transcode.proofs.Selected.{all_selected, built_rising, may_apply, selected, selected_refused}
+use Rattle.ipc_transcode.proofs.Selected.{all_selected, built_rising, each_answer, each_refused, may_apply, selected}
 use Rattle.ipc_transcode.proofs.selection.read_selected.Goals as goal
 
 pub read_block-requires-clause-floats : goal.read_block-requires-clause-floats
 read_block-requires-clause-floats g c =
     let file = c.args.selection.now.file.now in
-    built_floats file None (subst (IsBuilt (meta_view file)) (all_selected (rc_value file.schema) c.args.selection.now.columns c.args.selection.now.projection c.in_default.is c.requires.selected) c.requires.built)
-
-pub read_block-requires-clause-uses : goal.read_block-requires-clause-uses
-read_block-requires-clause-uses g c = none_used (meta_view c.args.selection.now.file.now) (held_in c.new-none.result) (nothing_held c.new-none.result c.new-none.ensures.empty)
-
-pub read_block-requires-2-clause-uses : goal.read_block-requires-2-clause-uses
-read_block-requires-2-clause-uses g c = none_used (meta_view c.args.selection.now.file.now) (held_in c.new-none.result) (nothing_held c.new-none.result c.new-none.ensures.empty)
+    let all = all_selected (rc_value file.schema) c.args.selection.now.columns c.args.selection.now.projection c.in_default.is c.requires.selected in
+    built_floats file None (subst (IsBuilt (meta_view file)) all c.requires.built)
 
 pub read_block-requires-2-clause-floats : goal.read_block-requires-2-clause-floats
 read_block-requires-2-clause-floats g c =
@@ -34,21 +23,13 @@ read_block-requires-2-clause-floats g c =
     let h = selected (rc_value file.schema) c.args.selection.now.columns c.args.selection.now.projection c.in-Some.projection c.in-Some.is c.requires.selected in
     built_floats file (Some c.as_slice.result.now) (built_rising file (columns_of c.args.selection.now.columns) c.in-Some.projection.now c.as_slice.result.now c.as_slice.ensures.value h c.requires.built)
 
-pub returns-in_default-clause-gives : goal.returns-in_default-clause-gives
-returns-in_default-clause-gives g c =
-    let file = c.args.selection.now.file.now in
-    let content = g.S.Source.content c.args.source.now in
-    let none = all_selected (rc_value file.schema) c.args.selection.now.columns c.args.selection.now.projection c.in_default.is c.requires.selected in
-    subst (λ cs. IfSome content (λ b. ReadsBlock b none_held (asked_of b (meta_view file) (asked cs c.args.left)) (file_block c.args.block.now) c.args.left c.read_block.result)) (sym none)
-    (block_alone content (meta_view file) (held_in c.new-none.result) (asked None c.args.left) (file_block c.args.block.now) c.args.left c.read_block.result (nothing_held c.new-none.result c.new-none.ensures.empty) c.read_block.ensures.gives)
-
 pub returns-in_err-batch-clause-gives : goal.returns-in_err-batch-clause-gives
 returns-in_err-batch-clause-gives g c =
     let file = c.args.selection.now.file.now in
     let h = selected (rc_value file.schema) c.args.selection.now.columns c.args.selection.now.projection c.in-Some.projection c.in-Some.is c.requires.selected in
     let e : c.from_residual.result ≡ Err c.in_err-batch.field-0.0 = is_err _ _ _ c.from_residual.ensures.0 c.from_residual.ensures.1 (λ f h. h) in
-    selected_refused (g.S.Source.content c.args.source.now) none_held file [] (columns_of c.args.selection.now.columns) c.in-Some.projection.now c.as_slice.result.now c.args.left (file_block c.args.block.now) c.from_residual.result c.in_err-batch.field-0.0 c.as_slice.ensures.value e h
-    (block_alone (g.S.Source.content c.args.source.now) (meta_view file) (held_in c.new-none.result) (asked (Some c.as_slice.result.now) c.args.left) (file_block c.args.block.now) c.args.left (Err c.in_err-batch.field-0.0) (nothing_held c.new-none.result c.new-none.ensures.empty) c.in_err-batch.ensures.gives)
+    each_refused (g.S.Source.content c.args.source.now) (held_in c.args.dictionaries.now) file (columns_of c.args.selection.now.columns) c.in-Some.projection.now c.as_slice.result.now c.args.left (file_block c.args.block.now) c.from_residual.result c.in_err-batch.field-0.0 c.as_slice.ensures.value e h
+    c.in_err-batch.ensures.gives
 
 pub returns-in_err-batch-clause-fetched : goal.returns-in_err-batch-clause-fetched
 returns-in_err-batch-clause-fetched g c =
@@ -67,8 +48,8 @@ pub returns-clause-gives : goal.returns-clause-gives
 returns-clause-gives g c =
     let file = c.args.selection.now.file.now in
     let h = selected (rc_value file.schema) c.args.selection.now.columns c.args.selection.now.projection c.in-Some.projection c.in-Some.is c.requires.selected in
-    selected_answer (g.S.Source.content c.args.source.now) none_held file [] (columns_of c.args.selection.now.columns) c.in-Some.projection.now c.as_slice.result.now c.args.left (file_block c.args.block.now) c.in_ok-batch.batch c.apply_projection.result c.as_slice.ensures.value h c.requires.right c.apply_projection.ensures.reordered c.apply_projection.ensures.memory
-    (block_alone (g.S.Source.content c.args.source.now) (meta_view file) (held_in c.new-none.result) (asked (Some c.as_slice.result.now) c.args.left) (file_block c.args.block.now) c.args.left (Ok c.in_ok-batch.batch) (nothing_held c.new-none.result c.new-none.ensures.empty) c.in_ok-batch.ensures.gives)
+    each_answer (g.S.Source.content c.args.source.now) (held_in c.args.dictionaries.now) file (columns_of c.args.selection.now.columns) c.in-Some.projection.now c.as_slice.result.now c.args.left (file_block c.args.block.now) c.in_ok-batch.batch c.apply_projection.result c.as_slice.ensures.value h c.requires.right c.apply_projection.ensures.reordered c.apply_projection.ensures.memory
+    c.in_ok-batch.ensures.gives
 
 pub returns-clause-fetched : goal.returns-clause-fetched
 returns-clause-fetched g c =

@@ -5,7 +5,7 @@ use Rattle.ipc_files.specs.Requests.{asked}
 use Rattle.ipc_files.proofs.Errors.{is_err}
 use Rattle.ipc_files.proofs.ReadFiles.{of_err}
 use Rattle.ipc_transcode.proofs.StreamSteps.{file_refused}
-use Rattle.ipc_transcode.proofs.FetchedFiles.{file_by_blocks, file_by_footer}
+use Rattle.ipc_transcode.proofs.FetchedFiles.{file_by_table, file_by_footer}
 use Rattle.ipc_transcode.proofs.send.send_file.Goals as goal
 
 pub returns-in_err-file-clause-refused : goal.returns-in_err-file-clause-refused
@@ -18,4 +18,4 @@ returns-in_err-file-clause-fetched g c = file_by_footer (g.S.Source.content c.ar
 
 pub returns-clause-fetched : goal.returns-clause-fetched
 returns-clause-fetched g c =
-    file_by_blocks (g.S.Source.content c.args.source.now) _ (meta_view c.in_ok-file.file) (asked (columns_of c.args.columns) c.args.limit) _ _ _ c.in_ok-file.ensures.fetched c.in_ok-file.ensures.says c.in_ok-file.ensures.kept.content c.send_columns.ensures.fetched
+    file_by_table (g.S.Source.content c.args.source.now) _ (meta_view c.in_ok-file.file) (asked (columns_of c.args.columns) c.args.limit) _ _ _ c.in_ok-file.ensures.fetched c.in_ok-file.ensures.says c.in_ok-file.ensures.kept.content c.send_columns.ensures.fetched

@@ -1,0 +1,9 @@
+use Rattle.std.proofs.Common.{◌≡◌, ◌&&◌, ℤ, not, drop}
+use Rattle.ipc_dictionaries.specs.Used.{used_by, is_among}
+use Rattle.ipc_dictionaries.proofs.used.UsedIds.take_off.Given as goal
+
+abbrev pub invariant-loop-i : goal.invariant-loop-i
+invariant-loop-i l = record {
+  used : (q : ℤ) → (used_by l.self q && not (is_among q (drop l.i l.self.trail.items))) ≡ (used_by l.fn.self q && not (is_among q (drop l.count l.fn.self.trail.items)));
+  trail : l.self.trail.items ≡ l.fn.self.trail.items;
+}

@@ -1,0 +1,2 @@
+pub mod MessageSteps
+pub mod ChunkSteps

@@ -1,0 +1,4 @@
+pub mod SameValues
+pub mod HeldParts
+pub mod ReadValues
+pub mod ReadParts

@@ -1,5 +1,0 @@
-use Rattle.transcode_laws.proofs.TopColumns.{top_sent}
-use Rattle.transcode_laws.proofs.top_is_sent.Goals as goal
-
-pub returns : goal.returns
-returns c = top_sent
