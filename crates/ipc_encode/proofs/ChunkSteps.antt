@@ -1,14 +1,11 @@
 -- What is found of dictionaries, and what is encoded of it.
-use Rattle.std.proofs.Common.{◌≡◌, ◌⊎◌, inl, inr, ℤ, false, List, [], ◌∷◌, map, refl, ap, ◌∙◌, subst, Result, Ok, Err}
+use Rattle.std.proofs.Common.{◌≡◌, ◌⊎◌, inl, inr, ℤ, false, List, map, refl, ap, ◌∙◌, subst, Result, Ok, Err}
 use Rattle.arrow_spec.specs.declared.error.IpcError.{IpcError}
 use Rattle.arrow_spec.specs.declared.error.IpcError.TheVariants as errors
 use Rattle.arrow_spec.specs.declared.error.Feature.TheVariants as features
 use Rattle.arrow_arrays.specs.Batches.{Batch}
-use Rattle.arrow_arrays.specs.Parts.{Forest, also, none}
-use Rattle.arrow_arrays.specs.PartsOf.{parts_of, forest_of}
-use Rattle.arrow_arrays.specs.declared.array.Array.{Array}
-use Rattle.ipc_fields.specs.IpcFields.{Ids, ids_of}
-use Rattle.ipc_fields.specs.declared.ipc_field.IpcField.{IpcField}
+use Rattle.arrow_arrays.specs.Parts.{Forest}
+use Rattle.ipc_fields.specs.IpcFields.{Ids}
 use Rattle.ipc_dictionaries.specs.Batches.{Sends}
 use Rattle.ipc_dictionaries.specs.Changes.{undone}
 use Rattle.ipc_dictionaries.specs.NewDictionaries.{ToSend}

@@ -1,14 +1,12 @@
 -- Messages that are encoded one after another.
-use Rattle.std.proofs.Common.{◌≡◌, inl, inr, ℕ, ◌+◌, ◌<◌, ◌≤◌, ◌++◌, ℤ, List, [], ◌∷◌, Bool, true, map, length, drop, get_or, refl, sym, ap, ◌∙◌, subst, Result, Ok, Err, append_assoc, append-nil, suc, arith}
-use Rattle.std.specs.Prelude.{◌&&◌, nat_lt}
-use Rattle.std.specs.Result.{IsErrAnd}
-use Rattle.std.proofs.lemmas.Bool.{le-leb}
+use Rattle.std.proofs.Common.{◌≡◌, inl, inr, ℕ, ◌+◌, ◌<◌, ◌≤◌, ◌++◌, ℤ, List, [], ◌∷◌, Bool, true, map, length, drop, get_or, refl, sym, ap, ◌∙◌, subst, Ok, append_assoc, append-nil}
+use Rattle.std.specs.Prelude.{◌&&◌}
 use Rattle.std.proofs.lemmas.List.{drop_all}
 use Rattle.arrow_spec.specs.declared.error.IpcError.{IpcError}
 use Rattle.arrow_arrays.specs.PartsOf.{parts_of, forest_of}
 use Rattle.arrow_arrays.specs.declared.array.Array.{Array}
 use Rattle.ipc_fields.proofs.Steps.{drop_item}
-use Rattle.ipc_dictionaries.specs.NewDictionaries.{ToSend, message_of, has_several}
+use Rattle.ipc_dictionaries.specs.NewDictionaries.{ToSend, message_of}
 use Rattle.ipc_dictionaries.specs.Walks.{to_send}
 use Rattle.ipc_dictionaries.specs.declared.walk.ToEncode.{ToEncode}
 use Rattle.ipc_write.specs.declared.encoded.EncodedData.{EncodedData}

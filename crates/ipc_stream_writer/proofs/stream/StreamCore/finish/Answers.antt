@@ -1,0 +1,25 @@
+use Rattle.std.proofs.Common.{◌≡◌, inl, refl, sym, ◌∙◌, true, false}
+use Rattle.ipc_stream_writer.specs.States.{is_started}
+use Rattle.ipc_stream_writer.proofs.Calling.{finish_stopped, leaves, untouched}
+use Rattle.ipc_stream_writer.proofs.stream.StreamCore.finish.Goals as goal
+
+pub returns-then-not-is_started-clause-finishes : goal.returns-then-not-is_started-clause-finishes
+returns-then-not-is_started-clause-finishes g c =
+    let e : is_started c.args.self.now.state ≡ false = sym c.is_started.ensures ∙ c.if-not-is_started.true in
+    inl (inl (refl, e), leaves _ c.args.self.now (untouched _ _ _))
+
+pub returns-in-Ok-clause-finishes : goal.returns-in-Ok-clause-finishes
+returns-in-Ok-clause-finishes g c = record {
+  started = sym c.is_started.ensures ∙ c.if-not-is_started.false;
+  state = refl;
+  appended = c.in-Ok.ensures.puts.0;
+  counts = c.in-Ok.ensures.puts.1;
+  tracker = refl;
+  stays = record { options = refl; schema = refl; fields = refl; pairs = refl; tracker = refl };
+}
+
+pub returns-in-Err-clause-finishes : goal.returns-in-Err-clause-finishes
+returns-in-Err-clause-finishes g c =
+    let n : is_started c.args.self.now.state ≡ true = sym c.is_started.ensures ∙ c.if-not-is_started.false in
+    let k = c.stop_at.ensures in
+    finish_stopped c.stop_at.result c.in-Err.stop _ c.args.self.now c.stop_at.new.self k.error n c.in-Err.ensures.puts k.state k.tracker k.stays

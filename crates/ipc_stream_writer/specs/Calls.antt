@@ -1,0 +1,164 @@
+-- What the calls of a writer do to it, and what they put. (Arrow Columnar Format, "IPC Streaming Format".)
+use Rattle.std.specs.Prelude.{◌≡◌, ◌⊎◌, ℤ, List, Bool, true, false, Option, None, Result, Ok, Err, ℕ}
+use Rattle.std.specs.Io.KnownBytes.{Appends}
+use Rattle.arrow_spec.specs.declared.error.IpcError.{IpcError}
+use Rattle.arrow_spec.specs.declared.error.IpcError.TheVariants.{Memory, SchemaMismatch, State}
+use Rattle.arrow_spec.specs.Kinds.{have_same_kinds}
+use Rattle.arrow_spec.specs.Streams.{end_mark}
+use Rattle.arrow_types.specs.Schemas.{Keyed, fields_in}
+use Rattle.arrow_arrays.specs.Batches.{Batch}
+use Rattle.arrow_arrays.specs.Parts.{forest}
+use Rattle.ipc_fields.specs.IpcFields.{Ids, ids_of, metadata_of}
+use Rattle.ipc_bodies.specs.Puts.{Moved, NoneFalls, PutsPart}
+use Rattle.ipc_dictionaries.specs.Columns.{columns_of}
+use Rattle.ipc_dictionaries.specs.NewDictionaries.{Sending, ToSend}
+use Rattle.ipc_dictionaries.specs.Tracker.{IsKept, held_by}
+use Rattle.ipc_dictionaries.specs.Walks.{options_of}
+use Rattle.ipc_write.specs.declared.options.WriteOptions.{WriteOptions}
+use Rattle.ipc_encode.specs.Chunks.{RefusesChunk, Stops, found}
+use Rattle.ipc_stream_writer.specs.declared.state.WriterState.TheVariants.{New, Started, Finished, Failed}
+use Rattle.ipc_stream_writer.specs.declared.stream.StreamCore.{StreamCore}
+use Rattle.ipc_stream_writer.specs.Fields.{AreIdsFor, IsOwn}
+use Rattle.ipc_stream_writer.specs.Messages.{MayBeSent, chunk_text}
+use Rattle.ipc_stream_writer.specs.Puts.{Untouched}
+use Rattle.ipc_stream_writer.specs.Schemas.{IsNoStart, stream_text}
+use Rattle.ipc_stream_writer.specs.States.{is_new, is_started}
+
+-- a writer that has written nothing, of some options
+pub record IsFresh (asked : WriteOptions) (c : StreamCore) : Type 0 where
+  pub options : c.options ≡ asked
+  pub state : c.state ≡ New
+  pub pairs : c.pairs ≡ None
+  pub held : (id : ℤ) → held_by c.tracker id ≡ None
+  pub replaces : c.tracker.cannot_replace ≡ false
+
+-- the options, the schema with its IPC fields, and the pairs for it stay
+pub record Stays (old new : StreamCore) : Type 0 where
+  pub options : new.options ≡ old.options
+  pub schema : new.schema ≡ old.schema
+  pub fields : new.fields ≡ old.fields
+  pub pairs : new.pairs ≡ old.pairs
+  pub tracker : options_of new.tracker ≡ options_of old.tracker
+
+-- a call was refused: it leaves the writer, what it holds, and the sink
+pub record LeavesAll (m : Moved) (old new : StreamCore) : Type 0 where
+  pub untouched : Untouched m
+  pub state : new.state ≡ old.state
+  pub held : IsKept (held_by old.tracker) (held_by new.tracker)
+  pub stays : Stays old new
+
+-- a put failed: a part of what was to be put is there, the dictionaries of it are not held, and the writer has failed
+pub record HasFailed (m : Moved) (e : IpcError) (bytes : List ℕ) (old new : StreamCore) : Type 0 where
+  pub put : PutsPart m e bytes
+  pub state : new.state ≡ Failed
+  pub held : IsKept (held_by old.tracker) (held_by new.tracker)
+  pub stays : Stays old new
+
+-- ── begin ──
+
+-- a stream was begun: the message of its schema was put
+pub record HasBegun (m : Moved) (old new : StreamCore) (s : List Keyed) (given : Option Ids) : Type 0 where
+  pub new_before : is_new old.state ≡ true
+  pub state : new.state ≡ Started
+  pub schema : new.schema ≡ s
+  pub ids : AreIdsFor (fields_in s) given (ids_of new.fields.items)
+  pub bytes : List ℕ
+  pub text : stream_text old.options (fields_in s) (ids_of new.fields.items) (metadata_of old.pairs) ≡ Ok bytes
+  pub appended : Appends m.old m.new bytes
+  pub counts : NoneFalls m
+  pub options : new.options ≡ old.options
+  pub pairs : new.pairs ≡ old.pairs
+  pub tracker : new.tracker ≡ old.tracker
+
+-- why none was: it was before, or memory was wanted, or the schema is refused
+abbrev pub StartCause : IpcError → StreamCore → List Keyed → Option Ids → Type 0
+StartCause e c s given =
+    ((e ≡ State) × (is_new c.state ≡ false)) ⊎ ((is_new c.state ≡ true) × ((e ≡ Memory) ⊎ IsNoStart e c.options s given (metadata_of c.pairs)))
+
+-- a put of the schema's message failed
+pub record StartFailed (m : Moved) (e : IpcError) (old new : StreamCore) (s : List Keyed) (given : Option Ids) : Type 0 where
+  pub new_before : is_new old.state ≡ true
+  pub below : Ids
+  pub ids : AreIdsFor (fields_in s) given below
+  pub bytes : List ℕ
+  pub text : stream_text old.options (fields_in s) below (metadata_of old.pairs) ≡ Ok bytes
+  pub failed : HasFailed m e bytes old new
+
+abbrev pub Starts : Moved → Result (Unit {0}) IpcError → StreamCore → StreamCore → List Keyed → Option Ids → Type 0
+Starts m (Ok u) old new s given = HasBegun m old new s given
+Starts m (Err e) old new s given = (StartCause e old s given × LeavesAll m old new) ⊎ StartFailed m e old new s given
+
+-- ── batches ──
+
+-- a batch is one of a stream's: there is a column for each field, of the field's type, names, nullability and metadata aside, and the IPC fields that are given are the stream's own
+pub record Suits (c : StreamCore) (b : Batch) (given : Option Ids) : Type 0 where
+  pub types : have_same_kinds (fields_in c.schema) (columns_of (forest b.arrays)) ≡ true
+  pub own : IsOwn given (ids_of c.fields.items)
+
+-- what of its dictionaries is to be sent before it
+abbrev pub found_before : StreamCore → Batch → Result Sending IpcError
+found_before c b = found c.tracker (forest b.arrays) (ids_of c.fields.items)
+
+-- it was sent: what of its dictionaries was not sent yet, and the batch behind it
+pub record HasSent (m : Moved) (old new : StreamCore) (b : Batch) : Type 0 where
+  pub used : ℤ → Bool
+  pub sent : List ToSend
+  pub is_found : found_before old b ≡ Ok (record { held = held_by new.tracker; used = used; sent = sent })
+  pub may : MayBeSent old.options sent b
+  pub appended : Appends m.old m.new (chunk_text sent b)
+  pub counts : NoneFalls m
+  pub state : new.state ≡ old.state
+  pub stays : Stays old new
+
+-- a put of one of its messages failed
+pub record SendFailed (m : Moved) (e : IpcError) (old new : StreamCore) (b : Batch) : Type 0 where
+  pub sending : Sending
+  pub is_found : found_before old b ≡ Ok sending
+  pub may : MayBeSent old.options sending.sent b
+  pub failed : HasFailed m e (chunk_text sending.sent b) old new
+
+-- why it is not sent: memory was wanted, the dictionaries are refused, or one of the messages
+abbrev pub SendCause : IpcError → StreamCore → Batch → Type 0
+SendCause e c b = Stops e (found_before c b) (λ sent. RefusesChunk e c.options sent b)
+
+abbrev pub Sends : Moved → Result (Unit {0}) IpcError → StreamCore → StreamCore → Batch → Type 0
+Sends m (Ok u) old new b = HasSent m old new b
+Sends m (Err e) old new b = (SendCause e old b × LeavesAll m old new) ⊎ SendFailed m e old new b
+
+-- a batch was written
+pub record HasWritten (m : Moved) (old new : StreamCore) (b : Batch) (given : Option Ids) : Type 0 where
+  pub started : is_started old.state ≡ true
+  pub suits : Suits old b given
+  pub sends : HasSent m old new b
+
+-- why none was: the stream is not begun, or is ended, or a put has failed before; the batch is none of its; or it is not sent
+abbrev pub WriteCause : IpcError → StreamCore → Batch → Option Ids → Type 0
+WriteCause e c b given = ((e ≡ State) × (is_started c.state ≡ false))
+    ⊎ ((is_started c.state ≡ true) × (((e ≡ SchemaMismatch) × (Suits c b given → ⊥)) ⊎ (Suits c b given × SendCause e c b)))
+
+-- a put failed
+pub record WriteFailed (m : Moved) (e : IpcError) (old new : StreamCore) (b : Batch) (given : Option Ids) : Type 0 where
+  pub started : is_started old.state ≡ true
+  pub suits : Suits old b given
+  pub sends : SendFailed m e old new b
+
+abbrev pub Writes : Moved → Result (Unit {0}) IpcError → StreamCore → StreamCore → Batch → Option Ids → Type 0
+Writes m (Ok u) old new b given = HasWritten m old new b given
+Writes m (Err e) old new b given = (WriteCause e old b given × LeavesAll m old new) ⊎ WriteFailed m e old new b given
+
+-- ── end ──
+
+-- a stream was ended: the end mark was put
+pub record HasFinished (m : Moved) (old new : StreamCore) : Type 0 where
+  pub started : is_started old.state ≡ true
+  pub state : new.state ≡ Finished
+  pub appended : Appends m.old m.new end_mark
+  pub counts : NoneFalls m
+  pub tracker : new.tracker ≡ old.tracker
+  pub stays : Stays old new
+
+abbrev pub Finishes : Moved → Result (Unit {0}) IpcError → StreamCore → StreamCore → Type 0
+Finishes m (Ok u) old new = HasFinished m old new
+Finishes m (Err e) old new =
+    ((((e ≡ State) × (is_started old.state ≡ false)) ⊎ ((is_started old.state ≡ true) × (e ≡ Memory))) × LeavesAll m old new)
+    ⊎ ((is_started old.state ≡ true) × HasFailed m e end_mark old new)
