@@ -1,10 +1,11 @@
-//! Four uses of `arrow_ipc`. An Arrow file comes on standard input: the first column of its first record batch and the rows of each batch are printed, a batch of numbers is written, and the file is sent as a stream.
+//! Five uses of `arrow_ipc`. An Arrow file comes on standard input: the first column of its first record batch and the rows of each batch are printed, a batch of numbers is written, by itself and as a stream, and the file is sent as a stream.
 #![tactic(auto)]
 
 mod each_batch;
 mod file_to_stream;
 mod read_column;
 mod write_batch;
+mod write_stream;
 
 use arrow_ipc::io::MemorySource;
 use arrow_ipc::io::ipc::IpcError;
@@ -15,6 +16,7 @@ use std::alloc::Global;
 use std::io::Read;
 use std::process::ExitCode;
 use write_batch::message_of;
+use write_stream::stream_of_numbers;
 
 /// The column, where the file has a batch.
 fn column_of(alloc: Global, source: &mut MemorySource) -> Result<Vec<Option<i32>>, IpcError> {
@@ -31,6 +33,12 @@ fn input(rt: &HostRuntime) -> Result<Vec<u8>, &'static str> {
         Ok(_) => Ok(bytes),
         Err(_) => Err("the input fails"),
     }
+}
+
+/// How many bytes a stream of two numbers has.
+fn written(alloc: Global) -> Result<usize, IpcError> {
+    let sink = stream_of_numbers(alloc, vec![in alloc; 1, 3]?)?;
+    Ok(sink.bytes().len())
 }
 
 /// The lengths of a message of two numbers, and of the stream of a file.
@@ -54,6 +62,17 @@ fn show_batches(rt: &HostRuntime, source: &mut MemorySource) -> Result<(), IpcEr
     Ok(())
 }
 
+/// The length of a stream that is written.
+fn show_written(rt: &HostRuntime) -> Result<(), &'static str> {
+    match written(rt.alloc()) {
+        Ok(length) => {
+            let _ = println!(rt; "a stream of {length} bytes that was written");
+            Ok(())
+        }
+        Err(error) => Err(error.name()),
+    }
+}
+
 /// The uses, one after another.
 fn show(rt: &HostRuntime) -> Result<(), &'static str> {
     let bytes = input(rt)?;
@@ -64,7 +83,7 @@ fn show(rt: &HostRuntime) -> Result<(), &'static str> {
     match lengths(rt.alloc(), &mut source) {
         Ok((message, stream)) => {
             let _ = println!(rt; "a message of {message} bytes, a stream of {stream}");
-            Ok(())
+            show_written(rt)
         }
         Err(error) => Err(error.name()),
     }

@@ -9,7 +9,7 @@ use std::alloc::Global;
 use std::rc::Rc;
 
 /// One column of numbers, none of them null, as a batch.
-fn batch_of(alloc: Global, numbers: Vec<i32>) -> Result<RecordBatch, IpcError> {
+pub(crate) fn batch_of(alloc: Global, numbers: Vec<i32>) -> Result<RecordBatch, IpcError> {
     let rows = numbers.len();
     let values = Buffer::from_vec(numbers)?;
     let Ok(column) = PrimitiveArray::try_new(ArrowDataType::Int32, values, None) else {
