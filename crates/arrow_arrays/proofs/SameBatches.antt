@@ -53,12 +53,12 @@ contents_are : (xs : List Array) → map content_of xs ≡ contents_in (all_part
 contents_are [] = refl
 contents_are (x ∷ xs) = ap (λ cs. content_of x ∷ cs) (contents_are xs)
 
--- of batches with the same rows and schema, the arrays tell
-pub batches_same : (r : Bool) (a b : Batch) (xs ys : List Array) → a.height ≡ b.height → a.schema ≡ b.schema → all_parts_of xs ≡ a.arrays → all_parts_of ys ≡ b.arrays → (IsTrue r → map content_of xs ≡ map content_of ys) × (map content_of xs ≡ map content_of ys → IsTrue r) → (IsTrue r → SameBatch a b) × (SameBatch a b → IsTrue r)
-batches_same r a b xs ys height schema hx hy told =
+-- of batches with the same rows, schema and pairs, the arrays tell
+pub batches_same : (r : Bool) (a b : Batch) (xs ys : List Array) → a.height ≡ b.height → a.schema ≡ b.schema → a.custom ≡ b.custom → all_parts_of xs ≡ a.arrays → all_parts_of ys ≡ b.arrays → (IsTrue r → map content_of xs ≡ map content_of ys) × (map content_of xs ≡ map content_of ys → IsTrue r) → (IsTrue r → SameBatch a b) × (SameBatch a b → IsTrue r)
+batches_same r a b xs ys height schema custom hx hy told =
     let x : map content_of xs ≡ contents_in a.arrays = contents_are xs ∙ ap contents_in hx in
     let y : map content_of ys ≡ contents_in b.arrays = contents_are ys ∙ ap contents_in hy in (
-      λ t. record { rows = height; schema = schema; columns = sym x ∙ told.0 t ∙ y },
+      λ t. record { rows = height; schema = schema; columns = sym x ∙ told.0 t ∙ y; custom = custom },
       λ s. told.1 (x ∙ s.columns ∙ sym y),
     )
 
@@ -68,6 +68,6 @@ same_holdings r a b told =
     holding_eq_told r (holding_of a) (holding_of b) (
       λ t.
           let s = told.0 t in
-          rw (s.rows, s.schema, s.columns) refl,
-      λ e. told.1 (record { rows = ap (λ h. h.rows) e; schema = ap (λ h. h.schema) e; columns = ap (λ h. h.columns) e }),
+          rw (s.rows, s.schema, s.columns, s.custom) refl,
+      λ e. told.1 (record { rows = ap (λ h. h.rows) e; schema = ap (λ h. h.schema) e; columns = ap (λ h. h.columns) e; custom = ap (λ h. h.custom) e }),
     )

@@ -3,7 +3,8 @@ use Rattle.std.specs.Prelude.{◌≡◌, ℕ, List, [], ◌∷◌, Bool, true, r
 use Rattle.std.proofs.Common.{ap, ◌∙◌}
 use Rattle.std.specs.Cmp.{IsEquivalence}
 use base.Stored.{Gv, gnil, gnum, gcons, num}
-use Rattle.arrow_types.specs.KindCode.{head, tail, by_tree, by_tree_told, by_tree_equiv}
+use Rattle.arrow_spec.specs.Kinds.{Metadata}
+use Rattle.arrow_types.specs.KindCode.{head, tail, pairs_to, pairs_from, pairs_from-pairs_to, by_tree, by_tree_told, by_tree_equiv}
 use Rattle.arrow_types.specs.Schemas.{Keyed, keyed_to, keyed_from, keyed_from-keyed_to}
 use Rattle.arrow_arrays.specs.CellCode.{Content, content_to, content_from, content_from-content_to}
 
@@ -20,20 +21,21 @@ pub contents_from-contents_to : (cs : List Content) → contents_from (contents_
 contents_from-contents_to [] = refl
 contents_from-contents_to (c ∷ cs) = ap (λ x. x ∷ contents_from (contents_to cs)) (content_from-content_to c) ∙ ap (λ xs. c ∷ xs) (contents_from-contents_to cs)
 
--- how many rows there are, the schema, and what each column holds
+-- how many rows there are, the schema, what each column holds, and the pairs
 pub record Holding : Type 0 where
   pub rows : ℕ
   pub schema : List Keyed
   pub columns : List Content
+  pub custom : Metadata
 
 abbrev pub holding_to : Holding → Gv
-holding_to h = gcons (gnum h.rows) (gcons (keyed_to h.schema) (contents_to h.columns))
+holding_to h = gcons (gnum h.rows) (gcons (keyed_to h.schema) (gcons (contents_to h.columns) (pairs_to h.custom)))
 
 abbrev pub holding_from : Gv → Holding
-holding_from g = record { rows = num (head g); schema = keyed_from (head (tail g)); columns = contents_from (tail (tail g)) }
+holding_from g = record { rows = num (head g); schema = keyed_from (head (tail g)); columns = contents_from (head (tail (tail g))); custom = pairs_from (tail (tail (tail g))) }
 
 pub holding_from-holding_to : (h : Holding) → holding_from (holding_to h) ≡ h
-holding_from-holding_to h = rw (keyed_from-keyed_to h.schema, contents_from-contents_to h.columns) refl
+holding_from-holding_to h = rw (keyed_from-keyed_to h.schema, contents_from-contents_to h.columns, pairs_from-pairs_to h.custom) refl
 
 -- whether two batches hold the same
 unfoldable pub holding_eq : Holding → Holding → Bool

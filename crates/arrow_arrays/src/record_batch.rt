@@ -1,12 +1,14 @@
 //! Record batches: columns of one height, each under a field of a schema.
-ghost use Rattle.std.specs.Prelude.{◌≡◌, ◌==◌, length, Some, None, IfOk, IfErr, true};
+ghost use Rattle.std.specs.Prelude.{◌≡◌, ◌==◌, ◌<◌, ◌≤◌, length, [], Some, None, IfOk, IfErr, IfSome, true};
 ghost use Rattle.std.specs.Rc.{rc_value};
+ghost use Rattle.arrow_types.specs.KindOf.{texts_of};
+ghost use Rattle.ipc_fields.specs.IpcFields.{metadata_of, metadata_in};
 ghost use Rattle.arrow_arrays.specs.PartsOf.{all_parts_of};
 ghost use Rattle.arrow_arrays.specs.Batches.{batch_fault, have_rows};
 
 use crate::array::Array;
 use crate::structs::clone_each;
-use arrow_types::ArrowSchemaRef;
+use arrow_types::{ArrowSchemaRef, Metadata, copy_metadata};
 use std::alloc::{AllocError, Global};
 use std::marker::Model;
 use thiserror::Error;
@@ -22,21 +24,24 @@ pub enum BatchError {
     Height,
 }
 
-/// Columns of one height under a schema, seen as the height, the schema and the parts of each column.
+/// Columns of one height under a schema, with the pairs of their message (Message.fbs, Message: custom_metadata), seen as
+/// the height, the schema, the parts of each column, and the pairs.
 #[derive(Drop)]
 pub struct RecordBatchT {
     height: usize,
     schema: ArrowSchemaRef,
     arrays: Vec<Array>,
+    custom_metadata: Option<Metadata>,
 }
 
 /// A record batch of arrays of any kind.
 pub type RecordBatch = RecordBatchT;
 
 impl Model for RecordBatchT {
-    ghost use Rattle.std.specs.Prelude.{◌≡◌, None};
+    ghost use Rattle.std.specs.Prelude.{◌<◌, length, IfSome};
     ghost use Rattle.std.specs.Rc.{rc_value};
-    ghost use Rattle.arrow_arrays.specs.Batches.{Batch, batch_code, batch_fault};
+    ghost use Rattle.ipc_fields.specs.IpcFields.{metadata_of};
+    ghost use Rattle.arrow_arrays.specs.Batches.{Batch, batch_code, IsBatch};
 
     ghost Value = { Batch };
 
@@ -44,9 +49,20 @@ impl Model for RecordBatchT {
 
     ghost use Rattle.arrow_arrays.specs.PartsOf.{all_parts_of};
 
-    ghost view = { λ a. record { height = a.height; schema = rc_value a.schema; arrays = all_parts_of a.arrays.items } };
+    ghost view = { λ a. record { height = a.height; schema = rc_value a.schema; arrays = all_parts_of a.arrays.items; custom = metadata_of a.custom_metadata } };
 
-    ghost invariant = { λ a. batch_fault (record { height = a.height; schema = rc_value a.schema; arrays = all_parts_of a.arrays.items }) ≡ None };
+    ghost invariant = { λ a. IsBatch (record { height = a.height; schema = rc_value a.schema; arrays = all_parts_of a.arrays.items; custom = metadata_of a.custom_metadata }) × IfSome a.custom_metadata (λ m. 0 < length m.entries) };
+}
+
+/// A copy of metadata, where there is any.
+fn copy_if_any(alloc: Global, metadata: &Option<Metadata>) -> Result<Option<Metadata>, AllocError>
+    ensures same { IfOk result (λ m. metadata_of m ≡ metadata_of metadata.now) }
+    ensures some { IfSome metadata.now (λ m. 0 < length m.entries) → IfOk result (λ c. IfSome c (λ m. 0 < length m.entries)) }
+{
+    match metadata {
+        None => Ok(None),
+        Some(metadata) => Ok(Some(copy_metadata(alloc, metadata)?)),
+    }
 }
 
 /// Whether each array has so many rows.
@@ -68,9 +84,9 @@ impl RecordBatchT {
         schema: ArrowSchemaRef,
         arrays: Vec<Array>,
     ) -> Result<RecordBatch, BatchError>
-        ensures ok { IfOk result (λ b. b ≡ record { height = height; schema = rc_value schema; arrays = all_parts_of arrays.items }) }
+        ensures ok { IfOk result (λ b. b ≡ record { height = height; schema = rc_value schema; arrays = all_parts_of arrays.items; custom = [] }) }
         ensures sound { IfOk result (λ b. batch_fault b ≡ None) }
-        ensures err { IfErr result (λ e. batch_fault (record { height = height; schema = rc_value schema; arrays = all_parts_of arrays.items }) ≡ Some e) }
+        ensures err { IfErr result (λ e. batch_fault (record { height = height; schema = rc_value schema; arrays = all_parts_of arrays.items; custom = [] }) ≡ Some e) }
     {
         if schema.len() != arrays.len() {
             return Err(BatchError::Width);
@@ -82,19 +98,64 @@ impl RecordBatchT {
             height,
             schema,
             arrays,
+            custom_metadata: None,
         })
     }
 
     /// The batch of columns that are known to suit the schema and the height.
     pub fn new(height: usize, schema: ArrowSchemaRef, arrays: Vec<Array>) -> RecordBatch
-        requires { batch_fault (record { height = height; schema = rc_value schema; arrays = all_parts_of arrays.items }) ≡ None }
-        ensures { result ≡ record { height = height; schema = rc_value schema; arrays = all_parts_of arrays.items } }
+        requires { batch_fault (record { height = height; schema = rc_value schema; arrays = all_parts_of arrays.items; custom = [] }) ≡ None }
+        ensures { result ≡ record { height = height; schema = rc_value schema; arrays = all_parts_of arrays.items; custom = [] } }
     {
         RecordBatchT {
             height,
             schema,
             arrays,
+            custom_metadata: None,
         }
+    }
+
+    /// The same columns with these pairs, which are written with the batch's message. An empty map is none.
+    pub fn with_custom_metadata(self, metadata: Metadata) -> RecordBatch
+        requires { length metadata.entries ≤ 1048576 }
+        ensures { result ≡ record { height = self.height; schema = self.schema; arrays = self.arrays; custom = texts_of metadata.entries } }
+    {
+        let custom_metadata = if metadata.is_empty() {
+            None
+        } else {
+            Some(metadata)
+        };
+        RecordBatchT {
+            height: self.height,
+            schema: self.schema,
+            arrays: self.arrays,
+            custom_metadata,
+        }
+    }
+
+    /// The same columns with these pairs, or with none.
+    pub fn with_optional_metadata(self, metadata: Option<Metadata>) -> RecordBatch
+        requires { length (metadata_of metadata) ≤ 1048576 }
+        ensures { result ≡ record { height = self.height; schema = self.schema; arrays = self.arrays; custom = metadata_of metadata } }
+    {
+        match metadata {
+            None => RecordBatchT {
+                height: self.height,
+                schema: self.schema,
+                arrays: self.arrays,
+                custom_metadata: None,
+            },
+            Some(metadata) => self.with_custom_metadata(metadata),
+        }
+    }
+
+    /// The pairs of the batch's message, where there are any.
+    pub fn custom_metadata(&self) -> Option<&Metadata>
+        ensures pairs { metadata_in result ≡ self.now.custom }
+        ensures few { length self.now.custom ≤ 1048576 }
+        ensures no_empty_metadata { IfSome result (λ m. 0 < length m.now.entries) }
+    {
+        self.custom_metadata.as_ref()
     }
 
     /// The columns, in order.
@@ -163,6 +224,15 @@ impl RecordBatchT {
         self.arrays
     }
 
+    /// The columns, in order, and the pairs of the batch's message, without their schema.
+    pub fn into_arrays_and_metadata(self) -> (Vec<Array>, Option<Metadata>)
+        ensures arrays { all_parts_of result.0.items ≡ self.arrays }
+        ensures custom { metadata_of result.1 ≡ self.custom }
+        ensures few { length self.custom ≤ 1048576 }
+    {
+        (self.arrays, self.custom_metadata)
+    }
+
     /// The schema and the columns, in order.
     pub fn into_schema_and_arrays(self) -> (ArrowSchemaRef, Vec<Array>)
         ensures schema { rc_value result.0 ≡ self.schema }
@@ -179,6 +249,7 @@ impl RecordBatchT {
             height: self.height,
             schema: self.schema.clone()?,
             arrays: clone_each(alloc, self.arrays.as_slice())?,
+            custom_metadata: copy_if_any(alloc, &self.custom_metadata)?,
         })
     }
 }

@@ -1,4 +1,4 @@
-//! Equality: of arrays exactly where their kinds and their cells are equal, of batches where their rows, schemas and arrays are.
+//! Equality: of arrays exactly where their kinds and their cells are equal, of batches where their rows, schemas, arrays and pairs are.
 ghost use Rattle.std.specs.Prelude.{◌≡◌, ◌↔◌, ◌+◌, ◌≤◌, map, IsTrue};
 ghost use Rattle.arrow_arrays.specs.Contents.{content_of};
 ghost use Rattle.arrow_buffers.specs.Rows.{part};
@@ -6,11 +6,13 @@ ghost use Rattle.arrow_arrays.specs.Heads.{run, across, Reaches};
 ghost use Rattle.arrow_arrays.specs.Parts.{kind_in, rows_in, cells_in, rows_each, cells_each};
 ghost use Rattle.arrow_arrays.specs.PartsOf.{parts_of, forest_of};
 ghost use Rattle.arrow_arrays.specs.RowCells.{cell_of, Inside};
+ghost use Rattle.ipc_fields.specs.IpcFields.{metadata_in};
 ghost use Rattle.arrow_arrays.specs.SameBatches.{SameBatch};
 
 use crate::array::Array;
 use crate::record_batch::{RecordBatch, RecordBatchT};
 use crate::row_value::RowValue;
+use arrow_types::{Metadata, is_same_metadata};
 
 fn are_same_bytes(a: &[u8], b: &[u8]) -> bool
     ensures { IsTrue result ↔ (a.now ≡ b.now) }
@@ -143,10 +145,29 @@ fn are_same_arrays(a: &[Array], b: &[Array]) -> bool
     a == b
 }
 
+/// Whether two batches have the same pairs, where there are any.
+fn may_be_same_pairs(a: Option<&Metadata>, b: Option<&Metadata>) -> bool
+    ensures { IsTrue result ↔ (metadata_in a.entry ≡ metadata_in b.entry) }
+{
+    match a {
+        None => match b {
+            None => true,
+            Some(y) => y.is_empty(),
+        },
+        Some(x) => match b {
+            None => x.is_empty(),
+            Some(y) => is_same_metadata(x, y),
+        },
+    }
+}
+
 fn is_same_batch(a: &RecordBatch, b: &RecordBatch) -> bool
     ensures { IsTrue result ↔ SameBatch a.now b.now }
 {
     if a.height() != b.height() {
+        return false;
+    }
+    if !may_be_same_pairs(a.custom_metadata(), b.custom_metadata()) {
         return false;
     }
     **a.schema() == **b.schema() && are_same_arrays(a.arrays(), b.arrays())
@@ -163,7 +184,7 @@ impl PartialEq for RecordBatchT {
 
     ghost laws = { on_per holding_of (partial_equiv_from_equiv holding_eq_equiv) };
 
-    /// Whether the batches have as many rows, the same schema and columns that hold the same.
+    /// Whether the batches have as many rows, the same schema, columns that hold the same, and the same pairs.
     fn eq(&self, other: &RecordBatchT) -> bool
         ensures eq { result ≡ holding_eq (holding_of self.now) (holding_of other.now) }
         ensures same { IsTrue result ↔ SameBatch self.now other.now }

@@ -1,5 +1,5 @@
 -- A schema of nested kinds is read back from its message.
-use Rattle.std.proofs.Common.{true, ap, ◌≡◌, ℕ, ◌+◌, ◌*◌, ◌^◌, ◌<◌, ◌≤◌, List, [], ◌++◌, length, Some, Ok, refl, ◌∙◌, arith}
+use Rattle.std.proofs.Common.{ap, ◌≡◌, ℕ, ◌+◌, ◌*◌, ◌^◌, ◌<◌, ◌≤◌, List, [], ◌++◌, length, Some, Ok, refl, ◌∙◌, arith}
 use Rattle.std.specs.Prelude.{nat_eq}
 use Rattle.std.specs.Int.{w16}
 use Rattle.arrow_spec.specs.declared.error.IpcError.TheVariants.{Unsupported}
@@ -61,7 +61,7 @@ unfolding schema_message_of
 schema_message_read md m s e f g = on _ _ m e ∙ on _ _ V5 f ∙ on _ _ s g
 
 -- the first message of a stream, by its pairs too
-pub stream_head_read : (md : List ℕ) (m : Message) (custom : Metadata) (s : Schema) → message_of md (λ tag. nat_eq tag 1) ≡ Ok m → version_of md m ≡ Ok V5 → message_pairs true md ≡ Ok custom → schema_of md m.header ≡ Ok s → stream_head md ≡ Ok (m, custom, s)
+pub stream_head_read : (md : List ℕ) (m : Message) (custom : Metadata) (s : Schema) → message_of md (λ tag. nat_eq tag 1) ≡ Ok m → version_of md m ≡ Ok V5 → message_pairs md ≡ Ok custom → schema_of md m.header ≡ Ok s → stream_head md ≡ Ok (m, custom, s)
 unfolding stream_head
 stream_head_read md m custom s e f p g = on _ _ m e ∙ on _ _ V5 f ∙ on _ _ custom p ∙ on _ _ s g
 

@@ -2,7 +2,7 @@
 use Rattle.std.proofs.Common.{◌≡◌, ℕ, zero, suc, List, [], ◌∷◌, take, drop, Ok, subst, arith}
 use Rattle.arrow_spec.specs.Flat.{Table}
 use Rattle.arrow_spec.specs.Schema.{Schema, schema_of}
-use Rattle.arrow_spec.specs.Files.{Meta, footer_of, meta_in, meta_of}
+use Rattle.arrow_spec.specs.Files.{Meta, footer_of, meta_in}
 use Rattle.arrow_spec.specs.Laws.{AreBytes}
 use Rattle.arrow_spec.specs.WrittenSchemas.{IdsMayBeWritten, SchemaMayBeWritten}
 use Rattle.arrow_spec.proofs.ReadPairs.{same_read, through}

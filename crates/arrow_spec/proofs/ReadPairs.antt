@@ -190,27 +190,14 @@ pub sorted_ascend : (xs : Metadata) → AreTexts xs → IsSorted xs → Ascend [
 sorted_ascend xs texts sorted = ascend_from [] xs texts sorted (none_before xs)
 
 -- pairs of a footer or of a message that are read may be written
-pub custom_may : (carried : Bool) (kind : FlatError → OutOfSpecKind) (b : List ℕ) (m : Metadata) → custom_pairs carried kind b ≡ Ok m → CustomMayBeWritten m
+pub custom_may : (kind : FlatError → OutOfSpecKind) (b : List ℕ) (m : Metadata) → custom_pairs kind b ≡ Ok m → CustomMayBeWritten m
 unfolding custom_pairs
-custom_may carried kind b m h =
-    through _ _ m h λ t t_is h1. through _ _ m h1 λ v v_is h2. through _ _ m h2 λ u known h3. through _ _ m h3 λ u' room h4.
+custom_may kind b m h =
+    through _ _ m h λ t t_is h1. through _ _ m h1 λ v v_is h2. through _ _ m h2 λ u room h3.
     let n = (empty_vector v).count in
-    let read' = from_read kind b n (empty_vector v).first [] m 0 h4 (record { texts = tt; sorted = tt; few = omega arith }) in
+    let read' = from_read kind b n (empty_vector v).first [] m 0 h3 (record { texts = tt; sorted = tt; few = omega arith }) in
     let most : n ≤ 1048576 = leb-true n 1048576 (is_true _ _ _ room) in
     record { ascend = sorted_ascend m read'.texts read'.sorted; few = omega (arith, read'.few, most) }
-
-no_more : (kind : FlatError → OutOfSpecKind) (b : List ℕ) (at n : ℕ) → n ≡ 0 → (m : Metadata) → pairs_from kind b at n [] ≡ Ok m → m ≡ []
-unfolding pairs_from
-no_more kind b at zero e m h = cc
-no_more kind b at (suc n) e m h = absurd (omega (arith, e))
-
--- until they are carried there are none
-pub none_carried : (kind : FlatError → OutOfSpecKind) (b : List ℕ) (m : Metadata) → custom_pairs false kind b ≡ Ok m → m ≡ []
-unfolding custom_pairs pairs_from
-none_carried kind b m h =
-    through _ _ m h λ t t_is h1. through _ _ m h1 λ v v_is h2. through _ _ m h2 λ u known h3. through _ _ m h3 λ u' room h4.
-    let none : (empty_vector v).count ≡ 0 = Rattle.std.proofs.lemmas.Bool.eqb-true (empty_vector v).count 0 (is_true _ _ _ known) in
-    no_more kind b (empty_vector v).first (empty_vector v).count none m h4
 
 -- a key behind one pair of a list
 behind_one : (front back : Metadata) (x : List ℕ × List ℕ) (key : List ℕ) → IsBehind (front ++ x ∷ back) key → stands_before x.0 key ≡ true

@@ -62,7 +62,7 @@ pairs_slot_back (x ∷ xs) s b t i before texts room h =
     (rw (v, test, pairs_back InvalidFlatbufferSchema (x ∷ xs) b (c.1 + 4) [] texts c.4.2) refl, h.1)
 
 -- the pairs of a footer or of a message, by its root table
-pub custom_back : (kind : FlatError → OutOfSpecKind) (xs : Metadata) (b : List ℕ) (t : Table) → CustomMayBeWritten xs → root b ≡ Ok t → HoldsSlots (custom_slot xs) b t 4 → custom_pairs true kind b ≡ Ok xs
+pub custom_back : (kind : FlatError → OutOfSpecKind) (xs : Metadata) (b : List ℕ) (t : Table) → CustomMayBeWritten xs → root b ≡ Ok t → HoldsSlots (custom_slot xs) b t 4 → custom_pairs kind b ≡ Ok xs
 unfolding custom_pairs pairs_from bind
 custom_back kind [] b t may is h = let past : t.size ≤ 12 = h in rw (is, vector_absent 4 b t 4 (slot_past b t 4 (omega (arith, past)))) refl
 custom_back kind (x ∷ xs) b t may is h =

@@ -1,5 +1,5 @@
 -- Messages are passed over by their prefixes, their metadata and the lengths of their bodies.
-use Rattle.std.proofs.Common.{◌≡◌, ℕ, suc, ◌≤◌, List, ◌++◌, length, drop, Some, Ok, refl, ap, ◌∙◌, arith, length-append, true, Bool}
+use Rattle.std.proofs.Common.{◌≡◌, ℕ, suc, List, ◌++◌, length, Some, Ok, refl, ap, ◌∙◌, arith, length-append, true, Bool}
 use Rattle.std.specs.Prelude.{nat_le}
 use Rattle.std.proofs.lemmas.Bool.{le-leb}
 use Rattle.std.proofs.lemmas.List.{drop_at}

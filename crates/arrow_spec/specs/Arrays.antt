@@ -1,12 +1,12 @@
 -- The parts of the array at a place of a record batch: node, buffers, bits, numbers, offsets, views; and the dictionaries that were read. (Arrow Columnar Format, "Physical Memory Layout".)
-use Rattle.std.specs.Prelude.{ℕ, zero, suc, ◌+◌, ◌-◌, ◌*◌, ◌/◌, ◌%◌, List, [], ◌∷◌, ◌++◌, length, take, drop, Bool, true, false, Option, Some, None, nat_le, nat_lt, nat_eq, if◌then◌else◌, ℤ, pos, slice_get, slice_index}
+use Rattle.std.specs.Prelude.{ℕ, zero, suc, ◌+◌, ◌-◌, ◌*◌, ◌/◌, ◌%◌, List, [], ◌∷◌, ◌++◌, take, drop, Bool, true, false, Option, Some, None, nat_le, nat_lt, nat_eq, if◌then◌else◌, ℤ, pos, slice_get, slice_index}
 use Rattle.std.specs.Int.{Width, w8, w16, w32, w64, w128, bit_at, cast_signed, byte_len}
 use Rattle.arrow_spec.specs.declared.types.IntegerType.{IntegerType}
 use Rattle.arrow_spec.specs.declared.types.IntegerType.TheVariants.{Int8, Int16, Int32, Int64, Int128, UInt8, UInt16, UInt32, UInt64}
 use Rattle.arrow_spec.specs.Flat.{little, num}
 use Rattle.arrow_spec.specs.declared.types.UnionMode.{UnionMode}
 use Rattle.arrow_spec.specs.declared.types.UnionMode.TheVariants.{Dense, Sparse}
-use Rattle.arrow_spec.specs.Kinds.{null, Offsets, small, large, same}
+use Rattle.arrow_spec.specs.Kinds.{Offsets, small, large, same}
 use Rattle.arrow_spec.specs.Cells as cells
 use Rattle.arrow_spec.specs.Cells.{Cell}
 use Rattle.arrow_spec.specs.declared.message.FieldNode.{FieldNode}

@@ -10,16 +10,15 @@ use Rattle.arrow_spec.specs.declared.error.OutOfSpecKind.TheVariants as kinds
 use Rattle.arrow_spec.specs.declared.message.IpcBuffer.{IpcBuffer}
 use Rattle.arrow_spec.specs.declared.message.MetadataVersion.{MetadataVersion}
 use Rattle.arrow_spec.specs.Readings.{bind, ◌>>=◌, Reading, refuse, damaged, unless, only_if, each, free_of, required, natural, as_kind, is_absent}
-use Rattle.arrow_spec.specs.Flat.{Vector, Order, root, or_default, signed_at, slot_table, slot_vector}
+use Rattle.arrow_spec.specs.Flat.{Vector, Order, root, signed_at, slot_table, slot_vector}
 use Rattle.arrow_spec.specs.Kinds.{Fields, none, field, Metadata, bare, width, uses_in, values_under}
-use Rattle.arrow_spec.specs.Built.{Built}
 use Rattle.arrow_spec.specs.Cells.{Cell}
 use Rattle.arrow_spec.specs.Schema.{Schema, schema_of, empty_vector}
 use Rattle.arrow_spec.specs.Messages.{Message, prefix_of, message_of, version_of, message_pairs, footer_pairs, batch_at, BatchHeader, DictionaryBatch, dictionary_at}
 use Rattle.arrow_spec.specs.Counts.{RecordBatch, first_place, magnitude, is_negative}
 use Rattle.arrow_spec.specs.Arrays.{Dictionaries, HeldDictionary, found}
 use Rattle.arrow_spec.specs.Columns.{columns_at, stands_in}
-use Rattle.arrow_spec.specs.Features.{float_faults, feature_faults}
+use Rattle.arrow_spec.specs.Features.{float_faults, chosen_floats}
 use Rattle.arrow_spec.specs.Sent.{SentMessage, stream_schema, batch_message, written, dictionary_messages, may_be_sent, all_may_be_sent}
 
 -- the columns that are asked for, and how many rows at most
@@ -123,13 +122,8 @@ unfoldable pub meta_of : List ℕ → Reading Meta
 meta_of b = footer_of b >>= λ f. meta_in f
 
 -- the pairs of a file's footer
-unfoldable pub custom_of : Bool → List ℕ → Reading Metadata
-custom_of carried b = footer_of b >>= λ f. footer_pairs carried f
-
--- there is one
-abbrev pub has_any : {A : Type 0} → List A → Bool
-has_any [] = false
-has_any (x ∷ xs) = true
+unfoldable pub custom_of : List ℕ → Reading Metadata
+custom_of b = footer_of b >>= λ f. footer_pairs f
 
 -- the lesser of a batch's length and what is left of the limit
 abbrev pub share : Option ℕ → ℕ → ℕ
@@ -238,13 +232,13 @@ block_message b block tag = do
 abbrev pub block_body : List ℕ → FileBlock → List ℕ
 block_body b block = take block.body (drop (block.offset + block.metadata) b)
 
--- a record block; its message's pairs are carried or not
-unfoldable pub batch_of : Bool → Purpose → List ℕ → Asked → FileBlock → Option ℕ → Reading TableBatch
-batch_of carried purpose b a block left = do
+-- a record block
+unfoldable pub batch_of : Purpose → List ℕ → Asked → FileBlock → Option ℕ → Reading TableBatch
+batch_of purpose b a block left = do
   m ← block_message b block 3
   tables ← batch_at m.0 m.1.header
   version ← version_of m.0 m.1
-  custom ← message_pairs carried m.0
+  custom ← message_pairs m.0
   batch_of_tables purpose a version custom tables (block_body b block) left
 
 -- the dictionaries are written with the first batch, and each message may be too large
@@ -253,12 +247,12 @@ dictionaries_sent true purpose a = if_sent purpose (all_may_be_sent (dictionary_
 dictionaries_sent false purpose a = Ok tt
 
 -- record blocks in order, each cut to what the ones before leave of the limit
-unfoldable pub batches_of : Bool → Purpose → List ℕ → Asked → Bool → List FileBlock → Option ℕ → Reading (List TableBatch)
-batches_of carried purpose b a is_first [] left = Ok []
-batches_of carried purpose b a is_first (block ∷ blocks) left = do
-  first ← batch_of carried purpose b a block left
+unfoldable pub batches_of : Purpose → List ℕ → Asked → Bool → List FileBlock → Option ℕ → Reading (List TableBatch)
+batches_of purpose b a is_first [] left = Ok []
+batches_of purpose b a is_first (block ∷ blocks) left = do
+  first ← batch_of purpose b a block left
   dictionaries ← dictionaries_sent is_first purpose a
-  others ← batches_of carried purpose b a false blocks (what_is_left left first.rows)
+  others ← batches_of purpose b a false blocks (what_is_left left first.rows)
   Ok (first ∷ others)
 
 -- a dictionary's values are the one column of their batch
@@ -307,18 +301,16 @@ taken None blocks = blocks
 taken (Some j) blocks = take j blocks
 
 -- what a file means under a request, in all its blocks or the first j
-unfoldable pub file_reading : Built → Purpose → List ℕ → Request → Option ℕ → Reading ArrowTable
-file_reading built purpose b r j = do
-  known ← unless (built.requests || is_absent r.columns && is_absent r.limit) (Unsupported features.NotYet)
+unfoldable pub file_reading : Purpose → List ℕ → Request → Option ℕ → Reading ArrowTable
+file_reading purpose b r j = do
   meta ← meta_of b
-  custom ← custom_of built.custom b
+  custom ← custom_of b
   columns ← columns_right r.columns (width meta.schema.fields)
-  floats ← free_of (feature_faults r.columns meta.schema.fields (built.chosen meta.schema.order (fields_as_asked r.columns meta.schema.fields)))
+  floats ← free_of (chosen_floats r.columns meta.schema.fields 0)
   size ← if_sent purpose (may_be_sent (stream_schema (fields_as_asked r.columns meta.schema.fields) meta.schema.metadata custom))
-  read ← unless (built.dictionaries || not (has_any (dictionaries_read (taken j meta.blocks) meta.dictionaries))) (Unsupported features.NotYet)
   dictionaries ← dictionaries_of b meta [] (dictionaries_read (taken j meta.blocks) meta.dictionaries)
   let asked : Asked = record { order = meta.schema.order; fields = meta.schema.fields; columns = r.columns; dictionaries = dictionaries; most = length b }
-  batches ← batches_of built.custom purpose b asked true (taken j meta.blocks) r.limit
+  batches ← batches_of purpose b asked true (taken j meta.blocks) r.limit
   Ok (record { metadata = meta.schema.metadata; custom = custom; fields = bare (fields_as_asked r.columns meta.schema.fields); batches = batches })
 
 -- ── the messages of a stream that means what a file means ──
@@ -329,7 +321,7 @@ batch_sent b a block left = do
   m ← block_message b block 3
   tables ← batch_at m.0 m.1.header
   version ← version_of m.0 m.1
-  custom ← message_pairs true m.0
+  custom ← message_pairs m.0
   rows ← natural tables.length
   Ok (batch_message (record_batch_of a.order version tables (block_body b block)) a.columns a.fields (share left rows) custom, share left rows)
 
@@ -350,7 +342,7 @@ dictionaries_before messages (block ∷ blocks) = messages
 unfoldable pub sent : List ℕ → Request → Option ℕ → Reading (List SentMessage)
 sent b r j = do
   meta ← meta_of b
-  custom ← custom_of true b
+  custom ← custom_of b
   let fields = fields_as_asked r.columns meta.schema.fields
   dictionaries ← dictionaries_of b meta [] (dictionaries_read (taken j meta.blocks) meta.dictionaries)
   let asked : Asked = record { order = meta.schema.order; fields = meta.schema.fields; columns = r.columns; dictionaries = dictionaries; most = length b }

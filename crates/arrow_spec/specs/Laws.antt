@@ -36,7 +36,7 @@ pub record IsNextMessage (taken : ℕ → Bool) (tag : ℕ) (s : Slots) (body : 
   pub body_is : body_in framed found ≡ Ok body
   pub rest_is : drop found.body framed.behind ≡ rest
   pub header : HoldsSlots s framed.metadata found.header 0
-  pub custom_is : message_pairs true framed.metadata ≡ Ok custom
+  pub custom_is : message_pairs framed.metadata ≡ Ok custom
 
 -- A message that is framed with its body is the next one, whatever stands behind it.
 abbrev pub FramedMessageIsNext : Type 0

@@ -2,10 +2,10 @@ pub mod Names
 pub mod Readings
 pub mod Flat
 pub mod Kinds
-pub mod Built
 pub mod Cells
 pub mod Schema
 pub mod Regular
+pub mod Meaning
 pub mod Messages
 pub mod Headers
 pub mod Counts

@@ -121,22 +121,21 @@ dictionary_at b t = do
   values ← batch_at b data_table
   Ok (record { id = id; is_delta = is_delta; values = values })
 
--- The pairs of a footer or of a message by its bytes: both have them in slot 4. Until they are carried there may be none, whatever would be in them. (File.fbs, Footer; Message.fbs, Message.)
-unfoldable pub custom_pairs : Bool → (FlatError → OutOfSpecKind) → List ℕ → Reading Metadata
-custom_pairs carried kind b = do
+-- The pairs of a footer or of a message by its bytes: both have them in slot 4. (File.fbs, Footer; Message.fbs, Message.)
+unfoldable pub custom_pairs : (FlatError → OutOfSpecKind) → List ℕ → Reading Metadata
+custom_pairs kind b = do
   t ← as_kind kind (root b)
   v ← as_kind kind (slot_vector 4 b t 4)
-  known ← unless (carried || nat_eq (empty_vector v).count 0) (Unsupported features.NotYet)
   room ← unless (nat_le (empty_vector v).count 1048576) (TooMany counted.Pairs)
   pairs_from kind b (empty_vector v).first (empty_vector v).count []
 
 -- the pairs of a message by its metadata
-abbrev pub message_pairs : Bool → List ℕ → Reading Metadata
-message_pairs carried b = custom_pairs carried kinds.InvalidFlatbufferMessage b
+abbrev pub message_pairs : List ℕ → Reading Metadata
+message_pairs b = custom_pairs kinds.InvalidFlatbufferMessage b
 
 -- the pairs of a footer
-abbrev pub footer_pairs : Bool → List ℕ → Reading Metadata
-footer_pairs carried f = custom_pairs carried kinds.InvalidFlatbufferFooter f
+abbrev pub footer_pairs : List ℕ → Reading Metadata
+footer_pairs f = custom_pairs kinds.InvalidFlatbufferFooter f
 
 -- the tables and the version of a record batch's message
 pub record RecordMessage : Type 0 where

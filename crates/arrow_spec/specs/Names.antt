@@ -70,7 +70,6 @@ feature_name features.Version = codes "Version"
 feature_name features.Compression = codes "Compression"
 feature_name features.UnionNulls = codes "UnionNulls"
 feature_name features.BigEndianAppend = codes "BigEndianAppend"
-feature_name features.NotYet = codes "NotYet"
 
 -- a kind of damage and a feature stand by their own names
 unfoldable pub error_name : IpcError → List ℕ

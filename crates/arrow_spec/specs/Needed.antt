@@ -2,12 +2,11 @@
 use Rattle.std.specs.Prelude.{ℕ, zero, suc, ◌+◌, ◌-◌, List, [], ◌∷◌, ◌++◌, length, take, drop, Option, Some, None, Ok, if◌then◌else◌, sum_by}
 use Rattle.arrow_spec.specs.declared.error.IpcError.TheVariants.{OutOfSpec}
 use Rattle.arrow_spec.specs.declared.error.OutOfSpecKind.TheVariants.{InvalidId}
-use Rattle.arrow_spec.specs.declared.message.MetadataVersion.{MetadataVersion}
 use Rattle.arrow_spec.specs.Readings.{Reading, meaning, ◌>>=◌, required}
 use Rattle.arrow_spec.specs.declared.types.UnionMode.{UnionMode}
 use Rattle.arrow_spec.specs.declared.types.UnionMode.TheVariants.{Dense, Sparse}
 use Rattle.arrow_spec.specs.Kinds.{Kind, Fields, none, field, null, binary, utf8, binary_view, utf8_view, «list», fixed_size_list, struct, map, union, extension, uses_in, values_under}
-use Rattle.arrow_spec.specs.Messages.{BatchHeader, prefix_of, batch_at, dictionary_at, version_of}
+use Rattle.arrow_spec.specs.Messages.{prefix_of, batch_at, dictionary_at, version_of}
 use Rattle.arrow_spec.specs.Counts.{RecordBatch, Place, first_place, magnitude, count_at, union_buffers, after, inside}
 use Rattle.arrow_spec.specs.Arrays.{has_nulls, range_of, types_buffer}
 use Rattle.arrow_spec.specs.Columns.{is_chosen}

@@ -4,12 +4,11 @@ use Rattle.std.specs.Int.{w8, w16, w32, w64}
 use Rattle.std.specs.Str.{bytes_eq}
 use Rattle.arrow_spec.specs.declared.error.FlatError.{FlatError}
 use Rattle.arrow_spec.specs.declared.error.FlatError.TheVariants.{Number}
-use Rattle.arrow_spec.specs.declared.error.IpcError.{IpcError}
 use Rattle.arrow_spec.specs.declared.error.IpcError.TheVariants.{OutOfSpec, TooMany, TooDeep, Unsupported}
 use Rattle.arrow_spec.specs.declared.error.Counted.TheVariants as counted
 use Rattle.arrow_spec.specs.declared.error.Feature.TheVariants as features
 use Rattle.arrow_spec.specs.declared.error.OutOfSpecKind.{OutOfSpecKind}
-use Rattle.arrow_spec.specs.declared.error.OutOfSpecKind.TheVariants.{InvalidFlatbufferSchema, MissingFields, MissingType, InvalidDataType, InvalidIdDataType, UnexpectedNegativeInteger}
+use Rattle.arrow_spec.specs.declared.error.OutOfSpecKind.TheVariants.{InvalidFlatbufferSchema, MissingFields, MissingType, InvalidDataType, InvalidIdDataType}
 use Rattle.arrow_spec.specs.declared.types.IntegerType.{IntegerType}
 use Rattle.arrow_spec.specs.declared.types.IntegerType.TheVariants.{Int8, Int16, Int32, Int64, Int128, UInt8, UInt16, UInt32, UInt64}
 use Rattle.arrow_spec.specs.Readings.{◌>>=◌, Reading, refuse, damaged, unsupported, unless, only_if, in_terms_of, each, as_kind, is_absent, required, natural}

@@ -52,7 +52,7 @@ unfoldable pub stream_batch : Reader → Dictionaries → Framed → Message →
 stream_batch s d f m = do
   tables ← batch_at f.metadata m.header
   version ← version_of f.metadata m
-  custom ← message_pairs true f.metadata
+  custom ← message_pairs f.metadata
   body ← body_in f m
   batch_of_tables to_read (record {
     order = s.schema.order;
@@ -114,7 +114,7 @@ unfoldable pub stream_head : List ℕ → Reading (Message × Metadata × Schema
 stream_head metadata = do
   m ← message_of metadata (λ tag. nat_eq tag 1)
   version ← version_of metadata m
-  custom ← message_pairs true metadata
+  custom ← message_pairs metadata
   schema ← schema_of metadata m.header
   Ok (m, custom, schema)
 

@@ -162,8 +162,6 @@ pub enum Feature {
     UnionNulls,
     #[error("BigEndianAppend")]
     BigEndianAppend,
-    #[error("NotYet")]
-    NotYet,
 }
 
 /// What there may be only so many of.
@@ -298,7 +296,6 @@ impl Feature {
             Feature::Compression => "Compression",
             Feature::UnionNulls => "UnionNulls",
             Feature::BigEndianAppend => "BigEndianAppend",
-            Feature::NotYet => "NotYet",
         }
     }
 }

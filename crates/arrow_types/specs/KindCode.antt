@@ -316,6 +316,9 @@ mutual
 abbrev pub kind_code : Coded Kind
 kind_code = code_by Gv itself kind_to kind_from kind_from-kind_to
 
+abbrev pub pairs_code : Coded Metadata
+pairs_code = code_by Gv itself pairs_to pairs_from pairs_from-pairs_to
+
 abbrev pub fields_code : Coded Fields
 fields_code = code_by Gv itself fields_to fields_back fields_back-fields_to
 

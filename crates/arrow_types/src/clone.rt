@@ -60,7 +60,8 @@ fn copy_ids(alloc: Global, ids: &Option<Vec<i32>>) -> Result<Option<Vec<i32>>, A
     }
 }
 
-fn copy_metadata(alloc: Global, metadata: &Metadata) -> Result<Metadata, AllocError>
+/// A copy of metadata.
+pub fn copy_metadata(alloc: Global, metadata: &Metadata) -> Result<Metadata, AllocError>
     ensures { IfOk result (λ m. texts_of m.entries ≡ texts_of metadata.now.entries) }
 {
     let mut copies = Metadata::new(alloc);

@@ -11,8 +11,10 @@ mod schema;
 pub mod union_ids;
 
 pub use arrow_spec::{IntegerType, IntervalUnit, TimeUnit, UnionMode};
+pub use clone::copy_metadata;
 pub use data_type::{ArrowDataType, ExtensionType, Field, Metadata, UnionType};
 pub use extension::get_extension;
 pub use numbers::{DictionaryKey, NativeType, Offset, days_ms, months_days_ns};
 pub use physical::{PhysicalType, PrimitiveType};
+pub use same::is_same_metadata;
 pub use schema::{ArrowSchema, ArrowSchemaRef};

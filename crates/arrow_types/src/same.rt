@@ -47,7 +47,8 @@ fn is_same_mode(a: UnionMode, b: UnionMode) -> bool
     a == b
 }
 
-fn is_same_metadata(a: &Metadata, b: &Metadata) -> bool
+/// Whether two maps have the same pairs.
+pub fn is_same_metadata(a: &Metadata, b: &Metadata) -> bool
     ensures { IsTrue result ↔ (texts_of a.now.entries ≡ texts_of b.now.entries) }
 {
     a == b

@@ -1,7 +1,7 @@
--- Fields that are let through, where they fit, are those that arrays are read of.
-use Rattle.std.proofs.Common.{◌≡◌, ℕ, zero, suc, ◌&&◌, true, refl}
+-- Fields that fit, and have no floats and no decimals of 256 bits, are those that arrays are read of.
+use Rattle.std.proofs.Common.{◌≡◌, ℕ, zero, suc, [], ◌&&◌, true, refl}
 use Rattle.std.specs.Prelude.{nat_eq, nat_lt}
-use Rattle.std.proofs.lemmas.Bool.{and_parts, and_from, eq-eqb, lt-ltb}
+use Rattle.std.proofs.lemmas.Bool.{and_from, eq-eqb, lt-ltb}
 use Rattle.arrow_spec.specs.declared.types.IntegerType.{IntegerType}
 use Rattle.arrow_spec.specs.declared.types.IntegerType.TheVariants.{Int8}
 use Rattle.arrow_spec.specs.declared.types.IntervalUnit.TheVariants.{YearMonth}
@@ -11,7 +11,8 @@ use Rattle.arrow_spec.specs.WrittenSchemas.{Part, of_field, of_dictionary, of_ex
 use Rattle.arrow_types.specs.UnionIds.{are_right}
 use Rattle.arrow_arrays.specs.LeafKinds.{is_leaf_kind}
 use Rattle.arrow_arrays.specs.Carried.{is_carried, are_carried}
-use Rattle.transcode_laws.specs.Built.{is_sent_kind, are_sent_fields}
+use Rattle.arrow_spec.specs.Features.{float_faults, floats_in}
+use Rattle.arrow_spec.proofs.Fewer.{none_first, none_second}
 use Rattle.column_laws.specs.Laws.{FittingFieldsAreCarried}
 
 integer_is_leaf : (t : IntegerType) → is_leaf_kind (integer t) ≡ true
@@ -19,7 +20,7 @@ integer_is_leaf Int8 = refl
 integer_is_leaf t = refl
 
 mutual
-  kind_carried : (at : Part) (levels : ℕ) (k : Kind) → is_sent_kind k ≡ true → KindFits at levels k → is_carried k ≡ true
+  kind_carried : (at : Part) (levels : ℕ) (k : Kind) → float_faults k ≡ [] → KindFits at levels k → is_carried k ≡ true
   kind_carried at levels (integer t) h fit = integer_is_leaf t
   kind_carried at levels (interval YearMonth) h fit = refl
   kind_carried at levels (binary small) h fit = refl
@@ -48,5 +49,4 @@ mutual
   fields_carried levels none h fit = refl
   fields_carried zero (field name nullable metadata k others) h fit = absurd fit
   fields_carried (suc levels) (field name nullable metadata k others) h fit =
-      let both = and_parts (is_sent_kind k) (are_sent_fields others) h in
-      and_from (is_carried k) (are_carried others) (kind_carried of_field levels k both.0 fit.2) (fields_carried (suc levels) others both.1 fit.3)
+      and_from (is_carried k) (are_carried others) (kind_carried of_field levels k (none_first (float_faults k) (floats_in others) h) fit.2) (fields_carried (suc levels) others (none_second (float_faults k) (floats_in others) h) fit.3)

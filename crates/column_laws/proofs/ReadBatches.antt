@@ -86,31 +86,31 @@ module _ (m : RecordBatch) (d : Dictionaries) (held : Held) (holds : HoldsCells 
 
 -- what is to be written of a batch's columns is what they are written with
 columns_sent : (a : Asked) (v : MetadataVersion) (tables : BatchHeader) (body : List ℕ) (left : Option ℕ) (held : Held) (b : Batch) → HoldsCells a.dictionaries held → HoldsFields held a.fields → are_carried (asked_fields a) ≡ true
-    → batch_of_tables to_read a v [] tables body left ≡ Ok (record { rows = b.height; columns = map cells_in b.arrays; custom = [] })
+    → batch_of_tables to_read a v b.custom tables body left ≡ Ok (record { rows = b.height; columns = map cells_in b.arrays; custom = b.custom })
     → AreAsked (columns_read (record_batch_of a.order v tables body) held a.fields first_place b.height) a.columns b.arrays
     → AreSentAs a.dictionaries (asked_fields a) (written_as_asked a.columns (columns_written (record_batch_of a.order v tables body) a.columns a.fields 0 first_place b.height)) b.arrays
 columns_sent a v tables body left held b holds kinds carried h arrays =
     let m : RecordBatch = record_batch_of a.order v tables body in
-    let t = tables_read a v [] tables body left _ h in
+    let t = tables_read a v b.custom tables body left _ h in
     let few : share left t.rows ≡ b.height = ap (λ (y : TableBatch). y.rows) t.is in
     let are : columns_at m a.dictionaries a.columns a.fields 0 first_place t.rows b.height ≡ Ok t.cells = ap (columns_at m a.dictionaries a.columns a.fields 0 first_place t.rows) (sym few) ∙ t.columns in
     asked_sent m a.dictionaries held holds a.columns a.fields first_place t.rows b.height t.cells b.arrays are kinds carried arrays
 
 pub read_batch_sent : ReadBatchIsSent
 read_batch_sent a v tables body left held b holds kinds carried right h arrays =
-    let t : TableBatch = record { rows = b.height; columns = map cells_in b.arrays; custom = [] } in
-    tables_sent a v [] tables body left t h
+    let t : TableBatch = record { rows = b.height; columns = map cells_in b.arrays; custom = b.custom } in
+    tables_sent a v b.custom tables body left t h
     ∙ ap (λ s. if_sent to_send (may_be_sent s) >>= λ size. Ok t) (batch_sent (record_batch_of a.order v tables body) a.columns a.fields (written_batch_of b) (columns_sent a v tables body left held b holds kinds carried h arrays).1)
 
 -- columns that are written with the same make the same message
-same_message : (rows : ℕ) (cs es : List WrittenColumn) → written_of cs ≡ written_of es → written_batch (record { rows = rows; columns = cs; custom = [] }) ≡ written_batch (record { rows = rows; columns = es; custom = [] })
-same_message rows cs es same =
-    let x : WrittenBatch = record { rows = rows; columns = cs; custom = [] } in
-    let y : WrittenBatch = record { rows = rows; columns = es; custom = [] } in
-    sym (batch_same x) ∙ ap (λ (w : Written). message 3 (batch_node rows w) (body_of 0 w.lengths) []) same ∙ batch_same y
+same_message : (rows : ℕ) (custom : Metadata) (cs es : List WrittenColumn) → written_of cs ≡ written_of es → written_batch (record { rows = rows; columns = cs; custom = custom }) ≡ written_batch (record { rows = rows; columns = es; custom = custom })
+same_message rows custom cs es same =
+    let x : WrittenBatch = record { rows = rows; columns = cs; custom = custom } in
+    let y : WrittenBatch = record { rows = rows; columns = es; custom = custom } in
+    sym (batch_same x) ∙ ap (λ (w : Written). message 3 (batch_node rows w) (body_of 0 w.lengths) custom) same ∙ batch_same y
 
 pub read_batch_sendable : ReadBatchIsSendable
-read_batch_sendable a c v tables body left held b fit holds kinds carried right known h arrays good =
+read_batch_sendable a c v tables body left held b fit holds kinds carried right known h arrays good custom =
     let d = a.dictionaries in
     let fs = asked_fields a in
     let gs = stream_fields a in
@@ -123,8 +123,8 @@ read_batch_sendable a c v tables body left held b fit holds kinds carried right 
       good = λ k e are told. columns_mean e b.height gs b.arrays good alike (values_under d fs 0 b.arrays k e sent.0 are told);
       written = sent.1 ∙ sym same;
     } in
-    let whole : List (List Cell) → Reading TableBatch = λ cs. Ok (record { rows = b.height; columns = cs; custom = [] }) in
-    let read : batch_of_tables to_read a v [] tables body left ≡ Ok (table_batch x) = h ∙ ap whole (sym (cells_under gs b.height b.arrays good)) in
-    let message_same : written_batch x ≡ written_batch (written_batch_of b) = same_message b.height (columns_under gs b.arrays) (map top_column b.arrays) same in
-    let both = batch_sendable a c v tables body left x fit (record { ascend = tt; few = omega arith }) is known read in
+    let whole : List (List Cell) → Reading TableBatch = λ cs. Ok (record { rows = b.height; columns = cs; custom = b.custom }) in
+    let read : batch_of_tables to_read a v b.custom tables body left ≡ Ok (table_batch x) = h ∙ ap whole (sym (cells_under gs b.height b.arrays good)) in
+    let message_same : written_batch x ≡ written_batch (written_batch_of b) = same_message b.height b.custom (columns_under gs b.arrays) (map top_column b.arrays) same in
+    let both = batch_sendable a c v tables body left x fit custom is known read in
     (is, read, message_same, λ small. both.0 (ap may_be_sent message_same ∙ small), both.1 ∙ ap (λ s. if_sent to_send (may_be_sent s) >>= λ size. Ok (table_batch x)) message_same)

@@ -26,9 +26,9 @@ all_picked f g all (c ∷ cs) [] one are = absurd are
 all_picked f g all (c ∷ cs) (x ∷ xs) one are = rw (one c x (stands_first c cs) are.0, all_picked f g all cs xs (λ i y is at. one i y (stands_later c i cs is) at) are.1) refl
 
 pub rising_asked : RisingBatchIsAsked
-rising_asked a rising asked v tables body left held rows read given same right h picked wanted =
+rising_asked a rising asked v custom tables body left held rows read given same right h picked wanted =
     let m : RecordBatch = record_batch_of a.order v tables body in
-    let t = tables_read (with_columns (Some rising) a) v [] tables body left _ h in
+    let t = tables_read (with_columns (Some rising) a) v custom tables body left _ h in
     let few : share left t.rows ≡ rows = ap (λ (y : TableBatch). y.rows) t.is in
     let cells_are : as_asked (Some rising) t.cells ≡ map cells_in read = ap (λ (y : TableBatch). y.columns) t.is in
     let others : as_asked (Some asked) t.cells ≡ map cells_in given =
@@ -37,5 +37,5 @@ rising_asked a rising asked v tables body left held rows read given same right h
     t.behind to_read (Some asked) ∙ on _ _ _ columns ∙ on _ _ tt refl ∙ rw (few, others) refl
 
 pub rising_refuses : RisingBatchRefuses
-rising_refuses a rising asked v tables body left es same h =
-    refused_so to_read (Some asked) (with_columns (Some rising) a) v [] tables body left es (λ n few. same_columns (record_batch_of a.order v tables body) a.dictionaries (Some asked) (Some rising) a.fields 0 first_place n few (λ c. sym (same c))) h
+rising_refuses a rising asked v custom tables body left es same h =
+    refused_so to_read (Some asked) (with_columns (Some rising) a) v custom tables body left es (λ n few. same_columns (record_batch_of a.order v tables body) a.dictionaries (Some asked) (Some rising) a.fields 0 first_place n few (λ c. sym (same c))) h

@@ -38,7 +38,7 @@ pub fn rising_batch_refuses()
     ensures { RisingBatchRefuses }
 {}
 
-/// Fields that are let through so far are those that arrays are read of, in a schema that may be written.
+/// Fields without floats and decimals of 256 bits, in a schema that may be written, are those that arrays are read of.
 pub fn fitting_fields_are_carried()
     ensures { FittingFieldsAreCarried }
 {}

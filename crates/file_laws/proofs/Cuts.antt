@@ -9,7 +9,6 @@ use Rattle.arrow_spec.specs.declared.message.MetadataVersion.{MetadataVersion}
 use Rattle.arrow_spec.specs.Readings.{free_of, unless, meaning}
 use Rattle.arrow_spec.specs.Flat.{Order}
 use Rattle.arrow_spec.specs.Kinds.{Kind, Fields, Metadata, none, field, bare, width}
-use Rattle.arrow_spec.specs.Built.{everything}
 use Rattle.arrow_spec.specs.Cells.{Cell}
 use Rattle.arrow_spec.specs.Messages.{BatchHeader}
 use Rattle.arrow_spec.specs.Counts.{RecordBatch, Place, after}
@@ -17,10 +16,10 @@ use Rattle.arrow_spec.specs.Arrays.{Dictionaries, from_on}
 use Rattle.arrow_spec.specs.ArrayCells.{cell}
 use Rattle.arrow_spec.specs.Faults.{column_faults}
 use Rattle.arrow_spec.specs.Columns.{chosen_faults, chosen_cells, columns_at, is_chosen, stands_in}
-use Rattle.arrow_spec.specs.Features.{float_faults, chosen_floats, feature_faults}
+use Rattle.arrow_spec.specs.Features.{float_faults, chosen_floats}
 use Rattle.arrow_spec.specs.Files.{Request, «all», FileBlock, Meta, TableBatch, ArrowTable, Asked, to_read, share, what_is_left, column_or_none, as_asked, wrong_columns, columns_right, custom_of, meta_of, with_field_at, fields_asked, fields_as_asked, batch_of_tables, batch_of, batches_of, dictionaries_of, dictionaries_read, dictionaries_sent, file_reading, project, cut, cut_batches}
+use Rattle.arrow_spec.specs.Meaning.{file_table}
 use Rattle.file_laws.specs.Laws.{AreAskedColumns, ProjectsAndCuts}
-use Rattle.arrow_spec.proofs.FeatureFaults.{features-floats, features-none}
 use Rattle.arrow_spec.proofs.Projection.{then, went, on, place-ok, ok-place, no_dictionaries_sent, no_size, nothing, some_meaning}
 use Rattle.arrow_spec.proofs.ReadPairs.{same_read}
 use Rattle.arrow_spec.proofs.Fewer.{none_first, none_second, none_both, array_faults-fewer}
@@ -132,7 +131,7 @@ tables-cut order fs d most asked v custom tables body left x h =
     ∙ ap (λ cols. Ok (record { rows = share left rows; columns = cols; custom = custom })) (as_asked-parts asked (share left rows) got.got)
     ∙ ap (λ y. Ok (cut_batch asked left y)) e
 
-batch-cut : (b : List ℕ) (order : Order) (fs : Fields) (d : Dictionaries) (most : ℕ) (asked : Option (List ℕ)) (block : FileBlock) (left : Option ℕ) (x : TableBatch) → batch_of true to_read b (asked_of order fs d most None) block None ≡ Ok x → batch_of true to_read b (asked_of order fs d most asked) block left ≡ Ok (cut_batch asked left x)
+batch-cut : (b : List ℕ) (order : Order) (fs : Fields) (d : Dictionaries) (most : ℕ) (asked : Option (List ℕ)) (block : FileBlock) (left : Option ℕ) (x : TableBatch) → batch_of to_read b (asked_of order fs d most None) block None ≡ Ok x → batch_of to_read b (asked_of order fs d most asked) block left ≡ Ok (cut_batch asked left x)
 unfolding batch_of
 batch-cut b order fs d most asked block left x h = then _ _ _ x _ h λ m h'. then _ _ _ x _ h' λ tables h''. then _ _ _ x _ h'' λ version h'''. then _ _ _ x _ h''' λ custom h4. tables-cut order fs d most asked version custom tables _ left x h4
 
@@ -140,13 +139,13 @@ batch-cut b order fs d most asked block left x h = then _ _ _ x _ h λ m h'. the
 abbrev pub projected : Option (List ℕ) → List TableBatch → List TableBatch
 projected asked xs = map (λ x. record { rows = x.rows; columns = as_asked asked x.columns; custom = x.custom }) xs
 
-batches-cut : (b : List ℕ) (order : Order) (fs : Fields) (d : Dictionaries) (most : ℕ) (asked : Option (List ℕ)) (is_first : Bool) (blocks : List FileBlock) (left : Option ℕ) (xs : List TableBatch) → batches_of true to_read b (asked_of order fs d most None) is_first blocks None ≡ Ok xs → batches_of true to_read b (asked_of order fs d most asked) is_first blocks left ≡ Ok (cut_batches (projected asked xs) left)
+batches-cut : (b : List ℕ) (order : Order) (fs : Fields) (d : Dictionaries) (most : ℕ) (asked : Option (List ℕ)) (is_first : Bool) (blocks : List FileBlock) (left : Option ℕ) (xs : List TableBatch) → batches_of to_read b (asked_of order fs d most None) is_first blocks None ≡ Ok xs → batches_of to_read b (asked_of order fs d most asked) is_first blocks left ≡ Ok (cut_batches (projected asked xs) left)
 unfolding batches_of
 batches-cut b order fs d most asked is_first [] left xs h = let e : [] ≡ xs = cc in ap (λ ys. Ok (cut_batches (projected asked ys) left)) e
 batches-cut b order fs d most asked is_first (block ∷ blocks) left xs h =
-    let first = went (batch_of true to_read b (asked_of order fs d most None) block None) _ xs h in
+    let first = went (batch_of to_read b (asked_of order fs d most None) block None) _ xs h in
     let flag = went (dictionaries_sent is_first to_read (asked_of order fs d most None)) _ xs first.rest in
-    let others = went (batches_of true to_read b (asked_of order fs d most None) false blocks None) _ xs flag.rest in
+    let others = went (batches_of to_read b (asked_of order fs d most None) false blocks None) _ xs flag.rest in
     let e : first.got ∷ others.got ≡ xs = cc (others.rest) in
     on _ _ _ (batch-cut b order fs d most asked block left first.got first.first)
     ∙ on _ _ tt (no_dictionaries_sent is_first (asked_of order fs d most asked))
@@ -203,29 +202,25 @@ bare-fields_as_asked (Some cs) fs = bare-fields_asked fs cs
 -- ── the file ──
 
 -- where the columns asked for are right in the whole file, under a request it means the cut of the projection of what it means whole
-pub file-cut : (b : List ℕ) (r : Request) (t : ArrowTable) → ((meta : Meta) → meta_of b ≡ Ok meta → width t.fields ≡ width meta.schema.fields → columns_right r.columns (width meta.schema.fields) ≡ Ok tt) → file_reading everything to_read b «all» None ≡ Ok t
-    → file_reading everything to_read b r None ≡ Ok (cut (project t r.columns) r.limit)
+pub file-cut : (b : List ℕ) (r : Request) (t : ArrowTable) → ((meta : Meta) → meta_of b ≡ Ok meta → width t.fields ≡ width meta.schema.fields → columns_right r.columns (width meta.schema.fields) ≡ Ok tt) → file_reading to_read b «all» None ≡ Ok t
+    → file_reading to_read b r None ≡ Ok (cut (project t r.columns) r.limit)
 unfolding file_reading
 file-cut b r t are_right h =
-    let known = went nothing _ t h in
-    let meta = went (meta_of b) _ t known.rest in
+    let meta = went (meta_of b) _ t h in
     let schema = meta.got.schema in
-    let custom = went (custom_of true b) _ t meta.rest in
+    let custom = went (custom_of b) _ t meta.rest in
     let right = went (columns_right None (width schema.fields)) _ t custom.rest in
-    let floats = went (free_of (feature_faults None schema.fields true)) _ t right.rest in
-    let no_floats : chosen_floats None schema.fields 0 ≡ [] = features-floats None schema.fields true (place-ok _ floats.first) in
+    let floats = went (free_of (chosen_floats None schema.fields 0)) _ t right.rest in
+    let no_floats : chosen_floats None schema.fields 0 ≡ [] = place-ok _ floats.first in
     let size = went nothing _ t floats.rest in
-    let known' = went nothing _ t size.rest in
-    let read = went (dictionaries_of b meta.got [] (dictionaries_read meta.got.blocks meta.got.dictionaries)) _ t known'.rest in
-    let whole = went (batches_of true to_read b (asked_of schema.order schema.fields read.got (length b) None) true meta.got.blocks None) _ t read.rest in
+    let read = went (dictionaries_of b meta.got [] (dictionaries_read meta.got.blocks meta.got.dictionaries)) _ t size.rest in
+    let whole = went (batches_of to_read b (asked_of schema.order schema.fields read.got (length b) None) true meta.got.blocks None) _ t read.rest in
     let e : record { metadata = schema.metadata; custom = custom.got; fields = bare schema.fields; batches = whole.got } ≡ t = same_read _ t whole.rest in
     let count : width t.fields ≡ width schema.fields = ap (λ y. width y.fields) (sym e) ∙ width-bare schema.fields in
-    on _ _ tt refl
-    ∙ on _ _ meta.got meta.first
+    on _ _ meta.got meta.first
     ∙ on _ _ custom.got custom.first
     ∙ on _ _ tt (are_right meta.got meta.first count)
-    ∙ on _ _ tt (ok-place _ (features-none r.columns schema.fields (chosen_floats-fewer r.columns schema.fields 0 no_floats)))
-    ∙ on _ _ tt refl
+    ∙ on _ _ tt (ok-place _ (chosen_floats-fewer r.columns schema.fields 0 no_floats))
     ∙ on _ _ tt refl
     ∙ on _ _ read.got read.first
     ∙ on _ _ _ (batches-cut b schema.order schema.fields read.got (length b) r.columns true meta.got.blocks r.limit whole.got whole.first)
@@ -233,4 +228,5 @@ file-cut b r t are_right h =
     ∙ ap (λ y. Ok (cut (project y r.columns) r.limit)) e
 
 pub projects_and_cuts : ProjectsAndCuts
+unfolding file_table
 projects_and_cuts b t r h columns = ap meaning (file-cut b r t (λ meta is count. columns-right r.columns (width meta.schema.fields) (subst (λ n. AreAskedColumns r.columns n) count columns)) (some_meaning _ t h))

@@ -17,7 +17,6 @@ use Rattle.arrow_spec.specs.Flat.{Order, part, little, fold_number, in_range, un
 use Rattle.arrow_spec.specs.Kinds.{Kind, Fields, Metadata, none, field, uses_in, values_under, same}
 use Rattle.arrow_spec.specs.Cells.{Cell}
 use Rattle.arrow_spec.specs.Schema.{Schema}
-use Rattle.arrow_spec.specs.Built.{Built}
 use Rattle.arrow_spec.specs.Messages.{Message, BatchHeader, DictionaryBatch, is_mark, prefix_of, message_of, version_of, message_pairs, batch_at, dictionary_at}
 use Rattle.arrow_spec.specs.Counts.{RecordBatch, Place, first_place, after, magnitude}
 use Rattle.arrow_spec.specs.Arrays.{Dictionaries, HeldDictionary, found, buf, range_of}
@@ -27,11 +26,12 @@ use Rattle.arrow_spec.specs.Features.{float_faults}
 use Rattle.arrow_spec.specs.Files.{Request, FileBlock, Meta, TableBatch, ArrowTable, Asked, to_read, share, what_is_left, as_asked, record_batch_of, batch_of_tables, lengths_sum, none_negative, block_message, block_body, batch_of, batches_of, dictionary_of, dictionaries_of, dictionaries_read, dictionaries_sent, first_column, file_reading, footer_of, footer_length, last, feather_v1, arrow_1, meta_of, custom_of}
 use Rattle.arrow_spec.specs.Needed.{Range, looked_at, columns_looked_at, ranges, message_range, all_need, or_nothing}
 use Rattle.file_laws.specs.Fetched.{batch_fetched, batches_fetched, dictionary_fetched, fetched, for_rows, parts_fetched}
+use Rattle.arrow_spec.specs.Meaning.{file_table}
 use Rattle.file_laws.specs.Laws.{AgreeOn, DependsOnFetched, DependsOnNeeded}
 use Rattle.file_laws.proofs.FetchedParts.{all_first, all_second, fetched_among}
 use Rattle.file_laws.proofs.NoRows.{columns_at-no_rows}
 use Rattle.arrow_spec.proofs.Fewer.{none_second}
-use Rattle.arrow_spec.proofs.Projection.{then, went, on, place-ok, ok-place, no_dictionaries_sent, no_size, nothing, some_meaning}
+use Rattle.arrow_spec.proofs.Projection.{went, on, place-ok, ok-place, no_dictionaries_sent, no_size, nothing, some_meaning}
 use Rattle.file_laws.proofs.SameBuffers.{with_body, AreSame, SameCells, array_faults-same, cell-same, from_on-same}
 use Rattle.file_laws.proofs.SameParts.{part_within, part_of_front, take-take_less}
 
@@ -225,21 +225,21 @@ tables_depend a v custom tables body left x h =
 -- ── record blocks ──
 
 -- what a record block needs, and that it is the same where that is the same
-pub record BatchDepends (carried : Bool) (b : List ℕ) (meta : Meta) (r : Request) (block : FileBlock) (a : Asked) (left : Option ℕ) (x : TableBatch) : Type 0 where
+pub record BatchDepends (b : List ℕ) (meta : Meta) (r : Request) (block : FileBlock) (a : Asked) (left : Option ℕ) (x : TableBatch) : Type 0 where
   pub parts : List Range
   pub needed : batch_fetched b meta r block left ≡ Ok (parts, x.rows)
-  pub same : (b' : List ℕ) (d' : Dictionaries) → length b' ≡ length b → SameCells a.dictionaries d' → AgreeOn b b' parts → batch_of carried to_read b' (with_dictionaries a d') block left ≡ Ok x
+  pub same : (b' : List ℕ) (d' : Dictionaries) → length b' ≡ length b → SameCells a.dictionaries d' → AgreeOn b b' parts → batch_of to_read b' (with_dictionaries a d') block left ≡ Ok x
 
 abbrev asked_in : Meta → Request → Dictionaries → ℕ → Asked
 asked_in meta r d most = record { order = meta.schema.order; fields = meta.schema.fields; columns = r.columns; dictionaries = d; most = most }
 
-pub batch_depends : (carried : Bool) (b : List ℕ) (meta : Meta) (r : Request) (block : FileBlock) (d : Dictionaries) (left : Option ℕ) (x : TableBatch) → batch_of carried to_read b (asked_in meta r d (length b)) block left ≡ Ok x → BatchDepends carried b meta r block (asked_in meta r d (length b)) left x
+pub batch_depends : (b : List ℕ) (meta : Meta) (r : Request) (block : FileBlock) (d : Dictionaries) (left : Option ℕ) (x : TableBatch) → batch_of to_read b (asked_in meta r d (length b)) block left ≡ Ok x → BatchDepends b meta r block (asked_in meta r d (length b)) left x
 unfolding batch_of batch_fetched
-batch_depends carried b meta r block d left x h =
+batch_depends b meta r block d left x h =
     let message = went (block_message b block 3) _ x h in
     let tables = went (batch_at message.got.0 message.got.1.header) _ x message.rest in
     let version = went (version_of message.got.0 message.got.1) _ x tables.rest in
-    let custom = went (message_pairs carried message.got.0) _ x version.rest in
+    let custom = went (message_pairs message.got.0) _ x version.rest in
     let depends = message_depends b block 3 message.got message.first in
     let source = record_batch_of meta.schema.order version.got tables.got (block_body b block) in
     let whole = tables_depend (asked_in meta r d (length b)) version.got custom.got tables.got (block_body b block) left x custom.rest in
@@ -252,21 +252,21 @@ batch_depends carried b meta r block d left x h =
           ∙ whole.same (block_body b' block) d' (length-part b b' (body_start block) block.body len) same (body_few b b' block source refl (share left whole.rows) _ agree.1);
     }
 
-pub record BatchesDepend (carried : Bool) (b : List ℕ) (meta : Meta) (r : Request) (is_first : Bool) (blocks : List FileBlock) (a : Asked) (left : Option ℕ) (xs : List TableBatch) : Type 0 where
+pub record BatchesDepend (b : List ℕ) (meta : Meta) (r : Request) (is_first : Bool) (blocks : List FileBlock) (a : Asked) (left : Option ℕ) (xs : List TableBatch) : Type 0 where
   pub parts : List Range
   pub needed : batches_fetched b meta r blocks left ≡ Ok parts
-  pub same : (b' : List ℕ) (d' : Dictionaries) → length b' ≡ length b → SameCells a.dictionaries d' → AgreeOn b b' parts → batches_of carried to_read b' (with_dictionaries a d') is_first blocks left ≡ Ok xs
+  pub same : (b' : List ℕ) (d' : Dictionaries) → length b' ≡ length b → SameCells a.dictionaries d' → AgreeOn b b' parts → batches_of to_read b' (with_dictionaries a d') is_first blocks left ≡ Ok xs
 
-pub batches_depend : (carried : Bool) (b : List ℕ) (meta : Meta) (r : Request) (is_first : Bool) (blocks : List FileBlock) (d : Dictionaries) (left : Option ℕ) (xs : List TableBatch) → batches_of carried to_read b (asked_in meta r d (length b)) is_first blocks left ≡ Ok xs → BatchesDepend carried b meta r is_first blocks (asked_in meta r d (length b)) left xs
+pub batches_depend : (b : List ℕ) (meta : Meta) (r : Request) (is_first : Bool) (blocks : List FileBlock) (d : Dictionaries) (left : Option ℕ) (xs : List TableBatch) → batches_of to_read b (asked_in meta r d (length b)) is_first blocks left ≡ Ok xs → BatchesDepend b meta r is_first blocks (asked_in meta r d (length b)) left xs
 unfolding batches_of batches_fetched
-batches_depend carried b meta r is_first [] d left xs h = record { parts = []; needed = refl; same = λ b' d' len same agree. h }
-batches_depend carried b meta r is_first (block ∷ blocks) d left xs h =
+batches_depend b meta r is_first [] d left xs h = record { parts = []; needed = refl; same = λ b' d' len same agree. h }
+batches_depend b meta r is_first (block ∷ blocks) d left xs h =
     let a = asked_in meta r d (length b) in
-    let first = went (batch_of carried to_read b a block left) _ xs h in
+    let first = went (batch_of to_read b a block left) _ xs h in
     let flag = went (dictionaries_sent is_first to_read a) _ xs first.rest in
-    let others = went (batches_of carried to_read b a false blocks (what_is_left left first.got.rows)) _ xs flag.rest in
-    let one = batch_depends carried b meta r block d left first.got first.first in
-    let rest = batches_depend carried b meta r false blocks d (what_is_left left first.got.rows) others.got others.first in
+    let others = went (batches_of to_read b a false blocks (what_is_left left first.got.rows)) _ xs flag.rest in
+    let one = batch_depends b meta r block d left first.got first.first in
+    let rest = batches_depend b meta r false blocks d (what_is_left left first.got.rows) others.got others.first in
     record {
       parts = one.parts ++ rest.parts;
       needed = on _ _ _ one.needed ∙ on _ _ _ rest.needed;
@@ -432,9 +432,9 @@ meta-same : (b b' f : List ℕ) → footer_of b ≡ Ok f → footer_of b' ≡ Ok
 unfolding meta_of
 meta-same b b' f h h' = on _ _ f h' ∙ sym (on _ _ f h)
 
-custom-same : (carried : Bool) (b b' f : List ℕ) → footer_of b ≡ Ok f → footer_of b' ≡ Ok f → custom_of carried b' ≡ custom_of carried b
+custom-same : (b b' f : List ℕ) → footer_of b ≡ Ok f → footer_of b' ≡ Ok f → custom_of b' ≡ custom_of b
 unfolding custom_of
-custom-same carried b b' f h h' = on _ _ f h' ∙ sym (on _ _ f h)
+custom-same b b' f h h' = on _ _ f h' ∙ sym (on _ _ f h)
 
 pub meta-footer : (b : List ℕ) (meta : Meta) → meta_of b ≡ Ok meta → (f : List ℕ) × (footer_of b ≡ Ok f)
 unfolding meta_of
@@ -447,34 +447,32 @@ pub parts_are : (b : List ℕ) (r : Request) (meta : Meta) (f : List ℕ) (ds bs
 unfolding parts_fetched
 parts_are b r meta f ds bs h1 h2 h3 h4 = on _ _ meta h1 ∙ on _ _ (length f) (on (footer_of b) (λ x. Ok (length x)) f h2) ∙ on _ _ ds h3 ∙ on _ _ bs h4
 
-file-same : (built : Built) (b b' : List ℕ) (r : Request) (t : ArrowTable) → file_reading built to_read b r None ≡ Ok t → length b' ≡ length b → AgreeOn b b' (or_nothing (meaning (parts_fetched b r))) → file_reading built to_read b' r None ≡ Ok t
+file-same : (b b' : List ℕ) (r : Request) (t : ArrowTable) → file_reading to_read b r None ≡ Ok t → length b' ≡ length b → AgreeOn b b' (or_nothing (meaning (parts_fetched b r))) → file_reading to_read b' r None ≡ Ok t
 unfolding file_reading
-file-same built b b' r t h len agree =
-    then _ _ _ t _ h λ known h'.
-    let meta = went (meta_of b) _ t h' in
+file-same b b' r t h len agree =
+    let meta = went (meta_of b) _ t h in
     let footer = meta-footer b meta.got meta.first in
-    let custom = went (custom_of built.custom b) _ t meta.rest in
+    let custom = went (custom_of b) _ t meta.rest in
     let columns = went (Rattle.arrow_spec.specs.Files.columns_right r.columns _) _ t custom.rest in
     let floats = went (free_of _) _ t columns.rest in
     let size = went nothing _ t floats.rest in
-    let read = went (unless _ (Unsupported features.NotYet)) _ t size.rest in
-    let dictionaries = went (dictionaries_of b meta.got [] (dictionaries_read meta.got.blocks meta.got.dictionaries)) _ t read.rest in
-    let batches = went (batches_of built.custom to_read b (asked_in meta.got r dictionaries.got (length b)) true meta.got.blocks r.limit) _ t dictionaries.rest in
+    let dictionaries = went (dictionaries_of b meta.got [] (dictionaries_read meta.got.blocks meta.got.dictionaries)) _ t size.rest in
+    let batches = went (batches_of to_read b (asked_in meta.got r dictionaries.got (length b)) true meta.got.blocks r.limit) _ t dictionaries.rest in
     let ds = dictionaries_depend b meta.got [] (dictionaries_read meta.got.blocks meta.got.dictionaries) dictionaries.got dictionaries.first in
-    let bs = batches_depend built.custom b meta.got r true meta.got.blocks dictionaries.got r.limit batches.got batches.first in
+    let bs = batches_depend b meta.got r true meta.got.blocks dictionaries.got r.limit batches.got batches.first in
     let parts = parts_are b r meta.got footer.0 ds.parts bs.parts meta.first footer.1 ds.needed bs.needed in
     let here : AgreeOn b b' (record { place = length b - 10; length = 10 } ∷ record { place = length b - 10 - length footer.0; length = length footer.0 } ∷ ds.parts ++ bs.parts) = rw parts at agree in
     let footer' = (footer_depends b footer.0 footer.1).same b' len here.0 here.1.0 in
     let meta' : meta_of b' ≡ Ok meta.got = meta-same b b' footer.0 footer.1 footer' ∙ meta.first in
-    let custom' : custom_of built.custom b' ≡ Ok custom.got = custom-same built.custom b b' footer.0 footer.1 footer' ∙ custom.first in
+    let custom' : custom_of b' ≡ Ok custom.got = custom-same b b' footer.0 footer.1 footer' ∙ custom.first in
     let dictionaries' = ds.same b' [] len (λ id. refl) (all_first _ ds.parts bs.parts here.1.1) in
     let batches' = bs.same b' dictionaries'.got len dictionaries'.same (all_second _ ds.parts bs.parts here.1.1) in
-    let most : batches_of built.custom to_read b' (asked_in meta.got r dictionaries'.got (length b')) true meta.got.blocks r.limit ≡ Ok batches.got = rw len batches' in
-    on _ _ meta.got meta' ∙ on _ _ custom.got custom' ∙ on _ _ _ columns.first ∙ on _ _ _ floats.first ∙ on _ _ tt refl ∙ on _ _ _ read.first ∙ on _ _ _ dictionaries'.read ∙ on _ _ _ most ∙ batches.rest
+    let most : batches_of to_read b' (asked_in meta.got r dictionaries'.got (length b')) true meta.got.blocks r.limit ≡ Ok batches.got = rw len batches' in
+    on _ _ meta.got meta' ∙ on _ _ custom.got custom' ∙ on _ _ _ columns.first ∙ on _ _ _ floats.first ∙ on _ _ tt refl ∙ on _ _ _ dictionaries'.read ∙ on _ _ _ most ∙ batches.rest
 
 pub depends_on_fetched : DependsOnFetched
-unfolding fetched
-depends_on_fetched built b b' r t h len agree = ap meaning (file-same built b b' r t (some_meaning _ t h) len agree)
+unfolding fetched file_table
+depends_on_fetched b b' r t h len agree = ap meaning (file-same b b' r t (some_meaning _ t h) len agree)
 
 pub depends_on_needed : DependsOnNeeded
-depends_on_needed built b b' r t h len agree = depends_on_fetched built b b' r t h len (fetched_among _ b r agree)
+depends_on_needed b b' r t h len agree = depends_on_fetched b b' r t h len (fetched_among _ b r agree)

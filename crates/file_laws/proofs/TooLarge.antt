@@ -6,7 +6,6 @@ use Rattle.arrow_spec.specs.declared.error.Feature.TheVariants as features
 use Rattle.arrow_spec.specs.declared.message.MetadataVersion.{MetadataVersion}
 use Rattle.arrow_spec.specs.Readings.{bind, ◌>>=◌, Reading, free_of, unless, only_if, natural}
 use Rattle.arrow_spec.specs.Kinds.{Metadata, bare, width}
-use Rattle.arrow_spec.specs.Built.{everything}
 use Rattle.arrow_spec.specs.Messages.{BatchHeader, batch_at, message_pairs, version_of}
 use Rattle.arrow_spec.specs.Counts.{first_place}
 use Rattle.arrow_spec.specs.Columns.{columns_at}
@@ -89,15 +88,15 @@ tables_sent a v custom tables body left x h =
 pub record BlockSent (b : List ℕ) (a : Asked) (block : FileBlock) (left : Option ℕ) (x : TableBatch) : Type 0 where
   pub message : SentMessage
   pub found : batch_sent b a block left ≡ Ok (message, x.rows)
-  pub whole : batch_of true to_send b a block left ≡ sends (may_be_sent message) x
+  pub whole : batch_of to_send b a block left ≡ sends (may_be_sent message) x
 
-pub block_sent : (b : List ℕ) (a : Asked) (block : FileBlock) (left : Option ℕ) (x : TableBatch) → batch_of true to_read b a block left ≡ Ok x → BlockSent b a block left x
+pub block_sent : (b : List ℕ) (a : Asked) (block : FileBlock) (left : Option ℕ) (x : TableBatch) → batch_of to_read b a block left ≡ Ok x → BlockSent b a block left x
 unfolding batch_of batch_sent
 block_sent b a block left x h =
     let m = went (block_message b block 3) _ x h in
     let tables = went (batch_at m.got.0 m.got.1.header) _ x m.rest in
     let version = went (version_of m.got.0 m.got.1) _ x tables.rest in
-    let custom = went (message_pairs true m.got.0) _ x version.rest in
+    let custom = went (message_pairs m.got.0) _ x version.rest in
     let whole = tables_sent a version.got custom.got tables.got (block_body b block) left x custom.rest in
     record {
       message = message_of_tables a version.got custom.got tables.got (block_body b block) left whole.rows;
@@ -110,25 +109,25 @@ block_sent b a block left x h =
 record BlocksSent (b : List ℕ) (a : Asked) (blocks : List FileBlock) (left : Option ℕ) (xs : List TableBatch) : Type 0 where
   messages : List SentMessage
   found : batches_sent b a blocks left ≡ Ok messages
-  whole : batches_of true to_send b a false blocks left ≡ sends (all_may_be_sent messages) xs
+  whole : batches_of to_send b a false blocks left ≡ sends (all_may_be_sent messages) xs
 
-blocks_sent : (b : List ℕ) (a : Asked) (blocks : List FileBlock) (left : Option ℕ) (xs : List TableBatch) → batches_of true to_read b a false blocks left ≡ Ok xs → BlocksSent b a blocks left xs
+blocks_sent : (b : List ℕ) (a : Asked) (blocks : List FileBlock) (left : Option ℕ) (xs : List TableBatch) → batches_of to_read b a false blocks left ≡ Ok xs → BlocksSent b a blocks left xs
 unfolding batches_of batches_sent
 blocks_sent b a [] left xs h =
     let e : [] ≡ xs = cc in
     record { messages = []; found = refl; whole = ap Ok e ∙ sym (on (if_sent to_send true) (λ size. Ok xs) tt refl) }
 blocks_sent b a (block ∷ blocks) left xs h =
-    let first = went (batch_of true to_read b a block left) _ xs h in
+    let first = went (batch_of to_read b a block left) _ xs h in
     let flag = went nothing _ xs first.rest in
-    let others = went (batches_of true to_read b a false blocks (what_is_left left first.got.rows)) _ xs flag.rest in
+    let others = went (batches_of to_read b a false blocks (what_is_left left first.got.rows)) _ xs flag.rest in
     let e : first.got ∷ others.got ≡ xs = cc (others.rest) in
     let mine = block_sent b a block left first.got first.first in
     let rest = blocks_sent b a blocks (what_is_left left first.got.rows) others.got others.first in
     record {
       messages = mine.message ∷ rest.messages;
       found = on _ _ _ mine.found ∙ on _ _ _ rest.found;
-      whole = ap (λ x. x >>= λ first. nothing >>= λ u. batches_of true to_send b a false blocks (what_is_left left first.rows) >>= λ others. Ok (first ∷ others)) mine.whole
-          ∙ sends_then (may_be_sent mine.message) (all_may_be_sent rest.messages) first.got (λ first. nothing >>= λ u. batches_of true to_send b a false blocks (what_is_left left first.rows) >>= λ others. Ok (first ∷ others)) xs
+      whole = ap (λ x. x >>= λ first. nothing >>= λ u. batches_of to_send b a false blocks (what_is_left left first.rows) >>= λ others. Ok (first ∷ others)) mine.whole
+          ∙ sends_then (may_be_sent mine.message) (all_may_be_sent rest.messages) first.got (λ first. nothing >>= λ u. batches_of to_send b a false blocks (what_is_left left first.rows) >>= λ others. Ok (first ∷ others)) xs
           (on _ _ tt refl ∙ ap (λ ys. ys >>= λ others. Ok (first.got ∷ others)) rest.whole ∙ sends_as (all_may_be_sent rest.messages) others.got (λ ys. first.got ∷ ys) ∙ ap (λ ys. sends (all_may_be_sent rest.messages) ys) e);
     }
 
@@ -136,17 +135,17 @@ blocks_sent b a (block ∷ blocks) left xs h =
 record AllSent (b : List ℕ) (a : Asked) (blocks : List FileBlock) (left : Option ℕ) (xs : List TableBatch) : Type 0 where
   messages : List SentMessage
   found : batches_sent b a blocks left ≡ Ok messages
-  whole : batches_of true to_send b a true blocks left ≡ sends (all_may_be_sent (dictionaries_before (dictionary_messages a.dictionaries (fields_as_asked a.columns a.fields)) blocks ++ messages)) xs
+  whole : batches_of to_send b a true blocks left ≡ sends (all_may_be_sent (dictionaries_before (dictionary_messages a.dictionaries (fields_as_asked a.columns a.fields)) blocks ++ messages)) xs
 
-all_sent : (b : List ℕ) (a : Asked) (blocks : List FileBlock) (left : Option ℕ) (xs : List TableBatch) → batches_of true to_read b a true blocks left ≡ Ok xs → AllSent b a blocks left xs
+all_sent : (b : List ℕ) (a : Asked) (blocks : List FileBlock) (left : Option ℕ) (xs : List TableBatch) → batches_of to_read b a true blocks left ≡ Ok xs → AllSent b a blocks left xs
 unfolding batches_of batches_sent
 all_sent b a [] left xs h =
     let e : [] ≡ xs = cc in
     record { messages = []; found = refl; whole = ap Ok e ∙ sym (on (if_sent to_send true) (λ size. Ok xs) tt refl) }
 all_sent b a (block ∷ blocks) left xs h =
-    let first = went (batch_of true to_read b a block left) _ xs h in
+    let first = went (batch_of to_read b a block left) _ xs h in
     let flag = went nothing _ xs first.rest in
-    let others = went (batches_of true to_read b a false blocks (what_is_left left first.got.rows)) _ xs flag.rest in
+    let others = went (batches_of to_read b a false blocks (what_is_left left first.got.rows)) _ xs flag.rest in
     let e : first.got ∷ others.got ≡ xs = cc (others.rest) in
     let mine = block_sent b a block left first.got first.first in
     let rest = blocks_sent b a blocks (what_is_left left first.got.rows) others.got others.first in
@@ -156,8 +155,8 @@ all_sent b a (block ∷ blocks) left xs h =
     record {
       messages = mine.message ∷ rest.messages;
       found = on _ _ _ mine.found ∙ on _ _ _ rest.found;
-      whole = ap (λ x. x >>= λ first. if_sent to_send (all_may_be_sent dictionaries) >>= λ u. batches_of true to_send b a false blocks (what_is_left left first.rows) >>= λ others. Ok (first ∷ others)) mine.whole
-          ∙ sends_then (may_be_sent mine.message) (all_may_be_sent dictionaries && all_may_be_sent rest.messages) first.got (λ first. if_sent to_send (all_may_be_sent dictionaries) >>= λ u. batches_of true to_send b a false blocks (what_is_left left first.rows) >>= λ others. Ok (first ∷ others)) xs
+      whole = ap (λ x. x >>= λ first. if_sent to_send (all_may_be_sent dictionaries) >>= λ u. batches_of to_send b a false blocks (what_is_left left first.rows) >>= λ others. Ok (first ∷ others)) mine.whole
+          ∙ sends_then (may_be_sent mine.message) (all_may_be_sent dictionaries && all_may_be_sent rest.messages) first.got (λ first. if_sent to_send (all_may_be_sent dictionaries) >>= λ u. batches_of to_send b a false blocks (what_is_left left first.rows) >>= λ others. Ok (first ∷ others)) xs
           (size_then (all_may_be_sent dictionaries) (all_may_be_sent rest.messages) _ xs
           (ap (λ ys. ys >>= λ others. Ok (first.got ∷ others)) rest.whole ∙ sends_as (all_may_be_sent rest.messages) others.got (λ ys. first.got ∷ ys) ∙ ap (λ ys. sends (all_may_be_sent rest.messages) ys) e))
           ∙ ap (λ t. sends t xs) (sym fits);
@@ -169,21 +168,19 @@ all_sent b a (block ∷ blocks) left xs h =
 record FileSent (b : List ℕ) (r : Request) (j : Option ℕ) (t : ArrowTable) : Type 0 where
   messages : List SentMessage
   found : sent b r j ≡ Ok messages
-  whole : file_reading everything to_send b r j ≡ sends (all_may_be_sent messages) t
+  whole : file_reading to_send b r j ≡ sends (all_may_be_sent messages) t
 
-file_sent : (b : List ℕ) (r : Request) (j : Option ℕ) (t : ArrowTable) → file_reading everything to_read b r j ≡ Ok t → FileSent b r j t
+file_sent : (b : List ℕ) (r : Request) (j : Option ℕ) (t : ArrowTable) → file_reading to_read b r j ≡ Ok t → FileSent b r j t
 unfolding file_reading sent
 file_sent b r j t h =
-    let known = went nothing _ t h in
-    let meta = went (meta_of b) _ t known.rest in
-    let custom = went (custom_of true b) _ t meta.rest in
+    let meta = went (meta_of b) _ t h in
+    let custom = went (custom_of b) _ t meta.rest in
     let columns = went (columns_right r.columns (width meta.got.schema.fields)) _ t custom.rest in
     let floats = went (free_of _) _ t columns.rest in
     let size = went nothing _ t floats.rest in
-    let built = went nothing _ t size.rest in
-    let dictionaries = went (dictionaries_of b meta.got [] (dictionaries_read (taken j meta.got.blocks) meta.got.dictionaries)) _ t built.rest in
+    let dictionaries = went (dictionaries_of b meta.got [] (dictionaries_read (taken j meta.got.blocks) meta.got.dictionaries)) _ t size.rest in
     let asked : Asked = record { order = meta.got.schema.order; fields = meta.got.schema.fields; columns = r.columns; dictionaries = dictionaries.got; most = length b } in
-    let batches = went (batches_of true to_read b asked true (taken j meta.got.blocks) r.limit) _ t dictionaries.rest in
+    let batches = went (batches_of to_read b asked true (taken j meta.got.blocks) r.limit) _ t dictionaries.rest in
     let table : List TableBatch → ArrowTable = λ xs. record { metadata = meta.got.schema.metadata; custom = custom.got; fields = bare (fields_as_asked r.columns meta.got.schema.fields); batches = xs } in
     let e : table batches.got ≡ t = same_read (table batches.got) t batches.rest in
     let all = all_sent b asked (taken j meta.got.blocks) r.limit batches.got batches.first in
@@ -192,9 +189,9 @@ file_sent b r j t h =
     record {
       messages = schema ∷ others;
       found = on _ _ _ meta.first ∙ on _ _ _ custom.first ∙ on _ _ _ dictionaries.first ∙ on _ _ _ all.found;
-      whole = on _ _ tt refl ∙ on _ _ _ meta.first ∙ on _ _ _ custom.first ∙ on _ _ _ columns.first ∙ on _ _ _ floats.first
+      whole = on _ _ _ meta.first ∙ on _ _ _ custom.first ∙ on _ _ _ columns.first ∙ on _ _ _ floats.first
           ∙ size_then (may_be_sent schema) (all_may_be_sent others) _ t
-          (on _ _ tt refl ∙ on _ _ _ dictionaries.first ∙ ap (λ xs. xs >>= λ batches. Ok (table batches)) all.whole ∙ sends_as (all_may_be_sent others) batches.got table ∙ ap (λ y. sends (all_may_be_sent others) y) e);
+          (on _ _ _ dictionaries.first ∙ ap (λ xs. xs >>= λ batches. Ok (table batches)) all.whole ∙ sends_as (all_may_be_sent others) batches.got table ∙ ap (λ y. sends (all_may_be_sent others) y) e);
     }
 
 pub sends_whole : {A : Type 0} (p : Bool) (x : A) → p ≡ true → sends p x ≡ Ok x

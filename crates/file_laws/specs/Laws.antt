@@ -6,7 +6,6 @@ use Rattle.arrow_spec.specs.declared.error.IpcError.TheVariants.{TooLarge}
 use Rattle.arrow_spec.specs.Readings.{meaning}
 use Rattle.arrow_spec.specs.Flat.{little}
 use Rattle.arrow_spec.specs.Kinds.{Fields, Metadata, width}
-use Rattle.arrow_spec.specs.Built.{Built, everything}
 use Rattle.arrow_spec.specs.Sent.{SentMessage, all_may_be_sent}
 use Rattle.arrow_spec.specs.Layout as layout
 use Rattle.arrow_spec.specs.Messages.{footer_pairs}
@@ -14,6 +13,7 @@ use Rattle.arrow_spec.specs.Files.{Request, «all», ArrowTable, FileBlock, file
 use Rattle.arrow_spec.specs.Footers.{footer_node}
 use Rattle.arrow_spec.specs.WrittenSchemas.{CustomMayBeWritten, IdsMayBeWritten, SchemaMayBeWritten}
 use Rattle.file_laws.specs.Fetched.{fetched}
+use Rattle.arrow_spec.specs.Meaning.{file_table}
 use Rattle.arrow_spec.specs.Needed.{Range, cost, lengths, parts_needed, or_nothing}
 
 -- ── projections and limits ──
@@ -28,28 +28,24 @@ abbrev pub AreAskedColumns : Option (List ℕ) → ℕ → Type 0
 AreAskedColumns None count = Unit {0}
 AreAskedColumns (Some columns) count = AreColumns columns count
 
--- what a file means once everything is built
-abbrev pub whole_file_table : List ℕ → Request → Option ArrowTable
-whole_file_table b r = meaning (file_reading everything to_read b r None)
-
 -- Where a whole file means a table, it means under a request the columns asked for of that table, each batch cut to its share of the limit.
 abbrev pub ProjectsAndCuts : Type 0
-ProjectsAndCuts = (b : List ℕ) (t : ArrowTable) (r : Request) → whole_file_table b «all» ≡ Some t → AreAskedColumns r.columns (width t.fields)
-    → whole_file_table b r ≡ Some (cut (project t r.columns) r.limit)
+ProjectsAndCuts = (b : List ℕ) (t : ArrowTable) (r : Request) → file_table b «all» ≡ Some t → AreAskedColumns r.columns (width t.fields)
+    → file_table b r ≡ Some (cut (project t r.columns) r.limit)
 
 -- two files have the same bytes in each of some ranges
 abbrev pub AgreeOn : List ℕ → List ℕ → List Range → Type 0
 AgreeOn b b' ranges = AllByRecursion (λ x. take x.length (drop x.place b') ≡ take x.length (drop x.place b)) ranges
 
--- A file of the same length that agrees on the parts that a request needs means the same under it, whatever is built.
+-- A file of the same length that agrees on the parts that a request needs means the same under it.
 abbrev pub DependsOnNeeded : Type 0
-DependsOnNeeded = (built : Built) (b b' : List ℕ) (r : Request) (t : ArrowTable) → meaning (file_reading built to_read b r None) ≡ Some t
-    → length b' ≡ length b → AgreeOn b b' (or_nothing (meaning (parts_needed b r))) → meaning (file_reading built to_read b' r None) ≡ Some t
+DependsOnNeeded = (b b' : List ℕ) (r : Request) (t : ArrowTable) → file_table b r ≡ Some t
+    → length b' ≡ length b → AgreeOn b b' (or_nothing (meaning (parts_needed b r))) → file_table b' r ≡ Some t
 
 -- So it is where the file agrees on what is fetched: of what is read for no rows, none of the buffers.
 abbrev pub DependsOnFetched : Type 0
-DependsOnFetched = (built : Built) (b b' : List ℕ) (r : Request) (t : ArrowTable) → meaning (file_reading built to_read b r None) ≡ Some t
-    → length b' ≡ length b → AgreeOn b b' (fetched b r) → meaning (file_reading built to_read b' r None) ≡ Some t
+DependsOnFetched = (b b' : List ℕ) (r : Request) (t : ArrowTable) → file_table b r ≡ Some t
+    → length b' ≡ length b → AgreeOn b b' (fetched b r) → file_table b' r ≡ Some t
 
 -- What is fetched under a request is together no longer than the request costs.
 abbrev pub FetchedWithinCost : Type 0
@@ -61,26 +57,26 @@ FetchedWithinCost = (b : List ℕ) (r : Request) → lengths (fetched b r) ≤ c
 pub record IsSentOrTooLarge (b : List ℕ) (r : Request) (j : Option ℕ) (t : ArrowTable) : Type 0 where
   pub messages : List SentMessage
   pub are_sent : sent b r j ≡ Ok messages
-  pub whole : all_may_be_sent messages ≡ true → file_reading everything to_send b r j ≡ Ok t
-  pub too_large : all_may_be_sent messages ≡ false → file_reading everything to_send b r j ≡ Err (TooLarge ∷ [])
+  pub whole : all_may_be_sent messages ≡ true → file_reading to_send b r j ≡ Ok t
+  pub too_large : all_may_be_sent messages ≡ false → file_reading to_send b r j ≡ Err (TooLarge ∷ [])
 
 -- A file that means a table, in all its blocks or the first j, is refused where it is to be sent exactly where a message of it may not be sent.
 abbrev pub TooLargeWhereAMessageIs : Type 0
-TooLargeWhereAMessageIs = (b : List ℕ) (r : Request) (j : Option ℕ) (t : ArrowTable) → file_reading everything to_read b r j ≡ Ok t → IsSentOrTooLarge b r j t
+TooLargeWhereAMessageIs = (b : List ℕ) (r : Request) (j : Option ℕ) (t : ArrowTable) → file_reading to_read b r j ≡ Ok t → IsSentOrTooLarge b r j t
 
 -- some of a file's first blocks mean a table of which a message may not be sent
 pub record IsTooLargeAt (b : List ℕ) (r : Request) : Type 0 where
   pub blocks : ℕ
   pub table : ArrowTable
   pub messages : List SentMessage
-  pub read : file_reading everything to_read b r (Some blocks) ≡ Ok table
+  pub read : file_reading to_read b r (Some blocks) ≡ Ok table
   pub are_sent : sent b r (Some blocks) ≡ Ok messages
   pub large : all_may_be_sent messages ≡ false
 
 -- A file that is refused where it is to be sent is refused so where it is read, or else a message of its first blocks may not be sent.
 abbrev pub RefusedAsReadOrTooLarge : Type 0
-RefusedAsReadOrTooLarge = (b : List ℕ) (r : Request) (j : Option ℕ) (es : List IpcError) → file_reading everything to_send b r j ≡ Err es
-    → (file_reading everything to_read b r j ≡ Err es) ⊎ ((es ≡ TooLarge ∷ []) × IsTooLargeAt b r)
+RefusedAsReadOrTooLarge = (b : List ℕ) (r : Request) (j : Option ℕ) (es : List IpcError) → file_reading to_send b r j ≡ Err es
+    → (file_reading to_read b r j ≡ Err es) ⊎ ((es ≡ TooLarge ∷ []) × IsTooLargeAt b r)
 
 -- ── footers ──
 
@@ -102,4 +98,4 @@ FooterReadsBack = (fs : Fields) (pairs custom : Metadata) (dictionaries records 
     → layout.size (footer_node fs pairs custom dictionaries records) < 2 ^ 31
     → (meta_in (layout.layout (footer_node fs pairs custom dictionaries records) ++ rest)
     ≡ Ok (record { schema = record { order = little; fields = fs; metadata = pairs }; blocks = records; dictionaries = dictionaries }))
-    × (footer_pairs true (layout.layout (footer_node fs pairs custom dictionaries records) ++ rest) ≡ Ok custom)
+    × (footer_pairs (layout.layout (footer_node fs pairs custom dictionaries records) ++ rest) ≡ Ok custom)

@@ -8,7 +8,9 @@ use Rattle.arrow_spec.proofs.Bodies.{length-body, body_above}
 use Rattle.std.specs.Io.KnownBytes.{Appends}
 use Rattle.ipc_bodies.specs.Places.{IsPlace}
 use Rattle.ipc_bodies.specs.Puts.{moved, NoneFalls}
-use Rattle.ipc_bodies.proofs.Puts.{then_all}
+use Rattle.ipc_bodies.specs.declared.encoding.Encoding.{Encoding}
+use Rattle.ipc_bodies.specs.Encodings.{text_of}
+use Rattle.ipc_bodies.proofs.Encoded.{text_all}
 
 -- a buffer with its zeros
 abbrev pub padded_at : ℕ → List ℕ → List ℕ
@@ -53,11 +55,9 @@ body_step xs i x h e =
 pub body_rest : (xs : List (List ℕ)) (i : ℕ) (x : List ℕ) → i < length xs → x ≡ get_or xs i x → (body_bytes 0 (take i xs) ++ padded x) ++ body_bytes (body_of 0 (map length (take (i + 1) xs))) (drop (i + 1) xs) ≡ body_bytes 0 xs
 body_rest xs i x h e = ap (λ l. l ++ body_bytes (body_of 0 (map length (take (i + 1) xs))) (drop (i + 1) xs)) (body_step xs i x h e) ∙ body_front 0 xs (i + 1)
 
-pub body_put : (old mid new : Option (List ℕ)) (f g h w y z : ℕ) (xs : List (List ℕ)) (i : ℕ) (x : List ℕ) → i < length xs → x ≡ get_or xs i x → Appends old mid (body_bytes 0 (take i xs)) × NoneFalls (moved old mid f g w y) → Appends mid new (padded x) × NoneFalls (moved mid new g h y z)
-    → Appends old new (body_bytes 0 (take (i + 1) xs)) × NoneFalls (moved old new f h w z)
-body_put old mid new f g h w y z xs i x below e p q =
-    let both = then_all old mid new f g h w y z (body_bytes 0 (take i xs)) (padded x) p q in
-    (subst (Appends old new) (body_step xs i x below e) both.0, both.1)
+pub body_put : (encoding : Encoding) (old mid new : Option (List ℕ)) (f g h w y z : ℕ) (xs : List (List ℕ)) (i : ℕ) (x : List ℕ) → i < length xs → x ≡ get_or xs i x → Appends old mid (text_of encoding (body_bytes 0 (take i xs))) × NoneFalls (moved old mid f g w y) → Appends mid new (text_of encoding (padded x)) × NoneFalls (moved mid new g h y z)
+    → Appends old new (text_of encoding (body_bytes 0 (take (i + 1) xs))) × NoneFalls (moved old new f h w z)
+body_put encoding old mid new f g h w y z xs i x below e p q = text_all encoding old mid new f g h w y z (body_bytes 0 (take i xs)) (padded x) (body_bytes 0 (take (i + 1) xs)) (body_step xs i x below e) p q
 
 -- where the next buffer begins
 pub body_next : (xs : List (List ℕ)) (i : ℕ) (old out : List ℕ) → out ≡ old ++ body_bytes (length old) (take i xs) → length out ≡ body_of (length old) (map length (take i xs))

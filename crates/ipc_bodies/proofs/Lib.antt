@@ -1,5 +1,6 @@
 pub mod Lists
 pub mod Puts
+pub mod Encoded
 pub mod Adding
 pub mod Packed
 pub mod Turning

@@ -3,7 +3,7 @@ use Rattle.std.proofs.Common.{◌≡◌, ◌⊎◌, inl, inr, ℕ, ◌+◌, ◌-
 use Rattle.std.proofs.lemmas.Bool.{cases_lt}
 use Rattle.std.proofs.KnownBytes.{Appends-trans}
 use Rattle.std.proofs.Math.Seq.{take-append-add, take-add}
-use Rattle.std.proofs.lemmas.List.{take-append-le, take_min, take-append-drop, drop_all}
+use Rattle.std.proofs.lemmas.List.{take-append-le, take_min, take-append-drop}
 use Rattle.std.specs.Io.KnownBytes.{Appends}
 use Rattle.arrow_spec.specs.declared.error.IpcError.{IpcError}
 use Rattle.arrow_spec.specs.declared.error.IpcError.TheVariants as errors
@@ -62,11 +62,6 @@ pub put_nothing : (new : Option (List ℕ)) (f w : ℕ) → Appends new new [] �
 put_nothing None f w = (tt, record { faults = omega arith; wants = omega arith })
 put_nothing (Some b) f w = (sym (append-nil b), record { faults = omega arith; wants = omega arith })
 
-pub nothing_left : (new : Option (List ℕ)) (f w : ℕ) (xs : List ℕ) (at : ℕ) → length xs ≤ at → Appends new new (drop at xs) × NoneFalls (moved new new f f w w)
-nothing_left new f w xs at h =
-    let none : [] ≡ drop at xs = sym (drop_all at xs h) in
-    subst (λ l. Appends new new l × NoneFalls (moved new new f f w w)) none (put_nothing new f w)
-
 -- ── a text in pieces ──
 
 -- a piece stops behind those before it
@@ -78,18 +73,6 @@ stops_in old mid new f g h w x y e r before piece rest all s k p q =
 -- the items up to a place, those of a piece, and the rest
 pub in_pieces : (xs : List ℕ) (at n : ℕ) → (take at xs ++ take n (drop at xs)) ++ drop (at + n) xs ≡ xs
 in_pieces xs at n = ap (λ l. l ++ drop (at + n) xs) (sym (take-add at n xs)) ∙ take-append-drop (at + n) xs
-
-pub piece_stops : {T : Type 0} → (old mid new : Option (List ℕ)) (f g h w x y : ℕ) (e : IpcError) (r : Result T IpcError) (all piece : List ℕ) (at n : ℕ) → piece ≡ take n (drop at all) → IsErrAnd r (λ k. k ≡ e)
-    → Appends old mid (take at all) × NoneFalls (moved old mid f g w x) → PutsPart (moved mid new g h x y) e piece → PutsText (moved old new f h w y) r all
-piece_stops old mid new f g h w x y e r all piece at n s k p q =
-    stops_in old mid new f g h w x y e r (take at all) piece (drop (at + n) all) all (ap (λ l. (take at all ++ l) ++ drop (at + n) all) s ∙ in_pieces all at n) k p q
-
-pub piece_put : (old mid new : Option (List ℕ)) (f g h w x y : ℕ) (all piece : List ℕ) (at n to : ℕ) → piece ≡ take n (drop at all) → to ≡ at + n → Appends old mid (take at all) × NoneFalls (moved old mid f g w x) → Appends mid new piece × NoneFalls (moved mid new g h x y)
-    → Appends old new (take to all) × NoneFalls (moved old new f h w y)
-piece_put old mid new f g h w x y all piece at n to s t p q =
-    let text : take at all ++ piece ≡ take to all = ap (λ l. take at all ++ l) s ∙ sym (take-add at n all) ∙ ap (λ k. take k all) (sym t) in
-    let both = then_all old mid new f g h w x y (take at all) piece p q in
-    (subst (Appends old new) text both.0, both.1)
 
 -- ── places of pieces ──
 

@@ -3,10 +3,12 @@ ghost use Rattle.std.specs.Prelude.{◌≡◌, ◌+◌, ◌/◌, ◌^◌, ◌<�
 ghost use Rattle.arrow_spec.specs.Framing.{packed};
 ghost use Rattle.arrow_buffers.specs.Rows.{part};
 ghost use Rattle.ipc_bodies.specs.Adding.{Appends};
+ghost use Rattle.ipc_bodies.specs.Encodings.{text_of};
 ghost use Rattle.ipc_bodies.specs.Pieces.{byte_by};
 ghost use Rattle.ipc_bodies.specs.Puts.{moved, PutsText};
 
-use crate::sinks::{put, put_standing};
+use crate::Encoding;
+use crate::sinks::put_bytes_as;
 use arrow_buffers::Bitmap;
 use arrow_spec::IpcError;
 use ipc_io::Sink;
@@ -92,25 +94,35 @@ pub(crate) fn put_bits<W: Sink>(
     sink: &mut W,
     bits: &Bitmap,
     bytes: &[u8],
-    most: usize,
+    encoding: Encoding,
+    scratch: &mut [u8],
 ) -> Result<(), IpcError>
-    requires most { 0 < most }
+    requires scratch { 2 ≤ length scratch.old }
     requires stand { bytes.now ≡ take (length bits.now / 8) (packed bits.now) }
-    ensures puts { PutsText (moved (W.written sink.old) (W.written sink.new) (W.faults sink.old) (W.faults sink.new) (W.wants sink.old) (W.wants sink.new)) result (packed bits.now) }
+    ensures puts { PutsText (moved (W.written sink.old) (W.written sink.new) (W.faults sink.old) (W.faults sink.new) (W.wants sink.old) (W.wants sink.new)) result (text_of encoding (packed bits.now)) }
     ensures same_references { W.references sink.new ≡ W.references sink.old }
+    ensures scratch { length scratch.new ≡ length scratch.old }
 {
-    put_standing(sink, bytes, most)?;
-    put_last(sink, bits, bytes.len())
+    put_bytes_as(sink, bytes, encoding, scratch)?;
+    put_last(sink, bits, bytes.len(), encoding, scratch)
 }
 
 /// Puts the last byte, if it is not there yet.
-fn put_last<W: Sink>(sink: &mut W, bits: &Bitmap, at: usize) -> Result<(), IpcError>
-    requires { length (packed bits.now) ≤ at + 1 }
-    ensures puts { PutsText (moved (W.written sink.old) (W.written sink.new) (W.faults sink.old) (W.faults sink.new) (W.wants sink.old) (W.wants sink.new)) result (drop at (packed bits.now)) }
+fn put_last<W: Sink>(
+    sink: &mut W,
+    bits: &Bitmap,
+    at: usize,
+    encoding: Encoding,
+    scratch: &mut [u8],
+) -> Result<(), IpcError>
+    requires last { length (packed bits.now) ≤ at + 1 }
+    requires scratch { 2 ≤ length scratch.old }
+    ensures puts { PutsText (moved (W.written sink.old) (W.written sink.new) (W.faults sink.old) (W.faults sink.new) (W.wants sink.old) (W.wants sink.new)) result (text_of encoding (drop at (packed bits.now))) }
     ensures same_references { W.references sink.new ≡ W.references sink.old }
+    ensures scratch { length scratch.new ≡ length scratch.old }
 {
     if packed_size(bits) <= at {
         return Ok(());
     }
-    put(sink, &[packed_byte(bits, at)])
+    put_bytes_as(sink, &[packed_byte(bits, at)], encoding, scratch)
 }

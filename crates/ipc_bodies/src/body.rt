@@ -1,14 +1,15 @@
 //! Bodies: buffers one after another, each from a multiple of 64 on (Arrow Columnar Format, "Buffer Alignment and Padding").
-ghost use Rattle.std.specs.Prelude.{◌≡◌, ◌+◌, ◌-◌, ◌++◌, ◌^◌, ◌<◌, ◌≤◌, [], ◌∷◌, length, map, pos};
+ghost use Rattle.std.specs.Prelude.{◌≡◌, ◌+◌, ◌-◌, ◌*◌, ◌++◌, ◌^◌, ◌<◌, ◌≤◌, [], ◌∷◌, length, map, pos};
 ghost use Rattle.arrow_spec.specs.Layout.{up_to, zeros};
 ghost use Rattle.arrow_spec.specs.Framing.{body_bytes};
 ghost use Rattle.arrow_spec.specs.Sent.{placed, body_of};
 ghost use Rattle.ipc_bodies.specs.Adding.{Appends};
+ghost use Rattle.ipc_bodies.specs.Encodings.{made_width, text_of};
 ghost use Rattle.ipc_bodies.specs.Places.{IsPlace};
 ghost use Rattle.ipc_bodies.specs.Puts.{moved, PutsText};
 
-use crate::BodyBuffer;
 use crate::sinks::{padding, put_zeros};
+use crate::{BodyBuffer, Encoding};
 use arrow_spec::{IpcBuffer, IpcError};
 use ipc_io::Sink;
 use std::alloc::AllocError;
@@ -19,18 +20,41 @@ const MOST_BODY: u128 = 0x7fff_ffff_ffff_ffff;
 fn put_padded<W: Sink>(
     sink: &mut W,
     buffer: &BodyBuffer,
+    encoding: Encoding,
     scratch: &mut [u8],
 ) -> Result<(), IpcError>
-    requires { 64 ≤ length scratch.old }
-    ensures puts { PutsText (moved (W.written sink.old) (W.written sink.new) (W.faults sink.old) (W.faults sink.new) (W.wants sink.old) (W.wants sink.new)) result (buffer.now ++ zeros (up_to 64 (length buffer.now) - length buffer.now)) }
+    requires { 64 * made_width encoding ≤ length scratch.old }
+    ensures puts { PutsText (moved (W.written sink.old) (W.written sink.new) (W.faults sink.old) (W.faults sink.new) (W.wants sink.old) (W.wants sink.new)) result (text_of encoding (buffer.now ++ zeros (up_to 64 (length buffer.now) - length buffer.now))) }
     ensures same_references { W.references sink.new ≡ W.references sink.old }
     ensures scratch { length scratch.new ≡ length scratch.old }
 {
-    buffer.put(sink, scratch)?;
-    put_zeros(sink, padding(buffer.len()))
+    buffer.put_as(sink, encoding, scratch)?;
+    put_zeros(sink, padding(buffer.len()), encoding, scratch)
 }
 
 /// Puts a body into a sink, at most as many bytes at a time as the scratch has.
+///
+/// # Errors
+///
+/// `WriteFault` and `Memory` of the sink, which leave a part of the text from its front.
+pub fn put_body_as<W: Sink>(
+    sink: &mut W,
+    buffers: &[BodyBuffer],
+    encoding: Encoding,
+    scratch: &mut [u8],
+) -> Result<(), IpcError>
+    requires { 64 * made_width encoding ≤ length scratch.old }
+    ensures puts { PutsText (moved (W.written sink.old) (W.written sink.new) (W.faults sink.old) (W.faults sink.new) (W.wants sink.old) (W.wants sink.new)) result (text_of encoding (body_bytes 0 buffers.now)) }
+    ensures same_references { W.references sink.new ≡ W.references sink.old }
+    ensures scratch { length scratch.new ≡ length scratch.old }
+{
+    for buffer in buffers {
+        put_padded(sink, buffer, encoding, scratch)?;
+    }
+    Ok(())
+}
+
+/// Puts the bytes of a body as `put_body_as` puts them.
 ///
 /// # Errors
 ///
@@ -45,10 +69,7 @@ pub fn put_body<W: Sink>(
     ensures same_references { W.references sink.new ≡ W.references sink.old }
     ensures scratch { length scratch.new ≡ length scratch.old }
 {
-    for buffer in buffers {
-        put_padded(sink, buffer, scratch)?;
-    }
-    Ok(())
+    put_body_as(sink, buffers, Encoding::Bytes, scratch)
 }
 
 /// Puts a buffer behind a body, and zeros up to a multiple of 64.

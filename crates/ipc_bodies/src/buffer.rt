@@ -1,5 +1,5 @@
 //! The bytes of one buffer of a body.
-ghost use Rattle.std.specs.Prelude.{◌≡◌, ◌↔◌, ◌≤◌, [], length, map, true, IfOk, IsTrue};
+ghost use Rattle.std.specs.Prelude.{◌≡◌, ◌↔◌, ◌*◌, ◌/◌, ◌≤◌, [], length, map, true, IfOk, IsTrue};
 ghost use Rattle.std.specs.Option.{option_map};
 ghost use Rattle.std.specs.List.{flat_map};
 ghost use Rattle.arrow_spec.specs.Flat.{Order, little, order_by};
@@ -8,15 +8,17 @@ ghost use Rattle.arrow_types.specs.Numbers.{offsets_by};
 ghost use Rattle.arrow_buffers.specs.Rows.{part};
 ghost use Rattle.arrow_buffers.specs.Variable.{are_offsets};
 ghost use Rattle.ipc_bodies.specs.Adding.{Appends};
+ghost use Rattle.ipc_bodies.specs.Encodings.{made_width, text_of};
 ghost use Rattle.ipc_bodies.specs.Fitting.{offset_limit, AllBelow, AllFit, ReadsFit};
 ghost use Rattle.ipc_bodies.specs.Pieces.{in_order, offset_bytes};
 ghost use Rattle.ipc_bodies.specs.Places.{IsPiece};
 ghost use Rattle.ipc_bodies.specs.Puts.{moved, PutsText};
 
+use crate::Encoding;
 use crate::bits::{append_bits, fill_bits, packed_size, put_bits};
 use crate::numbers::TurnedNumbers;
 use crate::offsets::CountedOffsets;
-use crate::sinks::{put, put_standing};
+use crate::sinks::{put_bytes_as, put_piece};
 use arrow_buffers::{Bitmap, Buffer, place_of};
 use arrow_spec::IpcError;
 use arrow_types::{NativeType, Offset};
@@ -186,59 +188,88 @@ impl BodyBuffer {
     }
 
     /// Puts the bytes into a sink, at most as many at a time as the scratch has. Bytes that stand are put from where they stand, and
-    /// the others are made in the scratch.
+    /// the others are made in the scratch, as hex text is.
     ///
     /// # Errors
     ///
-    /// `WriteFault` and `Memory` of the sink, which leave a part of the bytes from their front.
-    pub fn put<W: Sink>(&self, sink: &mut W, scratch: &mut [u8]) -> Result<(), IpcError>
-        requires { 64 ≤ length scratch.old }
-        ensures puts { PutsText (moved (W.written sink.old) (W.written sink.new) (W.faults sink.old) (W.faults sink.new) (W.wants sink.old) (W.wants sink.new)) result self.now }
+    /// `WriteFault` and `Memory` of the sink, which leave a part of the text from its front.
+    pub fn put_as<W: Sink>(
+        &self,
+        sink: &mut W,
+        encoding: Encoding,
+        scratch: &mut [u8],
+    ) -> Result<(), IpcError>
+        requires { 64 * made_width encoding ≤ length scratch.old }
+        ensures puts { PutsText (moved (W.written sink.old) (W.written sink.new) (W.faults sink.old) (W.faults sink.new) (W.wants sink.old) (W.wants sink.new)) result (text_of encoding self.now) }
         ensures same_references { W.references sink.new ≡ W.references sink.old }
         ensures scratch { length scratch.new ≡ length scratch.old }
     {
         match &self.held {
             Held::Nothing => Ok(()),
             Held::Bits(bits) => match bits.whole_bytes() {
-                Some(bytes) => put_bits(sink, bits, bytes, scratch.len()),
-                None => self.put_made(sink, scratch),
+                Some(bytes) => put_bits(sink, bits, bytes, encoding, scratch),
+                None => self.put_made(sink, encoding, scratch),
             },
-            Held::Bytes(bytes) => put_standing(sink, bytes.as_slice(), scratch.len()),
-            Held::Turned(_) | Held::Offsets(_) => self.put_made(sink, scratch),
+            Held::Bytes(bytes) => put_bytes_as(sink, bytes.as_slice(), encoding, scratch),
+            Held::Turned(_) | Held::Offsets(_) => self.put_made(sink, encoding, scratch),
         }
     }
 
-    /// Puts bytes that are made in the scratch, in pieces of a multiple of 64 bytes, but for the last.
-    fn put_made<W: Sink>(&self, sink: &mut W, scratch: &mut [u8]) -> Result<(), IpcError>
+    /// Puts the bytes into a sink as they are.
+    ///
+    /// # Errors
+    ///
+    /// Those of `put_as`.
+    pub fn put<W: Sink>(&self, sink: &mut W, scratch: &mut [u8]) -> Result<(), IpcError>
         requires { 64 ≤ length scratch.old }
         ensures puts { PutsText (moved (W.written sink.old) (W.written sink.new) (W.faults sink.old) (W.faults sink.new) (W.wants sink.old) (W.wants sink.new)) result self.now }
         ensures same_references { W.references sink.new ≡ W.references sink.old }
         ensures scratch { length scratch.new ≡ length scratch.old }
     {
-        let most = scratch.len() - scratch.len() % 64;
+        self.put_as(sink, Encoding::Bytes, scratch)
+    }
+
+    /// Puts bytes that are made in the scratch, in pieces of a multiple of 64 bytes, but for the last.
+    fn put_made<W: Sink>(
+        &self,
+        sink: &mut W,
+        encoding: Encoding,
+        scratch: &mut [u8],
+    ) -> Result<(), IpcError>
+        requires { 64 * made_width encoding ≤ length scratch.old }
+        ensures puts { PutsText (moved (W.written sink.old) (W.written sink.new) (W.faults sink.old) (W.faults sink.new) (W.wants sink.old) (W.wants sink.new)) result (text_of encoding self.now) }
+        ensures same_references { W.references sink.new ≡ W.references sink.old }
+        ensures scratch { length scratch.new ≡ length scratch.old }
+    {
+        let room = encoding.made_in(scratch.len());
+        let most = room - room % 64;
         let all = self.len();
         let mut at = 0;
         while at < all {
             let count = most.min(all - at);
-            self.put_piece(sink, at, &mut scratch[..count])?;
+            self.put_part(sink, at, count, encoding, scratch)?;
             at += count;
         }
         Ok(())
     }
 
-    /// Puts bytes that are made in a scratch of as many.
-    fn put_piece<W: Sink>(
+    /// Puts so many bytes from one on, that are made at the front of the scratch.
+    fn put_part<W: Sink>(
         &self,
         sink: &mut W,
         at: usize,
+        count: usize,
+        encoding: Encoding,
         scratch: &mut [u8],
     ) -> Result<(), IpcError>
-        requires { IsPiece at (length scratch.old) (length self.now) }
-        ensures puts { PutsText (moved (W.written sink.old) (W.written sink.new) (W.faults sink.old) (W.faults sink.new) (W.wants sink.old) (W.wants sink.new)) result (part at (length scratch.old) self.now) }
+        requires piece { IsPiece at count (length self.now) }
+        requires scratch { count ≤ length scratch.old / made_width encoding }
+        ensures puts { PutsText (moved (W.written sink.old) (W.written sink.new) (W.faults sink.old) (W.faults sink.new) (W.wants sink.old) (W.wants sink.new)) result (text_of encoding (part at count self.now)) }
         ensures same_references { W.references sink.new ≡ W.references sink.old }
         ensures scratch { length scratch.new ≡ length scratch.old }
     {
-        self.fill(at, scratch);
-        put(sink, scratch)
+        let (made, room) = scratch.split_at_mut(count);
+        self.fill(at, made);
+        put_piece(sink, made, encoding, room)
     }
 }

@@ -1,24 +1,21 @@
 -- The message of a block, by what was fetched of it.
-use Rattle.std.proofs.Common.{◌≡◌, inl, ℕ, ◌+◌, ◌<◌, ◌≤◌, List, [], length, take, drop, Option, Some, None, Result, Ok, Err, true, false, refl, sym, ◌∙◌, ap, arith, subst, IfErr, IfOk}
+use Rattle.std.proofs.Common.{◌≡◌, inl, ℕ, ◌+◌, ◌<◌, ◌≤◌, List, length, take, drop, Option, Some, None, Result, Ok, Err, true, false, refl, sym, ◌∙◌, ap, arith, subst, IfErr, IfOk}
 use Rattle.std.specs.Prelude.{nat_le}
 use Rattle.std.proofs.lemmas.Bool.{le-leb, lt-leb}
 use Rattle.arrow_spec.specs.declared.error.IpcError.{IpcError}
 use Rattle.arrow_spec.specs.declared.error.IpcError.TheVariants.{OutOfSpec}
 use Rattle.arrow_spec.specs.declared.error.OutOfSpecKind.TheVariants as kinds
 use Rattle.arrow_spec.specs.Readings.{bind, Gives, Reading, Refuses, refusals}
-use Rattle.arrow_spec.specs.Messages.{message_pairs, prefix_of, record_message}
-use Rattle.arrow_spec.specs.Kinds.{Metadata}
-use Rattle.arrow_spec.specs.declared.error.OutOfSpecKind.TheVariants.{InvalidFlatbufferMessage}
-use Rattle.arrow_spec.proofs.ReadPairs.{none_carried}
-use Rattle.transcode_laws.specs.Built.{so_far}
+use Rattle.arrow_spec.specs.Messages.{prefix_of, record_message}
 use Rattle.arrow_spec.specs.Files.{FileBlock, Purpose, Asked, block_message, batch_of, batch_of_tables, block_body}
 use Rattle.ipc_io.specs.Outside.{IsSize}
 use Rattle.ipc_schema.specs.Views.{message_of}
 use Rattle.ipc_schema.specs.declared.message.RecordMessage.{RecordMessage}
+use Rattle.ipc_files.specs.declared.block.BlockMessage.{BlockMessage}
 use Rattle.ipc_fields.specs.Causes.{Decodes}
 use Rattle.ipc_fields.proofs.Steps.{gives}
 use Rattle.ipc_files.proofs.Errors.{none_refused}
-use Rattle.ipc_files.specs.FileBlocks.{block_header, block_record, message_metadata, plain_message, block_metadata, Fetched, Faulted, GivesIn, PrefixIn, BlockIn}
+use Rattle.ipc_files.specs.FileBlocks.{block_header, block_record, message_metadata, paired_message, paired_of, block_metadata, Fetched, Faulted, GivesIn, PrefixIn, BlockIn}
 use Rattle.ipc_files.proofs.BlockPrefixes.{memory_or_fault}
 
 -- ── the metadata that is fetched ──
@@ -81,15 +78,15 @@ pub without_first : {X Y A B : Type 0} (content : Option (List ℕ)) (first : Li
 without_first None first view e of reading h = tt
 without_first (Some b) first view e of reading h = refused_first e (first b) (reading b) h
 
-pub message_of_metadata : {X : Type 0} (content : Option (List ℕ)) (block : FileBlock) (view : X → List ℕ) (x : X) (text : List ℕ) (r : Result RecordMessage IpcError) → GivesIn content view (Ok x) (λ b. message_metadata b block) → text ≡ view x → Decodes message_of r (plain_message text) → BlockIn content block r
+pub message_of_metadata : {X : Type 0} (content : Option (List ℕ)) (block : FileBlock) (view : X → List ℕ) (x : X) (text : List ℕ) (r : Result BlockMessage IpcError) → GivesIn content view (Ok x) (λ b. message_metadata b block) → text ≡ view x → Decodes paired_of r (paired_message text) → BlockIn content block r
 unfolding block_record
 message_of_metadata None block view x text r h t g = tt
-message_of_metadata (Some b) block view x text r h t g = read_of (Some b) (λ b. message_metadata b block) view x text message_of plain_message r h t g
+message_of_metadata (Some b) block view x text r h t g = read_of (Some b) (λ b. message_metadata b block) view x text paired_of paired_message r h t g
 
-pub message_without_metadata : {X : Type 0} (content : Option (List ℕ)) (block : FileBlock) (view : X → List ℕ) (r : Result RecordMessage IpcError) (e : IpcError) → r ≡ Err e → GivesIn content view (Err e) (λ b. message_metadata b block) → BlockIn content block r
+pub message_without_metadata : {X : Type 0} (content : Option (List ℕ)) (block : FileBlock) (view : X → List ℕ) (r : Result BlockMessage IpcError) (e : IpcError) → r ≡ Err e → GivesIn content view (Err e) (λ b. message_metadata b block) → BlockIn content block r
 unfolding block_record
 message_without_metadata None block view r e is h = tt
-message_without_metadata (Some b) block view r e is h = subst (λ q. BlockIn (Some b) block q) (sym is) (refused_first e (message_metadata b block) plain_message h)
+message_without_metadata (Some b) block view r e is h = subst (λ q. BlockIn (Some b) block q) (sym is) (refused_first e (message_metadata b block) paired_message h)
 
 pub header_of_metadata : {X : Type 0} (content : Option (List ℕ)) (block : FileBlock) (view : X → List ℕ) (x : X) (text : List ℕ) (r : Result RecordMessage IpcError) → GivesIn content view (Ok x) (λ b. message_metadata b block) → text ≡ view x → Decodes message_of r (record_message text) → GivesIn content message_of r (λ b. block_header b block)
 unfolding block_header
@@ -108,18 +105,7 @@ pub bind_ok : {A B E : Type 0} (x : A) (f : A → Result B E) → bind (Ok x) f 
 unfolding bind
 bind_ok x f = refl
 
--- what is read behind pairs that are not carried is read of none
-pub same_behind : {A B : Type 0} (r : Reading A) (f g : A → Reading B) → ((x : A) → r ≡ Ok x → f x ≡ g x) → bind r f ≡ bind r g
-unfolding bind
-same_behind (Ok x) f g h = h x refl
-same_behind (Err es) f g h = refl
-
-none_there : {B : Type 0} (bytes : List ℕ) (f : Metadata → Reading B) → bind (message_pairs so_far.custom bytes) f ≡ bind (message_pairs so_far.custom bytes) (λ pairs. f [])
-none_there bytes f = same_behind (message_pairs so_far.custom bytes) f (λ pairs. f []) (λ pairs is. ap f (none_carried InvalidFlatbufferMessage bytes pairs is))
-
 -- A record block is its message, and then its columns.
-pub batch_by_record : (purpose : Purpose) (b : List ℕ) (a : Asked) (block : FileBlock) (left : Option ℕ) → batch_of so_far.custom purpose b a block left ≡ bind (block_record b block) (λ m. batch_of_tables purpose a m.version [] m.tables (block_body b block) left)
-unfolding batch_of block_record message_metadata block_message record_message plain_message
-batch_by_record purpose b a block left =
-    same_behind _ _ _ (λ m is. same_behind _ _ _ (λ tables t. same_behind _ _ _ (λ version v. none_there m.0 (λ pairs. batch_of_tables purpose a version pairs tables (block_body b block) left))))
-    ∙ simp (bind_twice, bind_ok)
+pub batch_by_record : (purpose : Purpose) (b : List ℕ) (a : Asked) (block : FileBlock) (left : Option ℕ) → batch_of purpose b a block left ≡ bind (block_record b block) (λ m. batch_of_tables purpose a m.version m.custom m.tables (block_body b block) left)
+unfolding batch_of block_record message_metadata block_message record_message paired_message
+batch_by_record purpose b a block left = simp (bind_twice, bind_ok)

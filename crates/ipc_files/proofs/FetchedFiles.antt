@@ -1,5 +1,5 @@
 -- How many bytes are fetched of blocks that mean batches, and of a footer.
-use Rattle.std.proofs.Common.{◌≡◌, ℕ, zero, suc, ◌+◌, ◌-◌, ◌≤◌, List, [], length, take, drop, Option, Some, None, Ok, IfSome, refl, sym, ◌∙◌, ap, arith, Bool, length-take, length-drop}
+use Rattle.std.proofs.Common.{◌≡◌, ℕ, zero, suc, ◌+◌, ◌-◌, ◌≤◌, List, length, take, drop, Option, Some, None, Ok, IfSome, refl, sym, ◌∙◌, ap, arith, Bool, length-take, length-drop}
 use Rattle.std.specs.Prelude.{ℤ, pos, negsuc}
 use Rattle.arrow_spec.specs.Readings.{bind, natural, only_if, unless}
 use Rattle.arrow_spec.specs.Cells.{Cell}
@@ -7,16 +7,15 @@ use Rattle.arrow_spec.specs.Columns.{columns_at, is_chosen, stands_in}
 use Rattle.arrow_spec.specs.Flat.{Order, order_by}
 use Rattle.arrow_spec.specs.Kinds.{Fields, none, field}
 use Rattle.arrow_spec.specs.Counts.{Place, RecordBatch, after, first_place, magnitude}
-use Rattle.arrow_spec.specs.Messages.{RecordMessage, prefix_of}
+use Rattle.arrow_spec.specs.Messages.{prefix_of}
 use Rattle.arrow_spec.specs.Files.{Asked, FileBlock, Meta, Request, TableBatch, as_asked, batch_of, batch_of_tables, block_body, footer_of, record_batch_of, share, to_read}
 use Rattle.arrow_spec.specs.Needed.{columns_looked_at}
 use Rattle.arrow_spec.proofs.Projection.{nothing, went}
-use Rattle.transcode_laws.specs.Built.{so_far}
 use Rattle.ipc_io.specs.Outside.{IsSize}
 use Rattle.ipc_read_laws.specs.Faults.{stated_of}
 use Rattle.ipc_read.specs.Batches.{batch_fetched as buffers_fetched}
 use Rattle.ipc_files.specs.Blocks.{asked_under}
-use Rattle.ipc_files.specs.FileBlocks.{Fetched, PrefixIn, block_metadata, block_record, message_metadata}
+use Rattle.ipc_files.specs.FileBlocks.{Fetched, PairedMessage, PrefixIn, block_metadata, block_record, message_metadata}
 use Rattle.ipc_files.specs.Fetching.{BlockFetched, FooterFetched, FrontFetched, MessageFetched, MetadataFetched, both_of, message_cost}
 use Rattle.ipc_files.specs.Requests.{asked}
 use Rattle.ipc_files.proofs.BlockMessages.{batch_by_record}
@@ -64,16 +63,16 @@ message_fetched (Some b) block f f' h = λ m is. let bytes = went (message_metad
 -- ── a block ──
 
 pub record BatchParts (b : List ℕ) (block : FileBlock) (left : Option ℕ) (x : TableBatch) : Type 0 where
-  pub message : RecordMessage
+  pub message : PairedMessage
   pub is : block_record b block ≡ Ok message
   pub rows : ℕ
   pub count : natural message.tables.length ≡ Ok rows
   pub height : x.rows ≡ share left rows
 
-pub batch_parts : (b : List ℕ) (a : Asked) (block : FileBlock) (left : Option ℕ) (x : TableBatch) → batch_of so_far.custom to_read b a block left ≡ Ok x → BatchParts b block left x
+pub batch_parts : (b : List ℕ) (a : Asked) (block : FileBlock) (left : Option ℕ) (x : TableBatch) → batch_of to_read b a block left ≡ Ok x → BatchParts b block left x
 unfolding batch_of_tables
 batch_parts b a block left x h =
-    let e : bind (block_record b block) (λ m. batch_of_tables to_read a m.version [] m.tables (block_body b block) left) ≡ Ok x = sym (batch_by_record to_read b a block left) ∙ h in
+    let e : bind (block_record b block) (λ m. batch_of_tables to_read a m.version m.custom m.tables (block_body b block) left) ≡ Ok x = sym (batch_by_record to_read b a block left) ∙ h in
     let message = went (block_record b block) _ x e in
     let plain = went (unless _ _) _ x message.rest in
     let rows = went (natural message.got.tables.length) _ x plain.rest in
@@ -81,7 +80,7 @@ batch_parts b a block left x h =
     let sum = went (only_if _ _) _ x negative.rest in
     let columns = went (columns_at _ _ _ _ _ _ _ _) _ x sum.rest in
     let size = went nothing _ x columns.rest in
-    let table : List (List Cell) → TableBatch = λ cs. record { rows = share left rows.got; columns = cs; custom = [] } in
+    let table : List (List Cell) → TableBatch = λ cs. record { rows = share left rows.got; columns = cs; custom = message.got.custom } in
     let whole : table (as_asked a.columns columns.got) ≡ x = ap (answer_or x) size.rest in
     record { message = message.got; is = message.first; rows = rows.got; count = rows.first; height = ap (λ (y : TableBatch). y.rows) (sym whole) }
 
@@ -96,18 +95,18 @@ pub counted : (z : ℤ) (n : ℕ) → natural z ≡ Ok n → magnitude z ≡ n
 counted (pos m) n h = cc
 counted (negsuc m) n h = cc
 
-pub block_whole : (content : Option (List ℕ)) (meta : Meta) (columns : Option (List ℕ)) (order : Bool) (block : FileBlock) (left : Option ℕ) (m : RecordMessage) (f mid f' : ℕ) → order_by order ≡ meta.schema.order
+pub block_whole : (content : Option (List ℕ)) (meta : Meta) (columns : Option (List ℕ)) (order : Bool) (block : FileBlock) (left : Option ℕ) (m : PairedMessage) (f mid f' : ℕ) → order_by order ≡ meta.schema.order
     → MessageFetched content block f mid → IfSome content (λ b. block_record b block ≡ Ok m) → ((bytes : List ℕ) → f' ≤ mid + buffers_fetched (record_batch_of (order_by order) m.version m.tables bytes) columns meta.schema.fields (share left (magnitude m.tables.length))) → BlockFetched content meta (asked columns left) block left f f'
 block_whole None meta columns order block left m f mid f' o h is more = tt
 block_whole (Some b) meta columns order block left m f mid f' o h is more = λ d x read.
     let p = batch_parts b (asked_under b meta d (asked columns left)) block left x read in
     let same : m ≡ p.message = cc in
-    let rows : magnitude m.tables.length ≡ p.rows = ap (λ (y : RecordMessage). magnitude y.tables.length) same ∙ counted p.message.tables.length p.rows p.count in
+    let rows : magnitude m.tables.length ≡ p.rows = ap (λ (y : PairedMessage). magnitude y.tables.length) same ∙ counted p.message.tables.length p.rows p.count in
     let body = block_body b block in
     let moved : buffers_fetched (record_batch_of (order_by order) m.version m.tables body) columns meta.schema.fields (share left (magnitude m.tables.length)) ≡ buffers_fetched (record_batch_of meta.schema.order p.message.version p.message.tables body) columns meta.schema.fields (share left p.rows)
     = ap (λ (w : Order). buffers_fetched (record_batch_of w m.version m.tables body) columns meta.schema.fields (share left (magnitude m.tables.length))) o
     ∙ ap (λ (n : ℕ). buffers_fetched (record_batch_of meta.schema.order m.version m.tables body) columns meta.schema.fields (share left n)) rows
-    ∙ ap (λ (y : RecordMessage). buffers_fetched (record_batch_of meta.schema.order y.version y.tables body) columns meta.schema.fields (share left p.rows)) same in
+    ∙ ap (λ (y : PairedMessage). buffers_fetched (record_batch_of meta.schema.order y.version y.tables body) columns meta.schema.fields (share left p.rows)) same in
     let whole = block_fetched b meta (asked columns left) block left p.message p.rows p.is p.count in
     omega (arith, h p.message p.is, more body, moved, whole.cost)
 

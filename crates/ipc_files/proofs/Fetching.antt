@@ -12,10 +12,9 @@ use Rattle.arrow_spec.specs.Files.{FileBlock, Meta, Request, block_body, block_m
 use Rattle.arrow_spec.specs.Needed.{Range, columns_looked_at, lengths, message_range, or_nothing, ranges}
 use Rattle.arrow_spec.proofs.Projection.{on, went}
 use Rattle.file_laws.specs.Fetched.{batch_fetched, for_rows}
-use Rattle.transcode_laws.specs.Built.{so_far}
 use Rattle.ipc_read_laws.specs.Faults.{stated_of}
 use Rattle.ipc_read.specs.Batches.{batch_fetched as buffers_fetched}
-use Rattle.ipc_files.specs.FileBlocks.{Fetched, Lies, block_metadata, block_record, message_metadata, plain_message}
+use Rattle.ipc_files.specs.FileBlocks.{Fetched, Lies, PairedMessage, block_metadata, block_record, message_metadata, paired_message}
 use Rattle.ipc_files.specs.Fetching.{FrontFetched, block_cost, both_of, message_cost}
 use Rattle.ipc_files.proofs.BlockPrefixes.{region-front}
 
@@ -36,39 +35,40 @@ answer_or d (Ok x) = x
 answer_or d (Err es) = d
 
 -- what is fetched of a block under a request: its message, and the buffers of the rows that are left
-pub record IsFetched (b : List ℕ) (meta : Meta) (r : Request) (block : FileBlock) (left : Option ℕ) (m : RecordMessage) (rows : ℕ) : Type 0 where
+pub record IsFetched (b : List ℕ) (meta : Meta) (r : Request) (block : FileBlock) (left : Option ℕ) (m : PairedMessage) (rows : ℕ) : Type 0 where
   pub parts : List Range
   pub is : batch_fetched b meta r block left ≡ Ok (parts, share left rows)
   pub cost : block_cost b meta r block left ≡ message_cost b block + buffers_fetched (record_batch_of meta.schema.order m.version m.tables (block_body b block)) r.columns meta.schema.fields (share left rows)
 
 -- of a block whose message was read
-pub block_fetched : (b : List ℕ) (meta : Meta) (r : Request) (block : FileBlock) (left : Option ℕ) (m : RecordMessage) (rows : ℕ) → block_record b block ≡ Ok m → natural m.tables.length ≡ Ok rows → IsFetched b meta r block left m rows
-unfolding block_record message_metadata plain_message record_message batch_fetched block_message
+pub block_fetched : (b : List ℕ) (meta : Meta) (r : Request) (block : FileBlock) (left : Option ℕ) (m : PairedMessage) (rows : ℕ) → block_record b block ≡ Ok m → natural m.tables.length ≡ Ok rows → IsFetched b meta r block left m rows
+unfolding block_record message_metadata paired_message record_message batch_fetched block_message
 block_fetched b meta r block left m rows is count =
     let metadata = went (message_metadata b block) _ m is in
     let range = went (only_if _ _) _ metadata.got metadata.first in
     let prefix = went (prefix_of (block_metadata b block)) _ metadata.got range.rest in
     let bytes = take prefix.got.1 (drop (block.offset + prefix.got.0) b) in
     let bytes_are : bytes ≡ metadata.got = ap (answer_or bytes) prefix.rest in
-    let whole = went (record_message bytes) _ m (subst (λ x. plain_message x ≡ Ok m) (sym bytes_are) metadata.rest) in
+    let whole = went (record_message bytes) _ m (subst (λ x. paired_message x ≡ Ok m) (sym bytes_are) metadata.rest) in
     let message = went (message_of bytes _) _ whole.got whole.first in
     let tables = went (batch_at bytes message.got.header) _ whole.got message.rest in
     let version = went (version_of bytes message.got) _ whole.got tables.rest in
-    let pairs = went (message_pairs so_far.custom bytes) _ m whole.rest in
-    let read : RecordMessage = record { tables = tables.got; version = version.got } in
-    let same : read ≡ m = ap (answer_or read) version.rest ∙ ap (answer_or read) pairs.rest in
+    let pairs = went (message_pairs bytes) _ m whole.rest in
+    let inner : RecordMessage = record { tables = tables.got; version = version.got } in
+    let with_them : RecordMessage → PairedMessage = λ x. record { tables = x.tables; version = x.version; custom = pairs.got } in
+    let same : with_them inner ≡ m = ap with_them (ap (answer_or inner) version.rest) ∙ ap (answer_or (with_them inner)) pairs.rest in
     let source = record_batch_of meta.schema.order version.got tables.got (block_body b block) in
     let front : Range = record { place = block.offset; length = prefix.got.0 + prefix.got.1 } in
     let buffers = for_rows (share left rows) (ranges source (block.offset + block.metadata) (columns_looked_at source r.columns meta.schema.fields 0 first_place)) in
     let e : batch_fetched b meta r block left ≡ Ok (front ∷ buffers, share left rows)
     = on (block_message b block 3) _ (bytes, message.got) (on _ _ _ range.first ∙ on _ _ _ prefix.first ∙ on _ _ _ message.first)
-    ∙ on _ _ _ tables.first ∙ on _ _ _ version.first ∙ on (message_range b block) _ front (on _ _ _ prefix.first) ∙ on (natural tables.got.length) _ rows (ap (λ (x : RecordMessage). natural x.tables.length) same ∙ count) in
+    ∙ on _ _ _ tables.first ∙ on _ _ _ version.first ∙ on (message_range b block) _ front (on _ _ _ prefix.first) ∙ on (natural tables.got.length) _ rows (ap (λ (x : PairedMessage). natural x.tables.length) same ∙ count) in
     let cost : block_cost b meta r block left ≡ lengths (front ∷ buffers) = ap (λ r. lengths (or_nothing (option_map (λ x. x.0) (meaning r)))) e in
     let message_is : message_cost b block ≡ prefix.got.0 + prefix.got.1 = ap both_of prefix.first in
     let rest : lengths buffers ≡ buffers_fetched source r.columns meta.schema.fields (share left rows) = stated_rows source (block.offset + block.metadata) r.columns meta.schema.fields (share left rows) in
     let sum = sum_by-cons (λ (y : Range). y.length) front buffers in
     let source_is : buffers_fetched source r.columns meta.schema.fields (share left rows) ≡ buffers_fetched (record_batch_of meta.schema.order m.version m.tables (block_body b block)) r.columns meta.schema.fields (share left rows)
-    = ap (λ (x : RecordMessage). buffers_fetched (record_batch_of meta.schema.order x.version x.tables (block_body b block)) r.columns meta.schema.fields (share left rows)) same in
+    = ap (λ (x : PairedMessage). buffers_fetched (record_batch_of meta.schema.order x.version x.tables (block_body b block)) r.columns meta.schema.fields (share left rows)) same in
     record { parts = front ∷ buffers; is = e; cost = omega (arith, cost, message_is, rest, sum, source_is) }
 
 -- ── a prefix ──

@@ -7,12 +7,12 @@ use Rattle.arrow_spec.specs.declared.error.IpcError.TheVariants.{OutOfSpec}
 use Rattle.arrow_spec.specs.declared.error.OutOfSpecKind.TheVariants as kinds
 use Rattle.arrow_spec.specs.Readings.{Gives, Reading, Refuses, refusals}
 use Rattle.arrow_spec.specs.Files.{Meta, Request, custom_of, file_reading, footer_of, meta_in, meta_of, to_send}
+use Rattle.arrow_spec.specs.Kinds.{Metadata}
 use Rattle.arrow_spec.specs.Messages.{footer_pairs}
-use Rattle.transcode_laws.specs.Built.{so_far}
 use Rattle.transcode_laws.proofs.Refusals.{custom_refuses, meta_refuses}
 use Rattle.ipc_io.specs.Outside.{IsSize}
 use Rattle.ipc_schema.proofs.Footers.{footer_cut}
-use Rattle.ipc_files.specs.FileBlocks.{Fetched, Faulted, GivesIn, no_map}
+use Rattle.ipc_files.specs.FileBlocks.{Fetched, Faulted, GivesIn}
 use Rattle.ipc_fields.specs.Causes.{Decodes}
 use Rattle.ipc_fields.proofs.Steps.{gives, refuses}
 use Rattle.ipc_files.specs.FileViews.{FileSays}
@@ -68,9 +68,9 @@ of_footer : {X : Type 0} (b : List ℕ) (view : X → List ℕ) (x : X) → foot
 unfolding meta_of
 of_footer b view x h = after_prefix (footer_of b) (λ f. meta_in f) (view x) h
 
-pairs_of_footer : {X : Type 0} (b : List ℕ) (view : X → List ℕ) (x : X) → footer_of b ≡ Ok (view x) → footer_pairs so_far.custom (view x) ≡ custom_of so_far.custom b
+pairs_of_footer : {X : Type 0} (b : List ℕ) (view : X → List ℕ) (x : X) → footer_of b ≡ Ok (view x) → footer_pairs (view x) ≡ custom_of b
 unfolding custom_of
-pairs_of_footer b view x h = after_prefix (footer_of b) (λ f. footer_pairs so_far.custom f) (view x) h
+pairs_of_footer b view x h = after_prefix (footer_of b) (λ f. footer_pairs f) (view x) h
 
 not_fetched : (b : List ℕ) (e : IpcError) → Refuses e (refusals (footer_of b)) → Refuses e (refusals (meta_of b))
 unfolding meta_of
@@ -89,29 +89,30 @@ meta_said (Some b) view x meta r h g = subst (λ q. Gives meta r q) (of_footer b
 -- ── a file that is to be sent ──
 
 abbrev RefusesToSend : IpcError → List ℕ → Type 0
-RefusesToSend e b = (r : Request) → Refuses e (refusals (file_reading so_far to_send b r None))
+RefusesToSend e b = (r : Request) → Refuses e (refusals (file_reading to_send b r None))
 
 -- its footer was not fetched
 pub footer_not_fetched : {X : Type 0} (content : Option (List ℕ)) (view : X → List ℕ) (e : IpcError) → GivesIn content view (Err e) footer_of → IfSome content (λ b. RefusesToSend e b)
 footer_not_fetched None view e h = tt
-footer_not_fetched (Some b) view e h = λ r. meta_refuses so_far e b r refl (not_fetched b e h)
+footer_not_fetched (Some b) view e h = λ r. meta_refuses e b r (not_fetched b e h)
 
 -- it says nothing that is a footer
 pub footer_not_read : {X Y : Type 0} (content : Option (List ℕ)) (view : X → List ℕ) (x : X) (meta : Y → Meta) (e : IpcError) → GivesIn content view (Ok x) footer_of → Decodes meta (Err e) (meta_in (view x)) → IfSome content (λ b. RefusesToSend e b)
 footer_not_read None view x meta e h g = tt
-footer_not_read (Some b) view x meta e h g = λ r. meta_refuses so_far e b r refl (subst (λ q. Refuses e (refusals q)) (of_footer b view x h) (refuses e (refusals (meta_in (view x))) g))
+footer_not_read (Some b) view x meta e h g = λ r. meta_refuses e b r (subst (λ q. Refuses e (refusals q)) (of_footer b view x h) (refuses e (refusals (meta_in (view x))) g))
 
--- it has pairs, or what stands there is damaged
-pub pairs_not_carried : {X Y : Type 0} (content : Option (List ℕ)) (view : X → List ℕ) (x : X) (text : List ℕ) (meta : Y → Meta) (y : Y) (e : IpcError) → GivesIn content view (Ok x) footer_of → Decodes meta (Ok y) (meta_in (view x)) → text ≡ view x → Decodes no_map (Err e) (footer_pairs so_far.custom text) → IfSome content (λ b. RefusesToSend e b)
-pairs_not_carried None view x text meta y e h g t p = tt
-pairs_not_carried (Some b) view x text meta y e h g t p =
+-- its pairs are damaged, or are too many
+pub pairs_refused : {X Y Z : Type 0} (content : Option (List ℕ)) (view : X → List ℕ) (x : X) (text : List ℕ) (meta : Y → Meta) (y : Y) (custom : Z → Metadata) (e : IpcError) → GivesIn content view (Ok x) footer_of → Decodes meta (Ok y) (meta_in (view x)) → text ≡ view x → Decodes custom (Err e) (footer_pairs text) → IfSome content (λ b. RefusesToSend e b)
+pairs_refused None view x text meta y custom e h g t p = tt
+pairs_refused (Some b) view x text meta y custom e h g t p =
     let read : meta_of b ≡ Ok (meta y) = sym (of_footer b view x h) ∙ g in
-    λ r. custom_refuses so_far e b r (meta y) refl read (subst (λ q. Refuses e (refusals q)) (ap (λ f. footer_pairs so_far.custom f) t ∙ pairs_of_footer b view x h) (refuses e (refusals (footer_pairs so_far.custom text)) p))
+    λ r. custom_refuses e b r (meta y) read (subst (λ q. Refuses e (refusals q)) (ap (λ f. footer_pairs f) t ∙ pairs_of_footer b view x h) (refuses e (refusals (footer_pairs text)) p))
 
--- it says so, and has no pairs
-pub plain_said : {X Y : Type 0} (content : Option (List ℕ)) (view : X → List ℕ) (x : X) (text : List ℕ) (meta : Y → Meta) (y : Y) → GivesIn content view (Ok x) footer_of → Decodes meta (Ok y) (meta_in (view x)) → text ≡ view x → Decodes no_map (Ok tt) (footer_pairs so_far.custom text) → IfSome content (λ b. FileSays b (meta y))
-plain_said None view x text meta y h g t p = tt
-plain_said (Some b) view x text meta y h g t p = record {
-  read = sym (of_footer b view x h) ∙ g;
-  no_pairs = sym (ap (λ f. footer_pairs so_far.custom f) t ∙ pairs_of_footer b view x h) ∙ p;
+-- it says so, and has these pairs
+pub whole_said : {X Y Z : Type 0} (content : Option (List ℕ)) (view : X → List ℕ) (x : X) (text : List ℕ) (meta : Y → Meta) (y : Y) (custom : Z → Metadata) (z : Z) (said : Meta) (pairs : Metadata) → said ≡ meta y → pairs ≡ custom z
+    → GivesIn content view (Ok x) footer_of → Decodes meta (Ok y) (meta_in (view x)) → text ≡ view x → Decodes custom (Ok z) (footer_pairs text) → IfSome content (λ b. FileSays b said pairs)
+whole_said None view x text meta y custom z said pairs e f h g t p = tt
+whole_said (Some b) view x text meta y custom z said pairs e f h g t p = record {
+  read = sym (of_footer b view x h) ∙ g ∙ ap Ok (sym e);
+  pairs = sym (ap (λ f. footer_pairs f) t ∙ pairs_of_footer b view x h) ∙ p ∙ ap Ok (sym f);
 }

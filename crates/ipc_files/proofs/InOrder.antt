@@ -19,7 +19,6 @@ use Rattle.arrow_spec.specs.Kinds.{Fields, none, field}
 use Rattle.arrow_spec.specs.Readings.{Gives, Reading, Refuses, bind, free_of, refusals, unless, ◌>>=◌}
 use Rattle.arrow_types.specs.Schemas.{Keyed}
 use Rattle.arrow_arrays.specs.Batches.{Batch}
-use Rattle.transcode_laws.specs.Built.{so_far}
 use Rattle.ipc_read.specs.Batches.{table_of}
 use Rattle.ipc_read.specs.Projection.{are_columns, are_rising, chosen}
 use Rattle.ipc_read.proofs.Chosen.{all_chosen}
@@ -159,7 +158,7 @@ refused_behind (Err es) x y e on h = h
 
 -- a block under a request, without the place before it
 abbrev block_of : List ℕ → Request → Meta → Dictionaries → FileBlock → Reading TableBatch
-block_of b r meta d block = batch_of so_far.custom to_read b (asked_under b meta d r) block r.limit
+block_of b r meta d block = batch_of to_read b (asked_under b meta d r) block r.limit
 
 in_place : (b : List ℕ) (r : Request) (meta : Meta) (d : Dictionaries) (block : FileBlock) → kinds_place r.columns meta ≡ Ok tt → batch_in r b meta d block ≡ block_of b r meta d block
 unfolding batch_in bind

@@ -13,7 +13,6 @@ use Rattle.arrow_spec.proofs.Projection.{on}
 use Rattle.arrow_arrays.specs.Batches.{Batch}
 use Rattle.arrow_types.specs.Schemas.{Keyed, fields_in}
 use Rattle.ipc_fields.specs.IpcFields.{Ids, fields_with}
-use Rattle.transcode_laws.specs.Built.{so_far}
 use Rattle.ipc_read_laws.specs.Held.{Held, HoldsCells}
 use Rattle.ipc_read.specs.Batches.{table_of}
 use Rattle.ipc_read.specs.Sources.{IsRefusal}
@@ -35,7 +34,7 @@ unfolding batch_in
 kinds_refused None h r meta s below block result e is same refused = tt
 kinds_refused (Some b) h r meta s below block result e is same refused = λ d holds.
     let here : Refuses e (chosen_floats r.columns meta.schema.fields 0) = subst (Refuses e) (sym (ap (λ fs. chosen_floats r.columns fs 0) same ∙ chosen_with r.columns (fields_in s) below 0)) refused in
-    subst (λ q. Gives table_of q (batch_in r b meta d block)) (sym is) (refused_first e (free_of (chosen_floats r.columns meta.schema.fields 0)) (λ _. batch_of so_far.custom to_read b (asked_under b meta d r) block r.limit) (refused_place e (chosen_floats r.columns meta.schema.fields 0) here))
+    subst (λ q. Gives table_of q (batch_in r b meta d block)) (sym is) (refused_first e (free_of (chosen_floats r.columns meta.schema.fields 0)) (λ _. batch_of to_read b (asked_under b meta d r) block r.limit) (refused_place e (chosen_floats r.columns meta.schema.fields 0) here))
 
 -- why that is
 pub kinds_cause : (e : IpcError) (n m : ℕ) → IsRefusal e → FileCause e n m
@@ -53,13 +52,13 @@ kinds_cause (errors.DictionaryReplaced id) n m h = absurd h
 kinds_cause errors.NotRepresentable n m h = absurd h
 kinds_cause errors.State n m h = absurd h
 
-batch_in_block : (b : List ℕ) (r : Request) (meta : Meta) (d : Dictionaries) (block : FileBlock) → chosen_floats r.columns meta.schema.fields 0 ≡ [] → batch_in r b meta d block ≡ batch_of so_far.custom to_read b (asked_under b meta d r) block r.limit
+batch_in_block : (b : List ℕ) (r : Request) (meta : Meta) (d : Dictionaries) (block : FileBlock) → chosen_floats r.columns meta.schema.fields 0 ≡ [] → batch_in r b meta d block ≡ batch_of to_read b (asked_under b meta d r) block r.limit
 unfolding batch_in bind
 batch_in_block b r meta d block readable =
     let kinds : free_of (chosen_floats r.columns meta.schema.fields 0) ≡ Ok tt = ap free_of readable in
     rw kinds refl
 
-pub gives_block : (b : List ℕ) (h : Held) (r : Request) (meta : Meta) (d : Dictionaries) (block : FileBlock) (result : Result Batch IpcError) → batch_in r b meta d block ≡ batch_of so_far.custom to_read b (asked_under b meta d r) block r.limit → ReadsBlock b h (asked_under b meta d r) block r.limit result → Gives table_of result (batch_in r b meta d block)
+pub gives_block : (b : List ℕ) (h : Held) (r : Request) (meta : Meta) (d : Dictionaries) (block : FileBlock) (result : Result Batch IpcError) → batch_in r b meta d block ≡ batch_of to_read b (asked_under b meta d r) block r.limit → ReadsBlock b h (asked_under b meta d r) block r.limit result → Gives table_of result (batch_in r b meta d block)
 gives_block b h r meta d block (Ok x) same reads =
     let read : BlockRead b h (asked_under b meta d r) block r.limit x = reads.read in
     same ∙ batch_by_record to_read b (asked_under b meta d r) block r.limit ∙ on (block_record b block) _ read.message read.is ∙ read.read

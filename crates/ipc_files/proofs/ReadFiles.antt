@@ -10,7 +10,7 @@ use Rattle.arrow_spec.specs.Counts.{first_place}
 use Rattle.arrow_spec.specs.Features.{chosen_floats}
 use Rattle.arrow_spec.specs.Flat.{Order, big, little, order_by}
 use Rattle.arrow_spec.specs.Kinds.{Fields, width}
-use Rattle.arrow_spec.specs.Messages.{RecordMessage}
+use Rattle.arrow_spec.specs.WrittenSchemas.{CustomMayBeWritten}
 use Rattle.arrow_spec.specs.Files.{Asked, FileBlock, Meta, columns_right, to_read, record_batch_of}
 use Rattle.arrow_arrays.specs.Batches.{Batch}
 use Rattle.arrow_arrays.specs.Parts.{Parts}
@@ -18,21 +18,20 @@ use Rattle.arrow_types.specs.Schemas.{fields_in}
 use Rattle.ipc_fields.specs.IpcFields.{ids_of}
 use Rattle.transcode_laws.specs.Files.{ArePicked, HeaderFits}
 use Rattle.ipc_io.specs.Outside.{IsSize}
-use Rattle.ipc_schema.specs.Views.{message_of}
-use Rattle.ipc_schema.specs.declared.message.RecordMessage.{RecordMessage as MessageRead}
+use Rattle.ipc_files.specs.declared.block.BlockMessage.{BlockMessage}
 use Rattle.ipc_read_laws.specs.Held.{Held, HoldsCells}
 use Rattle.ipc_read.specs.Batches.{batch_reading, chosen_read, table_of}
 use Rattle.ipc_read.specs.Projection.{are_columns, are_rising}
 use Rattle.ipc_read.specs.Sources.{bytes_in}
 use Rattle.ipc_read.specs.declared.body.Body.{Body}
-use Rattle.ipc_files.specs.FileBlocks.{BlockIn, block_record}
+use Rattle.ipc_files.specs.FileBlocks.{BlockIn, PairedMessage, block_record, paired_of}
 use Rattle.ipc_files.specs.FileViews.{meta_view}
 use Rattle.ipc_files.specs.Blocks.{ReadsBlock, asked_under, body_place}
 use Rattle.ipc_files.specs.Requests.{asked}
 use Rattle.ipc_files.specs.declared.metadata.FileMetadata.{FileMetadata}
 use Rattle.ipc_files.proofs.FieldWidths.{width_in, width_with}
 use Rattle.ipc_files.proofs.Picked.{all_picked}
-use Rattle.ipc_files.proofs.ReadBlocks.{block_ordered, block_read, message_refused, reading_sent}
+use Rattle.ipc_files.proofs.ReadBlocks.{ReadsPlain, block_ordered, block_read, message_refused, paired_read, paired_refused, reading_sent}
 
 -- of bytes that are told
 pub told : (content : Option (List ℕ)) (P Q : List ℕ → Type 0) → ((b : List ℕ) → content ≡ Some b → P b → Q b) → IfSome content P → IfSome content Q
@@ -42,7 +41,7 @@ told (Some b) P Q f h = f b refl h
 pub of_err : {A : Type 0} (result : Result A IpcError) (e : IpcError) (P : IpcError → Type 0) → result ≡ Err e → P e → IfErr result P
 of_err result e P is h = rw is h
 
--- ── the columns of a file that are built ──
+-- ── the byte order and the columns of a file ──
 
 pub order_as : (x : Bool) → order_by x ≡ (if x then little else big)
 order_as true = refl
@@ -67,27 +66,27 @@ pub refused_in : (content : Option (List ℕ)) (block : FileBlock) (e : IpcError
 refused_in None block e h = tt
 refused_in (Some b) block e h = h
 
-pub given_in : (content : Option (List ℕ)) (block : FileBlock) (m : MessageRead) → BlockIn content block (Ok m) → IfSome content (λ b. block_record b block ≡ Ok (message_of m))
+pub given_in : (content : Option (List ℕ)) (block : FileBlock) (m : BlockMessage) → BlockIn content block (Ok m) → IfSome content (λ b. block_record b block ≡ Ok (paired_of m))
 given_in None block m h = tt
 given_in (Some b) block m h = h
 
 -- what is said of it, whatever was read of the dictionaries that are held
-abbrev GivesAt : Option (List ℕ) → Held → Option (List ℕ) → Option ℕ → Bool → Fields → ℕ → RecordMessage → Body → Result Batch IpcError → Type 0
+abbrev GivesAt : Option (List ℕ) → Held → Option (List ℕ) → Option ℕ → Bool → Fields → ℕ → PairedMessage → Body → Result Batch IpcError → Type 0
 GivesAt content h columns left order fs size m body result = IfSome content (λ b. (d : Dictionaries) → HoldsCells d h → Gives table_of result (batch_reading columns left order fs d size m.version m.tables (bytes_in body b)))
 
-abbrev PartsAt : Option (List ℕ) → Held → Option (List ℕ) → Order → Fields → RecordMessage → Body → Result Batch IpcError → Type 0
+abbrev PartsAt : Option (List ℕ) → Held → Option (List ℕ) → Order → Fields → PairedMessage → Body → Result Batch IpcError → Type 0
 PartsAt content h columns order fs m body result =
     IfOk result (λ x. IfSome content (λ b. (d : Dictionaries) → HoldsCells d h → x.arrays ≡ chosen_read (record_batch_of order m.version m.tables (bytes_in body b)) h columns fs 0 first_place x.height))
 
-parts_under : (b : List ℕ) (h : Held) (d : Dictionaries) (columns : Option (List ℕ)) (order : Order) (fs : Fields) (m : RecordMessage) (body : Body) (result : Result Batch IpcError) → HoldsCells d h → PartsAt (Some b) h columns order fs m body result
+parts_under : (b : List ℕ) (h : Held) (d : Dictionaries) (columns : Option (List ℕ)) (order : Order) (fs : Fields) (m : PairedMessage) (body : Body) (result : Result Batch IpcError) → HoldsCells d h → PartsAt (Some b) h columns order fs m body result
     → IfOk result (λ x. x.arrays ≡ chosen_read (record_batch_of order m.version m.tables (bytes_in body b)) h columns fs 0 first_place x.height)
 parts_under b h d columns order fs m body (Ok x) holds parts = parts d holds
 parts_under b h d columns order fs m body (Err e) holds parts = tt
 
-pub block_answer : (content content' : Option (List ℕ)) (meta : Meta) (h : Held) (columns : Option (List ℕ)) (left : Option ℕ) (order : Bool) (size : ℕ) (block : FileBlock) (m : RecordMessage) (body : Body) (result : Result Batch IpcError)
+pub block_answer : (content content' : Option (List ℕ)) (meta : Meta) (h : Held) (columns : Option (List ℕ)) (left : Option ℕ) (order : Bool) (size : ℕ) (block : FileBlock) (m : PairedMessage) (body : Body) (result : Result Batch IpcError)
     → chosen_floats columns meta.schema.fields 0 ≡ [] → are_rising columns ≡ true → are_columns columns (width meta.schema.fields) ≡ true → order_by order ≡ meta.schema.order → content' ≡ content → body ≡ body_place block → IsSize content size
     → IfSome content (λ b. block_record b block ≡ Ok m) → HeaderFits m.tables
-    → GivesAt content' h columns left order meta.schema.fields size m body result → PartsAt content' h columns (order_by order) meta.schema.fields m body result → IfSome content (λ b. (d : Dictionaries) → HoldsCells d h → ReadsBlock b h (asked_under b meta d (asked columns left)) block left result)
+    → GivesAt content' h columns left order meta.schema.fields size m body result → PartsAt content' h columns (order_by order) meta.schema.fields m body result → IfSome content (λ b. (d : Dictionaries) → HoldsCells d h → ReadsPlain b h (asked_under b meta d (asked columns left)) block left m result)
 block_answer None content' meta h columns left order size block m body result floats rising range first kept place whole is fits gives parts = tt
 block_answer (Some b) content' meta h columns left order size block m body result floats rising range first kept place whole is fits gives parts =
     let fs = meta.schema.fields in
@@ -104,17 +103,32 @@ block_answer (Some b) content' meta h columns left order size block m body resul
     block_read b h (asked_under b meta d (asked columns left)) left block m result is fits (subst (λ r. Gives table_of result r) read (g3 d holds)) (parts_under b h d columns meta.schema.order fs m (body_place block) result holds p3)
     (λ rows. all_picked (record_batch_of meta.schema.order m.version m.tables body') h columns fs rows rising range)
 
+-- a batch is given the pairs of its block's message
+pub block_paired : (content : Option (List ℕ)) (h : Held) (meta : Meta) (columns : Option (List ℕ)) (left : Option ℕ) (block : FileBlock) (m : PairedMessage) (x y : Batch) → CustomMayBeWritten m.custom → y ≡ record { height = x.height; schema = x.schema; arrays = x.arrays; custom = m.custom }
+    → IfSome content (λ b. (d : Dictionaries) → HoldsCells d h → ReadsPlain b h (asked_under b meta d (asked columns left)) block left m (Ok x))
+    → IfSome content (λ b. (d : Dictionaries) → HoldsCells d h → ReadsBlock b h (asked_under b meta d (asked columns left)) block left (Ok y))
+block_paired content h meta columns left block m x y ordered is read =
+    told content _ _ (λ b s r d holds. paired_read b h (asked_under b meta d (asked columns left)) left block m x y ordered is (r d holds)) read
+
+-- or was not read
+pub block_unpaired : (content : Option (List ℕ)) (h : Held) (meta : Meta) (columns : Option (List ℕ)) (left : Option ℕ) (block : FileBlock) (m : PairedMessage) (result : Result Batch IpcError) (e : IpcError) → result ≡ Err e
+    → IfSome content (λ b. (d : Dictionaries) → HoldsCells d h → ReadsPlain b h (asked_under b meta d (asked columns left)) block left m (Err e))
+    → IfSome content (λ b. (d : Dictionaries) → HoldsCells d h → ReadsBlock b h (asked_under b meta d (asked columns left)) block left result)
+block_unpaired content h meta columns left block m result e is read =
+    told content _ _ (λ b s r d holds. subst (λ q. ReadsBlock b h (asked_under b meta d (asked columns left)) block left q) (sym is) (paired_refused b h (asked_under b meta d (asked columns left)) left block m e (r d holds))) read
+
 -- ── the columns in the order asked ──
 
 -- a batch in the order asked, of one that was read by rising numbers
 pub record IsOrdered (count : ℕ) (rising cs : List ℕ) (x y : Batch) : Type 0 where
   pub rows : y.height ≡ x.height
   pub picked : (all : List Parts) → length all ≡ count → ArePicked all rising x.arrays → ArePicked all cs y.arrays
+  pub custom : y.custom ≡ x.custom
 
 pub ordered_answer : (content : Option (List ℕ)) (h : Held) (meta : Meta) (d : Dictionaries) (rising cs : List ℕ) (left : Option ℕ) (block : FileBlock) (x y : Batch) → ((c : ℕ) → stands_in rising c ≡ stands_in cs c) → columns_right (Some cs) (width meta.schema.fields) ≡ Ok tt → IsOrdered (width meta.schema.fields) rising cs x y
     → IfSome content (λ b. ReadsBlock b h (asked_under b meta d (asked (Some rising) left)) block left (Ok x)) → IfSome content (λ b. ReadsBlock b h (asked_under b meta d (asked (Some cs) left)) block left (Ok y))
 ordered_answer content h meta d rising cs left block x y same right order read =
-    told content _ _ (λ b s r. record { read = block_ordered b h (asked_under b meta d (asked (Some cs) left)) rising cs block left x y same right order.rows order.picked r.read; refused = tt }) read
+    told content _ _ (λ b s r. record { read = block_ordered b h (asked_under b meta d (asked (Some cs) left)) rising cs block left x y same right order.rows order.custom order.picked r.read; refused = tt }) read
 
 -- want of memory refuses any block
 pub memory_refused : (content : Option (List ℕ)) (h : Held) (a : List ℕ → Asked) (left : Option ℕ) (block : FileBlock) (result : Result Batch IpcError) → result ≡ Err errors.Memory → IfSome content (λ b. ReadsBlock b h (a b) block left result)

@@ -1,5 +1,5 @@
 -- What was read of a file's bytes fits: its schema may be written, and the numbers of a block's message have 64 bits.
-use Rattle.std.proofs.Common.{◌≡◌, ℕ, ◌^◌, ◌<◌, List, [], Result, Ok, Err, IfOk, true, ap, sym, ◌∙◌, subst}
+use Rattle.std.proofs.Common.{◌≡◌, ℕ, ◌^◌, ◌<◌, List, [], None, Result, Ok, Err, IfOk, true, ap, sym, ◌∙◌, subst, arith}
 use Rattle.std.specs.Rc.{rc_value}
 use Rattle.arrow_spec.specs.declared.error.IpcError.{IpcError}
 use Rattle.arrow_spec.specs.Files.{Meta, meta_in}
@@ -9,10 +9,10 @@ use Rattle.arrow_spec.proofs.ReadPairs.{same_read, through}
 use Rattle.ipc_fields.specs.Causes.{Decodes}
 use Rattle.arrow_spec.specs.Kinds.{uses_in}
 use Rattle.arrow_spec.specs.Schema.{uses_agree}
-use Rattle.arrow_spec.specs.WrittenSchemas.{IdsMayBeWritten, SchemaMayBeWritten}
+use Rattle.arrow_spec.specs.WrittenSchemas.{CustomMayBeWritten, IdsMayBeWritten, SchemaMayBeWritten}
 use Rattle.arrow_spec.proofs.ReadFiles.{footer_schema_may}
 use Rattle.arrow_types.specs.Schemas.{Keyed, fields_in}
-use Rattle.ipc_fields.specs.IpcFields.{have_shapes, ids_of, schema_view}
+use Rattle.ipc_fields.specs.IpcFields.{have_shapes, ids_of, metadata_of, schema_view}
 use Rattle.ipc_schema.specs.Footers.{footer_view}
 use Rattle.ipc_schema.specs.Headers.{DictionaryTables, dictionary_message, dictionary_message_of}
 use Rattle.ipc_schema.specs.Views.{header_of, message_of}
@@ -45,9 +45,9 @@ dictionary_fits bytes (Ok m) b h = values_fits bytes (dictionary_message_of m) b
 dictionary_fits bytes (Err e) b h = tt
 
 -- metadata means what its footer does, whose schema it shares
-pub same_meta : (m : FileMetadata) (footer : Footer) → rc_value m.schema ≡ footer.schema → m.ipc_schema ≡ footer.ipc_schema → m.custom_schema_metadata ≡ footer.custom_metadata → m.blocks ≡ footer.blocks → m.dictionaries ≡ footer.dictionaries → meta_view m ≡ footer_view footer
+pub same_meta : (m : FileMetadata) (footer : Footer) → rc_value m.schema ≡ footer.schema → m.ipc_schema ≡ footer.ipc_schema → m.custom_schema_metadata ≡ footer.custom_schema_metadata → m.blocks ≡ footer.blocks → m.dictionaries ≡ footer.dictionaries → meta_view m ≡ footer_view footer
 same_meta m footer s i p b d =
-    let by : List Keyed → Meta = λ k. record { schema = schema_view (k, footer.ipc_schema, footer.custom_metadata); blocks = (footer_view footer).blocks; dictionaries = (footer_view footer).dictionaries } in
+    let by : List Keyed → Meta = λ k. record { schema = schema_view (k, footer.ipc_schema, footer.custom_schema_metadata); blocks = (footer_view footer).blocks; dictionaries = (footer_view footer).dictionaries } in
     rw (i, p, b, d) (ap by s)
 
 -- and says what its footer does
@@ -65,11 +65,12 @@ footer_ids bytes (Err e) b h = tt
 
 -- metadata
 pub was_read : (m : FileMetadata) (footer : Footer) → SchemaMayBeWritten (footer_view footer).schema.fields (footer_view footer).schema.metadata → IdsMayBeWritten (footer_view footer).schema.fields → meta_view m ≡ footer_view footer → rc_value m.schema ≡ footer.schema → m.ipc_schema ≡ footer.ipc_schema
-    → have_shapes (fields_in footer.schema) (ids_of footer.ipc_schema.fields.items) ≡ true → m.size < 2 ^ 63 → WasRead m
-was_read m footer may ids same schema ipc shapes most =
+    → have_shapes (fields_in footer.schema) (ids_of footer.ipc_schema.fields.items) ≡ true → m.size < 2 ^ 63 → m.custom_metadata ≡ None → WasRead m
+was_read m footer may ids same schema ipc shapes most none =
     let is : SchemaMayBeWritten (meta_view m).schema.fields (meta_view m).schema.metadata = subst (λ (x : Meta). SchemaMayBeWritten x.schema.fields x.schema.metadata) (sym same) may in
     record {
       may = is;
+      custom = subst CustomMayBeWritten (sym (ap metadata_of none)) (record { ascend = tt; few = omega arith });
       readable = record {
         shapes = rw (schema, ipc) shapes;
         columns = fields_column 64 (meta_view m).schema.fields is.fit;

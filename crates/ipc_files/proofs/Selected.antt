@@ -59,6 +59,7 @@ selected_answer content held file d columns p rising left block x (Ok y) same h 
     (ordered_answer content held (meta_view file) d p.columns.items h.numbers left block x y h.is.same here (record {
       rows = order.height;
       picked = λ all many picked. reordered_picked s h.numbers p x y h.is order (asked_below s h.numbers p h.is) all (many ∙ count) picked;
+      custom = order.custom;
     }) (subst (λ ds. ReadsRising content held file d ds block left (Ok x)) same read))
 selected_answer content held file d columns p rising left block x (Err e) same h right order memory read =
     memory_refused content held (λ b. asked_under b (meta_view file) d (asked columns left)) left block (Err e) (ap Err memory)

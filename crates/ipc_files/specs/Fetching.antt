@@ -3,12 +3,11 @@ use Rattle.std.specs.Prelude.{◌≡◌, ℕ, ◌+◌, ◌≤◌, List, take, dr
 use Rattle.arrow_spec.specs.Readings.{Reading, meaning}
 use Rattle.arrow_spec.specs.Arrays.{Dictionaries}
 use Rattle.arrow_spec.specs.Files.{FileBlock, Meta, Request, TableBatch, batch_of, footer_of, to_read}
-use Rattle.arrow_spec.specs.Messages.{RecordMessage, prefix_of}
+use Rattle.arrow_spec.specs.Messages.{prefix_of}
 use Rattle.arrow_spec.specs.Needed.{lengths, or_nothing}
 use Rattle.file_laws.specs.Fetched.{batch_fetched}
 use Rattle.ipc_files.specs.Blocks.{asked_under}
-use Rattle.ipc_files.specs.FileBlocks.{block_metadata, block_record, message_metadata}
-use Rattle.transcode_laws.specs.Built.{so_far}
+use Rattle.ipc_files.specs.FileBlocks.{PairedMessage, block_metadata, block_record, message_metadata}
 
 -- a prefix with the metadata behind it
 abbrev pub both_of : Reading (ℕ × ℕ) → ℕ
@@ -38,13 +37,13 @@ MetadataFetched (Some b) block fetched fetched' = (bytes : List ℕ) → message
 -- of a block's message, at most its prefix and its metadata
 abbrev pub MessageFetched : Option (List ℕ) → FileBlock → ℕ → ℕ → Type 0
 MessageFetched None block fetched fetched' = ⊤
-MessageFetched (Some b) block fetched fetched' = (m : RecordMessage) → block_record b block ≡ Ok m → fetched' ≤ fetched + message_cost b block
+MessageFetched (Some b) block fetched fetched' = (m : PairedMessage) → block_record b block ≡ Ok m → fetched' ≤ fetched + message_cost b block
 
 -- of a block that means a batch under any dictionaries, at most what it costs
 abbrev pub BlockFetched : Option (List ℕ) → Meta → Request → FileBlock → Option ℕ → ℕ → ℕ → Type 0
 BlockFetched None meta r block left fetched fetched' = ⊤
 BlockFetched (Some b) meta r block left fetched fetched' =
-    (d : Dictionaries) (x : TableBatch) → batch_of so_far.custom to_read b (asked_under b meta d r) block left ≡ Ok x → fetched' ≤ fetched + block_cost b meta r block left
+    (d : Dictionaries) (x : TableBatch) → batch_of to_read b (asked_under b meta d r) block left ≡ Ok x → fetched' ≤ fetched + block_cost b meta r block left
 
 -- of a footer, at most the end of the file and its own length
 abbrev pub FooterFetched : Option (List ℕ) → ℕ → ℕ → Type 0

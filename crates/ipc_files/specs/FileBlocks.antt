@@ -1,27 +1,38 @@
 -- What is read of a file's footer and of its blocks.
-use Rattle.std.specs.Prelude.{◌≡◌, ◌⊎◌, ℕ, ◌+◌, ◌≤◌, List, [], length, take, drop, ⊤, Option, Some, None, Ok, Result, nat_le}
+use Rattle.std.specs.Prelude.{◌≡◌, ◌⊎◌, ℕ, ◌+◌, ◌≤◌, List, length, take, drop, ⊤, Option, Some, None, Ok, Result, nat_le}
 use Rattle.arrow_spec.specs.declared.error.IpcError.{IpcError}
 use Rattle.arrow_spec.specs.declared.error.IpcError.TheVariants as errors
 use Rattle.arrow_spec.specs.declared.error.OutOfSpecKind.TheVariants as kinds
 use Rattle.arrow_spec.specs.Readings.{Reading, Gives, ◌>>=◌, only_if}
-use Rattle.arrow_spec.specs.Messages.{RecordMessage, message_pairs, prefix_of, record_message}
-use Rattle.transcode_laws.specs.Built.{so_far}
+use Rattle.arrow_spec.specs.declared.message.MetadataVersion.{MetadataVersion}
+use Rattle.arrow_spec.specs.Messages.{BatchHeader, RecordMessage, message_pairs, prefix_of, record_message}
+use Rattle.ipc_fields.specs.IpcFields.{metadata_of}
 use Rattle.arrow_spec.specs.Kinds.{Metadata}
 use Rattle.arrow_spec.specs.Files.{FileBlock}
 pub use Rattle.ipc_schema.specs.Footers.{file_block}
 use Rattle.ipc_schema.specs.Views.{message_of}
-use Rattle.ipc_schema.specs.declared.message.RecordMessage.{RecordMessage as MessageRead}
+use Rattle.ipc_files.specs.declared.block.BlockMessage.{BlockMessage}
 
 -- the metadata of a block
 abbrev pub block_metadata : List ℕ → FileBlock → List ℕ
 block_metadata b block = take block.metadata (drop block.offset b)
 
--- the message of a record batch by its metadata, which has no pairs that are not carried
-unfoldable pub plain_message : List ℕ → Reading RecordMessage
-plain_message bytes = do
+-- the tables, the version and the pairs of a record batch's message
+pub record PairedMessage : Type 0 where
+  pub tables : BatchHeader
+  pub version : MetadataVersion
+  pub custom : Metadata
+
+-- the message of a record batch by its metadata
+unfoldable pub paired_message : List ℕ → Reading PairedMessage
+paired_message bytes = do
   m ← record_message bytes
-  pairs ← message_pairs so_far.custom bytes
-  Ok m
+  custom ← message_pairs bytes
+  Ok (record { tables = m.tables; version = m.version; custom = custom })
+
+-- what was read of one
+abbrev pub paired_of : BlockMessage → PairedMessage
+paired_of m = record { tables = (message_of m.message).tables; version = (message_of m.message).version; custom = metadata_of m.custom_metadata }
 
 -- the metadata of the message in a block, behind its prefix
 unfoldable pub message_metadata : List ℕ → FileBlock → Reading (List ℕ)
@@ -31,10 +42,10 @@ message_metadata b block = do
   Ok (take prefix.1 (drop (block.offset + prefix.0) b))
 
 -- the message of a record batch in a block
-unfoldable pub block_record : List ℕ → FileBlock → Reading RecordMessage
-block_record b block = message_metadata b block >>= λ bytes. plain_message bytes
+unfoldable pub block_record : List ℕ → FileBlock → Reading PairedMessage
+block_record b block = message_metadata b block >>= λ bytes. paired_message bytes
 
--- the same whatever pairs it has
+-- the same but for its pairs, which are not looked at
 unfoldable pub block_header : List ℕ → FileBlock → Reading RecordMessage
 block_header b block = message_metadata b block >>= λ bytes. record_message bytes
 
@@ -61,15 +72,11 @@ PrefixIn None at size r = ⊤
 PrefixIn (Some b) at size r = Gives (λ p. p) r (prefix_of (take size (drop at b)))
 
 -- the record batch's message of a block
-abbrev pub BlockIn : Option (List ℕ) → FileBlock → Result MessageRead IpcError → Type 0
+abbrev pub BlockIn : Option (List ℕ) → FileBlock → Result BlockMessage IpcError → Type 0
 BlockIn None block r = ⊤
-BlockIn (Some b) block r = Gives message_of r (block_record b block)
+BlockIn (Some b) block r = Gives paired_of r (block_record b block)
 
 -- a call gives what a reading says of the bytes
 abbrev pub GivesIn : {X Y : Type 0} → Option (List ℕ) → (X → Y) → Result X IpcError → (List ℕ → Reading Y) → Type 0
 GivesIn None view r reading = ⊤
 GivesIn (Some b) view r reading = Gives view r (reading b)
-
--- no pairs
-abbrev pub no_map : Unit {0} → Metadata
-no_map u = []

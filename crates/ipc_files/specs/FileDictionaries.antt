@@ -12,7 +12,6 @@ use Rattle.arrow_spec.specs.Kinds.{same}
 use Rattle.arrow_spec.specs.Needed.{lengths, or_nothing}
 use Rattle.arrow_arrays.specs.declared.array.Array.{Array}
 use Rattle.file_laws.specs.Fetched.{dictionary_fetched}
-use Rattle.transcode_laws.specs.Built.{so_far}
 use Rattle.transcode_laws.specs.Files.{HeaderFits}
 use Rattle.ipc_schema.specs.Headers.{DictionaryTables, dictionary_message, dictionary_message_of}
 use Rattle.ipc_schema.specs.declared.message.DictionaryMessage.{DictionaryMessage}
@@ -82,5 +81,5 @@ DictionariesFetched (Some b) meta fetched fetched' = (d : Dictionaries) → dict
 abbrev pub FirstFetched : Option (List ℕ) → Meta → Request → FileBlock → Option ℕ → ℕ → ℕ → Type 0
 FirstFetched None meta r block left fetched fetched' = ⊤
 FirstFetched (Some b) meta r block left fetched fetched' =
-    (d : Dictionaries) (x : TableBatch) → dictionaries_of b meta [] meta.dictionaries ≡ Ok d → batch_of so_far.custom to_read b (asked_under b meta d r) block left ≡ Ok x
+    (d : Dictionaries) (x : TableBatch) → dictionaries_of b meta [] meta.dictionaries ≡ Ok d → batch_of to_read b (asked_under b meta d r) block left ≡ Ok x
     → fetched' ≤ fetched + (dictionaries_cost b meta meta.dictionaries + block_cost b meta r block left)

@@ -4,13 +4,12 @@ use Rattle.std.specs.Rc.{rc_value}
 use Rattle.arrow_spec.specs.declared.error.IpcError.{IpcError}
 use Rattle.arrow_spec.specs.declared.error.IpcError.TheVariants.{OutOfSpec, Unsupported, TooMany, TooDeep, ReadFault, Memory}
 use Rattle.arrow_spec.specs.Files.{Meta, custom_of, meta_of}
-use Rattle.arrow_spec.specs.Kinds.{uses_in}
+use Rattle.arrow_spec.specs.Kinds.{Metadata, uses_in}
 use Rattle.arrow_spec.specs.Schema.{uses_agree}
-use Rattle.arrow_spec.specs.WrittenSchemas.{SchemaMayBeWritten}
+use Rattle.arrow_spec.specs.WrittenSchemas.{CustomMayBeWritten, SchemaMayBeWritten}
 use Rattle.arrow_types.specs.Schemas.{fields_in}
-use Rattle.ipc_fields.specs.IpcFields.{have_shapes, ids_of, schema_view}
+use Rattle.ipc_fields.specs.IpcFields.{have_shapes, ids_of, metadata_of, schema_view}
 use Rattle.ipc_io.specs.Outside.{Rose}
-use Rattle.transcode_laws.specs.Built.{so_far}
 use Rattle.ipc_read.specs.Batches.{are_column_fields}
 use Rattle.ipc_files.specs.FileBlocks.{file_block}
 use Rattle.ipc_files.specs.declared.metadata.FileMetadata.{FileMetadata}
@@ -22,10 +21,14 @@ meta_view m = record {
   dictionaries = map file_block m.dictionaries.items;
 }
 
--- what the footer of a file says, which has no pairs that are not carried
-pub record FileSays (b : List ℕ) (meta : Meta) : Type 0 where
+-- the footer's own pairs
+abbrev pub file_custom : FileMetadata → Metadata
+file_custom m = metadata_of m.custom_metadata
+
+-- what the footer of a file says, and its own pairs
+pub record FileSays (b : List ℕ) (meta : Meta) (custom : Metadata) : Type 0 where
   pub read : meta_of b ≡ Ok meta
-  pub no_pairs : custom_of so_far.custom b ≡ Ok []
+  pub pairs : custom_of b ≡ Ok custom
 
 -- metadata by which batches are read: the IPC fields are those of its schema, its columns may be read (no size is 0, lists and maps have one child, and a
 -- map's is a struct of two fields), the uses of each dictionary agree, and the file's size is below 2^63
@@ -35,9 +38,10 @@ pub record IsReadable (m : FileMetadata) : Type 0 where
   pub agree : uses_agree [] (uses_in (meta_view m).schema.fields) ≡ Ok tt
   pub most : m.size < 2 ^ 63
 
--- metadata that was read of bytes: its schema may be written too
+-- metadata that was read of bytes: its schema and its pairs may be written too
 pub record WasRead (m : FileMetadata) : Type 0 where
   pub may : SchemaMayBeWritten (meta_view m).schema.fields (meta_view m).schema.metadata
+  pub custom : CustomMayBeWritten (file_custom m)
   pub readable : IsReadable m
 
 -- why metadata is refused: what the bytes say, want of memory, or a fault of the source

@@ -37,7 +37,7 @@ pub(crate) fn place_of_body(block: &Block) -> Body
 }
 
 /// The record batch of a block under the dictionaries that are held, of columns whose numbers rise, or of all, and as far
-/// as rows are left to be read.
+/// as rows are left to be read, with the pairs of its message.
 pub fn read_block<S: Source>(
     alloc: Global,
     source: &mut S,
@@ -61,26 +61,28 @@ pub fn read_block<S: Source>(
     ensures fetched { BlockFetched (S.content source.old) (meta_view file.now) (asked (columns_of projection.entry) left) (file_block block.now) left (S.fetched source.old) (S.fetched source.new) }
     ensures kept { SourceKept S.content S.faults S.references source.old source.new }
 {
-    let message = read_block_message(alloc, source, block, file.size)?;
-    read_record_batch(
+    let read = read_block_message(alloc, source, block, file.size)?;
+    let batch = read_record_batch(
         alloc,
-        &message.header,
+        &read.message.header,
         &file.schema,
         &file.ipc_schema,
         projection,
         left,
         dictionaries,
-        message.version,
+        read.message.version,
         source,
         place_of_body(block),
         file.size,
         scratch,
-    )
+    )?;
+    Ok(batch.with_optional_metadata(read.custom_metadata))
 }
 
 /// Reads the record batch of the block `index` under the dictionaries that are held: the columns whose numbers are asked
 /// for, which rise, or all, and as far as their first `limit` rows go, or whole, in either byte order. Of the block, its
-/// prefix, its metadata and the buffers that are needed are read; of a column that is not asked for, no buffer is. One
+/// prefix, its metadata and the buffers that are needed are read; of a column that is not asked for, no buffer is. The batch
+/// has the pairs of the block's message. One
 /// batch is in memory. The parts that are held under an id are of the kind of the values of the columns that have it.
 ///
 /// # Errors
@@ -88,7 +90,7 @@ pub fn read_block<S: Source>(
 /// `Unsupported(Float)` and `Unsupported(Decimal256)` by the columns' kinds, before the block is looked at; `OutOfSpec`
 /// with the kind of the part of the block that is not as the format says; `InvalidId` and `InvalidKey` for keys whose
 /// values are not held; `Unsupported(Version)`, `Unsupported(Compression)`, `Unsupported(ViewBigEndian)`,
-/// `Unsupported(NotYet)` for pairs of the block's message; `ReadFault`, `Memory`.
+/// `TooMany(Pairs)` for over 1,048,576 pairs of the block's message; `ReadFault`, `Memory`.
 pub fn read_batch<S: Source>(
     alloc: Global,
     source: &mut S,

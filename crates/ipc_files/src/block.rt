@@ -4,8 +4,9 @@ ghost use Rattle.ipc_fields.specs.Causes.{Decodes};
 ghost use Rattle.ipc_io.specs.Outside.{IsSize, SourceKept};
 ghost use Rattle.ipc_schema.specs.Headers.{dictionary_message, dictionary_message_of};
 ghost use Rattle.ipc_schema.specs.Views.{header_of, message_of};
+ghost use Rattle.arrow_spec.specs.WrittenSchemas.{CustomMayBeWritten};
 ghost use Rattle.transcode_laws.specs.Files.{HeaderFits};
-ghost use Rattle.ipc_files.specs.FileBlocks.{block_header, message_metadata, plain_message, Lies, PrefixIn, BlockIn, GivesIn, file_block};
+ghost use Rattle.ipc_files.specs.FileBlocks.{block_header, message_metadata as metadata_at, paired_message, paired_of, Lies, PrefixIn, BlockIn, GivesIn, file_block};
 ghost use Rattle.ipc_files.specs.FileDictionaries.{DictionaryIn};
 ghost use Rattle.ipc_files.specs.FileViews.{FileCause};
 ghost use Rattle.ipc_files.specs.Fetching.{FrontFetched, MessageFetched, MetadataFetched};
@@ -13,11 +14,19 @@ ghost use Rattle.ipc_files.specs.Fetching.{FrontFetched, MessageFetched, Metadat
 use crate::fetch::fetch;
 use crate::integers::magnitude;
 use arrow_spec::{Block, IpcError, OutOfSpecKind};
+use arrow_types::Metadata;
 use ipc_schema::{
-    DictionaryMessage, RecordMessage, Source, is_continuation, metadata_length,
-    read_dictionary_message, read_record_message, refuse_message_pairs,
+    DictionaryMessage, RecordMessage, Source, is_continuation, message_metadata, metadata_length,
+    read_dictionary_message, read_record_message,
 };
 use std::alloc::Global;
+
+/// The message of a record batch and its pairs, none where there are none.
+#[derive(Drop)]
+pub(crate) struct BlockMessage {
+    pub(crate) message: RecordMessage,
+    pub(crate) custom_metadata: Option<Metadata>,
+}
 
 /// Where the metadata begins behind a place, and its length, in a message whose prefix and metadata take `size` bytes
 /// there. What follows the prefix is not read.
@@ -50,15 +59,19 @@ fn read_prefix<S: Source>(
     metadata_length(&four, 8, size)
 }
 
-/// The record batch's message in some bytes, which has no pairs that are not carried.
-#[tactic(auto, unfolding(arrow_spec::specs::Readings::bind, crate::specs::FileBlocks::plain_message))]
-fn message_in(alloc: Global, bytes: &[u8]) -> Result<RecordMessage, IpcError>
-    ensures gives { Decodes message_of result (plain_message bytes.now) }
-    ensures fits { IfOk result (λ m. HeaderFits (message_of m).tables) }
+/// The record batch's message in some bytes.
+#[tactic(auto, unfolding(arrow_spec::specs::Readings::bind, crate::specs::FileBlocks::paired_message))]
+fn message_in(alloc: Global, bytes: &[u8]) -> Result<BlockMessage, IpcError>
+    ensures gives { Decodes paired_of result (paired_message bytes.now) }
+    ensures fits { IfOk result (λ m. HeaderFits (paired_of m).tables) }
+    ensures ordered { IfOk result (λ m. CustomMayBeWritten (paired_of m).custom) }
 {
     let message = read_record_message(alloc, bytes)?;
-    refuse_message_pairs(bytes)?;
-    Ok(message)
+    let custom_metadata = message_metadata(alloc, bytes)?;
+    Ok(BlockMessage {
+        message,
+        custom_metadata,
+    })
 }
 
 /// The message of a dictionary in some bytes.
@@ -79,7 +92,7 @@ fn fetch_metadata<S: Source>(
 ) -> Result<Vec<u8>, IpcError>
     requires { IsSize (S.content source.old) size }
     ensures within { OnOk result ((file_block block.now).offset + (file_block block.now).metadata + (file_block block.now).body ≤ size) }
-    ensures metadata { GivesIn (S.content source.old) (λ v. v.items) result (λ b. message_metadata b (file_block block.now)) }
+    ensures metadata { GivesIn (S.content source.old) (λ v. v.items) result (λ b. metadata_at b (file_block block.now)) }
     ensures cause { IfErr result (λ e. FileCause e (S.faults source.old) (S.faults source.new)) }
     ensures fetched { MetadataFetched (S.content source.old) (file_block block.now) (S.fetched source.old) (S.fetched source.new) }
     ensures kept { SourceKept S.content S.faults S.references source.old source.new }
@@ -99,18 +112,19 @@ fn fetch_metadata<S: Source>(
 /// # Errors
 ///
 /// `OutOfSpec(BlockRange)` where the block passes the end of the file, `OutOfSpec` with the kind of the part that is not
-/// as the format says, `Unsupported(Version)`, `Unsupported(NotYet)` for pairs, `ReadFault` and `Memory`.
+/// as the format says, `Unsupported(Version)`, `TooMany(Pairs)`, `ReadFault` and `Memory`.
 #[tactic(auto, using(crate::proofs::FetchedFiles::message_fetched))]
 pub(crate) fn read_block_message<S: Source>(
     alloc: Global,
     source: &mut S,
     block: &Block,
     size: u64,
-) -> Result<RecordMessage, IpcError>
+) -> Result<BlockMessage, IpcError>
     requires { IsSize (S.content source.old) size }
     ensures within { OnOk result ((file_block block.now).offset + (file_block block.now).metadata + (file_block block.now).body ≤ size) }
     ensures message { BlockIn (S.content source.old) (file_block block.now) result }
-    ensures fits { IfOk result (λ m. HeaderFits (message_of m).tables) }
+    ensures fits { IfOk result (λ m. HeaderFits (paired_of m).tables) }
+    ensures ordered { IfOk result (λ m. CustomMayBeWritten (paired_of m).custom) }
     ensures cause { IfErr result (λ e. FileCause e (S.faults source.old) (S.faults source.new)) }
     ensures fetched { MessageFetched (S.content source.old) (file_block block.now) (S.fetched source.old) (S.fetched source.new) }
     ensures kept { SourceKept S.content S.faults S.references source.old source.new }

@@ -2,14 +2,13 @@
 ghost use Rattle.std.specs.Prelude.{◌≡◌, ◌<◌, ◌^◌, true, length, None, IfOk, IfErr, IfSome};
 ghost use Rattle.arrow_spec.specs.Readings.{Gives, Refuses, refusals};
 ghost use Rattle.arrow_spec.specs.Files.{Request, file_reading, footer_of, meta_in, meta_of, to_send};
-ghost use Rattle.arrow_spec.specs.WrittenSchemas.{IdsMayBeWritten, SchemaMayBeWritten};
+ghost use Rattle.arrow_spec.specs.WrittenSchemas.{CustomMayBeWritten, IdsMayBeWritten, SchemaMayBeWritten};
 ghost use Rattle.arrow_types.specs.Schemas.{fields_in};
-ghost use Rattle.ipc_fields.specs.IpcFields.{have_shapes, ids_of, metadata_in};
+ghost use Rattle.ipc_fields.specs.IpcFields.{have_shapes, ids_of, metadata_in, metadata_of};
 ghost use Rattle.ipc_fields.specs.Causes.{Decodes};
 ghost use Rattle.ipc_schema.specs.Footers.{footer_view};
-ghost use Rattle.transcode_laws.specs.Built.{so_far};
 ghost use Rattle.ipc_files.specs.FileBlocks.{GivesIn};
-ghost use Rattle.ipc_files.specs.FileViews.{meta_view, FileCause, FileSays, WasRead};
+ghost use Rattle.ipc_files.specs.FileViews.{file_custom, meta_view, FileCause, FileSays, WasRead};
 ghost use Rattle.ipc_files.specs.Fetching.{FooterFetched};
 ghost use Rattle.ipc_io.specs.Outside.{IsSize, SourceKept};
 
@@ -17,18 +16,19 @@ use crate::fetch::fetch;
 use arrow_spec::{Block, IpcError, OutOfSpecKind};
 use arrow_types::{ArrowSchemaRef, Metadata};
 use ipc_schema::{
-    Footer, IpcSchema, Source, decode_footer_len, deserialize_footer, refuse_footer_pairs,
+    Footer, IpcSchema, Source, decode_footer_len, deserialize_schema_and_blocks, footer_metadata,
 };
 use std::alloc::Global;
 use std::rc::Rc;
 
-/// The schema with its IPC schema and its metadata, the blocks of record batches and of dictionaries in the footer's
-/// order, and the file's size in bytes.
+/// The schema with its IPC schema and its metadata, the footer's own pairs, the blocks of record batches and of dictionaries
+/// in the footer's order, and the file's size in bytes.
 #[derive(Drop)]
 pub struct FileMetadata {
     pub schema: ArrowSchemaRef,
     pub ipc_schema: IpcSchema,
     pub custom_schema_metadata: Option<Metadata>,
+    pub custom_metadata: Option<Metadata>,
     pub blocks: Vec<Block>,
     pub dictionaries: Vec<Block>,
     pub size: u64,
@@ -80,10 +80,10 @@ fn footer_in(alloc: Global, bytes: &[u8]) -> Result<Footer, IpcError>
     ensures ids { IfOk result (λ f. IdsMayBeWritten (footer_view f).schema.fields) }
     ensures shapes { IfOk result (λ f. have_shapes (fields_in f.schema) (ids_of f.ipc_schema.fields.items) ≡ true) }
 {
-    deserialize_footer(alloc, bytes)
+    deserialize_schema_and_blocks(alloc, bytes)
 }
 
-/// What a footer says of its file.
+/// What a footer says of its file, but for its own pairs.
 fn metadata_in(alloc: Global, footer: &FooterBytes) -> Result<FileMetadata, IpcError>
     requires { footer.now.size < 2 ^ 63 }
     ensures gives { Decodes meta_view result (meta_in footer.now.bytes.items) }
@@ -95,18 +95,16 @@ fn metadata_in(alloc: Global, footer: &FooterBytes) -> Result<FileMetadata, IpcE
     Ok(FileMetadata {
         schema,
         ipc_schema: footer_read.ipc_schema,
-        custom_schema_metadata: footer_read.custom_metadata,
+        custom_schema_metadata: footer_read.custom_schema_metadata,
+        custom_metadata: None,
         blocks: footer_read.blocks,
         dictionaries: footer_read.dictionaries,
         size: footer.size,
     })
 }
 
-/// Reads the footer of a file. Its own pairs are not looked at.
-pub fn read_file_metadata<S: Source>(
-    alloc: Global,
-    source: &mut S,
-) -> Result<FileMetadata, IpcError>
+/// Reads the footer of a file. Its own pairs are not looked at, and none are given.
+pub fn read_file_schema<S: Source>(alloc: Global, source: &mut S) -> Result<FileMetadata, IpcError>
     ensures gives { IfSome (S.content source.old) (λ b. Gives meta_view result (meta_of b)) }
     ensures size { IfOk result (λ m. IsSize (S.content source.old) m.size) }
     ensures read { IfOk result WasRead }
@@ -118,13 +116,36 @@ pub fn read_file_metadata<S: Source>(
     metadata_in(alloc, &footer)
 }
 
-/// Reads the footer of a file that is to be sent: pairs of its own are refused, since they are not carried yet.
-pub fn read_plain_metadata<S: Source>(
+/// The metadata with the footer's own pairs.
+fn with_pairs(file: FileMetadata, custom_metadata: Option<Metadata>) -> FileMetadata
+    ensures view { meta_view result ≡ meta_view file }
+    ensures custom { file_custom result ≡ metadata_of custom_metadata }
+    ensures size { result.size ≡ file.size }
+    ensures read { WasRead file → CustomMayBeWritten (metadata_of custom_metadata) → WasRead result }
+{
+    FileMetadata {
+        schema: file.schema,
+        ipc_schema: file.ipc_schema,
+        custom_schema_metadata: file.custom_schema_metadata,
+        custom_metadata,
+        blocks: file.blocks,
+        dictionaries: file.dictionaries,
+        size: file.size,
+    }
+}
+
+/// Reads the footer of a file.
+///
+/// # Errors
+///
+/// `OutOfSpec` with the kind of the part that is not as the format says, what `read_schema` answers, `TooMany(Pairs)` over
+/// 1,048,576 pairs of the footer itself, `ReadFault` and `Memory`.
+pub fn read_file_metadata<S: Source>(
     alloc: Global,
     source: &mut S,
 ) -> Result<FileMetadata, IpcError>
-    ensures says { IfOk result (λ m. IfSome (S.content source.old) (λ b. FileSays b (meta_view m))) }
-    ensures refused { IfErr result (λ e. IfSome (S.content source.old) (λ b. (r : Request) → Refuses e (refusals (file_reading so_far to_send b r None)))) }
+    ensures says { IfOk result (λ m. IfSome (S.content source.old) (λ b. FileSays b (meta_view m) (file_custom m))) }
+    ensures refused { IfErr result (λ e. IfSome (S.content source.old) (λ b. (r : Request) → Refuses e (refusals (file_reading to_send b r None)))) }
     ensures size { IfOk result (λ m. IsSize (S.content source.old) m.size) }
     ensures read { IfOk result WasRead }
     ensures cause { IfErr result (λ e. FileCause e (S.faults source.old) (S.faults source.new)) }
@@ -133,8 +154,8 @@ pub fn read_plain_metadata<S: Source>(
 {
     let footer = read_footer(alloc, source)?;
     let file = metadata_in(alloc, &footer)?;
-    refuse_footer_pairs(&footer.bytes)?;
-    Ok(file)
+    let custom_metadata = footer_metadata(alloc, &footer.bytes)?;
+    Ok(with_pairs(file, custom_metadata))
 }
 
 /// The metadata of a file's schema, where it has any.
@@ -143,6 +164,16 @@ pub fn metadata_of(file: &FileMetadata) -> Option<&Metadata>
 {
     match &file.custom_schema_metadata {
         Some(metadata) => Some(metadata),
+        None => None,
+    }
+}
+
+/// The footer's own pairs, where it has any.
+pub fn custom_metadata_of(file: &FileMetadata) -> Option<&Metadata>
+    ensures { metadata_in result ≡ file_custom file.now }
+{
+    match &file.custom_metadata {
+        Some(pairs) => Some(pairs),
         None => None,
     }
 }

@@ -1,5 +1,5 @@
 -- A batch whose columns and fields stand at places of another's.
-use Rattle.std.proofs.Common.{◌≡◌, ℕ, List, length, map, get_or, Some, None, Bool, true, false, arith, refl, sym, ap, subst, ◌∙◌}
+use Rattle.std.proofs.Common.{◌≡◌, ℕ, List, [], length, map, get_or, Some, None, Bool, true, false, arith, refl, sym, ap, subst, ◌∙◌}
 use Rattle.std.specs.BTreeMap.{BTreeMap}
 use Rattle.std.specs.List.{list_all}
 use Rattle.std.specs.Option.{option_map}
@@ -7,6 +7,7 @@ use Rattle.std.specs.Prelude.{slice_get, nat_eq, not, if◌then◌else◌}
 use Rattle.std.proofs.lemmas.List.{length-map}
 use Rattle.std.proofs.lemmas.List.Sums.{AllPass-from_list_all, list_all-from_AllPass}
 use Rattle.std.proofs.lemmas.Option.{slice_get-map, slice_get-get_or, same_Some}
+use Rattle.arrow_spec.specs.Kinds.{Metadata}
 use Rattle.arrow_arrays.specs.Batches.{Batch, batch_fault, have_rows}
 use Rattle.arrow_arrays.specs.declared.record_batch.BatchError.TheVariants.{Width, Height}
 use Rattle.arrow_arrays.specs.Parts.{Parts}
@@ -54,7 +55,7 @@ batch_places m old places f h v = inverse_places m (length old.arrays) places h 
 -- the batch of the fields and columns at these places
 pub applied : (m : BTreeMap ℕ ℕ) (old : Batch) (places : List ℕ) → batch_fault old ≡ None → IsPermutation m (length old.arrays) → IsInverse m places (length old.schema)
     → (schema : List Keyed) → StandAt old.schema places schema → (arrays : List Parts) → StandAt old.arrays places arrays
-    → (batch_fault (record { height = old.height; schema = schema; arrays = arrays }) ≡ None) × IsReordered m old (record { height = old.height; schema = schema; arrays = arrays })
+    → (batch_fault (record { height = old.height; schema = schema; arrays = arrays; custom = [] }) ≡ None) × IsReordered m old (record { height = old.height; schema = schema; arrays = arrays; custom = old.custom })
 applied m old places f h v schema s arrays a =
     let p = batch_parts old f in (
       batch_fine old.height schema arrays (s.count ∙ sym a.count) (pass_at _ old.arrays places arrays (batch_places m old places f h v) a p.1),
@@ -64,5 +65,11 @@ applied m old places f h v schema s arrays a =
         fields = s.count ∙ v.count;
         arrays = λ i j e. a.each j i (v.each i j e);
         schema = λ i j e. s.each j i (v.each i j e);
+        custom = refl;
       },
     )
+
+-- a batch that is made of such parts, and is then given pairs
+pub as_ordered : (made given : Batch) (height : ℕ) (schema : List Keyed) (arrays : List Parts) (rows : ℕ) (custom pairs : Metadata) → rows ≡ height → made ≡ record { height = rows; schema = schema; arrays = arrays; custom = [] }
+    → given ≡ record { height = made.height; schema = made.schema; arrays = made.arrays; custom = pairs } → pairs ≡ custom → given ≡ record { height = height; schema = schema; arrays = arrays; custom = custom }
+as_ordered made given height schema arrays rows custom pairs e h g k = g ∙ rw (h, e, k) refl

@@ -25,10 +25,11 @@ pub record IsSame (p q : ProjectionInfo) : Type 0 where
   pub map : (i : ℕ) → entry q.map i ≡ entry p.map i
   pub schema : rc_value q.schema ≡ rc_value p.schema
 
--- a batch with its columns where a map leads them
+-- a batch with its columns where a map leads them, and its pairs
 pub record IsReordered (m : BTreeMap ℕ ℕ) (old new : Batch) : Type 0 where
   pub height : new.height ≡ old.height
   pub width : length new.arrays ≡ length old.arrays
   pub fields : length new.schema ≡ length old.schema
   pub arrays : (i j : ℕ) → entry m i ≡ Some j → slice_get new.arrays j ≡ slice_get old.arrays i
   pub schema : (i j : ℕ) → entry m i ≡ Some j → slice_get new.schema j ≡ slice_get old.schema i
+  pub custom : new.custom ≡ old.custom

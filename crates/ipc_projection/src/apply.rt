@@ -12,7 +12,7 @@ use arrow_spec::IpcError;
 use std::alloc::Global;
 use std::collections::BTreeMap;
 
-/// The batch with each column, and its field, where the map leads it: one place of the batch to each. The columns are moved; only want of memory is refused.
+/// The batch with each column, and its field, where the map leads it: one place of the batch to each. Its pairs stay. The columns are moved; only want of memory is refused.
 pub fn apply_projection(
     alloc: Global,
     batch: RecordBatch,
@@ -26,6 +26,8 @@ pub fn apply_projection(
     let schema = batch.schema();
     let places = sources(alloc, map, schema.len())?;
     let schema = schema_at(alloc, schema, places.as_slice())?;
-    let arrays = items_at(alloc, batch.into_arrays(), places.as_slice())?;
-    Ok(RecordBatch::new(height, schema, arrays))
+    let parts = batch.into_arrays_and_metadata();
+    let arrays = items_at(alloc, parts.0, places.as_slice())?;
+    let ordered = RecordBatch::new(height, schema, arrays);
+    Ok(ordered.with_optional_metadata(parts.1))
 }

@@ -183,5 +183,5 @@ some_same None h parts s t m n x y q e f g = tt
 some_same (Some b) h parts s t m n x y q e f g = λ d holds. sym f ∙ g d holds ∙ ap (λ k. parts k s b) e ∙ ap (λ u. parts n u b) q
 
 -- columns of the batch's rows, one for each field, make a batch
-pub batch_fine : (rows : ℕ) (s : List Keyed) (ps : List Parts) → length s ≡ length ps → have_rows rows ps ≡ true → batch_fault (record { height = rows; schema = s; arrays = ps }) ≡ None
+pub batch_fine : (rows : ℕ) (s : List Keyed) (ps : List Parts) → length s ≡ length ps → have_rows rows ps ≡ true → batch_fault (record { height = rows; schema = s; arrays = ps; custom = [] }) ≡ None
 batch_fine rows s ps h k = let e : nat_eq (length s) (length ps) ≡ true = grind arith in rw (e, k) refl

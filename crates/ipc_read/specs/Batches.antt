@@ -105,12 +105,13 @@ abbrev pub batch_reading : Option (List ℕ) → Option ℕ → Bool → Fields 
 batch_reading columns limit is_little_endian fs d most version tables body =
     free_of (chosen_floats columns fs 0) >>= λ readable. batch_of_tables to_read (columns_asked columns (order_by is_little_endian) fs d most) version [] tables body limit
 
--- the batch as a table has it
+-- a batch without pairs as a table has it
 abbrev pub table_in : ℕ → List Parts → TableBatch
 table_in rows arrays = record { rows = rows; columns = map cells_in arrays; custom = [] }
 
+-- a batch as a table has it
 abbrev pub table_of : Batch → TableBatch
-table_of b = table_in b.height b.arrays
+table_of b = record { rows = b.height; columns = map cells_in b.arrays; custom = b.custom }
 
 -- the queues are those of a batch's tables
 pub record AreQueuesOf (tables : BatchHeader) (ns : List FieldNode) (bs : List IpcBuffer) (vs : List ℤ) : Type 0 where

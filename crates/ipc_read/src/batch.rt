@@ -222,6 +222,9 @@ pub fn read_record_batch<S: Source>(
     // Also under null rows each column has the values of its buffers.
     ensures parts { IfOk result (λ x. IfSome (S.content source.old) (λ b. (d : History) → HoldsCells d (held_in dictionaries.now) → x.arrays ≡ chosen_read (record_batch_of (order_by ipc_schema.now.is_little_endian) version (header_of header.now) (bytes_in body b)) (held_in dictionaries.now) (columns_of projection.entry) (schema_fields (rc_value schema.now) ipc_schema.now.fields.items) 0 first_place x.height)) }
     ensures schema { IfOk result (λ x. x.schema ≡ chosen (columns_of projection.entry) 0 (rc_value schema.now)) }
+
+    // The pairs of its message are not read here.
+    ensures custom { IfOk result (λ x. x.custom ≡ []) }
     ensures height { IfOk result (λ x. x.height ≡ share limit (magnitude header.now.length)) }
     ensures kinds { IfOk result (λ x. map kind_in x.arrays ≡ chosen (columns_of projection.entry) 0 (kinds_of (rc_value schema.now))) }
     ensures cause { IfErr result (λ e. BodyReadCause e (S.faults source.old) (S.faults source.new)) }

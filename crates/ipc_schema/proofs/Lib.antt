@@ -2,3 +2,4 @@ pub mod Items
 pub mod Parts
 pub mod Prefixed
 pub mod Footers
+pub mod Customs

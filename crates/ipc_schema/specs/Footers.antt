@@ -12,9 +12,11 @@ use Rattle.arrow_spec.specs.Readings.{Reading, ◌>>=◌, unless, only_if, requi
 use Rattle.arrow_spec.specs.Flat.{Table, root, signed_at, slot_table, slot_vector}
 use Rattle.arrow_spec.specs.Schema.{Schema, empty_vector, schema_of}
 use Rattle.arrow_spec.specs.Counts.{magnitude}
-use Rattle.arrow_spec.specs.Files.{FileBlock, Meta, arrow_1, block_of, block_at, blocks_at, feather_v1, footer_length}
+use Rattle.arrow_spec.specs.Kinds.{Metadata}
+use Rattle.arrow_spec.specs.Messages.{footer_pairs}
+use Rattle.arrow_spec.specs.Files.{FileBlock, Meta, meta_in, arrow_1, block_of, block_at, blocks_at, feather_v1, footer_length}
 use Rattle.arrow_flat.specs.Read.{VectorIn}
-use Rattle.ipc_fields.specs.IpcFields.{schema_view}
+use Rattle.ipc_fields.specs.IpcFields.{metadata_of, schema_view}
 use Rattle.ipc_schema.specs.declared.footer.BlockList.{BlockList}
 use Rattle.ipc_schema.specs.declared.footer.BlockList.TheVariants.{RecordBatches, Dictionaries}
 use Rattle.ipc_schema.specs.declared.footer.Footer.{Footer}
@@ -37,10 +39,18 @@ pub record HasNaturalBlocks (f : Footer) : Type 0 where
 -- what a footer says
 abbrev pub footer_view : Footer → Meta
 footer_view f = record {
-  schema = schema_view (f.schema, f.ipc_schema, f.custom_metadata);
+  schema = schema_view (f.schema, f.ipc_schema, f.custom_schema_metadata);
   blocks = map file_block f.blocks.items;
   dictionaries = map file_block f.dictionaries.items;
 }
+
+-- the same, and its own pairs
+abbrev pub whole_view : Footer → Meta × Metadata
+whole_view f = (footer_view f, metadata_of f.custom_metadata)
+
+-- what a footer's bytes say, and its own pairs
+unfoldable pub whole_footer : List ℕ → Reading (Meta × Metadata)
+whole_footer f = meta_in f >>= λ meta. footer_pairs f >>= λ custom. Ok (meta, custom)
 
 -- the numbers of a block
 abbrev pub block_numbers_at : List ℕ → ℕ → Result Block FlatError

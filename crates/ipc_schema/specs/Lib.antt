@@ -2,3 +2,4 @@ pub mod Views
 pub mod Headers
 pub mod Prefixes
 pub mod Footers
+pub mod Custom

@@ -4,10 +4,11 @@ ghost use Rattle.arrow_spec.specs.declared.error.IpcError.TheVariants.{Memory};
 ghost use Rattle.ipc_fields.specs.Causes.{Decodes, IsOfBytes};
 ghost use Rattle.arrow_spec.specs.Files.{footer_of, meta_in};
 ghost use Rattle.arrow_types.specs.Schemas.{fields_in};
-ghost use Rattle.ipc_fields.specs.IpcFields.{AreNamed, have_shapes, ids_of, schema_view};
-ghost use Rattle.ipc_schema.specs.Footers.{IsNatural, HasNaturalBlocks, file_block, footer_view, block_numbers_at, block_by, fault_in, block_in, blocks_in, footer_length_in, records_part, dictionaries_part, record_blocks_in, schema_in_footer, footer_parts};
+ghost use Rattle.ipc_fields.specs.IpcFields.{AreNamed, have_shapes, ids_of, metadata_of, schema_view};
+ghost use Rattle.ipc_schema.specs.Footers.{IsNatural, HasNaturalBlocks, file_block, footer_view, block_numbers_at, block_by, fault_in, block_in, blocks_in, footer_length_in, records_part, dictionaries_part, record_blocks_in, schema_in_footer, footer_parts, whole_footer, whole_view};
 ghost use Rattle.schema_reader.specs.Metadata.{HasPairsIfAny};
 
+use crate::custom::footer_metadata;
 use crate::number::{i32_at, i64_at};
 use arrow_flat::{Flat, Table, Vector};
 use arrow_spec::{Block, Feature, FlatError, IpcError, OutOfSpecKind};
@@ -16,11 +17,12 @@ use ipc_fields::IpcSchema;
 use schema_reader::read_schema;
 use std::alloc::Global;
 
-/// The schema of a file with its IPC schema and its metadata, and the file's blocks of record batches and of dictionaries in the footer's order.
+/// The schema of a file with its IPC schema and its metadata, the footer's own pairs, and the file's blocks of record batches and of dictionaries in the footer's order.
 #[derive(Drop)]
 pub struct Footer {
     pub schema: ArrowSchema,
     pub ipc_schema: IpcSchema,
+    pub custom_schema_metadata: Option<Metadata>,
     pub custom_metadata: Option<Metadata>,
     pub blocks: Vec<Block>,
     pub dictionaries: Vec<Block>,
@@ -168,7 +170,7 @@ fn read_footer_parts(alloc: Global, bytes: &[u8]) -> Result<Footer, IpcError>
     ensures gives { Decodes footer_view result (footer_parts bytes.now) }
     ensures named { IfOk result (λ f. AreNamed f.schema) }
     ensures shapes { IfOk result (λ f. have_shapes (fields_in f.schema) (ids_of f.ipc_schema.fields.items) ≡ true) }
-    ensures no_empty_metadata { IfOk result (λ f. HasPairsIfAny f.custom_metadata) }
+    ensures no_empty_metadata { IfOk result (λ f. HasPairsIfAny f.custom_schema_metadata) }
     ensures natural { IfOk result HasNaturalBlocks }
 {
     let table = Flat::root(bytes).map_err(|e| IpcError::OutOfSpec(
@@ -176,23 +178,25 @@ fn read_footer_parts(alloc: Global, bytes: &[u8]) -> Result<Footer, IpcError>
     ))?;
     let blocks = read_record_blocks(alloc, &table)?;
     let dictionaries = read_dictionary_blocks(alloc, &table)?;
-    let (schema, ipc_schema, custom_metadata) = read_footer_schema(alloc, &table)?;
+    let (schema, ipc_schema, custom_schema_metadata) = read_footer_schema(alloc, &table)?;
     Ok(Footer {
         schema,
         ipc_schema,
-        custom_metadata,
+        custom_schema_metadata,
+        custom_metadata: None,
         blocks,
         dictionaries,
     })
 }
 
-/// The schema and the blocks of a footer, by the bytes between the last message and the footer's length.
+/// The schema and the blocks of a footer, by the bytes between the last message and the footer's length. Its own pairs are
+/// not looked at, and none are given.
 ///
 /// # Errors
 ///
 /// `OutOfSpec` with the kind of the part that is not as the format says, and what `read_schema` answers.
 #[tactic(auto, using(crate::proofs::Footers::footer_by_parts))]
-pub fn deserialize_footer(alloc: Global, bytes: &[u8]) -> Result<Footer, IpcError>
+pub fn deserialize_schema_and_blocks(alloc: Global, bytes: &[u8]) -> Result<Footer, IpcError>
     ensures gives { Decodes footer_view result (meta_in bytes.now) }
 
     // Each field stands under its own name.
@@ -200,12 +204,52 @@ pub fn deserialize_footer(alloc: Global, bytes: &[u8]) -> Result<Footer, IpcErro
 
     // The IPC fields are those of the schema.
     ensures shapes { IfOk result (λ f. have_shapes (fields_in f.schema) (ids_of f.ipc_schema.fields.items) ≡ true) }
-    ensures no_empty_metadata { IfOk result (λ f. HasPairsIfAny f.custom_metadata) }
+    ensures no_empty_metadata { IfOk result (λ f. HasPairsIfAny f.custom_schema_metadata) }
 
     // No number of a block is negative.
     ensures natural { IfOk result HasNaturalBlocks }
 {
     read_footer_parts(alloc, bytes)
+}
+
+/// The footer with these pairs.
+fn with_pairs(footer: Footer, custom_metadata: Option<Metadata>) -> Footer
+    ensures view { footer_view result ≡ footer_view footer }
+    ensures custom { metadata_of result.custom_metadata ≡ metadata_of custom_metadata }
+    ensures no_empty_custom { HasPairsIfAny custom_metadata → HasPairsIfAny result.custom_metadata }
+    ensures named { AreNamed footer.schema → AreNamed result.schema }
+    ensures shapes { have_shapes (fields_in footer.schema) (ids_of footer.ipc_schema.fields.items) ≡ true → have_shapes (fields_in result.schema) (ids_of result.ipc_schema.fields.items) ≡ true }
+    ensures no_empty_metadata { HasPairsIfAny footer.custom_schema_metadata → HasPairsIfAny result.custom_schema_metadata }
+    ensures natural { HasNaturalBlocks footer → HasNaturalBlocks result }
+{
+    Footer {
+        schema: footer.schema,
+        ipc_schema: footer.ipc_schema,
+        custom_schema_metadata: footer.custom_schema_metadata,
+        custom_metadata,
+        blocks: footer.blocks,
+        dictionaries: footer.dictionaries,
+    }
+}
+
+/// The schema, the blocks and the pairs of a footer, by the bytes between the last message and the footer's length.
+///
+/// # Errors
+///
+/// `OutOfSpec` with the kind of the part that is not as the format says, what `read_schema` answers, and what
+/// `footer_metadata` does.
+#[tactic(auto, unfolding(arrow_spec::specs::Readings::bind, crate::specs::Footers::whole_footer))]
+pub fn deserialize_footer(alloc: Global, bytes: &[u8]) -> Result<Footer, IpcError>
+    ensures gives { Decodes whole_view result (whole_footer bytes.now) }
+    ensures named { IfOk result (λ f. AreNamed f.schema) }
+    ensures shapes { IfOk result (λ f. have_shapes (fields_in f.schema) (ids_of f.ipc_schema.fields.items) ≡ true) }
+    ensures no_empty_metadata { IfOk result (λ f. HasPairsIfAny f.custom_schema_metadata) }
+    ensures no_empty_custom { IfOk result (λ f. HasPairsIfAny f.custom_metadata) }
+    ensures natural { IfOk result HasNaturalBlocks }
+{
+    let footer = deserialize_schema_and_blocks(alloc, bytes)?;
+    let custom_metadata = footer_metadata(alloc, bytes)?;
+    Ok(with_pairs(footer, custom_metadata))
 }
 
 /// The blocks of record batches of a footer, by its bytes. Its dictionaries and its schema are not looked at.

@@ -12,8 +12,11 @@ pub use arrow_spec::{
     Block, Counted, Feature, FieldNode, FlatError, IpcBuffer, IpcError, MetadataVersion,
     OutOfSpecKind,
 };
-pub use custom::{refuse_footer_pairs, refuse_message_pairs};
-pub use footer::{Footer, decode_footer_len, deserialize_footer, deserialize_record_blocks};
+pub use custom::{footer_metadata, message_metadata};
+pub use footer::{
+    Footer, decode_footer_len, deserialize_footer, deserialize_record_blocks,
+    deserialize_schema_and_blocks,
+};
 pub use header::{read_dictionary_message, read_message_header, read_record_message};
 pub use ipc_fields::{IpcField, IpcSchema};
 pub use ipc_io::{

@@ -6,27 +6,23 @@ use Rattle.std.specs.declared.vec.Vec.{Vec}
 use Rattle.std.specs.Io.KnownBytes.{Appends}
 use Rattle.std.proofs.KnownBytes.{Keeps-refl}
 use Rattle.arrow_spec.specs.declared.error.IpcError.{IpcError}
-use Rattle.arrow_spec.specs.Kinds.{Metadata}
 use Rattle.arrow_spec.specs.Streams.{end_mark}
 use Rattle.arrow_types.specs.Schemas.{Keyed, fields_in}
 use Rattle.arrow_arrays.specs.Batches.{Batch}
-use Rattle.ipc_fields.specs.IpcFields.{Ids, ids_of, metadata_of}
+use Rattle.ipc_fields.specs.IpcFields.{Ids, ids_of}
 use Rattle.ipc_fields.specs.declared.ipc_field.IpcField.{IpcField}
 use Rattle.ipc_bodies.specs.Puts.{Moved, moved, NoneFalls}
 use Rattle.ipc_dictionaries.specs.Tracker.{IsKept, held_by}
 use Rattle.ipc_dictionaries.specs.declared.tracker.DictionaryTracker.{DictionaryTracker}
-use Rattle.ipc_stream_writer.specs.declared.puts.Stop.{Stop}
-use Rattle.ipc_stream_writer.specs.declared.schema.StreamStart.{StreamStart}
-use Rattle.ipc_stream_writer.specs.declared.state.WriterState.TheVariants.{Started}
+use Rattle.ipc_write_messages.specs.declared.puts.Stop.{Stop}
+use Rattle.ipc_write_messages.specs.declared.schema.StreamStart.{StreamStart}
+use Rattle.ipc_write_messages.specs.declared.state.WriterState.TheVariants.{Started}
 use Rattle.ipc_stream_writer.specs.declared.stream.StreamCore.{StreamCore}
-use Rattle.ipc_stream_writer.specs.Calls.{Finishes, HasBegun, LeavesAll, Sends, Starts, Stays, Suits, Writes}
-use Rattle.ipc_stream_writer.specs.Fields.{AreIdsFor}
-use Rattle.ipc_stream_writer.specs.Puts.{StopsIn, Untouched}
-use Rattle.ipc_stream_writer.specs.Schemas.{Begins, IsStart, stream_text}
-use Rattle.ipc_stream_writer.specs.States.{is_new, is_started, state_behind}
-
-pub untouched : (w : Option (List ℕ)) (f x : ℕ) → Untouched (moved w w f f x x)
-untouched w f x = record { bytes = Keeps-refl w; counts = record { faults = omega arith; wants = omega arith } }
+use Rattle.ipc_stream_writer.specs.Calls.{Finishes, HasBegun, LeavesAll, Sends, Starts, Stays, SuitsStream, Writes}
+use Rattle.ipc_write_messages.specs.Fields.{AreIdsFor}
+use Rattle.ipc_write_messages.specs.Puts.{StopsIn, Untouched}
+use Rattle.ipc_write_messages.specs.Schemas.{Begins, IsStart, stream_text}
+use Rattle.ipc_write_messages.specs.States.{is_new, is_started, state_behind}
 
 pub stays : (c : StreamCore) → Stays c c
 stays c = record { options = refl; schema = refl; fields = refl; pairs = refl; tracker = refl }
@@ -44,18 +40,17 @@ stops_early m old new u s t k = record { untouched = u; state = s; held = same_h
 
 -- ── begin ──
 
-pub has_begun : (m : Moved) (old new : StreamCore) (s : List Keyed) (given : Option Ids) (pairs : Metadata) (start : StreamStart) (text : List ℕ) → is_new old.state ≡ true → pairs ≡ metadata_of old.pairs → IsStart old.options s given pairs start
+pub has_begun : (m : Moved) (old new : StreamCore) (s : List Keyed) (given : Option Ids) (start : StreamStart) (text : List ℕ) → is_new old.state ≡ true → IsStart old.options s given old.pairs start
     → text ≡ start.message.items → Appends m.old m.new text × NoneFalls m → new.state ≡ Started → new.schema ≡ start.schema → new.fields ≡ start.fields → new.options ≡ old.options → new.pairs ≡ old.pairs → new.tracker ≡ old.tracker → HasBegun m old new s given
-has_begun m old new s given pairs start text n p i t q state schema fields options kept tracker =
+has_begun m old new s given start text n i t q state schema fields options kept tracker =
     let same : start.fields ≡ new.fields = sym fields in
-    let text_is : stream_text old.options (fields_in s) (ids_of start.fields.items) (metadata_of old.pairs) ≡ Ok start.message.items = subst (λ ps. stream_text old.options (fields_in s) (ids_of start.fields.items) ps ≡ Ok start.message.items) p i.text in
     record {
       new_before = n;
       state = state;
       schema = schema ∙ i.schema;
       ids = subst (λ (fs : Vec IpcField Global). AreIdsFor (fields_in s) given (ids_of fs.items)) same i.ids;
       bytes = start.message.items;
-      text = subst (λ (fs : Vec IpcField Global). stream_text old.options (fields_in s) (ids_of fs.items) (metadata_of old.pairs) ≡ Ok start.message.items) same text_is;
+      text = subst (λ (fs : Vec IpcField Global). stream_text old.options (fields_in s) (ids_of fs.items) old.pairs ≡ Ok start.message.items) same i.text;
       appended = subst (Appends m.old m.new) t q.0;
       counts = q.1;
       options = options;
@@ -63,28 +58,28 @@ has_begun m old new s given pairs start text n p i t q state schema fields optio
       tracker = tracker;
     }
 
-stopped_start : (b : Bool) (e : IpcError) (m : Moved) (old new : StreamCore) (s : List Keyed) (given : Option Ids) (pairs : Metadata) (start : StreamStart) → is_new old.state ≡ true → pairs ≡ metadata_of old.pairs
-    → IsStart old.options s given pairs start → StopsIn b m e start.message.items → new.state ≡ state_behind b old.state → new.tracker ≡ old.tracker → Stays old new → Starts m (Err e) old new s given
-stopped_start true e m old new s given pairs start n p i q k t y = inr (record {
+stopped_start : (b : Bool) (e : IpcError) (m : Moved) (old new : StreamCore) (s : List Keyed) (given : Option Ids) (start : StreamStart) → is_new old.state ≡ true
+    → IsStart old.options s given old.pairs start → StopsIn b m e start.message.items → new.state ≡ state_behind b old.state → new.tracker ≡ old.tracker → Stays old new → Starts m (Err e) old new s given
+stopped_start true e m old new s given start n i q k t y = inr (record {
   new_before = n;
   below = ids_of start.fields.items;
   ids = i.ids;
   bytes = start.message.items;
-  text = subst (λ ps. stream_text old.options (fields_in s) (ids_of start.fields.items) ps ≡ Ok start.message.items) p i.text;
+  text = i.text;
   failed = record { put = q; state = k; held = same_held old.tracker new.tracker t; stays = y };
 })
-stopped_start false e m old new s given pairs start n p i q k t y = inl (inr (n, inl q.0), stops_early m old new q.1 k t y)
+stopped_start false e m old new s given start n i q k t y = inl (inr (n, inl q.0), stops_early m old new q.1 k t y)
 
-pub start_stopped : (x : IpcError) (stop : Stop) (m : Moved) (old new : StreamCore) (s : List Keyed) (given : Option Ids) (pairs : Metadata) (start : StreamStart) (text : List ℕ) → x ≡ stop.error → is_new old.state ≡ true → pairs ≡ metadata_of old.pairs
-    → IsStart old.options s given pairs start → text ≡ start.message.items → StopsIn stop.has_begun m stop.error text → new.state ≡ state_behind stop.has_begun old.state → new.tracker ≡ old.tracker → Stays old new → Starts m (Err x) old new s given
-start_stopped x stop m old new s given pairs start text e n p i t q k u y =
-    subst (λ f. Starts m (Err f) old new s given) (sym e) (stopped_start stop.has_begun stop.error m old new s given pairs start n p i (subst (StopsIn stop.has_begun m stop.error) t q) k u y)
+pub start_stopped : (x : IpcError) (stop : Stop) (m : Moved) (old new : StreamCore) (s : List Keyed) (given : Option Ids) (start : StreamStart) (text : List ℕ) → x ≡ stop.error → is_new old.state ≡ true
+    → IsStart old.options s given old.pairs start → text ≡ start.message.items → StopsIn stop.has_begun m stop.error text → new.state ≡ state_behind stop.has_begun old.state → new.tracker ≡ old.tracker → Stays old new → Starts m (Err x) old new s given
+start_stopped x stop m old new s given start text e n i t q k u y =
+    subst (λ f. Starts m (Err f) old new s given) (sym e) (stopped_start stop.has_begun stop.error m old new s given start n i (subst (StopsIn stop.has_begun m stop.error) t q) k u y)
 
-pub not_begun : (r : Result (Unit {0}) IpcError) (e : IpcError) (m : Moved) (old new : StreamCore) (s : List Keyed) (given : Option Ids) (pairs : Metadata) → IsErrAnd r (λ f. f ≡ e) → is_new old.state ≡ true → pairs ≡ metadata_of old.pairs → Begins (Err e) old.options s given pairs
+pub not_begun : (r : Result (Unit {0}) IpcError) (e : IpcError) (m : Moved) (old new : StreamCore) (s : List Keyed) (given : Option Ids) → IsErrAnd r (λ f. f ≡ e) → is_new old.state ≡ true → Begins (Err e) old.options s given old.pairs
     → Untouched m → new.state ≡ old.state → IsKept (held_by old.tracker) (held_by new.tracker) → Stays old new → Starts m r old new s given
-not_begun (Ok u) e m old new s given pairs f n p h t state held y = absurd f
-not_begun (Err x) e m old new s given pairs f n p h t state held y =
-    inl (inr (n, subst (λ ps. Begins (Err x) old.options s given ps) p (subst (λ z. Begins (Err z) old.options s given pairs) (sym f) h)), record { untouched = t; state = state; held = held; stays = y })
+not_begun (Ok u) e m old new s given f n h t state held y = absurd f
+not_begun (Err x) e m old new s given f n h t state held y =
+    inl (inr (n, subst (λ z. Begins (Err z) old.options s given old.pairs) (sym f) h), record { untouched = t; state = state; held = held; stays = y })
 
 -- ── end ──
 
@@ -98,7 +93,7 @@ finish_stopped x stop m old new e n q k t y = subst (λ f. Finishes m (Err f) ol
 
 -- ── batches ──
 
-pub as_written : (m : Moved) (r : Result (Unit {0}) IpcError) (old new : StreamCore) (b : Batch) (given : Option Ids) → is_started old.state ≡ true → Suits old b given → Sends m r old new b → Writes m r old new b given
+pub as_written : (m : Moved) (r : Result (Unit {0}) IpcError) (old new : StreamCore) (b : Batch) (given : Option Ids) → is_started old.state ≡ true → SuitsStream old b given → Sends m r old new b → Writes m r old new b given
 as_written m (Ok u) old new b given n s h = record { started = n; suits = s; sends = h }
 as_written m (Err e) old new b given n s (inl h) = inl (inr (n, inr (s, h.0)), h.1)
 as_written m (Err e) old new b given n s (inr h) = inr (record { started = n; suits = s; sends = h })

@@ -17,11 +17,11 @@ use Rattle.ipc_dictionaries.specs.declared.tracker.DictionaryTracker.{Dictionary
 use Rattle.ipc_dictionaries.specs.declared.walk.ToEncode.{ToEncode}
 use Rattle.ipc_encode.specs.Chunks.{RefusesChunk}
 use Rattle.ipc_encode.proofs.ChunkSteps.{kept_again, stops_behind, stops_found}
-use Rattle.ipc_stream_writer.specs.declared.puts.Stop.{Stop}
+use Rattle.ipc_write_messages.specs.declared.puts.Stop.{Stop}
 use Rattle.ipc_stream_writer.specs.declared.stream.StreamCore.{StreamCore}
 use Rattle.ipc_stream_writer.specs.Calls.{SendCause, Sends, Stays}
-use Rattle.ipc_stream_writer.specs.Puts.{SendStops, SendsChunk, Untouched}
-use Rattle.ipc_stream_writer.specs.States.{state_behind}
+use Rattle.ipc_write_messages.specs.Puts.{SendStops, SendsChunk, Untouched}
+use Rattle.ipc_write_messages.specs.States.{state_behind}
 
 -- what is found of a batch's dictionaries is not to be sent
 pub not_found : (r : Result (Unit {0}) IpcError) (e : IpcError) (m : Moved) (old new : StreamCore) (b : Batch) (arrays : List Parts) (fields : List IpcField) → IsErrAnd r (λ f. f ≡ e) → arrays ≡ b.arrays → fields ≡ old.fields.items
@@ -32,10 +32,6 @@ not_found (Err x) e m old new b arrays fields f a i h t s k =
     let here : Found (Err e) old.tracker new.tracker (forest b.arrays) (ids_of old.fields.items) = subst (λ ps. Found (Err e) old.tracker new.tracker (forest ps) (ids_of old.fields.items)) a own in
     let both = stops_found e old.tracker new.tracker (forest b.arrays) (ids_of old.fields.items) (λ sent. RefusesChunk e old.options sent b) here in
     subst (λ y. Sends m (Err y) old new b) (sym f) (inl (both.0, record { untouched = t; state = s; held = both.1; stays = k }))
-
--- what is found, in the batch's own words
-pub found_in : (r : Result NewDictionaries IpcError) (old new : DictionaryTracker) (arrays ps : List Parts) (fields gs : List IpcField) → arrays ≡ ps → fields ≡ gs → Found r old new (forest arrays) (ids_of fields) → Found r old new (forest ps) (ids_of gs)
-found_in r old new arrays ps fields gs a i h = subst (λ xs. Found r old new (forest ps) (ids_of xs)) i (subst (λ qs. Found r old new (forest qs) (ids_of fields)) a h)
 
 why_not : (e : IpcError) (old : StreamCore) (middle : DictionaryTracker) (x : Batch) (n : NewDictionaries) → Found (Ok n) old.tracker middle (forest x.arrays) (ids_of old.fields.items)
     → (e ≡ Memory) ⊎ RefusesChunk e old.options (map to_send n.messages.items) x → SendCause e old x

@@ -1,34 +1,35 @@
 -- What the calls of a writer do to it, and what they put. (Arrow Columnar Format, "IPC Streaming Format".)
-use Rattle.std.specs.Prelude.{◌≡◌, ◌⊎◌, ℤ, List, Bool, true, false, Option, None, Result, Ok, Err, ℕ}
+use Rattle.std.specs.Prelude.{◌≡◌, ◌⊎◌, ℤ, List, Bool, true, false, Option, Some, None, Result, Ok, Err, ℕ, String}
+use Rattle.std.specs.BTreeMap.{BTreeMap}
 use Rattle.std.specs.Io.KnownBytes.{Appends}
+use Rattle.std.specs.declared.alloc.Global.{Global}
 use Rattle.arrow_spec.specs.declared.error.IpcError.{IpcError}
 use Rattle.arrow_spec.specs.declared.error.IpcError.TheVariants.{Memory, SchemaMismatch, State}
-use Rattle.arrow_spec.specs.Kinds.{have_same_kinds}
 use Rattle.arrow_spec.specs.Streams.{end_mark}
 use Rattle.arrow_types.specs.Schemas.{Keyed, fields_in}
 use Rattle.arrow_arrays.specs.Batches.{Batch}
 use Rattle.arrow_arrays.specs.Parts.{forest}
-use Rattle.ipc_fields.specs.IpcFields.{Ids, ids_of, metadata_of}
+use Rattle.ipc_fields.specs.IpcFields.{Ids, ids_of}
 use Rattle.ipc_bodies.specs.Puts.{Moved, NoneFalls, PutsPart}
-use Rattle.ipc_dictionaries.specs.Columns.{columns_of}
 use Rattle.ipc_dictionaries.specs.NewDictionaries.{Sending, ToSend}
 use Rattle.ipc_dictionaries.specs.Tracker.{IsKept, held_by}
 use Rattle.ipc_dictionaries.specs.Walks.{options_of}
 use Rattle.ipc_write.specs.declared.options.WriteOptions.{WriteOptions}
 use Rattle.ipc_encode.specs.Chunks.{RefusesChunk, Stops, found}
-use Rattle.ipc_stream_writer.specs.declared.state.WriterState.TheVariants.{New, Started, Finished, Failed}
+use Rattle.ipc_write_messages.specs.declared.state.WriterState.TheVariants.{New, Started, Finished, Failed}
 use Rattle.ipc_stream_writer.specs.declared.stream.StreamCore.{StreamCore}
-use Rattle.ipc_stream_writer.specs.Fields.{AreIdsFor, IsOwn}
-use Rattle.ipc_stream_writer.specs.Messages.{MayBeSent, chunk_text}
-use Rattle.ipc_stream_writer.specs.Puts.{Untouched}
-use Rattle.ipc_stream_writer.specs.Schemas.{IsNoStart, stream_text}
-use Rattle.ipc_stream_writer.specs.States.{is_new, is_started}
+use Rattle.ipc_write_messages.specs.Batches.{Suits}
+use Rattle.ipc_write_messages.specs.Fields.{AreIdsFor}
+use Rattle.ipc_write_messages.specs.Messages.{MayBeSent, chunk_text}
+use Rattle.ipc_write_messages.specs.Puts.{Untouched}
+use Rattle.ipc_write_messages.specs.Schemas.{IsNoStart, stream_text}
+use Rattle.ipc_write_messages.specs.States.{is_new, is_started}
 
 -- a writer that has written nothing, of some options
 pub record IsFresh (asked : WriteOptions) (c : StreamCore) : Type 0 where
   pub options : c.options ≡ asked
   pub state : c.state ≡ New
-  pub pairs : c.pairs ≡ None
+  pub pairs : c.pairs ≡ record { schema = None; message = None }
   pub held : (id : ℤ) → held_by c.tracker id ≡ None
   pub replaces : c.tracker.cannot_replace ≡ false
 
@@ -54,6 +55,23 @@ pub record HasFailed (m : Moved) (e : IpcError) (bytes : List ℕ) (old new : St
   pub held : IsKept (held_by old.tracker) (held_by new.tracker)
   pub stays : Stays old new
 
+-- ── pairs ──
+
+-- the pairs of the schema's message were given, before anything was put
+pub record HasMessagePairs (old new : StreamCore) (given : BTreeMap (String Global) (String Global)) : Type 0 where
+  pub new_before : is_new old.state ≡ true
+  pub pairs : new.pairs ≡ record { schema = old.pairs.schema; message = Some given }
+  pub state : new.state ≡ old.state
+  pub options : new.options ≡ old.options
+  pub schema : new.schema ≡ old.schema
+  pub fields : new.fields ≡ old.fields
+  pub tracker : new.tracker ≡ old.tracker
+
+-- or something was put before, and the writer is left
+abbrev pub SetsMessagePairs : Result (Unit {0}) IpcError → StreamCore → StreamCore → BTreeMap (String Global) (String Global) → Type 0
+SetsMessagePairs (Ok u) old new given = HasMessagePairs old new given
+SetsMessagePairs (Err e) old new given = (e ≡ State) × (is_new old.state ≡ false) × (new ≡ old)
+
 -- ── begin ──
 
 -- a stream was begun: the message of its schema was put
@@ -63,7 +81,7 @@ pub record HasBegun (m : Moved) (old new : StreamCore) (s : List Keyed) (given :
   pub schema : new.schema ≡ s
   pub ids : AreIdsFor (fields_in s) given (ids_of new.fields.items)
   pub bytes : List ℕ
-  pub text : stream_text old.options (fields_in s) (ids_of new.fields.items) (metadata_of old.pairs) ≡ Ok bytes
+  pub text : stream_text old.options (fields_in s) (ids_of new.fields.items) old.pairs ≡ Ok bytes
   pub appended : Appends m.old m.new bytes
   pub counts : NoneFalls m
   pub options : new.options ≡ old.options
@@ -73,7 +91,7 @@ pub record HasBegun (m : Moved) (old new : StreamCore) (s : List Keyed) (given :
 -- why none was: it was before, or memory was wanted, or the schema is refused
 abbrev pub StartCause : IpcError → StreamCore → List Keyed → Option Ids → Type 0
 StartCause e c s given =
-    ((e ≡ State) × (is_new c.state ≡ false)) ⊎ ((is_new c.state ≡ true) × ((e ≡ Memory) ⊎ IsNoStart e c.options s given (metadata_of c.pairs)))
+    ((e ≡ State) × (is_new c.state ≡ false)) ⊎ ((is_new c.state ≡ true) × ((e ≡ Memory) ⊎ IsNoStart e c.options s given c.pairs))
 
 -- a put of the schema's message failed
 pub record StartFailed (m : Moved) (e : IpcError) (old new : StreamCore) (s : List Keyed) (given : Option Ids) : Type 0 where
@@ -81,7 +99,7 @@ pub record StartFailed (m : Moved) (e : IpcError) (old new : StreamCore) (s : Li
   pub below : Ids
   pub ids : AreIdsFor (fields_in s) given below
   pub bytes : List ℕ
-  pub text : stream_text old.options (fields_in s) below (metadata_of old.pairs) ≡ Ok bytes
+  pub text : stream_text old.options (fields_in s) below old.pairs ≡ Ok bytes
   pub failed : HasFailed m e bytes old new
 
 abbrev pub Starts : Moved → Result (Unit {0}) IpcError → StreamCore → StreamCore → List Keyed → Option Ids → Type 0
@@ -90,10 +108,9 @@ Starts m (Err e) old new s given = (StartCause e old s given × LeavesAll m old 
 
 -- ── batches ──
 
--- a batch is one of a stream's: there is a column for each field, of the field's type, names, nullability and metadata aside, and the IPC fields that are given are the stream's own
-pub record Suits (c : StreamCore) (b : Batch) (given : Option Ids) : Type 0 where
-  pub types : have_same_kinds (fields_in c.schema) (columns_of (forest b.arrays)) ≡ true
-  pub own : IsOwn given (ids_of c.fields.items)
+-- a batch is one of a stream's
+abbrev pub SuitsStream : StreamCore → Batch → Option Ids → Type 0
+SuitsStream c b given = Suits c.schema (ids_of c.fields.items) b given
 
 -- what of its dictionaries is to be sent before it
 abbrev pub found_before : StreamCore → Batch → Result Sending IpcError
@@ -128,18 +145,18 @@ Sends m (Err e) old new b = (SendCause e old b × LeavesAll m old new) ⊎ SendF
 -- a batch was written
 pub record HasWritten (m : Moved) (old new : StreamCore) (b : Batch) (given : Option Ids) : Type 0 where
   pub started : is_started old.state ≡ true
-  pub suits : Suits old b given
+  pub suits : SuitsStream old b given
   pub sends : HasSent m old new b
 
 -- why none was: the stream is not begun, or is ended, or a put has failed before; the batch is none of its; or it is not sent
 abbrev pub WriteCause : IpcError → StreamCore → Batch → Option Ids → Type 0
 WriteCause e c b given = ((e ≡ State) × (is_started c.state ≡ false))
-    ⊎ ((is_started c.state ≡ true) × (((e ≡ SchemaMismatch) × (Suits c b given → ⊥)) ⊎ (Suits c b given × SendCause e c b)))
+    ⊎ ((is_started c.state ≡ true) × (((e ≡ SchemaMismatch) × (SuitsStream c b given → ⊥)) ⊎ (SuitsStream c b given × SendCause e c b)))
 
 -- a put failed
 pub record WriteFailed (m : Moved) (e : IpcError) (old new : StreamCore) (b : Batch) (given : Option Ids) : Type 0 where
   pub started : is_started old.state ≡ true
-  pub suits : Suits old b given
+  pub suits : SuitsStream old b given
   pub sends : SendFailed m e old new b
 
 abbrev pub Writes : Moved → Result (Unit {0}) IpcError → StreamCore → StreamCore → Batch → Option Ids → Type 0

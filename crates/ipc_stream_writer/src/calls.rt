@@ -1,20 +1,14 @@
 //! The calls of the writer of a stream without its sink.
-ghost use Rattle.std.specs.Prelude.{◌≡◌, ◌↔◌, IfOk, IfErr, IsTrue, Some, length, true};
+ghost use Rattle.std.specs.Prelude.{◌≡◌, ◌↔◌, ◌≤◌, IfOk, IfErr, IsTrue, Some, length, true};
 ghost use Rattle.arrow_spec.specs.Readings.{is_absent};
 ghost use Rattle.arrow_spec.specs.declared.error.IpcError.TheVariants.{Memory};
-ghost use Rattle.ipc_fields.specs.IpcFields.{metadata_in, metadata_of};
 ghost use Rattle.ipc_bodies.specs.Puts.{moved};
-ghost use Rattle.ipc_stream_writer.specs.Fields.{given_ids};
-ghost use Rattle.ipc_stream_writer.specs.Calls.{Finishes, IsFresh, Sends, Starts, Stays, Suits, Writes};
-ghost use Rattle.ipc_stream_writer.specs.States.{is_started, state_behind};
-ghost use Rattle.ipc_stream_writer.specs.declared.state.WriterState.TheVariants.{Started};
+ghost use Rattle.ipc_write_messages.specs.Fields.{given_ids};
+ghost use Rattle.ipc_stream_writer.specs.Calls.{Finishes, IsFresh, Sends, SetsMessagePairs, Starts, Stays, SuitsStream, Writes};
+ghost use Rattle.ipc_write_messages.specs.States.{is_started, state_behind};
+ghost use Rattle.ipc_write_messages.specs.declared.state.WriterState.TheVariants.{Started};
 
-use crate::fields::are_own;
-use crate::puts::{Stop, put_whole, send_chunk};
-use crate::schema::{StreamStart, stream_start};
-use crate::state::WriterState;
 use crate::stream::StreamCore;
-use crate::types::are_of_fields;
 use arrow_arrays::RecordBatch;
 use arrow_spec::IpcError;
 use arrow_types::{ArrowSchema, Metadata};
@@ -22,6 +16,9 @@ use ipc_dictionaries::{DictionaryTracker, new_dictionaries};
 use ipc_fields::IpcField;
 use ipc_io::Sink;
 use ipc_write::WriteOptions;
+use ipc_write_messages::{
+    Stop, StreamPairs, StreamStart, WriterState, is_of_schema, put_whole, send_chunk, stream_start,
+};
 use std::alloc::Global;
 
 /// The most bytes of a body that are put at once.
@@ -36,16 +33,6 @@ fn zeros(alloc: Global, count: usize) -> Result<Vec<u8>, IpcError>
     ensures err { IfErr result (λ e. e ≡ Memory) }
 {
     Ok(vec![in alloc; 0; count]?)
-}
-
-/// The pairs, where there are any.
-fn lent(pairs: &Option<Metadata>) -> Option<&Metadata>
-    ensures { metadata_in result ≡ metadata_of pairs.now }
-{
-    match pairs {
-        None => None,
-        Some(pairs) => Some(pairs),
-    }
 }
 
 impl StreamCore {
@@ -64,7 +51,10 @@ impl StreamCore {
             state: WriterState::New,
             schema: ArrowSchema::new(alloc),
             fields: Vec::new(alloc),
-            pairs: None,
+            pairs: StreamPairs {
+                schema: None,
+                message: None,
+            },
             tracker: DictionaryTracker::new(alloc, false, options.deltas),
             scratch,
             alloc,
@@ -73,14 +63,30 @@ impl StreamCore {
 
     /// Gives the schema pairs of its own, which count for a later `start`.
     pub fn set_custom_schema_metadata(&mut self, pairs: Metadata)
-        ensures pairs { self.new.pairs ≡ Some pairs }
+        ensures pairs { self.new.pairs ≡ record { schema = Some pairs; message = self.old.pairs.message } }
         ensures state { self.new.state ≡ self.old.state }
         ensures options { self.new.options ≡ self.old.options }
         ensures schema { self.new.schema ≡ self.old.schema }
         ensures fields { self.new.fields ≡ self.old.fields }
         ensures tracker { self.new.tracker ≡ self.old.tracker }
     {
-        self.pairs = Some(pairs);
+        self.pairs.schema = Some(pairs);
+    }
+
+    /// Gives the message of the schema pairs of its own (Message.fbs, Message: custom_metadata). Nothing may have been put yet.
+    ///
+    /// # Errors
+    ///
+    /// `State` where the stream is begun, or is ended, or a put has failed. It leaves the writer.
+    pub fn set_message_metadata(&mut self, pairs: Metadata) -> Result<(), IpcError>
+        requires { length pairs.entries ≤ 1048576 }
+        ensures { SetsMessagePairs result self.old self.new pairs }
+    {
+        if !self.state.is_new() {
+            return Err(IpcError::State);
+        }
+        self.pairs.message = Some(pairs);
+        Ok(())
     }
 
     /// What a put leaves that stopped: behind a byte that may have been put the writer has failed.
@@ -136,8 +142,7 @@ impl StreamCore {
         if !self.state.is_new() {
             return Err(IpcError::State);
         }
-        let pairs = lent(&self.pairs);
-        let start = stream_start(self.alloc, schema, ipc_fields, pairs, &self.options)?;
+        let start = stream_start(self.alloc, schema, ipc_fields, &self.pairs, &self.options)?;
         match put_whole(sink, start.message.as_slice()) {
             Ok(()) => {
                 self.keep(start);
@@ -147,15 +152,11 @@ impl StreamCore {
         }
     }
 
-    /// Whether a batch is one of the stream's: its columns are of the fields' types, and the IPC fields that are given are the
-    /// stream's own.
+    /// Whether a batch is one of the stream's.
     fn takes(&self, batch: &RecordBatch, ipc_fields: Option<&[IpcField]>) -> bool
-        ensures { IsTrue result ↔ Suits self.now batch.now (given_ids ipc_fields.entry) }
+        ensures { IsTrue result ↔ SuitsStream self.now batch.now (given_ids ipc_fields.entry) }
     {
-        if !are_of_fields(&self.schema, batch.arrays()) {
-            return false;
-        }
-        are_own(ipc_fields, self.fields.as_slice())
+        is_of_schema(&self.schema, self.fields.as_slice(), batch, ipc_fields)
     }
 
     /// Puts what of a batch's dictionaries was not sent yet, and the batch behind it.

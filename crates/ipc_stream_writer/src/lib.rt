@@ -2,14 +2,7 @@
 #![tactic(auto)]
 
 mod calls;
-mod features;
-mod fields;
-mod messages;
-mod puts;
-mod schema;
-mod state;
 mod stream;
-mod types;
 mod writer;
 
 pub use stream::StreamCore;

@@ -1,9 +1,9 @@
 //! A stream that is written into a sink.
-ghost use Rattle.std.specs.Prelude.{◌≡◌, IfErr, IfOk, MatchResult, Some};
+ghost use Rattle.std.specs.Prelude.{◌≡◌, ◌≤◌, IfErr, IfOk, MatchResult, Some, length};
 ghost use Rattle.arrow_spec.specs.declared.error.IpcError.TheVariants.{Memory};
 ghost use Rattle.ipc_bodies.specs.Puts.{moved};
-ghost use Rattle.ipc_stream_writer.specs.Calls.{Finishes, IsFresh, Starts, Writes};
-ghost use Rattle.ipc_stream_writer.specs.Fields.{given_ids};
+ghost use Rattle.ipc_stream_writer.specs.Calls.{Finishes, IsFresh, SetsMessagePairs, Starts, Writes};
+ghost use Rattle.ipc_write_messages.specs.Fields.{given_ids};
 
 use crate::stream::StreamCore;
 use arrow_arrays::RecordBatch;
@@ -44,7 +44,7 @@ impl<W: Sink> StreamWriter<W> {
 
     /// Gives the schema pairs of its own, which count for a later `start`.
     pub fn set_custom_schema_metadata(&mut self, pairs: Metadata)
-        ensures pairs { self.new.core.pairs ≡ Some pairs }
+        ensures pairs { self.new.core.pairs ≡ record { schema = Some pairs; message = self.old.core.pairs.message } }
         ensures state { self.new.core.state ≡ self.old.core.state }
         ensures options { self.new.core.options ≡ self.old.core.options }
         ensures schema { self.new.core.schema ≡ self.old.core.schema }
@@ -53,6 +53,19 @@ impl<W: Sink> StreamWriter<W> {
         ensures sink { self.new.sink ≡ self.old.sink }
     {
         self.core.set_custom_schema_metadata(pairs);
+    }
+
+    /// Gives the message of the schema pairs of its own, as [`StreamCore::set_message_metadata`] does.
+    ///
+    /// # Errors
+    ///
+    /// As of [`StreamCore::set_message_metadata`].
+    pub fn set_message_metadata(&mut self, pairs: Metadata) -> Result<(), IpcError>
+        requires { length pairs.entries ≤ 1048576 }
+        ensures sets { SetsMessagePairs result self.old.core self.new.core pairs }
+        ensures sink { self.new.sink ≡ self.old.sink }
+    {
+        self.core.set_message_metadata(pairs)
     }
 
     /// Begins the stream with the message of a schema, as [`StreamCore::start`] does.

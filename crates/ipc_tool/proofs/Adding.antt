@@ -12,14 +12,14 @@ use Rattle.ipc_io.specs.Faults.{put_error}
 use Rattle.ipc_io.specs.Outside.{AppendsPrefix, IsHeld, Puts, PutHasCause, Rose}
 use Rattle.ipc_io.proofs.Known.{AppendsPrefix-within, AppendsPrefix-after, Appends-kept_nil}
 use Rattle.ipc_transcode.specs.declared.conversion.Summary.{Summary}
-use Rattle.ipc_transcode.specs.declared.encoding.Encoding.TheVariants.{Bytes, HexText}
+use Rattle.ipc_bodies.specs.declared.encoding.Encoding.TheVariants.{Bytes, HexText}
 use Rattle.ipc_files.proofs.ReadFiles.{told}
 use Rattle.ipc_transcode.proofs.SentFiles.{keeps_same}
 use Rattle.ipc_tool.specs.Refusal.{shelf_refusal}
 use Rattle.ipc_tool.specs.StreamPuts.{AddsStreamPart, shown_as}
-use Rattle.transcode_laws.specs.Built.{so_far}
 use Rattle.transcode_laws.specs.Files.{IsFrontOf, IsStreamOf}
-use Rattle.ipc_transcode.specs.Transcode.{text_of, AddsStream, AddsPiece, AddsPart, Transcodes}
+use Rattle.ipc_bodies.specs.Encodings.{text_of}
+use Rattle.ipc_transcode.specs.Transcode.{AddsStream, AddsPiece, AddsPart, Transcodes}
 use Rattle.ipc_tool.specs.Run.{AddsBefore}
 
 -- what `?` makes of an error
@@ -58,8 +58,8 @@ with_line_feed b r old new p = record {
   piece = longer p.piece;
 }
   where
-    longer : (IsStreamOf so_far b r p.bytes p.table × AppendsPrefix old new (text_of HexText p.bytes)) ⊎ (IsFrontOf so_far b r p.bytes p.table × AppendsPrefix old new (text_of HexText p.bytes))
-        → (IsStreamOf so_far b r p.bytes p.table × AppendsPrefix old new (text_of HexText p.bytes ++ 10 ∷ [])) ⊎ (IsFrontOf so_far b r p.bytes p.table × AppendsPrefix old new (text_of HexText p.bytes))
+    longer : (IsStreamOf b r p.bytes p.table × AppendsPrefix old new (text_of HexText p.bytes)) ⊎ (IsFrontOf b r p.bytes p.table × AppendsPrefix old new (text_of HexText p.bytes))
+        → (IsStreamOf b r p.bytes p.table × AppendsPrefix old new (text_of HexText p.bytes ++ 10 ∷ [])) ⊎ (IsFrontOf b r p.bytes p.table × AppendsPrefix old new (text_of HexText p.bytes))
     longer (inl q) = inl (q.0, AppendsPrefix-within old new (text_of HexText p.bytes) (10 ∷ []) q.1)
     longer (inr q) = inr q
 

@@ -3,7 +3,7 @@ use Rattle.std.proofs.Common.{◌≡◌, ℕ, ◌<◌, ◌^◌, ◌⊎◌, inl, 
 use Rattle.std.specs.Prelude.{IsOk}
 use Rattle.std.specs.Io.KnownBytes.{Consumes}
 use Rattle.arrow_spec.specs.declared.error.IpcError.TheVariants as errors
-use Rattle.transcode_laws.specs.Meaning.{file_table}
+use Rattle.arrow_spec.specs.Meaning.{file_table}
 use Rattle.arrow_spec.specs.SchemaText.{schema_text_of}
 use Rattle.arrow_spec.specs.Words.{Command, SchemaAsked, bytes_of_hex, StreamAsked, Held, source_of}
 use Rattle.ipc_io.specs.Outside.{Stands}

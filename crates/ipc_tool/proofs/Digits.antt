@@ -1,30 +1,44 @@
--- Digits that are read in pieces.
-use Rattle.std.proofs.Common.{◌≡◌, ◌+◌, ◌<◌, ℕ, List, [], ◌∷◌, ◌++◌, length, not, Option, ap, ◌∙◌, sym, take, get_or, append_assoc, length-append}
-use Rattle.std.specs.Io.KnownBytes.{Consumes}
-use Rattle.std.proofs.KnownBytes.{Consumes-trans}
-use Rattle.std.proofs.lemmas.List.{take_more}
+-- A feed that is taken in pieces.
+use Rattle.std.proofs.Common.{◌≡◌, ◌+◌, ◌≤◌, ◌<◌, ℕ, List, [], ◌++◌, length, take, not, Option, IfSome, Bool, refl, ap, ◌∙◌, sym, subst, arith, append-nil, length-append}
+use Rattle.std.specs.Io.KnownBytes.{Consumes, IsAtEnd}
+use Rattle.std.proofs.KnownBytes.{Consumes-nil, Consumes-trans, Consumes-whole}
 use Rattle.std.proofs.lemmas.List.Elements.{filter-append}
 use Rattle.arrow_spec.specs.Words.{is_white}
+use Rattle.ipc_tool.specs.Decoding.{Held}
 use Rattle.ipc_tool.specs.Input.{no_white}
 
--- a byte more
-pub digit_more : (new now old text : List ℕ) (c i : ℕ) → i < length text → c ≡ get_or text i 0 → now ≡ old ++ no_white (take i text) → new ≡ now ++ no_white (c ∷ []) → new ≡ old ++ no_white (take (i + 1) text)
-digit_more new now old text c i less is h step =
-    let next : take (i + 1) text ≡ take i text ++ c ∷ [] = take_more text i 0 less ∙ ap (λ x. take i text ++ x ∷ []) (sym is) in
-    step ∙ ap (λ l. l ++ no_white (c ∷ [])) h ∙ append_assoc old (no_white (take i text)) (no_white (c ∷ [])) ∙ ap (λ l. old ++ l) (sym (ap no_white next ∙ filter-append (λ x. not (is_white x)) (take i text) (c ∷ [])))
-
--- so many bytes were taken, and those that are no white space were kept
-pub record Taken (old new : Option (List ℕ)) (taken : ℕ) (digits : List ℕ) : Type 0 where
+-- so many bytes were taken, and a decoder holds those that are no white space
+pub record Taken (old new : Option (List ℕ)) (taken : ℕ) (bytes : List ℕ) (waiting : Option ℕ) (spoiled : Bool) : Type 0 where
   pub text : List ℕ
   pub consumed : Consumes old new text
   pub count : taken ≡ length text
-  pub kept : digits ≡ no_white text
+  pub held : Held bytes waiting spoiled (no_white text)
+
+-- nothing yet
+pub taken_nothing : (rest : Option (List ℕ)) (bytes : List ℕ) (waiting : Option ℕ) (spoiled : Bool) → Held bytes waiting spoiled [] → Taken rest rest 0 bytes waiting spoiled
+taken_nothing rest bytes waiting spoiled h = record { text = []; consumed = Consumes-nil rest; count = refl; held = h }
 
 -- a piece more
-pub taken_more : (old mid new : Option (List ℕ)) (taken n : ℕ) (digits piece more : List ℕ) → Taken old mid taken digits → Consumes mid new piece → length piece ≡ n → more ≡ digits ++ no_white piece → Taken old new (taken + n) more
-taken_more old mid new taken n digits piece more t c size same = record {
+pub taken_more : (old mid new : Option (List ℕ)) (taken n : ℕ) (piece bytes bytes' : List ℕ) (waiting waiting' : Option ℕ) (spoiled spoiled' : Bool) → Taken old mid taken bytes waiting spoiled → Consumes mid new piece → length piece ≡ n
+    → ((digits : List ℕ) → Held bytes waiting spoiled digits → Held bytes' waiting' spoiled' (digits ++ no_white piece)) → Taken old new (taken + n) bytes' waiting' spoiled'
+taken_more old mid new taken n piece bytes bytes' waiting waiting' spoiled spoiled' t c size add = record {
   text = t.text ++ piece;
   consumed = Consumes-trans old mid new t.text piece t.consumed c;
   count = ap (λ x. x + n) t.count ∙ ap (λ x. length t.text + x) (sym size) ∙ sym (length-append t.text piece);
-  kept = same ∙ ap (λ l. l ++ no_white piece) t.kept ∙ sym (filter-append (λ c. not (is_white c)) t.text piece);
+  held = subst (Held bytes' waiting' spoiled') (sym (filter-append (λ c. not (is_white c)) t.text piece)) (add (no_white t.text) t.held);
 }
+
+-- the whole text was taken
+pub taken_whole : (old mid new : Option (List ℕ)) (taken most n : ℕ) (out bytes : List ℕ) (waiting : Option ℕ) (spoiled : Bool) → Taken old mid taken bytes waiting spoiled → Consumes mid new (take n out) → n ≡ 0 → IsAtEnd new → taken ≤ most
+    → IfSome old (λ text. (length text ≤ most) × Held bytes waiting spoiled (no_white text))
+taken_whole old mid new taken most n out bytes waiting spoiled t c none end few =
+    let nothing : Consumes mid new [] = subst (λ m. Consumes mid new (take m out)) none c in
+    let all : Consumes old new t.text = subst (Consumes old new) (append-nil t.text) (Consumes-trans old mid new t.text [] t.consumed nothing) in
+    let short : length t.text ≤ most = omega (arith, t.count) in
+    Consumes-whole old new t.text (λ text. (length text ≤ most) × Held bytes waiting spoiled (no_white text)) all end (short, t.held)
+
+-- more were taken than may be
+pub taken_too_many : (old mid new : Option (List ℕ)) (taken most n : ℕ) (piece bytes : List ℕ) (waiting : Option ℕ) (spoiled : Bool) → Taken old mid taken bytes waiting spoiled → Consumes mid new piece → length piece ≡ n → most < taken + n
+    → (text : List ℕ) × Consumes old new text × (most < length text)
+taken_too_many old mid new taken most n piece bytes waiting spoiled t c size many =
+    (t.text ++ piece, Consumes-trans old mid new t.text piece t.consumed c, omega (arith, t.count, length-append t.text piece))

@@ -1,5 +1,6 @@
 pub mod Adding
 pub mod Completing
+pub mod Decoding
 pub mod Digits
 pub mod Front
 pub mod Noting

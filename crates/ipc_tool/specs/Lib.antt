@@ -4,5 +4,6 @@ pub mod Commands
 pub mod SchemaPuts
 pub mod StreamPuts
 pub mod Input
+pub mod Decoding
 pub mod Run
 pub mod CommandLine

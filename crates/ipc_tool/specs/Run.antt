@@ -3,7 +3,7 @@ use Rattle.std.specs.Prelude.{◌≡◌, ◌⊎◌, ℕ, Bool, List, ⊤, Option
 use Rattle.std.specs.Io.KnownBytes.{Appends, Keeps}
 use Rattle.arrow_spec.specs.declared.error.IpcError.{IpcError}
 use Rattle.arrow_spec.specs.declared.error.IpcError.TheVariants as errors
-use Rattle.transcode_laws.specs.Meaning.{file_table, may}
+use Rattle.arrow_spec.specs.Meaning.{file_table, may}
 use Rattle.arrow_spec.specs.Files.{Request}
 use Rattle.arrow_spec.specs.Words.{SchemaAsked, Command, of_stream, of_schema, StreamAsked, Held, source_of}
 use Rattle.arrow_spec.specs.SchemaText.{schema_text_of}

@@ -5,9 +5,10 @@ use Rattle.arrow_spec.specs.declared.error.IpcError.TheVariants as errors
 use Rattle.arrow_spec.specs.Files.{Request}
 use Rattle.arrow_spec.specs.Words.{shown}
 use Rattle.ipc_io.specs.Outside.{Rose}
-use Rattle.ipc_transcode.specs.declared.encoding.Encoding.{Encoding}
-use Rattle.ipc_transcode.specs.declared.encoding.Encoding.TheVariants.{Bytes, HexText}
-use Rattle.ipc_transcode.specs.Transcode.{text_of, AddsPiece, AddsFrontOrNone}
+use Rattle.ipc_bodies.specs.declared.encoding.Encoding.{Encoding}
+use Rattle.ipc_bodies.specs.declared.encoding.Encoding.TheVariants.{Bytes, HexText}
+use Rattle.ipc_bodies.specs.Encodings.{text_of}
+use Rattle.ipc_transcode.specs.Transcode.{AddsPiece, AddsFrontOrNone}
 
 -- the encoding of a stream
 abbrev pub encoding_of : Bool → Encoding

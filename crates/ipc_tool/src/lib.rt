@@ -3,6 +3,7 @@
 
 mod adapters;
 mod command_line;
+mod decoder;
 mod folder;
 mod input;
 mod note;

@@ -4,7 +4,7 @@ ghost use Rattle.ipc_tool.specs.SchemaPuts.{AddsText, AddsTextPart, PrintCause};
 ghost use Rattle.ipc_io.specs.Outside.{SourceKept, SinkKept};
 
 use arrow_spec::IpcError;
-use ipc_files::{metadata_of, read_file_metadata};
+use ipc_files::{metadata_of, read_file_schema};
 use ipc_schema::{Sink, Source};
 use ipc_text::schema_text;
 use std::alloc::Global;
@@ -21,7 +21,7 @@ pub(crate) fn write_schema<S: Source, W: Sink>(
     ensures kept { SourceKept S.content S.faults S.references source.old source.new }
     ensures sink { SinkKept W.faults W.wants W.references sink.old sink.new }
 {
-    let file = read_file_metadata(alloc, source)?;
+    let file = read_file_schema(alloc, source)?;
     let text = schema_text(alloc, &file.schema, &file.ipc_schema, metadata_of(&file))?;
     sink.put(&text)?;
     Ok(())

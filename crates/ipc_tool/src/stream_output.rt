@@ -1,8 +1,9 @@
 //! A file as a stream, as it is put.
 ghost use Rattle.std.specs.Prelude.{◌≡◌, ◌≤◌, OnOk, IfOk, IfErr, IfSome, IsSome};
-ghost use Rattle.transcode_laws.specs.Meaning.{file_table};
+ghost use Rattle.arrow_spec.specs.Meaning.{file_table};
 ghost use Rattle.ipc_io.specs.Outside.{Stands, SourceKept, SinkKept};
-ghost use Rattle.ipc_transcode.specs.Transcode.{AddsPart, AddsStream, IsSmallRefusal, TranscodeCause, Transcodes, text_of};
+ghost use Rattle.ipc_bodies.specs.Encodings.{text_of};
+ghost use Rattle.ipc_transcode.specs.Transcode.{AddsPart, AddsStream, IsSmallRefusal, TranscodeCause, Transcodes};
 ghost use Rattle.ipc_tool.specs.Request.{table_asked};
 ghost use Rattle.ipc_tool.specs.StreamPuts.{AddsStreamPart, shown_as};
 

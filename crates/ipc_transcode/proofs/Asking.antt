@@ -6,7 +6,7 @@ use Rattle.arrow_spec.specs.Files.{Request}
 use Rattle.ipc_transcode.specs.Sends.{Refused, SendCause}
 use Rattle.ipc_transcode.specs.Transcode.{TranscodeCause}
 use Rattle.ipc_files.proofs.ReadFiles.{told}
-use Rattle.ipc_transcode.specs.declared.encoding.Encoding.{Encoding}
+use Rattle.ipc_bodies.specs.declared.encoding.Encoding.{Encoding}
 
 -- the cause of a refusal, by what it says of the bytes
 cause_told : (e : IpcError) (content : Option (List ℕ)) (r : Request) (encoding : Encoding) (start new : Option (List ℕ)) (wants wants' reads reads' writes writes' : ℕ) → IfSome content (λ b. Refused e b r encoding start new wants wants') → SendCause e reads reads' writes writes' → TranscodeCause e content r reads reads' writes writes'

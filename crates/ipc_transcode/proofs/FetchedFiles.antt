@@ -3,10 +3,10 @@ use Rattle.std.proofs.Common.{◌≡◌, ℕ, zero, suc, ◌+◌, ◌-◌, ◌�
 use Rattle.std.specs.Prelude.{IsSome, sum_by, slice_get, option_map}
 use Rattle.std.proofs.lemmas.List.Sums.{sum_by-append, sum_by-cons, sum_by_push}
 use Rattle.arrow_spec.specs.Readings.{Reading, meaning, free_of}
-use Rattle.arrow_spec.specs.Features.{feature_faults}
-use Rattle.arrow_spec.specs.Kinds.{width}
+use Rattle.arrow_spec.specs.Features.{chosen_floats}
+use Rattle.arrow_spec.specs.Kinds.{Metadata, width}
 use Rattle.arrow_spec.specs.Counts.{after}
-use Rattle.arrow_spec.specs.Files.{ArrowTable, Asked, FileBlock, Meta, Request, TableBatch, batch_of, batches_of, columns_right, custom_of, dictionaries_of, dictionaries_read, dictionaries_sent, fields_as_asked, file_reading, footer_of, meta_of, to_read, what_is_left}
+use Rattle.arrow_spec.specs.Files.{ArrowTable, Asked, FileBlock, Meta, Request, TableBatch, batch_of, batches_of, columns_right, custom_of, dictionaries_of, dictionaries_read, dictionaries_sent, file_reading, footer_of, meta_of, to_read, what_is_left}
 use Rattle.arrow_spec.specs.Arrays.{Dictionaries}
 use Rattle.arrow_spec.specs.Needed.{Range, all_need, lengths, or_nothing}
 use Rattle.arrow_spec.proofs.Projection.{nothing, went}
@@ -17,9 +17,8 @@ use Rattle.ipc_read_laws.specs.Held.{Held, HoldsCells}
 use Rattle.file_dictionaries.specs.Parts.{PartTree}
 use Rattle.ipc_files.specs.FileDictionaries.{DictionariesFetched, dictionaries_cost, dictionary_cost}
 use Rattle.ipc_transcode.specs.Sends.{DictionariesRead}
-use Rattle.transcode_laws.specs.Built.{so_far}
 use Rattle.transcode_laws.specs.Files.{asked_of}
-use Rattle.transcode_laws.specs.Meaning.{file_table}
+use Rattle.arrow_spec.specs.Meaning.{file_table}
 use Rattle.ipc_files.specs.FileViews.{FileSays}
 use Rattle.ipc_files.specs.Fetching.{BlockFetched, FooterFetched, block_cost}
 use Rattle.ipc_transcode.specs.Fetching.{BlocksFetched, FileFetched, TableFetched, blocks_cost}
@@ -41,33 +40,33 @@ rows_behind i x xs = sum_by-cons (λ (y : TableBatch). y.rows) x (take i xs)
 -- a batch, and where it stands
 record IsBatchAt (b : List ℕ) (a : Asked) (i : ℕ) (block : FileBlock) (left : Option ℕ) (xs : List TableBatch) : Type 0 where
   batch : TableBatch
-  read : batch_of so_far.custom to_read b a block (what_is_left left (rows_before i xs)) ≡ Ok batch
+  read : batch_of to_read b a block (what_is_left left (rows_before i xs)) ≡ Ok batch
   at : slice_get xs i ≡ Some batch
 
 nothing_left : (left : Option ℕ) → what_is_left left 0 ≡ left
 nothing_left None = refl
 nothing_left (Some l) = let e : l - 0 ≡ l = omega arith in ap Some e
 
-at_block : (b : List ℕ) (a : Asked) (is_first : Bool) (blocks : List FileBlock) (i : ℕ) (block : FileBlock) (left : Option ℕ) (xs : List TableBatch) → batches_of so_far.custom to_read b a is_first blocks left ≡ Ok xs → slice_get blocks i ≡ Some block → IsBatchAt b a i block left xs
+at_block : (b : List ℕ) (a : Asked) (is_first : Bool) (blocks : List FileBlock) (i : ℕ) (block : FileBlock) (left : Option ℕ) (xs : List TableBatch) → batches_of to_read b a is_first blocks left ≡ Ok xs → slice_get blocks i ≡ Some block → IsBatchAt b a i block left xs
 unfolding batches_of
 at_block b a is_first [] i block left xs h k = cc
 at_block b a is_first (y ∷ ys) zero block left xs h k =
-    let first = went (batch_of so_far.custom to_read b a y left) _ xs h in
+    let first = went (batch_of to_read b a y left) _ xs h in
     let flag = went (dictionaries_sent is_first to_read a) _ xs first.rest in
-    let others = went (batches_of so_far.custom to_read b a false ys (what_is_left left first.got.rows)) _ xs flag.rest in
+    let others = went (batches_of to_read b a false ys (what_is_left left first.got.rows)) _ xs flag.rest in
     let all : first.got ∷ others.got ≡ xs = cc (others.rest) in
     let same : y ≡ block = cc in
-    let here : batch_of so_far.custom to_read b a block left ≡ Ok first.got = subst (λ z. batch_of so_far.custom to_read b a z left ≡ Ok first.got) same first.first in
-    record { batch = first.got; read = subst (λ l. batch_of so_far.custom to_read b a block l ≡ Ok first.got) (sym (nothing_left left)) here; at = ap (λ zs. slice_get zs 0) (sym all) }
+    let here : batch_of to_read b a block left ≡ Ok first.got = subst (λ z. batch_of to_read b a z left ≡ Ok first.got) same first.first in
+    record { batch = first.got; read = subst (λ l. batch_of to_read b a block l ≡ Ok first.got) (sym (nothing_left left)) here; at = ap (λ zs. slice_get zs 0) (sym all) }
 at_block b a is_first (y ∷ ys) (suc i) block left xs h k =
-    let first = went (batch_of so_far.custom to_read b a y left) _ xs h in
+    let first = went (batch_of to_read b a y left) _ xs h in
     let flag = went (dictionaries_sent is_first to_read a) _ xs first.rest in
-    let others = went (batches_of so_far.custom to_read b a false ys (what_is_left left first.got.rows)) _ xs flag.rest in
+    let others = went (batches_of to_read b a false ys (what_is_left left first.got.rows)) _ xs flag.rest in
     let all : first.got ∷ others.got ≡ xs = cc (others.rest) in
     let rest = at_block b a false ys i block (what_is_left left first.got.rows) others.got others.first k in
     let before : what_is_left (what_is_left left first.got.rows) (rows_before i others.got) ≡ what_is_left left (rows_before (suc i) xs)
     = left_twice left first.got.rows (rows_before i others.got) ∙ ap (what_is_left left) (sym (rows_behind i first.got others.got) ∙ ap (rows_before (suc i)) all) in
-    record { batch = rest.batch; read = subst (λ l. batch_of so_far.custom to_read b a block l ≡ Ok rest.batch) before rest.read; at = ap (λ zs. slice_get zs (suc i)) (sym all) ∙ rest.at }
+    record { batch = rest.batch; read = subst (λ l. batch_of to_read b a block l ≡ Ok rest.batch) before rest.read; at = ap (λ zs. slice_get zs (suc i)) (sym all) ∙ rest.at }
 
 -- what one block more costs
 cost_more : (b : List ℕ) (meta : Meta) (r : Request) (blocks : List FileBlock) (i : ℕ) (block : FileBlock) (x : TableBatch) (xs : List TableBatch) (left : Option ℕ) → slice_get blocks i ≡ Some block → slice_get xs i ≡ Some x
@@ -96,7 +95,7 @@ cost_less b meta r (y ∷ ys) (suc i) (z ∷ zs) left = omega (arith, cost_less 
 abbrev pub FetchedUpTo : Option (List ℕ) → Meta → Request → Held → ℕ → ℕ → ℕ → ℕ → Type 0
 FetchedUpTo None meta r h i rows f f' = Unit {0}
 FetchedUpTo (Some b) meta r h i rows f f' =
-    (d : Dictionaries) (xs : List TableBatch) → HoldsCells d h → batches_of so_far.custom to_read b (asked_of b meta r d) true meta.blocks r.limit ≡ Ok xs → (f' ≤ f + blocks_cost b meta r (take i meta.blocks) xs r.limit) × (rows ≡ rows_before i xs)
+    (d : Dictionaries) (xs : List TableBatch) → HoldsCells d h → batches_of to_read b (asked_of b meta r d) true meta.blocks r.limit ≡ Ok xs → (f' ≤ f + blocks_cost b meta r (take i meta.blocks) xs r.limit) × (rows ≡ rows_before i xs)
 
 pub none_yet : (content : Option (List ℕ)) (meta : Meta) (r : Request) (h : Held) (f f' : ℕ) → f' ≤ f → FetchedUpTo content meta r h 0 0 f f'
 none_yet None meta r h f f' less = tt
@@ -104,28 +103,28 @@ none_yet (Some b) meta r h f f' less = λ d xs holds is. (omega (arith, less), r
 
 -- a block at its place is read as far as rows are left
 read_there : (b : List ℕ) (meta : Meta) (r : Request) (d : Dictionaries) (i : ℕ) (block : FileBlock) (left : Option ℕ) (rows f mid f' : ℕ) (xs : List TableBatch) → slice_get meta.blocks i ≡ Some block → left ≡ what_is_left r.limit rows → rows ≡ rows_before i xs
-    → batches_of so_far.custom to_read b (asked_of b meta r d) true meta.blocks r.limit ≡ Ok xs → BlockFetched (Some b) meta (asked r.columns left) block left mid f' → mid ≤ f + blocks_cost b meta r (take i meta.blocks) xs r.limit
+    → batches_of to_read b (asked_of b meta r d) true meta.blocks r.limit ≡ Ok xs → BlockFetched (Some b) meta (asked r.columns left) block left mid f' → mid ≤ f + blocks_cost b meta r (take i meta.blocks) xs r.limit
     → (f' ≤ f + blocks_cost b meta r (take (suc i) meta.blocks) xs r.limit)
 read_there b meta r d i block left rows f mid f' xs h is so_far_rows all one before =
     let x = at_block b (asked_of b meta r d) true meta.blocks i block r.limit xs all h in
     let same : left ≡ what_is_left r.limit (rows_before i xs) = is ∙ ap (what_is_left r.limit) so_far_rows in
-    let here : batch_of so_far.custom to_read b (asked_of b meta r d) block left ≡ Ok x.batch = subst (λ l. batch_of so_far.custom to_read b (asked_of b meta r d) block l ≡ Ok x.batch) (sym same) x.read in
+    let here : batch_of to_read b (asked_of b meta r d) block left ≡ Ok x.batch = subst (λ l. batch_of to_read b (asked_of b meta r d) block l ≡ Ok x.batch) (sym same) x.read in
     let cost : block_cost b meta (asked r.columns left) block left ≡ block_cost b meta r block (what_is_left r.limit (rows_before i xs))
     = ap (λ w. lengths (or_nothing (option_map (λ p. p.0) (meaning w)))) (same_request b meta r.columns left r.limit block left) ∙ ap (block_cost b meta r block) same in
     let grown = cost_more b meta r meta.blocks i block x.batch xs r.limit h x.at in
     omega (arith, one d x.batch here, before, cost, grown)
 
 pub one_more : (content after : Option (List ℕ)) (meta : Meta) (r : Request) (held : Held) (i : ℕ) (block : FileBlock) (left : Option ℕ) (rows more : ℕ) (f mid f' : ℕ) → slice_get meta.blocks i ≡ Some block → left ≡ what_is_left r.limit rows → after ≡ content
-    → IfSome after (λ b. (d : Dictionaries) (x : TableBatch) → HoldsCells d held → batch_of so_far.custom to_read b (asked_of b meta r d) block left ≡ Ok x → more ≡ x.rows) → FetchedUpTo content meta r held i rows f mid → BlockFetched after meta (asked r.columns left) block left mid f'
+    → IfSome after (λ b. (d : Dictionaries) (x : TableBatch) → HoldsCells d held → batch_of to_read b (asked_of b meta r d) block left ≡ Ok x → more ≡ x.rows) → FetchedUpTo content meta r held i rows f mid → BlockFetched after meta (asked r.columns left) block left mid f'
     → FetchedUpTo content meta r held (i + 1) (rows + more) f f'
 one_more None after meta r held i block left rows more f mid f' h is same height before one = tt
 one_more (Some b) after meta r held i block left rows more f mid f' h is same height before one = λ d xs holds all.
     let n : suc i ≡ i + 1 = omega arith in
     let known = before d xs holds all in
     let here : BlockFetched (Some b) meta (asked r.columns left) block left mid f' = subst (λ o. BlockFetched o meta (asked r.columns left) block left mid f') same one in
-    let tall = subst (λ o. IfSome o (λ b. (d : Dictionaries) (x : TableBatch) → HoldsCells d held → batch_of so_far.custom to_read b (asked_of b meta r d) block left ≡ Ok x → more ≡ x.rows)) same height in
+    let tall = subst (λ o. IfSome o (λ b. (d : Dictionaries) (x : TableBatch) → HoldsCells d held → batch_of to_read b (asked_of b meta r d) block left ≡ Ok x → more ≡ x.rows)) same height in
     let x = at_block b (asked_of b meta r d) true meta.blocks i block r.limit xs all h in
-    let read : batch_of so_far.custom to_read b (asked_of b meta r d) block left ≡ Ok x.batch = subst (λ l. batch_of so_far.custom to_read b (asked_of b meta r d) block l ≡ Ok x.batch) (sym (is ∙ ap (what_is_left r.limit) known.1)) x.read in
+    let read : batch_of to_read b (asked_of b meta r d) block left ≡ Ok x.batch = subst (λ l. batch_of to_read b (asked_of b meta r d) block l ≡ Ok x.batch) (sym (is ∙ ap (what_is_left r.limit) known.1)) x.read in
     let cost = read_there b meta r d i block left rows f mid f' xs h is known.1 all here known.0 in
     let sum : rows_before (i + 1) xs ≡ rows_before i xs + x.batch.rows = ap (λ l. sum_by (λ y. y.rows) l) (take_next xs i x.batch x.at) ∙ sum_by_push (λ y. y.rows) (take i xs) x.batch in
     (subst (λ k. f' ≤ f + blocks_cost b meta r (take k meta.blocks) xs r.limit) n cost, omega (arith, known.1, tall d x.batch holds read, sum))
@@ -171,15 +170,15 @@ blocks_behind (Some b) after meta r held ps f mid f' same kept read before block
 
 -- ── the file ──
 
-batches_cost : (b : List ℕ) (meta : Meta) (r : Request) (d : Dictionaries) (is_first : Bool) (blocks : List FileBlock) (left : Option ℕ) (parts : List Range) (xs : List TableBatch) → batches_fetched b meta r blocks left ≡ Ok parts → batches_of so_far.custom to_read b (asked_of b meta r d) is_first blocks left ≡ Ok xs → lengths parts ≡ blocks_cost b meta r blocks xs left
+batches_cost : (b : List ℕ) (meta : Meta) (r : Request) (d : Dictionaries) (is_first : Bool) (blocks : List FileBlock) (left : Option ℕ) (parts : List Range) (xs : List TableBatch) → batches_fetched b meta r blocks left ≡ Ok parts → batches_of to_read b (asked_of b meta r d) is_first blocks left ≡ Ok xs → lengths parts ≡ blocks_cost b meta r blocks xs left
 unfolding batches_fetched batches_of
 batches_cost b meta r d is_first [] left parts xs h k = ap (λ (r : Reading (List Range)). lengths (or_nothing (meaning r))) (sym h)
 batches_cost b meta r d is_first (block ∷ blocks) left parts xs h k =
     let first = went (batch_fetched b meta r block left) _ parts h in
     let others = went (batches_fetched b meta r blocks (what_is_left left first.got.1)) _ parts first.rest in
-    let read = went (batch_of so_far.custom to_read b (asked_of b meta r d) block left) _ xs k in
+    let read = went (batch_of to_read b (asked_of b meta r d) block left) _ xs k in
     let flag = went (dictionaries_sent is_first to_read (asked_of b meta r d)) _ xs read.rest in
-    let behind = went (batches_of so_far.custom to_read b (asked_of b meta r d) false blocks (what_is_left left read.got.rows)) _ xs flag.rest in
+    let behind = went (batches_of to_read b (asked_of b meta r d) false blocks (what_is_left left read.got.rows)) _ xs flag.rest in
     let all : read.got ∷ behind.got ≡ xs = cc (behind.rest) in
     let p = batch_parts b (asked_of b meta r d) block left read.got read.first in
     let same = block_fetched b meta r block left p.message p.rows p.is p.count in
@@ -211,7 +210,7 @@ record FileParts (b : List ℕ) (r : Request) : Type 0 where
   says : meta_of b ≡ Ok meta
   is : footer_of b ≡ Ok footer
   held : dictionaries_of b meta [] (dictionaries_read meta.blocks meta.dictionaries) ≡ Ok dictionaries
-  read : batches_of so_far.custom to_read b (asked_of b meta r dictionaries) true meta.blocks r.limit ≡ Ok batches
+  read : batches_of to_read b (asked_of b meta r dictionaries) true meta.blocks r.limit ≡ Ok batches
   total : lengths (ranges_fetched b r) ≡ 10 + length footer + (dictionaries_cost b meta (dictionaries_read meta.blocks meta.dictionaries) + blocks_cost b meta r meta.blocks batches r.limit)
 
 -- the lengths of two ranges before others
@@ -221,21 +220,19 @@ in_parts x y zs =
     let second = sum_by-cons (λ (z : Range). z.length) y zs in
     omega (arith, first, second)
 
-file_parts : (b : List ℕ) (r : Request) (t : ArrowTable) → file_reading so_far to_read b r None ≡ Ok t → FileParts b r
+file_parts : (b : List ℕ) (r : Request) (t : ArrowTable) → file_reading to_read b r None ≡ Ok t → FileParts b r
 unfolding file_reading ranges_fetched
 file_parts b r t h =
-    let known = went nothing _ t h in
-    let meta = went (meta_of b) _ t known.rest in
+    let meta = went (meta_of b) _ t h in
     let footer = meta-footer b meta.got meta.first in
-    let custom = went (custom_of so_far.custom b) _ t meta.rest in
+    let custom = went (custom_of b) _ t meta.rest in
     let columns = went (columns_right r.columns (width meta.got.schema.fields)) _ t custom.rest in
-    let floats = went (free_of (feature_faults r.columns meta.got.schema.fields (so_far.chosen meta.got.schema.order (fields_as_asked r.columns meta.got.schema.fields)))) _ t columns.rest in
+    let floats = went (free_of (chosen_floats r.columns meta.got.schema.fields 0)) _ t columns.rest in
     let size = went nothing _ t floats.rest in
-    let read = went nothing _ t size.rest in
-    let dictionaries = went (dictionaries_of b meta.got [] (dictionaries_read meta.got.blocks meta.got.dictionaries)) _ t read.rest in
-    let batches = went (batches_of so_far.custom to_read b (asked_of b meta.got r dictionaries.got) true meta.got.blocks r.limit) _ t dictionaries.rest in
+    let dictionaries = went (dictionaries_of b meta.got [] (dictionaries_read meta.got.blocks meta.got.dictionaries)) _ t size.rest in
+    let batches = went (batches_of to_read b (asked_of b meta.got r dictionaries.got) true meta.got.blocks r.limit) _ t dictionaries.rest in
     let values = dictionaries_depend b meta.got [] (dictionaries_read meta.got.blocks meta.got.dictionaries) dictionaries.got dictionaries.first in
-    let parts = batches_depend so_far.custom b meta.got r true meta.got.blocks dictionaries.got r.limit batches.got batches.first in
+    let parts = batches_depend b meta.got r true meta.got.blocks dictionaries.got r.limit batches.got batches.first in
     let all_parts = parts_are b r meta.got footer.0 values.parts parts.parts meta.first footer.1 values.needed parts.needed in
     let trailer : Range = record { place = length b - 10; length = 10 } in
     let foot : Range = record { place = length b - 10 - length footer.0; length = length footer.0 } in
@@ -258,9 +255,9 @@ file_parts b r t h =
 
 table_parts : (b : List ℕ) (r : Request) → IsSome (file_table b r) → FileParts b r
 unfolding file_table
-table_parts b r h = by_reading (file_reading so_far to_read b r None) refl h
+table_parts b r h = by_reading (file_reading to_read b r None) refl h
   where
-    by_reading : (w : Reading ArrowTable) → file_reading so_far to_read b r None ≡ w → IsSome (meaning w) → FileParts b r
+    by_reading : (w : Reading ArrowTable) → file_reading to_read b r None ≡ w → IsSome (meaning w) → FileParts b r
     by_reading (Ok t) is h = file_parts b r t is
     by_reading (Err es) is h = cc
 
@@ -270,15 +267,15 @@ file_by_footer (Some b) r f f' h = λ some.
     let p = table_parts b r some in
     omega (arith, h p.footer p.is, p.total)
 
-pub file_by_table : (content after : Option (List ℕ)) (meta : Meta) (r : Request) (f mid f' : ℕ) → FooterFetched content f mid → IfSome content (λ b. FileSays b meta) → after ≡ content → TableFetched after meta r mid f' → FileFetched content r f f'
-file_by_table None after meta r f mid f' footer says same table = tt
-file_by_table (Some b) after meta r f mid f' footer says same table = λ some.
+pub file_by_table : (content after : Option (List ℕ)) (meta : Meta) (custom : Metadata) (r : Request) (f mid f' : ℕ) → FooterFetched content f mid → IfSome content (λ b. FileSays b meta custom) → after ≡ content → TableFetched after meta r mid f' → FileFetched content r f f'
+file_by_table None after meta custom r f mid f' footer says same table = tt
+file_by_table (Some b) after meta custom r f mid f' footer says same table = λ some.
     let p = table_parts b r some in
     let is : p.meta ≡ meta = let q = p.says in let k = says.read in cc in
     let here : TableFetched (Some b) meta r mid f' = subst (λ o. TableFetched o meta r mid f') same table in
     let held : dictionaries_of b meta [] (dictionaries_read meta.blocks meta.dictionaries) ≡ Ok p.dictionaries = subst (λ (x : Meta). dictionaries_of b x [] (dictionaries_read x.blocks x.dictionaries) ≡ Ok p.dictionaries) is p.held in
-    let read : batches_of so_far.custom to_read b (asked_of b meta r p.dictionaries) true meta.blocks r.limit ≡ Ok p.batches
-    = subst (λ (x : Meta). batches_of so_far.custom to_read b (asked_of b x r p.dictionaries) true x.blocks r.limit ≡ Ok p.batches) is p.read in
+    let read : batches_of to_read b (asked_of b meta r p.dictionaries) true meta.blocks r.limit ≡ Ok p.batches
+    = subst (λ (x : Meta). batches_of to_read b (asked_of b x r p.dictionaries) true x.blocks r.limit ≡ Ok p.batches) is p.read in
     let total : lengths (ranges_fetched b r) ≡ 10 + length p.footer + (dictionaries_cost b meta (dictionaries_read meta.blocks meta.dictionaries) + blocks_cost b meta r meta.blocks p.batches r.limit)
     = subst (λ (x : Meta). lengths (ranges_fetched b r) ≡ 10 + length p.footer + (dictionaries_cost b x (dictionaries_read x.blocks x.dictionaries) + blocks_cost b x r x.blocks p.batches r.limit)) is p.total in
     omega (arith, footer p.footer p.is, here p.dictionaries p.batches held read, total)

@@ -10,12 +10,9 @@ pub mod FileStreams
 pub mod BlockSteps
 pub mod StreamSteps
 pub mod Asking
-pub mod MissingFeatures
 pub mod Fetching
 pub mod FetchedFiles
 pub mod AskedFields
-pub mod Counted
-pub mod Picked
 pub mod Selected
 pub mod PutValues
 pub mod FileParts

@@ -15,15 +15,14 @@ use Rattle.arrow_spec.specs.Kinds.{Fields, dictionary_counts, width}
 use Rattle.arrow_spec.specs.Files.{Meta, columns_right, fields_as_asked}
 use Rattle.arrow_arrays.specs.Carried.{are_carried}
 use Rattle.transcode_laws.proofs.StreamFields.{few_dictionaries}
-use Rattle.column_laws.proofs.CarriedFields.{fields_carried}
 use Rattle.file_dictionaries.specs.Parts.{AreFileParts, PartTree, columns_in}
 use Rattle.file_dictionaries.specs.PartsOf.{part_trees}
 use Rattle.file_dictionaries.specs.declared.parts.FilePart.{FilePart}
 use Rattle.part_laws.proofs.ReadParts.{parts_asked}
 use Rattle.ipc_files.specs.FileViews.{WasRead, meta_view}
 use Rattle.ipc_files.specs.declared.metadata.FileMetadata.{FileMetadata}
-use Rattle.ipc_transcode.specs.FileViews.{IsBuilt}
-use Rattle.ipc_transcode.proofs.SentFields.{sendable}
+use Rattle.ipc_transcode.specs.FileViews.{AreReadable}
+use Rattle.ipc_transcode.proofs.SentFields.{fields_read, sendable}
 use Rattle.arrow_spec.specs.Layout.{layout, size, up_to}
 use Rattle.arrow_spec.proofs.NextMessages.{length-layout}
 use Rattle.arrow_spec.proofs.Bodies.{length-body}
@@ -37,15 +36,15 @@ use Rattle.ipc_write.proofs.Putting.{aligned_pieces}
 use Rattle.dictionary_laws.specs.Sending.{Columns, NoneReplaced, dictionary_values}
 use Rattle.dictionary_laws.proofs.SentValues.{values_sent}
 use Rattle.file_dictionaries.specs.Sending.{ArePlansOf, IsPlanOf, IsPlanned, PlanCause, PlansDictionaries}
-use Rattle.ipc_io.proofs.Known.{Appends-kept_nil}
 use Rattle.ipc_transcode.specs.Sends.{BeforeNotPut, BeforePut, DictionariesNotPut, MayBePut, SendCause, ValuesNotPut, ValuesPut, all_values}
-use Rattle.ipc_transcode.specs.Transcode.{PutsSome, PutTextCause, text_of}
+use Rattle.ipc_bodies.specs.Encodings.{text_of}
+use Rattle.ipc_transcode.specs.Transcode.{PutsSome, PutTextCause}
 use Rattle.ipc_transcode.specs.Written.{IsInLimits, PutPlanCause, plan_bytes}
-use Rattle.ipc_transcode.specs.declared.encoding.Encoding.{Encoding}
+use Rattle.ipc_bodies.specs.declared.encoding.Encoding.{Encoding}
 use Rattle.ipc_transcode.proofs.BlockSteps.{split_at, take_next}
 use Rattle.ipc_transcode.proofs.Sending.{Appends-text}
 use Rattle.ipc_transcode.proofs.SentFiles.{keeps_same}
-use Rattle.ipc_transcode.proofs.StreamSteps.{text_nil}
+use Rattle.ipc_bodies.proofs.Encoded.{no_text}
 
 -- ── a message ──
 
@@ -121,7 +120,7 @@ abbrev pub PutUpTo : List BodyPlan → Encoding → Option (List ℕ) → Option
 PutUpTo ps encoding old now i bytes = (vs : List WrittenValues) → ArePlansOf vs ps → all_may_be_sent (map values_message vs) ≡ true → ValuesPut (take i vs) encoding old now bytes
 
 pub none_put : (ps : List BodyPlan) (encoding : Encoding) (old : Option (List ℕ)) → PutUpTo ps encoding old old 0 0
-none_put ps encoding old = λ vs are may. record { added = subst (Appends old old) (sym (text_nil encoding)) (Appends-kept_nil old old (keeps_same old)); bytes_are = refl }
+none_put ps encoding old = λ vs are may. record { added = (no_text encoding old 0 0).0; bytes_are = refl }
 
 pub one_more_put : (ps : List BodyPlan) (encoding : Encoding) (old now new : Option (List ℕ)) (i bytes more : ℕ) (p : BodyPlan) → slice_get ps i ≡ Some p → PutUpTo ps encoding old now i bytes → (IsInLimits p → more ≡ length (plan_bytes p)) → Appends now new (text_of encoding (plan_bytes p)) → PutUpTo ps encoding old new (i + 1) (bytes + more)
 one_more_put ps encoding old now new i bytes more p at before long put = λ vs are may.
@@ -176,7 +175,7 @@ not_planned e columns d fs encoding o faults faults' wants wants' h = absurd h
 -- nothing stands before one that is not the first
 pub nothing_before : (is_first : Bool) (columns : Columns) (d : Dictionaries) (fs : Fields) (encoding : Encoding) (o : Option (List ℕ)) → is_first ≡ false → (is_first ≡ false → MayBePut columns d fs) → BeforePut is_first columns d fs encoding o o 0
 nothing_before is_first columns d fs encoding o is may =
-    subst (λ b. BeforePut b columns d fs encoding o o 0) (sym is) (record { may = may is; put = record { added = subst (Appends o o) (sym (text_nil encoding)) (Appends-kept_nil o o (keeps_same o)); bytes_are = refl } })
+    subst (λ b. BeforePut b columns d fs encoding o o 0) (sym is) (record { may = may is; put = record { added = (no_text encoding o 0 0).0; bytes_are = refl } })
 
 pub first_before : (is_first : Bool) (columns : Columns) (d : Dictionaries) (fs : Fields) (encoding : Encoding) (old new : Option (List ℕ)) (bytes : ℕ) → is_first ≡ true → BeforePut true columns d fs encoding old new bytes → BeforePut is_first columns d fs encoding old new bytes
 first_before is_first columns d fs encoding old new bytes is put = subst (λ b. BeforePut b columns d fs encoding old new bytes) (sym is) put
@@ -187,12 +186,10 @@ first_not_put is_first columns d fs encoding old new e faults faults' wants want
 -- ── of a file ──
 
 -- the fields that are asked for of a file can be read, and have few dictionaries
-pub asked_carried : (file : FileMetadata) (columns : Option (List ℕ)) → columns_right columns (width (meta_view file).schema.fields) ≡ Ok tt → IsBuilt (meta_view file) columns → WasRead file
+pub asked_carried : (file : FileMetadata) (columns : Option (List ℕ)) → columns_right columns (width (meta_view file).schema.fields) ≡ Ok tt → AreReadable (meta_view file) columns → WasRead file
     → (are_carried (fields_as_asked columns (meta_view file).schema.fields) ≡ true) × (dictionary_counts (fields_as_asked columns (meta_view file).schema.fields) < 2 ^ 63)
-asked_carried file columns right built read =
-    let fs = fields_as_asked columns (meta_view file).schema.fields in
-    let schema = (sendable file columns right built read).0.may in
-    (fields_carried 64 fs built schema.fit, few_dictionaries fs (meta_view file).schema.metadata schema)
+asked_carried file columns right readable read =
+    (fields_read file columns right readable read, few_dictionaries (fields_as_asked columns (meta_view file).schema.fields) (meta_view file).schema.metadata (sendable file columns right readable read).may)
 
 -- parts of a file's dictionaries as they are planned
 planned_parts : (meta : Meta) (columns : Option (List ℕ)) (gs : Fields) (ps : List PartTree) (d : Dictionaries) → gs ≡ fields_as_asked columns meta.schema.fields → AreFileParts meta.schema.fields d ps → AreFileParts gs d ps

@@ -2,11 +2,10 @@
 use Rattle.std.proofs.Common.{◌≡◌, ℕ, List, [], ◌∷◌, ◌⊎◌, inl, inr, Option, None, Some, Result, Ok, Err, IfErr, IfSome, IsSome, refl, subst, arith}
 use Rattle.arrow_spec.specs.declared.error.IpcError.{IpcError}
 use Rattle.arrow_spec.specs.declared.error.IpcError.TheVariants as errors
-use Rattle.transcode_laws.specs.Built.{so_far}
 use Rattle.arrow_spec.specs.Readings.{Reading, IsAmong, refusals}
 use Rattle.arrow_spec.specs.Files.{Request, ArrowTable, file_reading, to_send}
-use Rattle.transcode_laws.specs.Meaning.{file_table, may}
-use Rattle.transcode_laws.proofs.SoFar.{sent_or_too_large}
+use Rattle.arrow_spec.specs.Meaning.{file_table, may}
+use Rattle.transcode_laws.proofs.Sent.{sent_or_too_large}
 use Rattle.ipc_io.specs.Outside.{Stands, Rose}
 use Rattle.ipc_transcode.specs.Transcode.{TranscodeCause, IsSmallRefusal}
 
@@ -27,7 +26,7 @@ refused_or (Err es) t e (inr h) m =
 -- a file that means a table is refused as too large alone
 may_only : (b : List ℕ) (r : Request) (found : Option ArrowTable) (e : IpcError) → file_table b r ≡ found → IsSome found → may b r e → errors.TooLarge ≡ e
 may_only b r None e is h m = cc
-may_only b r (Some t) e is h m = refused_or (file_reading so_far to_send b r None) t e (sent_or_too_large b r t is) m
+may_only b r (Some t) e is h m = refused_or (file_reading to_send b r None) t e (sent_or_too_large b r t is) m
 
 small : (e : IpcError) (b : List ℕ) (r : Request) (reads reads' writes writes' : ℕ) → TranscodeCause e (Some b) r reads reads' writes writes' → IsSome (file_table b r) → Stands reads reads' → Stands writes writes' → IsSmallRefusal b r e
 small errors.ReadFault b r reads reads' writes writes' c h s t = absurd (stood _ _ s c)

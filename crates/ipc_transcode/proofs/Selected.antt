@@ -1,14 +1,16 @@
 -- Columns that are asked for by their numbers, and their projection.
-use Rattle.std.proofs.Common.{◌≡◌, ◌⊎◌, inl, inr, ℕ, List, [], ◌∷◌, length, Option, Some, None, Result, Err, IfSome, true, refl, sym, subst, Bor, Ok, IfOk, IfErr}
+use Rattle.std.proofs.Common.{◌≡◌, ◌⊎◌, inl, inr, ℕ, List, [], ◌∷◌, length, Option, Some, None, Result, Err, IfSome, true, refl, sym, ap, ◌∙◌, subst, Bor, Ok, IfOk, IfErr}
 use Rattle.std.specs.Rc.{rc_value}
 use Rattle.arrow_spec.specs.declared.error.IpcError.{IpcError}
 use Rattle.arrow_spec.specs.declared.error.IpcError.TheVariants as errors
 use Rattle.arrow_spec.specs.Arrays.{Dictionaries}
+use Rattle.arrow_spec.specs.Features.{chosen_floats}
 use Rattle.arrow_spec.specs.Files.{FileBlock, columns_right}
 use Rattle.arrow_types.specs.Schemas.{Keyed}
 use Rattle.arrow_arrays.specs.Batches.{Batch}
 use Rattle.transcode_laws.specs.Files.{AreAsked}
-use Rattle.ipc_read.specs.Projection.{are_below, are_columns, chosen, columns_of}
+use Rattle.ipc_read.specs.Sources.{IsRefusal}
+use Rattle.ipc_read.specs.Projection.{are_below, chosen, columns_of}
 use Rattle.ipc_projection.specs.Places.{IsPermutation}
 use Rattle.ipc_projection.specs.Projections.{IsProjection, IsReordered}
 use Rattle.ipc_projection.specs.declared.projection.ProjectionInfo.{ProjectionInfo}
@@ -16,16 +18,16 @@ use Rattle.ipc_projection.proofs.Projected.{applicable}
 use Rattle.ipc_read_laws.specs.Held.{Held, HoldsCells}
 use Rattle.ipc_files.specs.Blocks.{ReadsBlock, asked_under}
 use Rattle.ipc_files.specs.FileViews.{meta_view}
-use Rattle.ipc_transcode.specs.FileViews.{IsBuilt}
-use Rattle.ipc_files.specs.Selections.{MayProject}
+use Rattle.ipc_transcode.specs.FileViews.{AreReadable}
+use Rattle.ipc_files.specs.Selections.{IsMade, MayProject}
 use Rattle.ipc_transcode.specs.Selections.{Projects}
 use Rattle.ipc_transcode.specs.Sends.{SendCause}
 use Rattle.ipc_files.specs.Requests.{asked}
 use Rattle.ipc_files.specs.declared.metadata.FileMetadata.{FileMetadata}
-use Rattle.ipc_transcode.proofs.AskedFields.{built_from, numbers_sent, same_columns}
+use Rattle.ipc_files.proofs.InOrder.{floats_asked}
 use Rattle.ipc_files.proofs.Picked.{picked_from}
 use Rattle.ipc_transcode.proofs.StreamSteps.{wrong_is}
-use Rattle.ipc_transcode.proofs.SentFiles.{columns_sent, ordered_refused}
+use Rattle.ipc_transcode.proofs.SentFiles.{ordered_refused}
 use Rattle.ipc_files.proofs.Selected.{IsSelected, asked_below, ReadsRising, selected_answer}
 use Rattle.arrow_spec.specs.Kinds.{width}
 
@@ -51,24 +53,29 @@ all_selected s (Some cs) (Some q) e h = cc
 pub schema_asked : (s : List Keyed) (columns : Option (List ℕ)) (p : ProjectionInfo) → IsSelected s columns p → AreAsked s columns (rc_value p.schema)
 schema_asked s columns p h = subst (λ cs. AreAsked s cs (rc_value p.schema)) (sym h.are) (picked_from s h.numbers (rc_value p.schema) (asked_below s h.numbers p h.is) h.is.fields)
 
--- a projection's numbers are in range
-pub projected_range : (s : List Keyed) (columns : Option (List ℕ)) (p : Option ProjectionInfo) → MayProject s columns p → are_columns columns (length s) ≡ true
-projected_range s None None h = refl
-projected_range s None (Some p) h = absurd h
-projected_range s (Some cs) None h = absurd h
-projected_range s (Some cs) (Some p) h = asked_below s cs p h
-
 -- why numbers are refused
 pub numbers_cause : (e : IpcError) (columns : Option (List ℕ)) (count reads reads' writes writes' : ℕ) → (e ≡ errors.Memory) ⊎ (columns_right columns count ≡ Err (e ∷ [])) → SendCause e reads reads' writes writes'
 numbers_cause e columns count reads reads' writes writes' (inl memory) = rw memory tt
 numbers_cause e columns count reads reads' writes writes' (inr wrong) = let is = wrong_is columns count e wrong in rw is.1 tt
 
--- the rising numbers are built where those asked for are
-pub built_rising : (file : FileMetadata) (columns : Option (List ℕ)) (p : ProjectionInfo) (rising : List ℕ) → rising ≡ p.columns.items → IsSelected (rc_value file.schema) columns p → IsBuilt (meta_view file) columns → IsBuilt (meta_view file) (Some rising)
-built_rising file columns p rising same h built =
-    let s = rc_value file.schema in
-    let sent = columns_sent file (Some h.numbers) (subst (IsBuilt (meta_view file)) h.are built) in
-    subst (λ ds. IsBuilt (meta_view file) (Some ds)) (sym same) (built_from file (Some p.columns.items) s refl (numbers_sent s p.columns.items (same_columns s h.numbers p.columns.items h.is.same sent)))
+-- a projection of a schema's columns, as it is lent
+pub may_by : (s t : List Keyed) (columns : Option (List ℕ)) (p lent : Option ProjectionInfo) → t ≡ s → lent ≡ p → MayProject t columns p → MayProject s columns lent
+may_by s t columns p lent same is h = subst (MayProject s columns) (sym is) (subst (λ k. MayProject k columns p) same h)
+
+pub made_by : (s t : List Keyed) (columns : Option (List ℕ)) (p lent : Option ProjectionInfo) → t ≡ s → lent ≡ p → MayProject t columns p → IsMade s lent
+made_by s t columns p lent same is h = ∣ (columns, may_by s t columns p lent same is h) ∣₁
+
+-- why columns are refused that are never read
+pub never_read_cause : (e : IpcError) (reads reads' writes writes' : ℕ) → IsRefusal e → SendCause e reads reads' writes writes'
+never_read_cause (errors.OutOfSpec kind) reads reads' writes writes' h = tt
+never_read_cause (errors.Unsupported feature) reads reads' writes writes' h = tt
+never_read_cause e reads reads' writes writes' h = absurd h
+
+-- the columns by the rising numbers can be read where those asked for can
+pub rising_readable : (file : FileMetadata) (columns : Option (List ℕ)) (p : ProjectionInfo) (rising : List ℕ) → rising ≡ p.columns.items → IsSelected (rc_value file.schema) columns p → AreReadable (meta_view file) columns → AreReadable (meta_view file) (Some rising)
+rising_readable file columns p rising same h readable =
+    let fs = (meta_view file).schema.fields in
+    ap (λ ds. chosen_floats (Some ds) fs 0) same ∙ floats_asked (rc_value file.schema) fs (Some h.numbers) (Some p) h.is ∙ ap (λ cs. chosen_floats cs fs 0) (sym h.are) ∙ readable
 
 -- a batch of the rising numbers is put in the order asked
 pub may_apply : (s : List Keyed) (columns : Option (List ℕ)) (p : ProjectionInfo) (rising : List ℕ) (x : Batch) → rising ≡ p.columns.items → IsSelected s columns p → x.schema ≡ chosen (Some rising) 0 s → IsPermutation p.map (length x.schema)

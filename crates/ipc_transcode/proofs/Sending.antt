@@ -1,28 +1,18 @@
 -- A stream that is put piece by piece: what a piece that could not be put leaves.
-use Rattle.std.proofs.Common.{◌≡◌, ℕ, ◌≤◌, List, [], ◌∷◌, ◌++◌, ◌⊎◌, inl, inr, Option, Err, refl, ap, sym, subst, ◌/◌, ◌%◌, slice_index, arith}
+use Rattle.std.proofs.Common.{ℕ, ◌≤◌, List, ◌++◌, ◌⊎◌, inl, inr, Option, sym, subst, arith}
 use Rattle.std.specs.Io.KnownBytes.{Appends, Keeps}
 use Rattle.std.proofs.KnownBytes.{Appends-trans, Appends-kept, Keeps-trans}
-use Rattle.hex.specs.Hex.{encode_with, lower_digits}
 use Rattle.arrow_spec.specs.declared.error.IpcError.{IpcError}
 use Rattle.arrow_spec.specs.declared.error.IpcError.TheVariants as errors
 use Rattle.arrow_spec.specs.Files.{Request, ArrowTable}
 use Rattle.ipc_io.specs.Outside.{AppendsPrefix, Rose}
 use Rattle.ipc_io.proofs.Known.{AppendsPrefix-after}
-use Rattle.transcode_laws.specs.Built.{so_far}
 use Rattle.transcode_laws.specs.Files.{IsFrontOf, IsStreamOf}
 use Rattle.ipc_transcode.specs.Sends.{Refused}
-use Rattle.ipc_transcode.specs.Transcode.{text_of, AddsFront, AddsFrontOrNone, AddsPiece, AddsPart, PutsSome, PutsText, PutTextCause}
-use Rattle.ipc_transcode.specs.declared.encoding.Encoding.{Encoding}
-use Rattle.ipc_transcode.specs.declared.encoding.Encoding.TheVariants.{Bytes, HexText}
-
-encode-append : (t xs ys : List ℕ) → encode_with t (xs ++ ys) ≡ encode_with t xs ++ encode_with t ys
-unfolding encode_with
-encode-append t [] ys = refl
-encode-append t (x ∷ xs) ys = ap (λ l. slice_index t (x / 16) ∷ slice_index t (x % 16) ∷ l) (encode-append t xs ys)
-
-pub text_of-append : (encoding : Encoding) (xs ys : List ℕ) → text_of encoding (xs ++ ys) ≡ text_of encoding xs ++ text_of encoding ys
-text_of-append Bytes xs ys = refl
-text_of-append HexText xs ys = encode-append lower_digits xs ys
+use Rattle.ipc_bodies.specs.Encodings.{text_of}
+use Rattle.ipc_bodies.proofs.Encoded.{text_of-append}
+use Rattle.ipc_transcode.specs.Transcode.{AddsFront, AddsFrontOrNone, AddsPiece, AddsPart, PutsSome, PutTextCause}
+use Rattle.ipc_bodies.specs.declared.encoding.Encoding.{Encoding}
 
 -- a piece that was put
 pub Appends-text : (encoding : Encoding) (old mid new : Option (List ℕ)) (xs ys : List ℕ) → Appends old mid (text_of encoding xs) → Appends mid new (text_of encoding ys) → Appends old new (text_of encoding (xs ++ ys))
@@ -40,17 +30,11 @@ front_kept b r text old mid new (inr f) h = inr (record { bytes = f.bytes; table
 -- With the piece a front or a whole stream would stand there.
 pub record IsNext (b : List ℕ) (r : Request) (x : List ℕ) : Type 0 where
   pub table : ArrowTable
-  pub stream : IsStreamOf so_far b r x table ⊎ IsFrontOf so_far b r x table
+  pub stream : IsStreamOf b r x table ⊎ IsFrontOf b r x table
 
-piece_of : (b : List ℕ) (r : Request) (text : List ℕ → List ℕ) (old new : Option (List ℕ)) (x : List ℕ) (t : ArrowTable) → IsStreamOf so_far b r x t ⊎ IsFrontOf so_far b r x t → AppendsPrefix old new (text x) → AddsPiece b r text text old new
+piece_of : (b : List ℕ) (r : Request) (text : List ℕ → List ℕ) (old new : Option (List ℕ)) (x : List ℕ) (t : ArrowTable) → IsStreamOf b r x t ⊎ IsFrontOf b r x t → AppendsPrefix old new (text x) → AddsPiece b r text text old new
 piece_of b r text old new x t (inl s) p = record { bytes = x; table = t; piece = inl (s, p) }
 piece_of b r text old new x t (inr f) p = record { bytes = x; table = t; piece = inr (f, p) }
-
--- a text that is put at once is put as one in pieces
-pub in_one_put : (old new : Option (List ℕ)) (wants wants' : ℕ) (e : IpcError) (text : List ℕ) → PutsText old new (Err e) text → PutsSome old new wants wants' e text
-in_one_put old new wants wants' errors.Memory text p = inl p
-in_one_put old new wants wants' errors.WriteFault text p = p
-in_one_put old new wants wants' e text p = p
 
 -- a part of a piece stands behind the pieces before it
 part_stands : (b : List ℕ) (r : Request) (encoding : Encoding) (old mid new : Option (List ℕ)) (x m : List ℕ) → Appends old mid (text_of encoding x) → IsNext b r (x ++ m) → AppendsPrefix mid new (text_of encoding m) → AddsPiece b r (text_of encoding) (text_of encoding) old new

@@ -1,14 +1,14 @@
 -- A block that is read, and sent.
-use Rattle.std.proofs.Common.{◌≡◌, inl, ℕ, List, [], ◌∷◌, ◌++◌, map, Option, Ok, refl, sym, ap, ◌∙◌, true, false}
+use Rattle.std.proofs.Common.{◌≡◌, inl, ℕ, List, [], ◌∷◌, ◌++◌, map, Option, Ok, refl, sym, ap, subst, ◌∙◌, true, false}
 use Rattle.std.proofs.lemmas.List.Concat.{flat_map-cons}
 use Rattle.arrow_spec.specs.declared.error.IpcError.{IpcError}
 use Rattle.arrow_spec.specs.declared.error.IpcError.TheVariants as errors
 use Rattle.arrow_spec.specs.Readings.{Refuses, bind, ◌>>=◌, refusals}
 use Rattle.arrow_spec.specs.Framing.{body_bytes, message_bytes}
 use Rattle.arrow_spec.specs.Kinds.{Fields, width}
-use Rattle.arrow_spec.specs.Files.{Asked, FileBlock, batch_of, block_body, columns_right, if_sent, to_read, to_send}
+use Rattle.arrow_spec.specs.Files.{Asked, FileBlock, Purpose, batch_of, batch_of_tables, block_body, columns_right, if_sent, to_read, to_send}
 use Rattle.arrow_spec.specs.Sent.{SentMessage, may_be_sent}
-use Rattle.arrow_spec.specs.WrittenSchemas.{FieldsFit}
+use Rattle.arrow_spec.specs.WrittenSchemas.{CustomMayBeWritten}
 use Rattle.arrow_spec.proofs.Projection.{on}
 use Rattle.arrow_arrays.specs.Batches.{Batch}
 use Rattle.arrow_arrays.specs.Parts.{Parts}
@@ -17,11 +17,10 @@ use Rattle.ipc_write_laws.specs.Columns.{WrittenColumn}
 use Rattle.ipc_write_laws.specs.Messages.{Known}
 use Rattle.ipc_write_laws.specs.Streams.{batch_bytes, body_for, pieces_of, table_batch, written_batch}
 use Rattle.dictionary_laws.specs.Sending.{AllAreKnown}
-use Rattle.transcode_laws.specs.Built.{are_sent_fields, so_far}
+use Rattle.arrow_arrays.specs.Carried.{are_carried}
 use Rattle.transcode_laws.specs.Files.{IsSentBatch, asked_fields, stream_fields}
 use Rattle.transcode_laws.proofs.Batches.{block_is_sent, tables_refused}
 use Rattle.column_laws.specs.Laws.{batch_under}
-use Rattle.column_laws.proofs.CarriedFields.{fields_carried}
 use Rattle.column_laws.proofs.ReadBatches.{read_batch_sendable, read_batch_sent}
 use Rattle.ipc_write_arrays.specs.Dictionaries.{first_kind, other_fields}
 use Rattle.ipc_write_arrays.specs.Pieces.{with_kind}
@@ -33,10 +32,9 @@ use Rattle.ipc_files.specs.Blocks.{BlockRead}
 use Rattle.ipc_files.proofs.BlockMessages.{batch_by_record}
 use Rattle.ipc_files.proofs.ReadBlocks.{block_refuses, follows}
 
--- fields that are asked for are sent, and fit their tables; what is held of the dictionaries that were read are arrays of the values' kinds
+-- arrays are read of the fields that are asked for; what is held of the dictionaries that were read are arrays of the values' kinds
 pub record AreSent (a : Asked) (h : Held) : Type 0 where
-  pub sent : are_sent_fields (asked_fields a) ≡ true
-  pub fit : FieldsFit 64 (asked_fields a)
+  pub carried : are_carried (asked_fields a) ≡ true
   pub right : columns_right a.columns (width a.fields) ≡ Ok tt
   pub holds : HoldsCells a.dictionaries h
   pub kinds : HoldsFields h a.fields
@@ -44,40 +42,49 @@ pub record AreSent (a : Asked) (h : Held) : Type 0 where
 -- ── a block that is read ──
 
 -- a block that is refused where it is read is refused so where it is sent
-pub refused_sent : (e : IpcError) (b : List ℕ) (a : Asked) (block : FileBlock) (left : Option ℕ) → Refuses e (refusals (batch_of so_far.custom to_read b a block left)) → Refuses e (refusals (batch_of so_far.custom to_send b a block left))
-refused_sent e b a block left = block_refuses to_read to_send e b a a block left (λ m. follows e _ _ (λ es is. tables_refused a m.version [] m.tables (block_body b block) left es is))
+pub refused_sent : (e : IpcError) (b : List ℕ) (a : Asked) (block : FileBlock) (left : Option ℕ) → Refuses e (refusals (batch_of to_read b a block left)) → Refuses e (refusals (batch_of to_send b a block left))
+refused_sent e b a block left = block_refuses to_read to_send e b a a block left (λ m. follows e _ _ (λ es is. tables_refused a m.version m.custom m.tables (block_body b block) left es is))
 
 -- the batch of a block that is read
-pub block_means : (b : List ℕ) (a : Asked) (h : Held) (block : FileBlock) (left : Option ℕ) (x : Batch) → BlockRead b h a block left x → batch_of so_far.custom to_read b a block left ≡ Ok (table_of x)
+pub block_means : (b : List ℕ) (a : Asked) (h : Held) (block : FileBlock) (left : Option ℕ) (x : Batch) → BlockRead b h a block left x → batch_of to_read b a block left ≡ Ok (table_of x)
 block_means b a h block left x r = batch_by_record to_read b a block left ∙ on (block_record b block) _ r.message r.is ∙ r.read
 
 -- ── a block that is sent ──
 
--- it is sent where its message may be
-block_sent : (b : List ℕ) (a : Asked) (h : Held) (block : FileBlock) (left : Option ℕ) (x : Batch) → AreSent a h → BlockRead b h a block left x → batch_of so_far.custom to_send b a block left ≡ (if_sent to_send (may_be_sent (written_batch (written_batch_of x))) >>= λ size. Ok (table_of x))
-block_sent b a h block left x are r =
-    batch_by_record to_send b a block left ∙ on (block_record b block) _ r.message r.is
-    ∙ read_batch_sent a r.message.version r.message.tables (block_body b block) left h x are.holds are.kinds (fields_carried 64 (asked_fields a) are.sent are.fit) are.right r.read r.columns
+-- its tables mean it with the batch's pairs
+read_paired : (b : List ℕ) (a : Asked) (h : Held) (block : FileBlock) (left : Option ℕ) (x : Batch) (r : BlockRead b h a block left x) → batch_of_tables to_read a r.message.version x.custom r.message.tables (block_body b block) left ≡ Ok (table_of x)
+read_paired b a h block left x r = subst (λ c. batch_of_tables to_read a r.message.version c r.message.tables (block_body b block) left ≡ Ok (table_of x)) (sym r.custom) r.read
 
-pub block_may : (b : List ℕ) (a : Asked) (h : Held) (block : FileBlock) (left : Option ℕ) (x : Batch) → AreSent a h → BlockRead b h a block left x → may_be_sent (written_batch (written_batch_of x)) ≡ true → batch_of so_far.custom to_send b a block left ≡ Ok (table_of x)
+-- so the block is read and sent
+by_tables : (purpose : Purpose) (b : List ℕ) (a : Asked) (h : Held) (block : FileBlock) (left : Option ℕ) (x : Batch) (r : BlockRead b h a block left x) → batch_of purpose b a block left ≡ batch_of_tables purpose a r.message.version x.custom r.message.tables (block_body b block) left
+by_tables purpose b a h block left x r =
+    batch_by_record purpose b a block left ∙ on (block_record b block) _ r.message r.is ∙ ap (λ c. batch_of_tables purpose a r.message.version c r.message.tables (block_body b block) left) (sym r.custom)
+
+-- it is sent where its message may be
+block_sent : (b : List ℕ) (a : Asked) (h : Held) (block : FileBlock) (left : Option ℕ) (x : Batch) → AreSent a h → BlockRead b h a block left x → batch_of to_send b a block left ≡ (if_sent to_send (may_be_sent (written_batch (written_batch_of x))) >>= λ size. Ok (table_of x))
+block_sent b a h block left x are r =
+    by_tables to_send b a h block left x r
+    ∙ read_batch_sent a r.message.version r.message.tables (block_body b block) left h x are.holds are.kinds are.carried are.right (read_paired b a h block left x r) r.columns
+
+pub block_may : (b : List ℕ) (a : Asked) (h : Held) (block : FileBlock) (left : Option ℕ) (x : Batch) → AreSent a h → BlockRead b h a block left x → may_be_sent (written_batch (written_batch_of x)) ≡ true → batch_of to_send b a block left ≡ Ok (table_of x)
 unfolding bind
 block_may b a h block left x are r size = block_sent b a h block left x are r ∙ ap (λ k. if_sent to_send k >>= λ size. Ok (table_of x)) size
 
 -- and refused where it may not
-pub block_too_large : (b : List ℕ) (a : Asked) (h : Held) (block : FileBlock) (left : Option ℕ) (x : Batch) → AreSent a h → BlockRead b h a block left x → may_be_sent (written_batch (written_batch_of x)) ≡ false → Refuses errors.TooLarge (refusals (batch_of so_far.custom to_send b a block left))
+pub block_too_large : (b : List ℕ) (a : Asked) (h : Held) (block : FileBlock) (left : Option ℕ) (x : Batch) → AreSent a h → BlockRead b h a block left x → may_be_sent (written_batch (written_batch_of x)) ≡ false → Refuses errors.TooLarge (refusals (batch_of to_send b a block left))
 unfolding bind
 block_too_large b a h block left x are r size = rw (block_sent b a h block left x are r, size) (inl refl)
 
 -- behind the values of its dictionaries it may be written, under the kinds of the stream's fields
 pub sent_batch : (b : List ℕ) (a : Asked) (h : Held) (c : Known) (block : FileBlock) (left : Option ℕ) (x : Batch) → AreSent a h → AllAreKnown a.dictionaries (asked_fields a) 0 c → BlockRead b h a block left x → may_be_sent (written_batch (written_batch_of x)) ≡ true → AllMean x.height x.arrays
-    → IsSentBatch so_far b a c block left (batch_under (stream_fields a) x) × (written_batch (batch_under (stream_fields a) x) ≡ written_batch (written_batch_of x))
+    → IsSentBatch b a c block left (batch_under (stream_fields a) x) × (written_batch (batch_under (stream_fields a) x) ≡ written_batch (written_batch_of x))
 sent_batch b a h c block left x are known r size good =
-    let all = read_batch_sendable a c r.message.version r.message.tables (block_body b block) left h x r.fits are.holds are.kinds (fields_carried 64 (asked_fields a) are.sent are.fit) are.right known r.read r.columns good in
+    let all = read_batch_sendable a c r.message.version r.message.tables (block_body b block) left h x r.fits are.holds are.kinds are.carried are.right known (read_paired b a h block left x r) r.columns good (subst CustomMayBeWritten (sym r.custom) r.ordered) in
     let y = batch_under (stream_fields a) x in
-    let read : batch_of so_far.custom to_read b a block left ≡ Ok (table_batch y) = batch_by_record to_read b a block left ∙ on (block_record b block) _ r.message r.is ∙ all.1 in
-    let sent : batch_of so_far.custom to_send b a block left ≡ (if_sent to_send (may_be_sent (written_batch y)) >>= λ size. Ok (table_batch y)) =
-    batch_by_record to_send b a block left ∙ on (block_record b block) _ r.message r.is ∙ all.4 ∙ ap (λ (m : SentMessage). if_sent to_send (may_be_sent m) >>= λ size. Ok (table_batch y)) (sym all.2) in
-    (block_is_sent so_far b a c block left y read sent (all.3 size), all.2)
+    let read : batch_of to_read b a block left ≡ Ok (table_batch y) = by_tables to_read b a h block left x r ∙ all.1 in
+    let sent : batch_of to_send b a block left ≡ (if_sent to_send (may_be_sent (written_batch y)) >>= λ size. Ok (table_batch y)) =
+    by_tables to_send b a h block left x r ∙ all.4 ∙ ap (λ (m : SentMessage). if_sent to_send (may_be_sent m) >>= λ size. Ok (table_batch y)) (sym all.2) in
+    (block_is_sent b a c block left y read sent (all.3 size), all.2)
 
 -- its bytes are those of the arrays alone
 pieces_under : (gs : Fields) (ps : List Parts) → pieces_of (columns_under gs ps) ≡ pieces_of (map top_column ps)

@@ -1,62 +1,43 @@
 -- Fields that are sent: their ids, and that a stream takes a schema of them as it is.
-use Rattle.std.proofs.Common.{◌≡◌, ℕ, zero, suc, ◌+◌, ◌^◌, ◌<◌, List, [], ◌∷◌, length, map, Option, None, Ok, Bool, true, false, ◌&&◌, ◌||◌, refl, sym, ap, ◌∙◌, arith, rules}
-use Rattle.std.specs.Prelude.{ℤ, pos, negsuc, nat_eq, nat_lt, drop, get_or, slice_get, Some, FitsSigned}
+use Rattle.std.proofs.Common.{◌≡◌, ℕ, zero, suc, ◌+◌, ◌^◌, ◌<◌, List, [], ◌∷◌, length, Option, None, Ok, Bool, true, false, ◌&&◌, ◌||◌, refl, sym, ap, ◌∙◌, arith}
+use Rattle.std.specs.Prelude.{ℤ, pos, negsuc, nat_eq, nat_lt, FitsSigned}
 use Rattle.std.specs.Int.{w64}
 use Rattle.std.proofs.lemmas.Bool.{and_from, le-leb}
-use Rattle.std.proofs.lemmas.Option.{slice_get-get_or, slice_get-map}
 use Rattle.arrow_spec.specs.Kinds.{Kind, Fields, Metadata, none, field, decimal, decimal256, fixed_size_binary, «list», fixed_size_list, struct, union, dictionary, dictionary_count, dictionary_counts, extension, width, same, are_same_ids, numbered, numbered_kind, uses_in, uses_of}
 use Rattle.arrow_spec.specs.Kinds as kind
-use Rattle.arrow_spec.specs.Features.{chosen_floats}
-use Rattle.arrow_spec.specs.Files.{columns_right, with_field_at}
+use Rattle.arrow_spec.specs.Files.{columns_right, fields_as_asked, with_field_at}
 use Rattle.arrow_spec.specs.Schema.{are_ids, counted_ids}
 use Rattle.arrow_spec.specs.Regular.{is_dictionary_id, is_no_dictionary, is_representable_kind, is_size, representable}
 use Rattle.arrow_spec.specs.WrittenSchemas.{AreIds, AreStated, FieldsFit, KindFits, Part, SchemaMayBeWritten, of_dictionary, of_extension, of_field}
 use Rattle.arrow_spec.proofs.NumberedFields.{numbered_may}
-use Rattle.arrow_types.specs.Child.{Child}
-use Rattle.arrow_types.specs.Child as child
-use Rattle.arrow_types.specs.KindOf.{child_of, kind_of}
-use Rattle.arrow_types.specs.Schemas.{Keyed}
-use Rattle.arrow_types.specs.declared.data_type.Field.{Field, the_lemmas}
 use Rattle.ipc_fields.specs.IpcFields.{Ids, no_fields, ids, fields_with, is_encoded, kind_with}
 use Rattle.ipc_fields.proofs.KindSteps.{ids_equal}
 use Rattle.schema_writer.specs.Defaults.{are_apart, is_apart}
 use Rattle.schema_writer.specs.Tables.{all_fit, fits_below}
 use Rattle.schema_writer.proofs.Saying.{representable_is}
-use Rattle.transcode_laws.specs.Built.{are_sent_fields, is_sent_kind, so_far}
 use Rattle.transcode_laws.specs.Files.{IsSendable, asked_schema}
+use Rattle.transcode_laws.proofs.AskedFloats.{floats_asked}
 use Rattle.transcode_laws.proofs.AskedSchemas.{asked_sendable}
+use Rattle.arrow_arrays.specs.Carried.{are_carried}
+use Rattle.column_laws.proofs.CarriedFields.{fields_carried}
 use Rattle.ipc_files.specs.FileViews.{meta_view, WasRead}
 use Rattle.ipc_files.proofs.HeldUses.{split}
-use Rattle.ipc_transcode.specs.FileViews.{IsBuilt}
+use Rattle.ipc_transcode.specs.FileViews.{AreReadable}
 use Rattle.ipc_files.specs.declared.metadata.FileMetadata.{FileMetadata}
 
 -- ── what is sent of a file ──
 
--- a stream takes the schema of the columns that are asked for as it is, and none of their kinds is refused
-pub sendable : (file : FileMetadata) (columns : Option (List ℕ)) → columns_right columns (width (meta_view file).schema.fields) ≡ Ok tt → IsBuilt (meta_view file) columns → WasRead file
-    → IsSendable so_far (asked_schema (meta_view file).schema columns) × (chosen_floats columns (meta_view file).schema.fields 0 ≡ [])
+-- a stream takes the schema of the columns that are asked for as it is
+pub sendable : (file : FileMetadata) (columns : Option (List ℕ)) → columns_right columns (width (meta_view file).schema.fields) ≡ Ok tt → AreReadable (meta_view file) columns → WasRead file → IsSendable (asked_schema (meta_view file).schema columns)
 sendable file columns right h w = asked_sendable (meta_view file).schema columns w.may right h
+
+-- and arrays are read of them
+pub fields_read : (file : FileMetadata) (columns : Option (List ℕ)) → columns_right columns (width (meta_view file).schema.fields) ≡ Ok tt → AreReadable (meta_view file) columns → WasRead file → are_carried (fields_as_asked columns (meta_view file).schema.fields) ≡ true
+fields_read file columns right h w = fields_carried 64 (fields_as_asked columns (meta_view file).schema.fields) (floats_asked (meta_view file).schema.fields columns h) (sendable file columns right h w).may.fit
 
 -- ── ids ──
 
--- ids change nothing in whether kinds are sent
-mutual
-  pub same_sent : (k : Kind) (id : Option ℤ) (below : Ids) → is_sent_kind (kind_with k id below) ≡ is_sent_kind k
-  same_sent («list» o fs) id below = ids_aside fs below
-  same_sent (fixed_size_list n fs) id below = ids_aside fs below
-  same_sent (struct fs) id below = ids_aside fs below
-  same_sent (kind.map sorted fs) id below = ids_aside fs below
-  same_sent (union mode stated types fs) id below = ids_aside fs below
-  same_sent (dictionary t ordered old k) id below = same_sent k None below
-  same_sent (extension name metadata k) id below = same_sent k id below
-  same_sent k id below = refl
-
-  pub ids_aside : (fs : Fields) (below : Ids) → are_sent_fields (fields_with fs below) ≡ are_sent_fields fs
-  ids_aside none below = refl
-  ids_aside (field name nullable metadata k others) no_fields = rw (same_sent k None no_fields, ids_aside others no_fields) refl
-  ids_aside (field name nullable metadata k others) (ids id below rest) = rw (same_sent k id below, ids_aside others rest) refl
-
--- nor in how they are numbered
+-- they change nothing in how kinds are numbered
 mutual
   count_with : (k : Kind) (id : Option ℤ) (below : Ids) → dictionary_count (kind_with k id below) ≡ dictionary_count k
   count_with («list» o fs) id below = counts_with fs below
@@ -214,35 +195,3 @@ pub can_be_said : (fs : Fields) (pairs : Metadata) → SchemaMayBeWritten fs pai
 can_be_said fs pairs may =
     let own = numbered_may fs pairs may in
     representable_is (numbered fs 0) ∙ fields_said 64 (numbered fs 0) own.0.fit own.1.within
-
--- ── what is built, looked at field by field ──
-
-pub kind_of_field : (f : Field) → (child_of f).kind ≡ kind_of f.dtype
-kind_of_field f = search (rules, the_lemmas)
-
-abbrev pub child_in : Keyed → Child
-child_in p = p.1
-
--- the field at a place
-pub field_item : (fs : List Field) (i : ℕ) (x : Field) → i < length fs → x ≡ get_or fs i x → slice_get (map child_of fs) i ≡ Some (child_of x)
-field_item fs i x within h =
-    let e = slice_get-map child_of fs i in
-    let found = slice_get-get_or fs i x within in
-    cc
-
--- the fields from one on
-pub fields_left : (cs : List Child) (i : ℕ) (c : Child) → slice_get cs i ≡ Some c → are_sent_fields (child.fields_from (drop i cs)) ≡ (is_sent_kind c.kind && are_sent_fields (child.fields_from (drop (i + 1) cs)))
-fields_left [] i c h = cc
-fields_left (x ∷ xs) zero c h = let e : x ≡ c = cc in ap (λ y. is_sent_kind y.kind && are_sent_fields (child.fields_from xs)) e
-fields_left (x ∷ xs) (suc i) c h = let e : suc i + 1 ≡ suc (i + 1) = omega arith in rw e (fields_left xs i c h)
-
-pub one_is_other : (all left rest : Bool) (c : Bool) → all ≡ left → left ≡ (c && rest) → c ≡ false → false ≡ all
-one_is_other all left rest c h k is = sym (h ∙ k ∙ ap (λ x. x && rest) is)
-
-pub one_more : (all left rest : Bool) (c : Bool) → all ≡ left → left ≡ (c && rest) → c ≡ true → all ≡ rest
-one_more all left rest c h k is = h ∙ k ∙ ap (λ x. x && rest) is
-
--- a field alone
-pub only_sent : (b : Bool) → (b && true) ≡ b
-only_sent true = refl
-only_sent false = refl

@@ -2,7 +2,6 @@
 use Rattle.std.proofs.Common.{◌≡◌, ◌∙◌, ℕ, ◌+◌, List, [], ◌++◌, length, Option, Some, None, Result, Ok, Err, IfSome, Bool, refl, sym, ap, subst, true, false}
 use Rattle.std.proofs.lemmas.List.{length-append}
 use Rattle.std.specs.Io.KnownBytes.{Appends, Keeps}
-use Rattle.std.specs.Rc.{rc_value}
 use Rattle.arrow_spec.specs.declared.error.IpcError.{IpcError}
 use Rattle.arrow_spec.specs.declared.error.IpcError.TheVariants as errors
 use Rattle.arrow_spec.specs.Readings.{Refuses, refusals}
@@ -13,10 +12,7 @@ use Rattle.arrow_spec.specs.Kinds.{Fields, numbered, width}
 use Rattle.arrow_spec.specs.Files.{Asked, FileBlock, Meta, TableBatch, batch_of, columns_right, fields_as_asked, to_read, to_send}
 use Rattle.arrow_spec.specs.Sent.{may_be_sent}
 use Rattle.arrow_arrays.specs.Batches.{Batch}
-use Rattle.arrow_types.specs.Schemas.{fields_in}
-use Rattle.ipc_fields.specs.IpcFields.{ids_of}
 use Rattle.ipc_write_laws.specs.Streams.{batch_bytes, written_batch}
-use Rattle.transcode_laws.specs.Built.{so_far}
 use Rattle.dictionary_laws.specs.Sending.{AllAreKnown, Columns}
 use Rattle.dictionary_laws.proofs.ReadValues.{values_read}
 use Rattle.transcode_laws.specs.Files.{asked_of, known_of, stream_fields}
@@ -32,36 +28,26 @@ use Rattle.part_laws.proofs.HeldParts.{fields_sound}
 use Rattle.ipc_files.specs.FileDictionaries.{HoldsUses}
 use Rattle.ipc_files.proofs.HeldUses.{each_use, held_fields}
 use Rattle.ipc_files.specs.FileViews.{WasRead, meta_view}
-use Rattle.ipc_transcode.specs.FileViews.{AreSentColumns, IsBuilt}
-use Rattle.ipc_transcode.proofs.SentFields.{sendable}
+use Rattle.ipc_transcode.specs.FileViews.{AreReadable}
+use Rattle.ipc_transcode.proofs.SentFields.{fields_read, sendable}
 use Rattle.ipc_transcode.specs.Sends.{BeforeNotPut, BeforePut, BlockRefused, BlockSent, DictionariesRead, MayBePut, all_values, values_before}
 use Rattle.ipc_transcode.proofs.Sending.{Appends-text}
 use Rattle.ipc_files.specs.Blocks.{BlockRead, ReadsBlock, asked_under}
 use Rattle.ipc_files.specs.Requests.{asked}
-use Rattle.ipc_transcode.specs.Transcode.{PutsSome, PutTextCause, text_of}
+use Rattle.ipc_bodies.specs.Encodings.{text_of}
+use Rattle.ipc_transcode.specs.Transcode.{PutsSome, PutTextCause}
 use Rattle.ipc_transcode.specs.Written.{PlansMessage}
 use Rattle.ipc_files.specs.declared.metadata.FileMetadata.{FileMetadata}
-use Rattle.ipc_transcode.proofs.AskedFields.{asked_aside, sent_columns}
-use Rattle.ipc_transcode.proofs.Counted.{asked_floats}
-use Rattle.ipc_files.proofs.ChosenFloats.{chosen_with}
 use Rattle.ipc_files.proofs.ReadBlocks.{refused_ordered}
 use Rattle.ipc_transcode.proofs.SentBlocks.{AreSent, block_may, block_means, block_too_large, refused_sent, same_bytes, sent_batch}
-use Rattle.ipc_transcode.specs.declared.encoding.Encoding.{Encoding}
+use Rattle.ipc_bodies.specs.declared.encoding.Encoding.{Encoding}
 use Rattle.ipc_files.proofs.ReadFiles.{told}
 
 pub keeps_same : (o : Option (List ℕ)) → Keeps o o
 keeps_same None = tt
 keeps_same (Some x) = refl
 
--- ── the columns of a file that are built ──
-
--- each column that is asked for of a file is sent
-pub columns_sent : (file : FileMetadata) (columns : Option (List ℕ)) → IsBuilt (meta_view file) columns → AreSentColumns columns (rc_value file.schema)
-columns_sent file columns built = sent_columns (rc_value file.schema) columns (sym (asked_aside (fields_in (rc_value file.schema)) (ids_of file.ipc_schema.fields.items) columns) ∙ built)
-
--- of those columns no kind is refused
-pub built_floats : (file : FileMetadata) (columns : Option (List ℕ)) → IsBuilt (meta_view file) columns → chosen_floats columns (meta_view file).schema.fields 0 ≡ []
-built_floats file columns built = chosen_with columns (fields_in (rc_value file.schema)) (ids_of file.ipc_schema.fields.items) 0 ∙ asked_floats columns (rc_value file.schema) (columns_sent file columns built)
+-- ── the dictionaries and the columns of a file ──
 
 -- of a dictionary that was read the parts that are held are arrays of its values' kind, for each use in the file's fields
 held_arrays : (file : FileMetadata) (h : Held) (ps : List PartTree) (d : Dictionaries) → WasRead file → HoldsUses (meta_view file) h → ArePartsRead (meta_view file).schema.fields d h ps → HoldsFields h (meta_view file).schema.fields
@@ -70,16 +56,16 @@ held_arrays file h ps d read uses parts =
     fields_sound h parts.sound fs (held_fields h fs (each_use h fs read.readable.agree uses))
 
 -- what is asked of its blocks is sent
-pub sent_columns_of : (file : FileMetadata) (columns : Option (List ℕ)) (left : Option ℕ) (b : List ℕ) (h : Held) (ps : List PartTree) (d : Dictionaries) → columns_right columns (width (meta_view file).schema.fields) ≡ Ok tt → IsBuilt (meta_view file) columns → WasRead file → HoldsUses (meta_view file) h
+pub sent_columns_of : (file : FileMetadata) (columns : Option (List ℕ)) (left : Option ℕ) (b : List ℕ) (h : Held) (ps : List PartTree) (d : Dictionaries) → columns_right columns (width (meta_view file).schema.fields) ≡ Ok tt → AreReadable (meta_view file) columns → WasRead file → HoldsUses (meta_view file) h
     → ArePartsRead (meta_view file).schema.fields d h ps → AreSent (asked_of b (meta_view file) (asked columns left) d) h
-sent_columns_of file columns left b h ps d right built read uses parts = record { sent = built; fit = (sendable file columns right built read).0.may.fit; right = right; holds = parts.cells; kinds = held_arrays file h ps d read uses parts }
+sent_columns_of file columns left b h ps d right readable read uses parts = record { carried = fields_read file columns right readable read; right = right; holds = parts.cells; kinds = held_arrays file h ps d read uses parts }
 
 -- behind the messages of the dictionaries each dictionary is known as it was read
-pub known_there : (file : FileMetadata) (columns : Option (List ℕ)) (cs : Columns) (left : Option ℕ) (b : List ℕ) (h : Held) (ps : List PartTree) (d : Dictionaries) → columns_right columns (width (meta_view file).schema.fields) ≡ Ok tt → IsBuilt (meta_view file) columns → WasRead file
+pub known_there : (file : FileMetadata) (columns : Option (List ℕ)) (cs : Columns) (left : Option ℕ) (b : List ℕ) (h : Held) (ps : List PartTree) (d : Dictionaries) → columns_right columns (width (meta_view file).schema.fields) ≡ Ok tt → AreReadable (meta_view file) columns → WasRead file
     → ArePartsRead (meta_view file).schema.fields d h ps → MayBePut cs d (fields_as_asked columns (meta_view file).schema.fields) → AllAreKnown d (fields_as_asked columns (meta_view file).schema.fields) 0 (known_of cs (asked_of b (meta_view file) (asked columns left) d))
-known_there file columns cs left b h ps d right built read parts may =
+known_there file columns cs left b h ps d right readable read parts may =
     let fs = fields_as_asked columns (meta_view file).schema.fields in
-    let schema = (sendable file columns right built read).0 in
+    let schema = sendable file columns right readable read in
     let floats : chosen_floats None (numbered fs 0) 0 ≡ [] = chosen_numbered None fs 0 0 ∙ schema.readable in
     (values_read cs d fs parts.parts.unreplaced may.columns_are floats (few_dictionaries fs (meta_view file).schema.metadata schema.may) may.may).known
 
@@ -109,7 +95,7 @@ pub record IsWritten (x : Batch) (message : List ℕ) : Type 0 where
   pub is : message ≡ batch_bytes (written_batch_of x)
   pub means : AllMean x.height x.arrays
 
-message_refuses : (e : IpcError) (b : List ℕ) (a : Asked) (h : Held) (block : FileBlock) (left : Option ℕ) (x : Batch) → AreSent a h → NotWritten e x → BlockRead b h a block left x → Refuses e (refusals (batch_of so_far.custom to_send b a block left))
+message_refuses : (e : IpcError) (b : List ℕ) (a : Asked) (h : Held) (block : FileBlock) (left : Option ℕ) (x : Batch) → AreSent a h → NotWritten e x → BlockRead b h a block left x → Refuses e (refusals (batch_of to_send b a block left))
 message_refuses errors.TooLarge b a h block left x are w read = block_too_large b a h block left x are read w
 message_refuses errors.Memory b a h block left x are w read = tt
 message_refuses errors.ReadFault b a h block left x are w read = absurd w
@@ -127,7 +113,7 @@ message_refuses errors.State b a h block left x are w read = absurd w
 -- a file, the columns that are asked for of it, and what is held of its dictionaries
 pub record IsAsked (file : FileMetadata) (columns : Option (List ℕ)) (h : Held) : Type 0 where
   pub right : columns_right columns (width (meta_view file).schema.fields) ≡ Ok tt
-  pub built : IsBuilt (meta_view file) columns
+  pub readable : AreReadable (meta_view file) columns
   pub read : WasRead file
   pub uses : HoldsUses (meta_view file) h
 
@@ -139,10 +125,10 @@ module _ (file : FileMetadata) (columns : Option (List ℕ)) (h : Held) (ps : Li
   fs = fields_as_asked columns (meta_view file).schema.fields
 
   sent_under : (b : List ℕ) (d : Dictionaries) → DictionariesRead b (meta_view file) h ps d → AreSent (a b d) h
-  sent_under b d read = sent_columns_of file columns left b h ps d is.right is.built is.read is.uses read.parts
+  sent_under b d read = sent_columns_of file columns left b h ps d is.right is.readable is.read is.uses read.parts
 
   known_under : (b : List ℕ) (d : Dictionaries) → DictionariesRead b (meta_view file) h ps d → MayBePut cs d fs → AllAreKnown d fs 0 (known_of cs (a b d))
-  known_under b d read may = known_there file columns cs left b h ps d is.right is.built is.read read.parts may
+  known_under b d read may = known_there file columns cs left b h ps d is.right is.readable is.read read.parts may
 
   abbrev Refuse : IpcError → Option (List ℕ) → Option (List ℕ) → ℕ → ℕ → ℕ → ℕ → Type 0
   Refuse e old new faults faults' wants wants' = Under content (meta_view file) h ps is_first cs fs (λ b d. BlockRefused b (a b d) cs is_first block left encoding old new e faults faults' wants wants')
@@ -189,7 +175,7 @@ module _ (file : FileMetadata) (columns : Option (List ℕ)) (h : Held) (ps : Li
 
   -- how many rows it has
   pub block_rows : (rows : ℕ) (x : Batch) → rows ≡ x.height → Read content h a block left (Ok x)
-      → IfSome content (λ b. (d : Dictionaries) (t : TableBatch) → HoldsCells d h → batch_of so_far.custom to_read b (a b d) block left ≡ Ok t → rows ≡ t.rows)
+      → IfSome content (λ b. (d : Dictionaries) (t : TableBatch) → HoldsCells d h → batch_of to_read b (a b d) block left ≡ Ok t → rows ≡ t.rows)
   block_rows rows x height r = told content _ _ (λ b s g d t holds is.
       let read = block_means b (a b d) h block left x (g d holds).read in
       let same : table_of x ≡ t = cc in

@@ -24,8 +24,8 @@ use Rattle.schema_writer.specs.Serialized.{IsOfMessage, serialized, written}
 use Rattle.schema_writer.specs.Defaults.{are_apart}
 use Rattle.transcode_laws.specs.Files.{AreAsked}
 use Rattle.ipc_write.specs.Outcomes.{message_frame}
-use Rattle.ipc_files.specs.FileViews.{meta_view, WasRead}
-use Rattle.ipc_transcode.specs.FileViews.{IsBuilt}
+use Rattle.ipc_files.specs.FileViews.{file_custom, meta_view, WasRead}
+use Rattle.ipc_transcode.specs.FileViews.{AreReadable}
 use Rattle.ipc_transcode.specs.Written.{Writes, WritesSchema}
 use Rattle.ipc_files.specs.declared.metadata.FileMetadata.{FileMetadata}
 use Rattle.ipc_transcode.proofs.AskedFields.{asked_renewed, asked_schema_fields}
@@ -70,10 +70,10 @@ alone_written (Err e) m metadata none is f = frame_refused e m (message_bytes m.
 -- ── the message of a schema ──
 
 -- fields that can be said are written under their ids, where their message is small
-written_is : (fs gs : Fields) (own : Ids) (pairs : Metadata) → fields_with fs own ≡ gs → have_shapes fs own ≡ true → uses_agree [] (uses_in gs) ≡ Ok tt → representable gs ≡ true
-    → written little fs own pairs ≡ bind (unless (nat_le (size (schema_message little gs pairs []).node) 2147483647) errors.TooLarge) (λ small. Ok (layout (schema_message little gs pairs []).node))
+written_is : (fs gs : Fields) (own : Ids) (pairs custom : Metadata) → fields_with fs own ≡ gs → have_shapes fs own ≡ true → uses_agree [] (uses_in gs) ≡ Ok tt → representable gs ≡ true
+    → written little fs own pairs custom ≡ bind (unless (nat_le (size (schema_message little gs pairs custom).node) 2147483647) errors.TooLarge) (λ small. Ok (layout (schema_message little gs pairs custom).node))
 unfolding written serialized bind
-written_is fs gs own pairs same shape uses said = rw (same, shape, uses, said) refl
+written_is fs gs own pairs custom same shape uses said = rw (same, shape, uses, said) refl
 
 -- what is given to be written of fields: they can be said under ids that count from 0, which are their own
 pub record IsOfFields (gs fs : Fields) (own : Ids) : Type 0 where
@@ -82,9 +82,9 @@ pub record IsOfFields (gs fs : Fields) (own : Ids) : Type 0 where
   pub said : representable (numbered gs 0) ≡ true
 
 -- so they are written as a stream's
-sent_written : (gs fs : Fields) (own : Ids) (pairs : Metadata) → IsOfFields gs fs own
-    → written little fs own pairs ≡ bind (unless (nat_le (size (stream_schema gs pairs []).node) 2147483647) errors.TooLarge) (λ small. Ok (layout (stream_schema gs pairs []).node))
-sent_written gs fs own pairs of = written_is fs (numbered gs 0) own pairs of.numbers of.shape (uses_numbered gs) of.said
+sent_written : (gs fs : Fields) (own : Ids) (pairs custom : Metadata) → IsOfFields gs fs own
+    → written little fs own pairs custom ≡ bind (unless (nat_le (size (stream_schema gs pairs custom).node) 2147483647) errors.TooLarge) (λ small. Ok (layout (stream_schema gs pairs custom).node))
+sent_written gs fs own pairs custom of = written_is fs (numbered gs 0) own pairs custom of.numbers of.shape (uses_numbered gs) of.said
 
 tested : (m : SentMessage) (test : Bool) (x : List ℕ) → bind (unless test errors.TooLarge) (λ small. Ok (layout m.node)) ≡ Ok x → x ≡ layout m.node
 unfolding bind
@@ -92,8 +92,8 @@ tested m true x h = cc
 tested m false x h = cc
 
 -- the bytes that were written of a schema
-pub schema_written : (gs fs : Fields) (own : Ids) (pairs : Metadata) (v : Vec ℕ Global) → IsOfFields gs fs own → Gives (λ (w : Vec ℕ Global). w.items) (Ok v) (written little fs own pairs) → v.items ≡ layout (stream_schema gs pairs []).node
-schema_written gs fs own pairs v of h = tested (stream_schema gs pairs []) (nat_le (size (stream_schema gs pairs []).node) 2147483647) v.items (sym (sent_written gs fs own pairs of) ∙ h)
+pub schema_written : (gs fs : Fields) (own : Ids) (pairs custom : Metadata) (v : Vec ℕ Global) → IsOfFields gs fs own → Gives (λ (w : Vec ℕ Global). w.items) (Ok v) (written little fs own pairs custom) → v.items ≡ layout (stream_schema gs pairs custom).node
+schema_written gs fs own pairs custom v of h = tested (stream_schema gs pairs custom) (nat_le (size (stream_schema gs pairs custom).node) 2147483647) v.items (sym (sent_written gs fs own pairs custom of) ∙ h)
 
 -- why it is refused: the message is too large, or there is no memory
 test_refused : (m : SentMessage) (e : IpcError) (test : Bool) (expected : List ℕ) → nat_le (size m.node) 2147483647 ≡ test → Gives (λ (w : Vec ℕ Global). w.items) (Err e) (bind (unless test errors.TooLarge) (λ small. Ok (layout m.node))) → IsOfMessage e → Writes (Err e) m expected
@@ -121,52 +121,53 @@ test_refused m (errors.Projection index) test expected is g k = absurd k
 test_refused m (errors.DictionaryReplaced id) test expected is g k = absurd k
 test_refused m errors.State test expected is g k = absurd k
 
-pub schema_refused : (r : Result (Vec ℕ Global) IpcError) (gs fs : Fields) (own : Ids) (pairs : Metadata) (e : IpcError) (expected : List ℕ) → IsOfFields gs fs own → r ≡ Err e → Gives (λ (w : Vec ℕ Global). w.items) (Err e) (written little fs own pairs) → IsOfMessage e
-    → Writes r (stream_schema gs pairs []) expected
-schema_refused r gs fs own pairs e expected of is g k =
-    let m = stream_schema gs pairs [] in
-    let h = subst (Gives (λ (w : Vec ℕ Global). w.items) (Err e)) (sent_written gs fs own pairs of) g in
+pub schema_refused : (r : Result (Vec ℕ Global) IpcError) (gs fs : Fields) (own : Ids) (pairs custom : Metadata) (e : IpcError) (expected : List ℕ) → IsOfFields gs fs own → r ≡ Err e → Gives (λ (w : Vec ℕ Global). w.items) (Err e) (written little fs own pairs custom) → IsOfMessage e
+    → Writes r (stream_schema gs pairs custom) expected
+schema_refused r gs fs own pairs custom e expected of is g k =
+    let m = stream_schema gs pairs custom in
+    let h = subst (Gives (λ (w : Vec ℕ Global). w.items) (Err e)) (sent_written gs fs own pairs custom of) g in
     subst (λ q. Writes q m expected) (sym is) (test_refused m e (nat_le (size m.node) 2147483647) expected refl h k)
 
 -- ── the message of the columns of a file ──
 
 -- what is asked for of a file, and may be sent: a schema of its fields, with ids that count from 0 where dictionaries stand apart
-pub record MayBeSent (file : FileMetadata) (columns : Option (List ℕ)) (s : List Keyed) (own : Ids) (pairs : Metadata) : Type 0 where
-  pub built : IsBuilt (meta_view file) columns
+pub record MayBeSent (file : FileMetadata) (columns : Option (List ℕ)) (s : List Keyed) (own : Ids) (pairs custom : Metadata) : Type 0 where
+  pub readable : AreReadable (meta_view file) columns
   pub read : WasRead file
   pub right : columns_right columns (width (meta_view file).schema.fields) ≡ Ok tt
   pub asked : AreAsked (rc_value file.schema) columns s
   pub shape : have_shapes (fields_in s) own ≡ true
   pub numbers : are_apart (fields_in s) ≡ true → fields_with (fields_in s) own ≡ numbered (fields_in s) 0
   pub pairs_are : pairs ≡ (meta_view file).schema.metadata
+  pub custom_are : custom ≡ file_custom file
 
-of_file : (file : FileMetadata) (columns : Option (List ℕ)) (s : List Keyed) (own : Ids) (pairs : Metadata) → MayBeSent file columns s own pairs → IsOfFields (fields_as_asked columns (meta_view file).schema.fields) (fields_in s) own
-of_file file columns s own pairs may =
+of_file : (file : FileMetadata) (columns : Option (List ℕ)) (s : List Keyed) (own : Ids) (pairs custom : Metadata) → MayBeSent file columns s own pairs custom → IsOfFields (fields_as_asked columns (meta_view file).schema.fields) (fields_in s) own
+of_file file columns s own pairs custom may =
     let gs = fields_as_asked columns (meta_view file).schema.fields in
     let all = fields_in (rc_value file.schema) in
-    let schema = (sendable file columns may.right may.built may.read).0.may in
+    let schema = (sendable file columns may.right may.readable may.read).may in
     let numbers : numbered (fields_in s) 0 ≡ numbered gs 0 = ap (λ fs. numbered fs 0) (asked_schema_fields (rc_value file.schema) columns s may.asked) ∙ sym (asked_renewed all (ids_of file.ipc_schema.fields.items) columns 0) in
     let apart : are_apart (fields_in s) ≡ true = sym (all_apart_numbered (fields_in s) 0) ∙ ap are_apart numbers ∙ all_apart_numbered gs 0 ∙ fields_apart 64 gs schema.fit in
     record { numbers = may.numbers apart ∙ numbers; shape = may.shape; said = can_be_said gs (meta_view file).schema.metadata schema }
 
-as_of_file : (file : FileMetadata) (gs : Fields) (pairs : Metadata) (r : Result (Vec ℕ Global) IpcError) → pairs ≡ (meta_view file).schema.metadata → WritesSchema r gs pairs → WritesSchema r gs (meta_view file).schema.metadata
-as_of_file file gs pairs r same w = subst (λ ps. WritesSchema r gs ps) same w
+as_of_file : (file : FileMetadata) (gs : Fields) (pairs custom : Metadata) (r : Result (Vec ℕ Global) IpcError) → pairs ≡ (meta_view file).schema.metadata → custom ≡ file_custom file → WritesSchema r gs pairs custom → WritesSchema r gs (meta_view file).schema.metadata (file_custom file)
+as_of_file file gs pairs custom r same own w = subst (λ ps. WritesSchema r gs ps (file_custom file)) same (subst (WritesSchema r gs pairs) own w)
 
 -- it is refused
-pub file_schema_refused : (file : FileMetadata) (columns : Option (List ℕ)) (r : Result (Vec ℕ Global) IpcError) (s : List Keyed) (own : Ids) (pairs : Metadata) (e : IpcError) → MayBeSent file columns s own pairs
-    → r ≡ Err e → Gives (λ (v : Vec ℕ Global). v.items) (Err e) (written little (fields_in s) own pairs) → IsOfMessage e → WritesSchema r (fields_as_asked columns (meta_view file).schema.fields) (meta_view file).schema.metadata
-file_schema_refused file columns r s own pairs e may err g k =
+pub file_schema_refused : (file : FileMetadata) (columns : Option (List ℕ)) (r : Result (Vec ℕ Global) IpcError) (s : List Keyed) (own : Ids) (pairs custom : Metadata) (e : IpcError) → MayBeSent file columns s own pairs custom
+    → r ≡ Err e → Gives (λ (v : Vec ℕ Global). v.items) (Err e) (written little (fields_in s) own pairs custom) → IsOfMessage e → WritesSchema r (fields_as_asked columns (meta_view file).schema.fields) (meta_view file).schema.metadata (file_custom file)
+file_schema_refused file columns r s own pairs custom e may err g k =
     let gs = fields_as_asked columns (meta_view file).schema.fields in
-    as_of_file file gs pairs r may.pairs_are (schema_refused r gs (fields_in s) own pairs e _ (of_file file columns s own pairs may) err g k)
+    as_of_file file gs pairs custom r may.pairs_are may.custom_are (schema_refused r gs (fields_in s) own pairs custom e _ (of_file file columns s own pairs custom may) err g k)
 
-no_body : (fs : Fields) (pairs : Metadata) → (schema_message little fs pairs []).body ≡ 0
+no_body : (fs : Fields) (pairs custom : Metadata) → (schema_message little fs pairs custom).body ≡ 0
 unfolding schema_message
-no_body fs pairs = refl
+no_body fs pairs custom = refl
 
 -- its frame
-pub file_schema_framed : (file : FileMetadata) (columns : Option (List ℕ)) (r : Result (Vec ℕ Global) IpcError) (s : List Keyed) (own : Ids) (pairs : Metadata) (v : Vec ℕ Global) (metadata body : List ℕ) → MayBeSent file columns s own pairs
-    → Gives (λ (w : Vec ℕ Global). w.items) (Ok v) (written little (fields_in s) own pairs) → metadata ≡ v.items → body ≡ [] → Framed r metadata body → WritesSchema r (fields_as_asked columns (meta_view file).schema.fields) (meta_view file).schema.metadata
-file_schema_framed file columns r s own pairs v metadata body may g items none f =
+pub file_schema_framed : (file : FileMetadata) (columns : Option (List ℕ)) (r : Result (Vec ℕ Global) IpcError) (s : List Keyed) (own : Ids) (pairs custom : Metadata) (v : Vec ℕ Global) (metadata body : List ℕ) → MayBeSent file columns s own pairs custom
+    → Gives (λ (w : Vec ℕ Global). w.items) (Ok v) (written little (fields_in s) own pairs custom) → metadata ≡ v.items → body ≡ [] → Framed r metadata body → WritesSchema r (fields_as_asked columns (meta_view file).schema.fields) (meta_view file).schema.metadata (file_custom file)
+file_schema_framed file columns r s own pairs custom v metadata body may g items none f =
     let gs = fields_as_asked columns (meta_view file).schema.fields in
-    let m = stream_schema gs pairs [] in
-    as_of_file file gs pairs r may.pairs_are (alone_written r m metadata (no_body (numbered gs 0) pairs) (items ∙ schema_written gs (fields_in s) own pairs v (of_file file columns s own pairs may) g) (subst (λ x. Framed r metadata x) none f))
+    let m = stream_schema gs pairs custom in
+    as_of_file file gs pairs custom r may.pairs_are may.custom_are (alone_written r m metadata (no_body (numbered gs 0) pairs custom) (items ∙ schema_written gs (fields_in s) own pairs custom v (of_file file columns s own pairs custom may) g) (subst (λ x. Framed r metadata x) none f))

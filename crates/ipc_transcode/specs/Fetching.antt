@@ -4,9 +4,8 @@ use Rattle.arrow_spec.specs.Files.{FileBlock, Meta, Request, TableBatch, batches
 use Rattle.arrow_spec.specs.Arrays.{Dictionaries}
 use Rattle.arrow_spec.specs.Needed.{lengths}
 use Rattle.file_laws.specs.Fetched.{fetched as ranges_fetched}
-use Rattle.transcode_laws.specs.Built.{so_far}
 use Rattle.transcode_laws.specs.Files.{asked_of}
-use Rattle.transcode_laws.specs.Meaning.{file_table}
+use Rattle.arrow_spec.specs.Meaning.{file_table}
 use Rattle.ipc_read_laws.specs.Held.{Held, HoldsCells}
 use Rattle.ipc_files.specs.Fetching.{block_cost}
 use Rattle.ipc_files.specs.FileDictionaries.{dictionaries_cost}
@@ -23,7 +22,7 @@ blocks_cost b meta r (block ∷ blocks) (x ∷ xs) left = block_cost b meta r bl
 abbrev pub BlocksFetched : Option (List ℕ) → Meta → Request → Held → List FileBlock → ℕ → ℕ → Type 0
 BlocksFetched None meta r h blocks fetched fetched' = ⊤
 BlocksFetched (Some b) meta r h blocks fetched fetched' =
-    (d : Dictionaries) (xs : List TableBatch) → HoldsCells d h → batches_of so_far.custom to_read b (asked_of b meta r d) true meta.blocks r.limit ≡ Ok xs
+    (d : Dictionaries) (xs : List TableBatch) → HoldsCells d h → batches_of to_read b (asked_of b meta r d) true meta.blocks r.limit ≡ Ok xs
     → fetched' ≤ fetched + blocks_cost b meta r blocks xs r.limit
 
 -- of the dictionaries and the blocks of a file that mean batches, at most what they cost
@@ -31,7 +30,7 @@ abbrev pub TableFetched : Option (List ℕ) → Meta → Request → ℕ → ℕ
 TableFetched None meta r fetched fetched' = ⊤
 TableFetched (Some b) meta r fetched fetched' =
     (d : Dictionaries) (xs : List TableBatch) → dictionaries_of b meta [] (dictionaries_read meta.blocks meta.dictionaries) ≡ Ok d
-    → batches_of so_far.custom to_read b (asked_of b meta r d) true meta.blocks r.limit ≡ Ok xs
+    → batches_of to_read b (asked_of b meta r d) true meta.blocks r.limit ≡ Ok xs
     → fetched' ≤ fetched + (dictionaries_cost b meta (dictionaries_read meta.blocks meta.dictionaries) + blocks_cost b meta r meta.blocks xs r.limit)
 
 -- of a file that means a table under a request, at most the ranges that the request fetches

@@ -1,26 +1,26 @@
 -- What reading and sending the dictionaries, a block, and the blocks of a file, does.
-use Rattle.std.specs.Prelude.{◌≡◌, ℕ, List, [], ◌∷◌, ◌++◌, length, sum_by, Bool, true, false, Option, Ok, None, ⊤}
+use Rattle.std.specs.Prelude.{◌≡◌, ℕ, List, [], ◌∷◌, ◌++◌, length, sum_by, Bool, true, false, Option, Ok, Err, None, ⊤}
 use Rattle.std.specs.List.{flat_map}
 use Rattle.std.specs.Io.KnownBytes.{Appends, Keeps}
 use Rattle.arrow_spec.specs.declared.error.IpcError.{IpcError}
 use Rattle.arrow_spec.specs.declared.error.IpcError.TheVariants as errors
-use Rattle.arrow_spec.specs.Readings.{Refuses, refusals}
-use Rattle.arrow_spec.specs.Kinds.{Fields, numbered}
+use Rattle.arrow_spec.specs.Readings.{Reading, Refuses, refusals}
+use Rattle.arrow_spec.specs.Kinds.{Fields, Metadata, numbered}
 use Rattle.arrow_spec.specs.Arrays.{Dictionaries}
 use Rattle.arrow_spec.specs.Sent.{all_may_be_sent, dictionary_messages}
-use Rattle.arrow_spec.specs.Files.{Asked, FileBlock, Meta, Request, TableBatch, batch_of, dictionaries_of, fields_as_asked, file_reading, to_send}
+use Rattle.arrow_spec.specs.Files.{Asked, FileBlock, Meta, Request, TableBatch, batch_of, custom_of, dictionaries_of, fields_as_asked, file_reading, to_send}
 use Rattle.ipc_write_laws.specs.Streams.{WrittenBatch, batch_bytes}
 use Rattle.ipc_write_laws.specs.Messages.{WrittenMessage, WrittenValues, stream_so_far, values_bytes}
 use Rattle.dictionary_laws.specs.Sending.{AllHaveColumns, Columns, dictionary_values}
-use Rattle.transcode_laws.specs.Built.{so_far}
 use Rattle.transcode_laws.specs.Files.{HasRead, IsSentBatch, IsSentFile, SentSoFar, asked_fields, asked_of, known_of, messages_sent}
 use Rattle.ipc_read_laws.specs.Held.{Held}
 use Rattle.file_dictionaries.specs.Parts.{PartTree}
 use Rattle.part_laws.specs.Laws.{ArePartsRead}
 use Rattle.ipc_io.specs.Outside.{Rose}
-use Rattle.ipc_transcode.specs.Transcode.{AddsPart, PutsSome, PutTextCause, text_of}
+use Rattle.ipc_bodies.specs.Encodings.{text_of}
+use Rattle.ipc_transcode.specs.Transcode.{AddsPart, PutsSome, PutTextCause}
 use Rattle.ipc_transcode.specs.declared.conversion.Summary.{Summary}
-use Rattle.ipc_transcode.specs.declared.encoding.Encoding.{Encoding}
+use Rattle.ipc_bodies.specs.declared.encoding.Encoding.{Encoding}
 
 -- ── dictionaries ──
 
@@ -82,7 +82,7 @@ pub record BlockSent (b : List ℕ) (a : Asked) (columns : Columns) (is_first : 
     (rows bytes : ℕ) : Type 0 where
   pub batch : WrittenBatch
   pub may : MayBePut columns a.dictionaries (asked_fields a)
-  pub is_sent : IsSentBatch so_far b a (known_of columns a) block left batch
+  pub is_sent : IsSentBatch b a (known_of columns a) block left batch
   pub added : Appends old new (text_of encoding (all_values (values_before is_first columns a.dictionaries (asked_fields a)) ++ batch_bytes batch))
   pub rows_are : rows ≡ batch.rows
   pub bytes_are : bytes ≡ length (all_values (values_before is_first columns a.dictionaries (asked_fields a)) ++ batch_bytes batch)
@@ -90,11 +90,11 @@ pub record BlockSent (b : List ℕ) (a : Asked) (columns : Columns) (is_first : 
 -- A block that was not sent: it is refused and nothing was put; or the messages before it are too large, or could not be put; or its own could not.
 pub data BlockRefused (b : List ℕ) (a : Asked) (columns : Columns) (is_first : Bool) (block : FileBlock) (left : Option ℕ) (encoding : Encoding) (old new : Option (List ℕ)) (e : IpcError)
     (faults faults' wants wants' : ℕ) : Type 0 where
-  refused : Keeps old new → Refuses e (refusals (batch_of so_far.custom to_send b a block left))
+  refused : Keeps old new → Refuses e (refusals (batch_of to_send b a block left))
       → BlockRefused b a columns is_first block left encoding old new e faults faults' wants wants'
-  before : (x : TableBatch) → batch_of so_far.custom to_send b a block left ≡ Ok x
+  before : (x : TableBatch) → batch_of to_send b a block left ≡ Ok x
       → BeforeNotPut is_first columns a.dictionaries (asked_fields a) encoding old new e faults faults' wants wants' → BlockRefused b a columns is_first block left encoding old new e faults faults' wants wants'
-  not_put : (x : WrittenBatch) (mid : Option (List ℕ)) → MayBePut columns a.dictionaries (asked_fields a) → IsSentBatch so_far b a (known_of columns a) block left x
+  not_put : (x : WrittenBatch) (mid : Option (List ℕ)) → MayBePut columns a.dictionaries (asked_fields a) → IsSentBatch b a (known_of columns a) block left x
       → Appends old mid (text_of encoding (all_values (values_before is_first columns a.dictionaries (asked_fields a)))) → PutsSome mid new wants wants' e (text_of encoding (batch_bytes x)) → PutTextCause e faults faults'
       → BlockRefused b a columns is_first block left encoding old new e faults faults' wants wants'
 
@@ -113,35 +113,43 @@ SendCause e reads reads' writes writes' = ⊥
 
 -- ── the stream ──
 
--- what a stream under a request is before its end mark, with these messages behind its schema's
-abbrev pub front_bytes : Meta → Request → List WrittenMessage → List ℕ
-front_bytes meta r messages = stream_so_far (numbered (fields_as_asked r.columns meta.schema.fields) 0) meta.schema.metadata [] messages
+-- what a stream under a request is before its end mark, with these pairs of its schema's message and these messages behind it
+abbrev pub front_bytes : Metadata → Meta → Request → List WrittenMessage → List ℕ
+front_bytes custom meta r messages = stream_so_far (numbered (fields_as_asked r.columns meta.schema.fields) 0) meta.schema.metadata custom messages
+
+-- the pairs of a file's footer, none where they are damaged
+abbrev pub pairs_or_none : Reading Metadata → Metadata
+pairs_or_none (Ok custom) = custom
+pairs_or_none (Err es) = []
+
+abbrev pub custom_in : List ℕ → Metadata
+custom_in b = pairs_or_none (custom_of b)
 
 -- the stream is begun: its schema's message was put
 pub record Begun (b : List ℕ) (meta : Meta) (r : Request) (encoding : Encoding) (start new : Option (List ℕ)) (bytes : ℕ) : Type 0 where
-  pub file : IsSentFile so_far b r meta []
-  pub added : Appends start new (text_of encoding (front_bytes meta r []))
-  pub bytes_are : bytes ≡ length (front_bytes meta r [])
+  pub file : IsSentFile b r meta (custom_in b)
+  pub added : Appends start new (text_of encoding (front_bytes (custom_in b) meta r []))
+  pub bytes_are : bytes ≡ length (front_bytes (custom_in b) meta r [])
 
 -- the blocks so far were sent, each as a batch, behind the schema's message and those of the dictionaries
 pub record SentBlocks (b : List ℕ) (meta : Meta) (r : Request) (d : Dictionaries) (columns : Columns) (blocks : List FileBlock) (encoding : Encoding) (start new : Option (List ℕ)) (s : Summary) : Type 0 where
   pub batches : List WrittenBatch
   pub may : (batches ≡ [] → ⊥) → MayBePut columns d (fields_as_asked r.columns meta.schema.fields)
-  pub sent : SentSoFar so_far b columns (asked_of b meta r d) blocks r.limit batches
+  pub sent : SentSoFar b columns (asked_of b meta r d) blocks r.limit batches
   pub same : length batches ≡ length blocks
-  pub added : Appends start new (text_of encoding (front_bytes meta r (messages_sent columns (asked_of b meta r d) batches)))
+  pub added : Appends start new (text_of encoding (front_bytes (custom_in b) meta r (messages_sent columns (asked_of b meta r d) batches)))
   pub batches_are : s.batches ≡ length batches
   pub rows_are : s.rows ≡ sum_by (λ x. x.rows) batches
-  pub bytes_are : s.bytes ≡ length (front_bytes meta r (messages_sent columns (asked_of b meta r d) batches))
+  pub bytes_are : s.bytes ≡ length (front_bytes (custom_in b) meta r (messages_sent columns (asked_of b meta r d) batches))
 
 -- all blocks were sent, under the dictionaries that are read of the file
 pub record AllSent (b : List ℕ) (meta : Meta) (r : Request) (encoding : Encoding) (start new : Option (List ℕ)) (s : Summary) : Type 0 where
   pub dictionaries : Dictionaries
   pub columns : Columns
-  pub has : HasRead so_far b meta dictionaries
+  pub has : HasRead b meta dictionaries
   pub blocks : SentBlocks b meta r dictionaries columns meta.blocks encoding start new s
 
 -- what a refusal says of the file's bytes, and what was added
 pub record Refused (e : IpcError) (b : List ℕ) (r : Request) (encoding : Encoding) (start new : Option (List ℕ)) (wants wants' : ℕ) : Type 0 where
-  pub refused : Refuses e (refusals (file_reading so_far to_send b r None))
+  pub refused : Refuses e (refusals (file_reading to_send b r None))
   pub part : AddsPart e wants wants' b r (text_of encoding) start new

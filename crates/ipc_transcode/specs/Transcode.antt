@@ -1,49 +1,39 @@
 -- What a transcoding adds to a sink, and when it is refused.
 use Rattle.std.specs.Prelude.{◌≡◌, ◌⊎◌, ℕ, List, length, sum_by, ⊤, Option, Some, IfSome, Result, Ok, Err}
 use Rattle.std.specs.Io.KnownBytes.{Appends, Keeps}
-use Rattle.hex.specs.Hex.{encode_lower}
 use Rattle.arrow_spec.specs.declared.error.IpcError.{IpcError}
 use Rattle.arrow_spec.specs.declared.error.IpcError.TheVariants as errors
 use Rattle.arrow_spec.specs.Files as files
 use Rattle.arrow_spec.specs.Files.{Request, ArrowTable, «all»}
-use Rattle.file_laws.specs.Laws.{whole_file_table}
-use Rattle.transcode_laws.specs.Built.{so_far}
 use Rattle.transcode_laws.specs.Files.{IsFrontOf, IsStreamOf, StopsBehind}
-use Rattle.transcode_laws.specs.Meaning.{may}
+use Rattle.arrow_spec.specs.Meaning.{file_table, may}
 use Rattle.ipc_io.specs.Outside.{AppendsPrefix, Rose}
-use Rattle.ipc_transcode.specs.declared.encoding.Encoding.{Encoding}
-use Rattle.ipc_transcode.specs.declared.encoding.Encoding.TheVariants.{Bytes, HexText}
 use Rattle.ipc_transcode.specs.declared.conversion.Summary.{Summary}
-
--- bytes as they are, or as hex text
-abbrev pub text_of : Encoding → List ℕ → List ℕ
-text_of Bytes x = x
-text_of HexText x = encode_lower x
 
 -- The text of a whole stream was added.
 pub record AddsStream (b : List ℕ) (r : Request) (text : List ℕ → List ℕ) (old new : Option (List ℕ)) : Type 0 where
   pub bytes : List ℕ
   pub table : ArrowTable
-  pub stream : IsStreamOf so_far b r bytes table
+  pub stream : IsStreamOf b r bytes table
   pub added : Appends old new (text bytes)
 
 -- The text of a front was added.
 pub record AddsFront (b : List ℕ) (r : Request) (text : List ℕ → List ℕ) (old new : Option (List ℕ)) : Type 0 where
   pub bytes : List ℕ
   pub table : ArrowTable
-  pub stream : IsFrontOf so_far b r bytes table
+  pub stream : IsFrontOf b r bytes table
   pub added : Appends old new (text bytes)
 
 -- A part of a stream's text was added, from its front: of a whole stream, shown in one way, or of a front, in another.
 pub record AddsPiece (b : List ℕ) (r : Request) (shown text : List ℕ → List ℕ) (old new : Option (List ℕ)) : Type 0 where
   pub bytes : List ℕ
   pub table : ArrowTable
-  pub piece : (IsStreamOf so_far b r bytes table × AppendsPrefix old new (shown bytes))
-      ⊎ (IsFrontOf so_far b r bytes table × AppendsPrefix old new (text bytes))
+  pub piece : (IsStreamOf b r bytes table × AppendsPrefix old new (shown bytes))
+      ⊎ (IsFrontOf b r bytes table × AppendsPrefix old new (text bytes))
 
 -- Nothing was added, or the text of a front that stops at the block that was refused: its batches are those before it, each once. A device's fault and want of memory come anywhere.
 abbrev pub AddsFrontOrNone : IpcError → List ℕ → Request → (List ℕ → List ℕ) → Option (List ℕ) → Option (List ℕ) → Type 0
-AddsFrontOrNone e b r text old new = Keeps old new ⊎ ((front : AddsFront b r text old new) × StopsBehind so_far b r (length front.table.batches) e)
+AddsFrontOrNone e b r text old new = Keeps old new ⊎ ((front : AddsFront b r text old new) × StopsBehind b r (length front.table.batches) e)
 
 -- the numbers of a summary
 pub record IsSummary (s : Summary) (table : ArrowTable) (x : List ℕ) : Type 0 where
@@ -55,7 +45,7 @@ pub record IsSummary (s : Summary) (table : ArrowTable) (x : List ℕ) : Type 0 
 pub record Transcodes (s : Summary) (b : List ℕ) (r : Request) (text : List ℕ → List ℕ) (old new : Option (List ℕ)) : Type 0 where
   pub stream : AddsStream b r text old new
   pub summary : IsSummary s stream.table stream.bytes
-  pub cut : (t : ArrowTable) → whole_file_table b «all» ≡ Some t → stream.table ≡ files.cut (files.project t r.columns) r.limit
+  pub cut : (t : ArrowTable) → file_table b «all» ≡ Some t → stream.table ≡ files.cut (files.project t r.columns) r.limit
 
 -- What a refused transcoding added: nothing, or a front. After a put that failed, or that wanted memory, which a sink counts, a part of a stream.
 abbrev pub AddsPart : IpcError → ℕ → ℕ → List ℕ → Request → (List ℕ → List ℕ) → Option (List ℕ) → Option (List ℕ) → Type 0
@@ -77,12 +67,6 @@ TranscodeCause e content r reads reads' writes writes' = IfSome content (λ b. m
 -- the only refusals of a file that means a table, where no device failed
 abbrev pub IsSmallRefusal : List ℕ → Request → IpcError → Type 0
 IsSmallRefusal b r e = (e ≡ errors.Memory) ⊎ ((e ≡ errors.TooLarge) × may b r errors.TooLarge)
-
--- what a put of a text did: all of it, a part from the front where it failed, nothing for want of memory
-abbrev pub PutsText : Option (List ℕ) → Option (List ℕ) → Result (Unit {0}) IpcError → List ℕ → Type 0
-PutsText old new (Ok done) text = Appends old new text
-PutsText old new (Err errors.WriteFault) text = AppendsPrefix old new text
-PutsText old new (Err e) text = Keeps old new
 
 -- what several puts of one text did that were refused: a part from the front, and nothing where memory was wanted by no put
 abbrev pub PutsSome : Option (List ℕ) → Option (List ℕ) → ℕ → ℕ → IpcError → List ℕ → Type 0

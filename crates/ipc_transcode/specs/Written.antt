@@ -49,6 +49,6 @@ PlansMessage (Err errors.TooLarge) message bytes = may_be_sent message ≡ false
 PlansMessage (Err errors.Memory) message bytes = ⊤
 PlansMessage (Err e) message bytes = ⊥
 
--- the same of a schema's message, with the schema's pairs
-abbrev pub WritesSchema : Result (Vec ℕ Global) IpcError → Fields → Metadata → Type 0
-WritesSchema r fs pairs = Writes r (stream_schema fs pairs []) (message_bytes (stream_schema fs pairs []).node [])
+-- the same of a schema's message, with the schema's pairs and its own
+abbrev pub WritesSchema : Result (Vec ℕ Global) IpcError → Fields → Metadata → Metadata → Type 0
+WritesSchema r fs pairs custom = Writes r (stream_schema fs pairs custom) (message_bytes (stream_schema fs pairs custom).node [])

@@ -1,15 +1,16 @@
 //! From a file to a stream (Arrow Columnar Format, IPC File Format and IPC Streaming Format).
 ghost use Rattle.std.specs.Prelude.{◌≡◌, ◌≤◌, true, IfOk, IfErr, IfSome, IsSome};
-ghost use Rattle.transcode_laws.specs.Meaning.{file_table};
+ghost use Rattle.arrow_spec.specs.Meaning.{file_table};
 ghost use Rattle.ipc_io.specs.Outside.{Stands, SourceKept, SinkKept};
 ghost use Rattle.ipc_read.specs.Projection.{columns_of};
 ghost use Rattle.ipc_transcode.specs.Fetching.{FileFetched};
 ghost use Rattle.ipc_files.specs.Requests.{asked};
-ghost use Rattle.ipc_transcode.specs.Transcode.{text_of, Transcodes, AddsPart, TranscodeCause, IsSmallRefusal};
+ghost use Rattle.ipc_bodies.specs.Encodings.{text_of};
+ghost use Rattle.ipc_transcode.specs.Transcode.{Transcodes, AddsPart, TranscodeCause, IsSmallRefusal};
 
-use crate::encoding::Encoding;
 use crate::send::send_file;
 use arrow_spec::IpcError;
+use ipc_bodies::Encoding;
 use ipc_schema::{Sink, Source};
 use std::alloc::Global;
 

@@ -20,16 +20,17 @@ ghost use Rattle.ipc_files.specs.FileBlocks.{file_block};
 ghost use Rattle.ipc_files.specs.FileDictionaries.{DictionariesFetched, DictionaryFetched, HoldsUses};
 ghost use Rattle.ipc_files.specs.FileViews.{meta_view, FileCause, IsReadable, WasRead};
 ghost use Rattle.part_laws.specs.Laws.{ArePartsRead, IsLast};
-ghost use Rattle.ipc_transcode.specs.FileViews.{IsBuilt};
+ghost use Rattle.ipc_transcode.specs.FileViews.{AreReadable};
 ghost use Rattle.ipc_transcode.specs.Parts.{HasNone, ReadsPart};
 ghost use Rattle.ipc_transcode.specs.Selections.{IsSelection};
 ghost use Rattle.ipc_transcode.specs.Sends.{BeforeNotPut, BeforePut, DictionariesNotPut, DictionariesRead, MayBePut, SendCause, ValuesNotPut, ValuesPut};
 
-use crate::encoding::{Encoding, put_plan};
+use crate::encoding::put_plan;
 use crate::selection::{Selection, selected_fields, selected_schema};
 use arrow_arrays::Array;
 use arrow_spec::{Block, IpcError, OutOfSpecKind};
 use file_dictionaries::{FilePart, plan_dictionaries};
+use ipc_bodies::Encoding;
 use ipc_files::{FileMetadata, read_dictionary_block};
 use ipc_read::Dictionaries;
 use ipc_schema::{Sink, Source};
@@ -111,7 +112,6 @@ pub(crate) fn read_parts<S: Source>(
 
 /// Puts planned messages one after another, and answers how many bytes they have.
 fn put_values<W: Sink>(
-    alloc: Global,
     sink: &mut W,
     plans: &[BodyPlan],
     pieces: &mut [u8],
@@ -127,7 +127,7 @@ fn put_values<W: Sink>(
 {
     let mut bytes: u128 = 0;
     for plan in plans {
-        let length = put_plan(alloc, sink, plan, pieces, encoding)?;
+        let length = put_plan(sink, plan, pieces, encoding)?;
         bytes += length;
     }
     Ok(bytes)
@@ -144,7 +144,7 @@ fn put_dictionaries<W: Sink>(
 ) -> Result<u128, IpcError>
     requires selected { IsSelection selection.now }
     requires right { columns_right (columns_of selection.now.columns) (width (meta_view selection.now.file.now).schema.fields) ≡ Ok tt }
-    requires built { IsBuilt (meta_view selection.now.file.now) (columns_of selection.now.columns) }
+    requires readable { AreReadable (meta_view selection.now.file.now) (columns_of selection.now.columns) }
     requires read { WasRead selection.now.file.now }
     requires pieces { length pieces.old ≡ 65536 }
     ensures sent { IfOk result (λ n. (d : History) → AreFileParts (meta_view selection.now.file.now).schema.fields d (part_trees parts.now) → BeforePut true (columns_in (part_trees parts.now)) d (fields_as_asked (columns_of selection.now.columns) (meta_view selection.now.file.now).schema.fields) encoding (W.written sink.old) (W.written sink.new) n) }
@@ -157,7 +157,7 @@ fn put_dictionaries<W: Sink>(
     let schema = selected_schema(selection);
     let fields = selected_fields(alloc, selection)?;
     let plans = plan_dictionaries(alloc, schema, &fields, parts)?;
-    put_values(alloc, sink, &plans, pieces, encoding)
+    put_values(sink, &plans, pieces, encoding)
 }
 
 /// Puts what stands before a block: the messages of the dictionaries before the first one. It answers how many bytes these are.
@@ -172,7 +172,7 @@ pub(crate) fn put_before<W: Sink>(
 ) -> Result<u128, IpcError>
     requires selected { IsSelection selection.now }
     requires right { columns_right (columns_of selection.now.columns) (width (meta_view selection.now.file.now).schema.fields) ≡ Ok tt }
-    requires built { IsBuilt (meta_view selection.now.file.now) (columns_of selection.now.columns) }
+    requires readable { AreReadable (meta_view selection.now.file.now) (columns_of selection.now.columns) }
     requires read { WasRead selection.now.file.now }
     requires pieces { length pieces.old ≡ 65536 }
     ensures sent { IfOk result (λ n. (d : History) → AreFileParts (meta_view selection.now.file.now).schema.fields d (part_trees parts.now) → (is_first ≡ false → MayBePut (columns_in (part_trees parts.now)) d (fields_as_asked (columns_of selection.now.columns) (meta_view selection.now.file.now).schema.fields)) → BeforePut is_first (columns_in (part_trees parts.now)) d (fields_as_asked (columns_of selection.now.columns) (meta_view selection.now.file.now).schema.fields) encoding (W.written sink.old) (W.written sink.new) n) }

@@ -1,7 +1,6 @@
 //! From an Arrow file to the stream that means the same, with its dictionaries, whole or in the columns and the rows asked for (Arrow Columnar Format, "IPC File Format" and "IPC Streaming Format").
 #![tactic(auto)]
 
-mod built;
 mod conversion;
 mod dictionaries;
 mod encoding;
@@ -10,4 +9,4 @@ mod selection;
 mod send;
 
 pub use conversion::{Summary, transcode, transcode_as};
-pub use encoding::Encoding;
+pub use ipc_bodies::Encoding;

@@ -6,34 +6,40 @@ ghost use Rattle.ipc_write_laws.specs.Streams.{batch_bytes, written_batch};
 ghost use Rattle.ipc_write.specs.Batches.{written_batch_of};
 ghost use Rattle.ipc_write.specs.Encoding.{AllMean};
 ghost use Rattle.ipc_read.specs.Projection.{columns_of};
-ghost use Rattle.ipc_files.specs.FileViews.{meta_view, WasRead};
-ghost use Rattle.ipc_transcode.specs.FileViews.{IsBuilt};
+ghost use Rattle.ipc_files.specs.FileViews.{file_custom, meta_view, WasRead};
+ghost use Rattle.ipc_transcode.specs.FileViews.{AreReadable};
 ghost use Rattle.ipc_transcode.specs.Selections.{IsSelection};
 ghost use Rattle.ipc_transcode.specs.Written.{PlansMessage, WritesSchema};
 
 use crate::selection::{Selection, selected_schema};
 use arrow_arrays::RecordBatch;
 use arrow_spec::IpcError;
-use ipc_files::metadata_of;
-use ipc_schema::{default_ipc_fields, schema_to_bytes};
+use ipc_files::{custom_metadata_of, metadata_of};
+use ipc_schema::{IpcSchema, default_ipc_fields};
 use ipc_write::{BodyPlan, WriteOptions, message_to_bytes, plan_batch};
 use std::alloc::Global;
 
 /// The end of a stream: a prefix of length 0.
 pub(crate) const END_MARK: [u8; 8] = [255, 255, 255, 255, 0, 0, 0, 0];
 
-/// The message of the schema of the columns that are asked for, with the file's metadata. The ids of its
-/// dictionaries count from 0 in preorder.
+/// The message of the schema of the columns that are asked for, with the file's metadata and the footer's own pairs. The ids
+/// of its dictionaries count from 0 in preorder.
 pub(crate) fn schema_message(alloc: Global, selection: &Selection<'_>) -> Result<Vec<u8>, IpcError>
     requires selected { IsSelection selection.now }
-    requires built { IsBuilt (meta_view selection.now.file.now) (columns_of selection.now.columns) }
+    requires readable { AreReadable (meta_view selection.now.file.now) (columns_of selection.now.columns) }
     requires read { WasRead selection.now.file.now }
     requires right { columns_right (columns_of selection.now.columns) (width (meta_view selection.now.file.now).schema.fields) ≡ Ok tt }
-    ensures { WritesSchema result (fields_as_asked (columns_of selection.now.columns) (meta_view selection.now.file.now).schema.fields) (meta_view selection.now.file.now).schema.metadata }
+    ensures { WritesSchema result (fields_as_asked (columns_of selection.now.columns) (meta_view selection.now.file.now).schema.fields) (meta_view selection.now.file.now).schema.metadata (file_custom selection.now.file.now) }
 {
     let schema = selected_schema(selection);
     let ipc_fields = default_ipc_fields(alloc, schema)?;
-    let metadata = schema_to_bytes(alloc, schema, &ipc_fields, metadata_of(selection.file))?;
+    let ipc_schema = IpcSchema {
+        fields: ipc_fields,
+        is_little_endian: true,
+    };
+    let pairs = metadata_of(selection.file);
+    let custom = custom_metadata_of(selection.file);
+    let metadata = ipc_schema::schema_message(alloc, schema, &ipc_schema, pairs, custom)?;
     message_to_bytes(alloc, &metadata, &[])
 }
 

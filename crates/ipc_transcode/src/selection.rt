@@ -18,7 +18,7 @@ ghost use Rattle.ipc_files.specs.Fetching.{BlockFetched};
 ghost use Rattle.ipc_files.specs.FileBlocks.{file_block};
 ghost use Rattle.ipc_files.specs.FileDictionaries.{HoldsUses};
 ghost use Rattle.ipc_files.specs.FileViews.{meta_view, FileCause, WasRead};
-ghost use Rattle.ipc_transcode.specs.FileViews.{IsBuilt};
+ghost use Rattle.ipc_transcode.specs.FileViews.{AreReadable};
 ghost use Rattle.ipc_files.specs.Selections.{MayProject};
 ghost use Rattle.ipc_transcode.specs.Selections.{IsSelection};
 ghost use Rattle.ipc_files.specs.Requests.{asked};
@@ -123,7 +123,7 @@ pub(crate) fn read_selected<S: Source>(
     requires selected { IsSelection selection.now }
     requires uses { HoldsUses (meta_view selection.now.file.now) (held_in dictionaries.now) }
     requires right { columns_right (columns_of selection.now.columns) (width (meta_view selection.now.file.now).schema.fields) ≡ Ok tt }
-    requires built { IsBuilt (meta_view selection.now.file.now) (columns_of selection.now.columns) }
+    requires readable { AreReadable (meta_view selection.now.file.now) (columns_of selection.now.columns) }
     requires read { WasRead selection.now.file.now }
     requires whole { IsSize (S.content source.old) selection.now.file.now.size }
     ensures gives { IfSome (S.content source.old) (λ b. (d : History) → HoldsCells d (held_in dictionaries.now) → ReadsBlock b (held_in dictionaries.now) (asked_of b (meta_view selection.now.file.now) (asked (columns_of selection.now.columns) left) d) (file_block block.now) left result) }

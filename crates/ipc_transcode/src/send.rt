@@ -3,7 +3,6 @@ ghost use Rattle.std.specs.Prelude.{◌≡◌, ◌+◌, ◌*◌, ◌^◌, ◌<�
 ghost use Rattle.arrow_spec.specs.Arrays.{Dictionaries as History};
 ghost use Rattle.arrow_spec.specs.Files.{TableBatch, batch_of, columns_right, fields_as_asked, to_read, what_is_left};
 ghost use Rattle.arrow_spec.specs.Kinds.{width};
-ghost use Rattle.transcode_laws.specs.Built.{so_far};
 ghost use Rattle.transcode_laws.specs.Files.{asked_of};
 ghost use Rattle.ipc_io.specs.Outside.{IsSize, SourceKept, SinkKept};
 ghost use Rattle.ipc_read_laws.specs.Held.{HoldsCells};
@@ -13,27 +12,28 @@ ghost use Rattle.file_dictionaries.specs.Parts.{columns_in};
 ghost use Rattle.file_dictionaries.specs.PartsOf.{part_trees};
 ghost use Rattle.ipc_files.specs.FileBlocks.{file_block};
 ghost use Rattle.ipc_files.specs.FileDictionaries.{HoldsUses};
-ghost use Rattle.ipc_files.specs.FileViews.{meta_view, FileSays, WasRead};
+ghost use Rattle.ipc_files.specs.FileViews.{file_custom, meta_view, FileSays, WasRead};
 ghost use Rattle.ipc_files.specs.Fetching.{BlockFetched};
 ghost use Rattle.ipc_files.specs.Requests.{asked};
-ghost use Rattle.ipc_transcode.specs.FileViews.{IsBuilt};
+ghost use Rattle.ipc_transcode.specs.FileViews.{AreReadable};
 ghost use Rattle.ipc_transcode.specs.Fetching.{BlocksFetched, FileFetched, TableFetched};
 ghost use Rattle.ipc_transcode.specs.Selections.{IsSelection};
 ghost use Rattle.ipc_transcode.specs.Sends.{AllSent, Begun, BlockRefused, BlockSent, DictionariesRead, MayBePut, Refused, SendCause, SentBlocks};
-ghost use Rattle.ipc_transcode.specs.Transcode.{text_of, Transcodes};
+ghost use Rattle.ipc_bodies.specs.Encodings.{text_of};
+ghost use Rattle.ipc_transcode.specs.Transcode.{Transcodes};
 
-use crate::built::{is_built, missing_feature};
 use crate::conversion::Summary;
 use crate::dictionaries::{FileDictionaries, put_before, read_parts};
-use crate::encoding::{Encoding, put_plan, put_text};
+use crate::encoding::{put_plan, put_text};
 use crate::messages::{END_MARK, batch_plan, schema_message};
 use crate::selection::{Selection, project, read_selected};
 use arrow_spec::{Block, IpcError};
-use ipc_files::{FileMetadata, read_plain_metadata};
+use ipc_bodies::Encoding;
+use ipc_files::{FileMetadata, check_columns, read_file_metadata};
 use ipc_schema::{Sink, Source};
 use std::alloc::{AllocError, Global};
 
-/// The most bytes of a body that are put at once.
+/// The most bytes that are put at once.
 const PIECE_BYTES: usize = 65_536;
 
 /// What was sent of a block: its rows, and the bytes of its message and of those before it.
@@ -59,14 +59,14 @@ fn send_block<S: Source, W: Sink>(
 ) -> Result<SentBlock, IpcError>
     requires selected { IsSelection selection.now }
     requires right { columns_right (columns_of selection.now.columns) (width (meta_view selection.now.file.now).schema.fields) ≡ Ok tt }
-    requires built { IsBuilt (meta_view selection.now.file.now) (columns_of selection.now.columns) }
+    requires readable { AreReadable (meta_view selection.now.file.now) (columns_of selection.now.columns) }
     requires read { WasRead selection.now.file.now }
     requires uses { HoldsUses (meta_view selection.now.file.now) (held_in dictionaries.now.held) }
     requires whole { IsSize (S.content source.old) selection.now.file.now.size }
     requires pieces { length pieces.old ≡ 65536 }
     ensures sent { IfOk result (λ s. IfSome (S.content source.old) (λ b. (d : History) → DictionariesRead b (meta_view selection.now.file.now) (held_in dictionaries.now.held) (part_trees dictionaries.now.parts.items) d → (is_first ≡ false → MayBePut (columns_in (part_trees dictionaries.now.parts.items)) d (fields_as_asked (columns_of selection.now.columns) (meta_view selection.now.file.now).schema.fields)) → BlockSent b (asked_of b (meta_view selection.now.file.now) (asked (columns_of selection.now.columns) left) d) (columns_in (part_trees dictionaries.now.parts.items)) is_first (file_block block.now) left encoding (W.written sink.old) (W.written sink.new) s.rows s.bytes)) }
     ensures refused { IfErr result (λ e. IfSome (S.content source.old) (λ b. (d : History) → DictionariesRead b (meta_view selection.now.file.now) (held_in dictionaries.now.held) (part_trees dictionaries.now.parts.items) d → (is_first ≡ false → MayBePut (columns_in (part_trees dictionaries.now.parts.items)) d (fields_as_asked (columns_of selection.now.columns) (meta_view selection.now.file.now).schema.fields)) → BlockRefused b (asked_of b (meta_view selection.now.file.now) (asked (columns_of selection.now.columns) left) d) (columns_in (part_trees dictionaries.now.parts.items)) is_first (file_block block.now) left encoding (W.written sink.old) (W.written sink.new) e (W.faults sink.old) (W.faults sink.new) (W.wants sink.old) (W.wants sink.new))) }
-    ensures rows { IfOk result (λ s. IfSome (S.content source.old) (λ b. (d : History) (x : TableBatch) → HoldsCells d (held_in dictionaries.now.held) → batch_of so_far.custom to_read b (asked_of b (meta_view selection.now.file.now) (asked (columns_of selection.now.columns) left) d) (file_block block.now) left ≡ Ok x → s.rows ≡ x.rows)) }
+    ensures rows { IfOk result (λ s. IfSome (S.content source.old) (λ b. (d : History) (x : TableBatch) → HoldsCells d (held_in dictionaries.now.held) → batch_of to_read b (asked_of b (meta_view selection.now.file.now) (asked (columns_of selection.now.columns) left) d) (file_block block.now) left ≡ Ok x → s.rows ≡ x.rows)) }
     ensures first { is_first ≡ true → IfOk result (λ s. s.bytes < 2 ^ 127 + 2 ^ 97) }
     ensures small { is_first ≡ false → IfOk result (λ s. s.bytes < 2 ^ 63 + 2 ^ 32) }
     ensures few { IfOk result (λ s. s.rows < 2 ^ 63) }
@@ -83,7 +83,7 @@ fn send_block<S: Source, W: Sink>(
     drop(batch);
     let parts = dictionaries.parts.as_slice();
     let before = put_before(alloc, sink, selection, parts, is_first, pieces, encoding)?;
-    let length = put_plan(alloc, sink, &plan, pieces, encoding)?;
+    let length = put_plan(sink, &plan, pieces, encoding)?;
     Ok(SentBlock {
         rows,
         bytes: before + length,
@@ -116,7 +116,7 @@ fn send_blocks<S: Source, W: Sink>(
 ) -> Result<Summary, IpcError>
     requires selected { IsSelection selection.now }
     requires right { columns_right (columns_of selection.now.columns) (width (meta_view selection.now.file.now).schema.fields) ≡ Ok tt }
-    requires built { IsBuilt (meta_view selection.now.file.now) (columns_of selection.now.columns) }
+    requires readable { AreReadable (meta_view selection.now.file.now) (columns_of selection.now.columns) }
     requires read { WasRead selection.now.file.now }
     requires uses { HoldsUses (meta_view selection.now.file.now) (held_in dictionaries.now.held) }
     requires whole { IsSize (S.content source.old) selection.now.file.now.size }
@@ -171,7 +171,7 @@ fn send_batches<S: Source, W: Sink>(
 ) -> Result<Summary, IpcError>
     requires selected { IsSelection selection.now }
     requires right { columns_right (columns_of selection.now.columns) (width (meta_view selection.now.file.now).schema.fields) ≡ Ok tt }
-    requires built { IsBuilt (meta_view selection.now.file.now) (columns_of selection.now.columns) }
+    requires readable { AreReadable (meta_view selection.now.file.now) (columns_of selection.now.columns) }
     requires read { WasRead selection.now.file.now }
     requires whole { IsSize (S.content source.old) selection.now.file.now.size }
     requires pieces { length pieces.old ≡ 65536 }
@@ -212,24 +212,27 @@ fn begin_stream<W: Sink>(
     alloc: Global,
     sink: &mut W,
     selection: &Selection<'_>,
+    pieces: &mut [u8],
     encoding: Encoding,
 ) -> Result<usize, IpcError>
     requires selected { IsSelection selection.now }
     requires right { columns_right (columns_of selection.now.columns) (width (meta_view selection.now.file.now).schema.fields) ≡ Ok tt }
-    requires built { IsBuilt (meta_view selection.now.file.now) (columns_of selection.now.columns) }
+    requires readable { AreReadable (meta_view selection.now.file.now) (columns_of selection.now.columns) }
     requires read { WasRead selection.now.file.now }
-    ensures begun { IfOk result (λ n. (b : List ℕ) (limit : Option ℕ) → FileSays b (meta_view selection.now.file.now) → Begun b (meta_view selection.now.file.now) (asked (columns_of selection.now.columns) limit) encoding (W.written sink.old) (W.written sink.new) n) }
-    ensures refused { IfErr result (λ e. (b : List ℕ) (limit : Option ℕ) → FileSays b (meta_view selection.now.file.now) → Refused e b (asked (columns_of selection.now.columns) limit) encoding (W.written sink.old) (W.written sink.new) (W.wants sink.old) (W.wants sink.new)) }
+    requires pieces { length pieces.old ≡ 65536 }
+    ensures begun { IfOk result (λ n. (b : List ℕ) (limit : Option ℕ) → FileSays b (meta_view selection.now.file.now) (file_custom selection.now.file.now) → Begun b (meta_view selection.now.file.now) (asked (columns_of selection.now.columns) limit) encoding (W.written sink.old) (W.written sink.new) n) }
+    ensures refused { IfErr result (λ e. (b : List ℕ) (limit : Option ℕ) → FileSays b (meta_view selection.now.file.now) (file_custom selection.now.file.now) → Refused e b (asked (columns_of selection.now.columns) limit) encoding (W.written sink.old) (W.written sink.new) (W.wants sink.old) (W.wants sink.new)) }
     ensures small { IfOk result (λ n. n < 2 ^ 63) }
     ensures cause { IfErr result (λ e. SendCause e 0 0 (W.faults sink.old) (W.faults sink.new)) }
     ensures sink { SinkKept W.faults W.wants W.references sink.old sink.new }
+    ensures pieces { length pieces.new ≡ length pieces.old }
 {
     let message = schema_message(alloc, selection)?;
-    put_text(alloc, sink, &message, encoding)?;
+    put_text(sink, &message, pieces, encoding)?;
     Ok(message.len())
 }
 
-/// So many zeros, through which the bodies of messages are put.
+/// So many zeros, through which a stream is put.
 fn zeros(alloc: Global, count: usize) -> Result<Vec<u8>, AllocError>
     ensures { IfOk result (λ v. length v.items ≡ count) }
 {
@@ -247,11 +250,11 @@ fn send_table<S: Source, W: Sink>(
 ) -> Result<Summary, IpcError>
     requires selected { IsSelection selection.now }
     requires right { columns_right (columns_of selection.now.columns) (width (meta_view selection.now.file.now).schema.fields) ≡ Ok tt }
-    requires built { IsBuilt (meta_view selection.now.file.now) (columns_of selection.now.columns) }
+    requires readable { AreReadable (meta_view selection.now.file.now) (columns_of selection.now.columns) }
     requires read { WasRead selection.now.file.now }
     requires whole { IsSize (S.content source.old) selection.now.file.now.size }
-    ensures whole { IfOk result (λ s. IfSome (S.content source.old) (λ b. FileSays b (meta_view selection.now.file.now) → Transcodes s b (asked (columns_of selection.now.columns) limit) (text_of encoding) (W.written sink.old) (W.written sink.new))) }
-    ensures refused { IfErr result (λ e. IfSome (S.content source.old) (λ b. FileSays b (meta_view selection.now.file.now) → Refused e b (asked (columns_of selection.now.columns) limit) encoding (W.written sink.old) (W.written sink.new) (W.wants sink.old) (W.wants sink.new))) }
+    ensures whole { IfOk result (λ s. IfSome (S.content source.old) (λ b. FileSays b (meta_view selection.now.file.now) (file_custom selection.now.file.now) → Transcodes s b (asked (columns_of selection.now.columns) limit) (text_of encoding) (W.written sink.old) (W.written sink.new))) }
+    ensures refused { IfErr result (λ e. IfSome (S.content source.old) (λ b. FileSays b (meta_view selection.now.file.now) (file_custom selection.now.file.now) → Refused e b (asked (columns_of selection.now.columns) limit) encoding (W.written sink.old) (W.written sink.new) (W.wants sink.old) (W.wants sink.new))) }
     ensures cause { IfErr result (λ e. SendCause e (S.faults source.old) (S.faults source.new) (W.faults sink.old) (W.faults sink.new)) }
     ensures fetched { TableFetched (S.content source.old) (meta_view selection.now.file.now) (asked (columns_of selection.now.columns) limit) (S.fetched source.old) (S.fetched source.new) }
     ensures kept { SourceKept S.content S.faults S.references source.old source.new }
@@ -259,11 +262,11 @@ fn send_table<S: Source, W: Sink>(
 {
     let mut zeros = zeros(alloc, PIECE_BYTES)?;
     let pieces = zeros.as_mut_slice();
-    let begun = begin_stream(alloc, sink, selection, encoding)?;
+    let begun = begin_stream(alloc, sink, selection, pieces, encoding)?;
     let mut summary = send_batches(
         alloc, source, sink, selection, limit, begun, pieces, encoding,
     )?;
-    put_text(alloc, sink, &END_MARK, encoding)?;
+    put_text(sink, &END_MARK, pieces, encoding)?;
     summary.bytes += 8;
     Ok(summary)
 }
@@ -280,21 +283,20 @@ fn send_columns<'x, S: Source, W: Sink>(
 ) -> Result<Summary, IpcError>
     requires read { WasRead file.now }
     requires whole { IsSize (S.content source.old) file.now.size }
-    ensures whole { IfOk result (λ s. IfSome (S.content source.old) (λ b. FileSays b (meta_view file.now) → Transcodes s b (asked (columns_of columns.entry) limit) (text_of encoding) (W.written sink.old) (W.written sink.new))) }
-    ensures refused { IfErr result (λ e. IfSome (S.content source.old) (λ b. FileSays b (meta_view file.now) → Refused e b (asked (columns_of columns.entry) limit) encoding (W.written sink.old) (W.written sink.new) (W.wants sink.old) (W.wants sink.new))) }
+    ensures whole { IfOk result (λ s. IfSome (S.content source.old) (λ b. FileSays b (meta_view file.now) (file_custom file.now) → Transcodes s b (asked (columns_of columns.entry) limit) (text_of encoding) (W.written sink.old) (W.written sink.new))) }
+    ensures refused { IfErr result (λ e. IfSome (S.content source.old) (λ b. FileSays b (meta_view file.now) (file_custom file.now) → Refused e b (asked (columns_of columns.entry) limit) encoding (W.written sink.old) (W.written sink.new) (W.wants sink.old) (W.wants sink.new))) }
     ensures cause { IfErr result (λ e. SendCause e (S.faults source.old) (S.faults source.new) (W.faults sink.old) (W.faults sink.new)) }
     ensures fetched { TableFetched (S.content source.old) (meta_view file.now) (asked (columns_of columns.entry) limit) (S.fetched source.old) (S.fetched source.new) }
     ensures kept { SourceKept S.content S.faults S.references source.old source.new }
     ensures sink { SinkKept W.faults W.wants W.references sink.old sink.new }
 {
     let projection = project(alloc, &file.schema, columns)?;
-    if !is_built(&file.schema, columns) {
-        return Err(IpcError::Unsupported(missing_feature(&file.schema, columns)));
-    }
+    let projection = projection.as_ref();
+    check_columns(file, projection)?;
     let selection = Selection {
         file,
         columns,
-        projection: projection.as_ref(),
+        projection,
     };
     send_table(alloc, source, sink, &selection, limit, encoding)
 }
@@ -315,6 +317,6 @@ pub(crate) fn send_file<S: Source, W: Sink>(
     ensures kept { SourceKept S.content S.faults S.references source.old source.new }
     ensures sink { SinkKept W.faults W.wants W.references sink.old sink.new }
 {
-    let file = read_plain_metadata(alloc, source)?;
+    let file = read_file_metadata(alloc, source)?;
     send_columns(alloc, source, sink, &file, columns, limit, encoding)
 }

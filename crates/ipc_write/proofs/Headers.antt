@@ -4,11 +4,12 @@ use Rattle.std.specs.List.{flat_map}
 use Rattle.std.specs.Int.{Width, w64}
 use Rattle.arrow_spec.specs.declared.message.FieldNode.{FieldNode}
 use Rattle.arrow_spec.specs.declared.message.IpcBuffer.{IpcBuffer}
-use Rattle.arrow_spec.specs.Layout.{Node, Slots, table, numbers64, no_more, absent, child, end_of, end_of_children, inline_end, table_place, size, slot_count, one_more}
-use Rattle.arrow_spec.specs.Sent.{unless_zero, flag, node_bytes, buffer_bytes, nodes_node, buffers_node, message_slots}
+use Rattle.arrow_spec.specs.Layout.{Node, Slots, table, numbers64, tables, no_more, absent, child, end_of, end_of_children, inline_end, table_place, size, slot_count, one_more}
+use Rattle.arrow_spec.specs.Kinds.{Metadata}
+use Rattle.arrow_spec.specs.Sent.{unless_zero, custom_slot, flag, pair_nodes, node_bytes, buffer_bytes, nodes_node, buffers_node, message_slots}
 use Rattle.arrow_spec.proofs.Ends.{end_above}
 use Rattle.arrow_flat.specs.Nodes.{KeepsSlotLimit, ChildrenKeepSlotLimit}
-use Rattle.ipc_write.specs.Metadata.{content_node, content_tag, counts_slot, header_node, metadata_node}
+use Rattle.ipc_write.specs.Metadata.{content_custom, content_node, content_tag, counts_slot, header_node, metadata_node}
 use Rattle.ipc_write.specs.declared.metadata.Content.{Content}
 use Rattle.ipc_write.specs.declared.metadata.Content.TheVariants.{RecordBatch, DictionaryBatch}
 
@@ -55,20 +56,17 @@ keeps_flag true = tt
 keeps_flag false = tt
 
 keeps_content : (content : Content) (batch : Node) → KeepsSlotLimit batch → KeepsSlotLimit (content_node content batch)
-keeps_content RecordBatch batch h = h
+keeps_content (RecordBatch custom) batch h = h
 keeps_content (DictionaryBatch id is_delta) batch h =
     let rest = child batch (flag is_delta no_more) in
     let few : slot_count rest ≤ 2 = omega (arith, count_flag is_delta) in
     (omega (arith, count_zero w64 id rest, few), keeps_zero w64 id rest (h, keeps_flag is_delta))
 
-pub keeps_metadata : (n h batch : Node) (content : Content) (tag rows body : ℕ) (nodes : List FieldNode) (buffers : List IpcBuffer) (counts : List ℤ) → batch ≡ header_node rows nodes buffers counts
-    → h ≡ content_node content batch → n ≡ table (message_slots tag h body []) → KeepsSlotLimit n
-keeps_metadata n h batch content tag rows body nodes buffers counts hb hh hn =
+pub keeps_metadata : (h batch : Node) (content : Content) (rows : ℕ) (nodes : List FieldNode) (buffers : List IpcBuffer) (counts : List ℤ) → batch ≡ header_node rows nodes buffers counts
+    → h ≡ content_node content batch → KeepsSlotLimit h
+keeps_metadata h batch content rows nodes buffers counts hb hh =
     let inner : KeepsSlotLimit batch = subst KeepsSlotLimit (sym hb) (keeps_header rows nodes buffers counts) in
-    let header : KeepsSlotLimit h = subst KeepsSlotLimit (sym hh) (keeps_content content batch inner) in
-    let last = unless_zero w64 (pos body) no_more in
-    let few : slot_count last ≤ 2 = count_zero w64 (pos body) no_more in
-    subst KeepsSlotLimit (sym hn) (omega (arith, few), (header, keeps_zero w64 (pos body) no_more tt))
+    subst KeepsSlotLimit (sym hh) (keeps_content content batch inner)
 
 -- ── many nodes or buffers ──
 
@@ -104,7 +102,7 @@ header_end rows nodes buffers counts c =
     (omega (arith, whole, last, later, first, length-nodes nodes), omega (arith, whole, last, second, length-buffers buffers))
 
 content_end : (content : Content) (batch : Node) (c : ℕ) → (e : ℕ) × (end_of batch e ≤ end_of (content_node content batch) c)
-content_end RecordBatch batch c = (c, omega arith)
+content_end (RecordBatch custom) batch c = (c, omega arith)
 content_end (DictionaryBatch id is_delta) batch c =
     let rest = child batch (flag is_delta no_more) in
     let s = unless_zero w64 id rest in
@@ -116,18 +114,22 @@ content_end (DictionaryBatch id is_delta) batch c =
     no_child true n = refl
     no_child false n = refl
 
-message_end : (tag body : ℕ) (h : Node) → (c : ℕ) × (end_of h c ≤ size (table (message_slots tag h body [])))
+custom_above : (custom : Metadata) (c : ℕ) → c ≤ end_of_children (custom_slot custom) c
+custom_above [] c = omega arith
+custom_above (x ∷ xs) c = end_above (tables (pair_nodes (x ∷ xs))) c
+
+message_end : (tag body : ℕ) (h : Node) (custom : Metadata) → (c : ℕ) × (end_of h c ≤ size (table (message_slots tag h body custom)))
 unfolding size
-message_end tag body h =
-    let s = message_slots tag h body [] in
+message_end tag body h custom =
+    let s = message_slots tag h body custom in
     let e = inline_end s (table_place s 4 + 4) in
-    let whole : end_of (table s) 4 ≡ end_of h e = children_zero w64 (pos body) no_more (end_of h e) in
-    (e, omega (arith, whole))
+    let whole : end_of (table s) 4 ≡ end_of_children (custom_slot custom) (end_of h e) = children_zero w64 (pos body) (custom_slot custom) (end_of h e) in
+    (e, omega (arith, whole, custom_above custom (end_of h e)))
 
 -- a record batch's table ends within the message
-batch_end : (content : Content) (body : ℕ) (batch : Node) → (c : ℕ) × (end_of batch c ≤ size (table (message_slots (content_tag content) (content_node content batch) body [])))
+batch_end : (content : Content) (body : ℕ) (batch : Node) → (c : ℕ) × (end_of batch c ≤ size (table (message_slots (content_tag content) (content_node content batch) body (content_custom content))))
 batch_end content body batch =
-    let outer = message_end (content_tag content) body (content_node content batch) in
+    let outer = message_end (content_tag content) body (content_node content batch) (content_custom content) in
     let inner = content_end content batch outer.0 in
     (inner.0, omega (arith, inner.1, outer.1))
 

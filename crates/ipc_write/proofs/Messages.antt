@@ -9,6 +9,9 @@ use Rattle.arrow_spec.specs.Layout.{no_more}
 use Rattle.arrow_spec.specs.Sent.{placed, body_of, views_slot, batch_node}
 use Rattle.arrow_spec.specs.Counts.{Written}
 use Rattle.arrow_spec.proofs.Bodies.{length-body}
+use Rattle.std.specs.BTreeMap.{BTreeMap}
+use Rattle.std.proofs.Common.{Bor, Global, Option, String}
+use Rattle.ipc_fields.specs.IpcFields.{metadata_in}
 use Rattle.arrow_arrays.specs.Batches.{Batch}
 use Rattle.arrow_arrays.specs.Parts.{Parts}
 use Rattle.ipc_write_arrays.specs.Outputs.{Outputs}
@@ -39,12 +42,16 @@ header_same rows w = rw (slot_same w.views) refl
 body_ends : (b : Batch) → body_of 0 (map length (columns_pieces b.arrays)) ≡ length (batch_body b)
 body_ends b = omega (arith, length-body (columns_pieces b.arrays) 0)
 
--- the message of planned columns is the batch's
-message_same : (b : Batch) → planned_message RecordBatch b.height (all_outputs b.arrays) ≡ batch_message b
+-- pairs that are lent
+abbrev Lent : Type 0
+Lent = Option (Bor (BTreeMap (String Global) (String Global)))
+
+-- the message of planned columns with the batch's pairs is the batch's
+message_same : (b : Batch) (m : Lent) → metadata_in m ≡ b.custom → planned_message (RecordBatch m) b.height (all_outputs b.arrays) ≡ batch_message b
 unfolding batch_message
-message_same b =
+message_same b m custom =
     let w = columns_written b.arrays in
-    rw (body_ends b, ap (map length) (same_pieces b.arrays), header_same b.height w) refl
+    rw (body_ends b, ap (map length) (same_pieces b.arrays), header_same b.height w, custom) refl
 
 made_so : (r : Result BodyPlan IpcError) (limit : ℕ) (b : Batch) → MakesMessage r limit b.height (batch_message b) (columns_pieces b.arrays) → Makes r limit b
 unfolding is_within batch_message
@@ -53,12 +60,12 @@ made_so (Err errors.TooLarge) limit b k = k
 made_so (Err errors.Memory) limit b k = tt
 made_so (Err e) limit b k = absurd k
 
-pub batch_planned : (r : Result BodyPlan IpcError) (limit rows : ℕ) (b : Batch) (o : Outputs) (ps : List Parts) → rows ≡ b.height → ps ≡ b.arrays → o ≡ all_outputs ps
-    → MakesMessage r limit rows (planned_message RecordBatch rows o) o.pieces → Makes r limit b
-batch_planned r limit rows b o ps hr hp ho h =
+pub batch_planned : (r : Result BodyPlan IpcError) (limit rows : ℕ) (b : Batch) (o : Outputs) (ps : List Parts) (m : Lent) → rows ≡ b.height → ps ≡ b.arrays → metadata_in m ≡ b.custom → o ≡ all_outputs ps
+    → MakesMessage r limit rows (planned_message (RecordBatch m) rows o) o.pieces → Makes r limit b
+batch_planned r limit rows b o ps m hr hp hm ho h =
     let all : o ≡ all_outputs b.arrays = ho ∙ ap all_outputs hp in
-    let here : MakesMessage r limit b.height (planned_message RecordBatch b.height (all_outputs b.arrays)) (columns_pieces b.arrays) = subst (λ x. MakesMessage r limit b.height (planned_message RecordBatch b.height x) x.pieces) all (subst (λ n. MakesMessage r limit n (planned_message RecordBatch n o) o.pieces) hr h) in
-    made_so r limit b (subst (λ m. MakesMessage r limit b.height m (columns_pieces b.arrays)) (message_same b) here)
+    let here : MakesMessage r limit b.height (planned_message (RecordBatch m) b.height (all_outputs b.arrays)) (columns_pieces b.arrays) = subst (λ x. MakesMessage r limit b.height (planned_message (RecordBatch m) b.height x) x.pieces) all (subst (λ n. MakesMessage r limit n (planned_message (RecordBatch m) n o) o.pieces) hr h) in
+    made_so r limit b (subst (λ x. MakesMessage r limit b.height x (columns_pieces b.arrays)) (message_same b m hm) here)
 
 pub many_rows : (limit : ℕ) (b : Batch) → 2 ^ 63 ≤ b.height → is_within limit b ≡ false
 unfolding is_within

@@ -24,10 +24,10 @@ pub fields_same : (r : Bool) (xs ys : List IpcField) → r ≡ pointwise (λ x y
 fields_same r xs ys e = told_by r (pointwise (λ x y. tree_eq (tree_of x) (tree_of y)) xs ys) e (by_element tree_of tree_eq tree_sound tree_itself xs ys)
 
 same_wholes : (a b : Batch) (f g : Option (List Tree)) → SameBatch a b → f ≡ g → whole_with a f ≡ whole_with b g
-same_wholes a b f g s e = rw (s.rows, s.schema, s.columns, e) refl
+same_wholes a b f g s e = rw (s.rows, s.schema, s.columns, s.custom, e) refl
 
 batch_parts : (a b : Batch) (f g : Option (List Tree)) → whole_with a f ≡ whole_with b g → SameBatch a b
-batch_parts a b f g e = record { rows = ap (λ w. w.rows) e; schema = ap (λ w. w.schema) e; columns = ap (λ w. w.columns) e }
+batch_parts a b f g e = record { rows = ap (λ w. w.rows) e; schema = ap (λ w. w.schema) e; columns = ap (λ w. w.columns) e; custom = ap (λ w. w.custom) e }
 
 -- of two that hold the same batch, the IPC fields tell
 pub told_fields : (r : Bool) (a b x y : Batch) (f g h k : Option (List Tree)) → x ≡ a → y ≡ b → f ≡ h → g ≡ k → SameBatch x y → (IsTrue r → f ≡ g) × (f ≡ g → IsTrue r) → r ≡ whole_eq (whole_with a h) (whole_with b k)

@@ -22,7 +22,7 @@ same_body b = ap (body_bytes 0) (same_pieces b.arrays)
 
 pub same_message : (b : Batch) → batch_message b ≡ written_batch (written_batch_of b)
 unfolding batch_message
-same_message b = ap (λ xs. message 3 (batch_node b.height (written_of (written_batch_of b).columns)) (length xs) []) (same_body b)
+same_message b = ap (λ xs. message 3 (batch_node b.height (written_of (written_batch_of b).columns)) (length xs) b.custom) (same_body b)
 
 -- a body that ends at a multiple of 64 is followed by no zeros
 pub framed_whole : (n : Node) (body : List ℕ) → length body % 64 ≡ 0 → message_frame (layout n) body ≡ message_bytes n body

@@ -29,15 +29,15 @@ columns_pieces ps = flat_map (λ p. pieces_in little (top p)) ps
 abbrev pub batch_body : Batch → List ℕ
 batch_body b = body_bytes 0 (columns_pieces b.arrays)
 
--- the message of a batch
+-- the message of a batch, with its pairs
 unfoldable pub batch_message : Batch → SentMessage
-batch_message b = message 3 (batch_node b.height (columns_written b.arrays)) (length (batch_body b)) []
+batch_message b = message 3 (batch_node b.height (columns_written b.arrays)) (length (batch_body b)) b.custom
 
 -- its padded metadata is within a limit, and its rows and its body are below 2^63
 unfoldable pub is_within : ℕ → Batch → Bool
 is_within limit b = nat_le (up_to 8 (size (batch_message b).node)) (min limit 2147483647) && nat_le (batch_message b).body 9223372036854775807
     && nat_le b.height 9223372036854775807
 
--- a batch of columns as they are written
+-- a batch of columns as they are written, with its pairs
 abbrev pub written_batch_of : Batch → WrittenBatch
-written_batch_of b = record { rows = b.height; columns = map top_column b.arrays; custom = [] }
+written_batch_of b = record { rows = b.height; columns = map top_column b.arrays; custom = b.custom }

@@ -3,7 +3,8 @@ use Rattle.std.specs.Prelude.{◌≡◌, ℕ, List, [], ◌∷◌, Bool, true, O
 use Rattle.std.proofs.Common.{ap, ◌∙◌}
 use Rattle.std.specs.Cmp.{IsEquivalence}
 use base.Stored.{Gv, gnil, gnum, gcons, num}
-use Rattle.arrow_types.specs.KindCode.{head, tail, by_tree, by_tree_told, by_tree_equiv}
+use Rattle.arrow_spec.specs.Kinds.{Metadata}
+use Rattle.arrow_types.specs.KindCode.{head, tail, pairs_to, pairs_from, pairs_from-pairs_to, by_tree, by_tree_told, by_tree_equiv}
 use Rattle.arrow_types.specs.Schemas.{Keyed, keyed_to, keyed_from, keyed_from-keyed_to}
 use Rattle.arrow_arrays.specs.BatchCode.{contents_to, contents_from, contents_from-contents_to}
 use Rattle.arrow_arrays.specs.CellCode.{Content}
@@ -36,26 +37,28 @@ pub optional_from-optional_to : (o : Option (List Tree)) → optional_from (opti
 optional_from-optional_to None = refl
 optional_from-optional_to (Some ts) = ap Some (trees_from-trees_to ts)
 
--- how many rows there are, the schema, what each column holds, and the IPC fields
+-- how many rows there are, the schema, what each column holds, the pairs, and the IPC fields
 pub record Whole : Type 0 where
   pub rows : ℕ
   pub schema : List Keyed
   pub columns : List Content
+  pub custom : Metadata
   pub fields : Option (List Tree)
 
 abbrev pub whole_to : Whole → Gv
-whole_to w = gcons (gcons (gnum w.rows) (keyed_to w.schema)) (gcons (contents_to w.columns) (optional_to w.fields))
+whole_to w = gcons (gcons (gnum w.rows) (keyed_to w.schema)) (gcons (contents_to w.columns) (gcons (pairs_to w.custom) (optional_to w.fields)))
 
 abbrev pub whole_from : Gv → Whole
 whole_from g = record {
   rows = num (head (head g));
   schema = keyed_from (tail (head g));
   columns = contents_from (head (tail g));
-  fields = optional_from (tail (tail g));
+  custom = pairs_from (head (tail (tail g)));
+  fields = optional_from (tail (tail (tail g)));
 }
 
 pub whole_from-whole_to : (w : Whole) → whole_from (whole_to w) ≡ w
-whole_from-whole_to w = rw (keyed_from-keyed_to w.schema, contents_from-contents_to w.columns, optional_from-optional_to w.fields) refl
+whole_from-whole_to w = rw (keyed_from-keyed_to w.schema, contents_from-contents_to w.columns, pairs_from-pairs_to w.custom, optional_from-optional_to w.fields) refl
 
 -- whether two records are the same
 unfoldable pub whole_eq : Whole → Whole → Bool

@@ -27,7 +27,7 @@ fields_of r = fields_in r.held
 
 -- a batch and IPC fields together
 abbrev pub whole_with : Batch → Option (List Tree) → Whole
-whole_with b fields = record { rows = b.height; schema = b.schema; columns = contents_in b.arrays; fields = fields }
+whole_with b fields = record { rows = b.height; schema = b.schema; columns = contents_in b.arrays; custom = b.custom; fields = fields }
 
 -- all that a record holds
 abbrev pub whole_of : Record → Whole

@@ -15,7 +15,7 @@ use arrow_spec::{Feature, IpcError};
 use ipc_bodies::append_body;
 use std::alloc::{AllocError, Global};
 
-/// The message of a batch whose padded metadata is within a limit, with the buffers of its body.
+/// The message of a batch, with its pairs, whose padded metadata is within a limit, with the buffers of its body.
 fn batch_plan(alloc: Global, batch: &RecordBatch, limit: usize) -> Result<BodyPlan, IpcError>
     ensures makes { Makes result limit batch.now }
     ensures means { IfOk result (λ _. AllMean batch.now.height batch.now.arrays) }
@@ -25,10 +25,16 @@ fn batch_plan(alloc: Global, batch: &RecordBatch, limit: usize) -> Result<BodyPl
         return Err(IpcError::TooLarge);
     }
     let columns = plan_columns(alloc, batch.arrays(), rows)?;
-    message_plan(alloc, Content::RecordBatch, rows, columns, limit)
+    message_plan(
+        alloc,
+        Content::RecordBatch(batch.custom_metadata()),
+        rows,
+        columns,
+        limit,
+    )
 }
 
-/// The message of a batch in little-endian order, with the buffers of its body, which share what the batch holds. Of its
+/// The message of a batch in little-endian order, with its pairs and the buffers of its body, which share what the batch holds. Of its
 /// dictionaries the keys are written, and no values. A view column of which at least min(v, 1024) bytes of its buffers are unused,
 /// where v is the sum of the lengths of its values, is laid anew.
 ///
@@ -70,7 +76,7 @@ pub(crate) fn in_one_piece(alloc: Global, plan: BodyPlan) -> Result<EncodedData,
     })
 }
 
-/// The message of a batch in little-endian order. Of its dictionaries the keys are written, and no values. A view column of which at least min(v, 1024) bytes of
+/// The message of a batch in little-endian order, with its pairs. Of its dictionaries the keys are written, and no values. A view column of which at least min(v, 1024) bytes of
 /// its buffers are unused, where v is the sum of the lengths of its values, is laid anew.
 ///
 /// # Errors

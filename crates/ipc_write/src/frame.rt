@@ -1,15 +1,16 @@
 //! Messages with their prefix and padding, put into a sink or in one piece (Arrow Columnar Format, "Encapsulated message format").
-ghost use Rattle.std.specs.Prelude.{◌≡◌, ◌↔◌, ◌⊎◌, ◌+◌, ◌-◌, ◌%◌, ◌^◌, ◌<◌, ◌≤◌, ◌++◌, length, IfOk, OnOk, IfErr, Err};
+ghost use Rattle.std.specs.Prelude.{◌≡◌, ◌↔◌, ◌⊎◌, ◌+◌, ◌-◌, ◌*◌, ◌%◌, ◌^◌, ◌<◌, ◌≤◌, ◌++◌, length, IfOk, OnOk, IfErr, Err};
 ghost use Rattle.arrow_spec.specs.Layout.{Node, layout, up_to, zeros};
 ghost use Rattle.arrow_spec.specs.Framing.{body_bytes, message_bytes};
 ghost use Rattle.arrow_spec.specs.declared.error.IpcError.TheVariants.{Memory, TooLarge};
+ghost use Rattle.ipc_bodies.specs.Encodings.{made_width, text_of};
 ghost use Rattle.ipc_bodies.specs.Puts.{moved, PutsText};
 ghost use Rattle.ipc_write.specs.Outcomes.{continuation, metadata_frame, message_frame};
 ghost use Rattle.ipc_write.specs.Puts.{PutsMessage};
 
 use crate::{BodyPlan, EncodedData};
 use arrow_spec::IpcError;
-use ipc_bodies::put_body;
+use ipc_bodies::{Encoding, put_body_as, put_bytes_as};
 use ipc_schema::{PutError, Sink};
 use std::alloc::{AllocError, Global};
 
@@ -114,27 +115,93 @@ pub fn write_message<W: Sink>(
     Ok((8 + padded, body + pad_to_64(body)))
 }
 
+/// Puts bytes, and so many zeros.
+fn put_padded_as<W: Sink>(
+    sink: &mut W,
+    bytes: &[u8],
+    count: usize,
+    encoding: Encoding,
+    scratch: &mut [u8],
+) -> Result<(), IpcError>
+    requires count { count < 64 }
+    requires scratch { 2 ≤ length scratch.old }
+    ensures puts { PutsText (moved (W.written sink.old) (W.written sink.new) (W.faults sink.old) (W.faults sink.new) (W.wants sink.old) (W.wants sink.new)) result (text_of encoding (bytes.now ++ zeros count)) }
+    ensures same_references { W.references sink.new ≡ W.references sink.old }
+    ensures scratch { length scratch.new ≡ length scratch.old }
+{
+    put_bytes_as(sink, bytes, encoding, scratch)?;
+    put_bytes_as(sink, &[0; 64][..count], encoding, scratch)
+}
+
+/// Puts the mark and the length of metadata, and the metadata with zeros up to that length.
+fn put_metadata_as<W: Sink>(
+    sink: &mut W,
+    metadata: &[u8],
+    padded: usize,
+    encoding: Encoding,
+    scratch: &mut [u8],
+) -> Result<(), IpcError>
+    requires padded { padded ≡ up_to 8 (length metadata.now) }
+    requires small { padded < 2 ^ 31 }
+    requires scratch { 2 ≤ length scratch.old }
+    ensures puts { PutsText (moved (W.written sink.old) (W.written sink.new) (W.faults sink.old) (W.faults sink.new) (W.wants sink.old) (W.wants sink.new)) result (text_of encoding (metadata_frame metadata.now)) }
+    ensures same_references { W.references sink.new ≡ W.references sink.old }
+    ensures scratch { length scratch.new ≡ length scratch.old }
+{
+    put_bytes_as(sink, &prefix(padded as i32), encoding, scratch)?;
+    put_padded_as(sink, metadata, padded - metadata.len(), encoding, scratch)
+}
+
 /// Puts the parts of a planned message one after another.
+#[tactic(auto, using(ipc_bodies::proofs::Encoded::made_above))]
 fn put_plan<W: Sink>(
     sink: &mut W,
     plan: &BodyPlan,
     padded: usize,
+    encoding: Encoding,
     scratch: &mut [u8],
 ) -> Result<(), IpcError>
     requires padded { padded ≡ up_to 8 (length plan.now.ipc_message.items) }
     requires small { padded < 2 ^ 31 }
-    requires scratch { 64 ≤ length scratch.old }
-    ensures puts { PutsText (moved (W.written sink.old) (W.written sink.new) (W.faults sink.old) (W.faults sink.new) (W.wants sink.old) (W.wants sink.new)) result (message_frame plan.now.ipc_message.items (body_bytes 0 plan.now.buffers.items)) }
+    requires scratch { 64 * made_width encoding ≤ length scratch.old }
+    ensures puts { PutsText (moved (W.written sink.old) (W.written sink.new) (W.faults sink.old) (W.faults sink.new) (W.wants sink.old) (W.wants sink.new)) result (text_of encoding (message_frame plan.now.ipc_message.items (body_bytes 0 plan.now.buffers.items))) }
     ensures same_references { W.references sink.new ≡ W.references sink.old }
     ensures scratch { length scratch.new ≡ length scratch.old }
 {
     let metadata = plan.ipc_message.as_slice();
     let buffers = plan.buffers.as_slice();
-    put_metadata(sink, metadata, padded)?;
-    put_body(sink, buffers, scratch)
+    put_metadata_as(sink, metadata, padded, encoding, scratch)?;
+    put_body_as(sink, buffers, encoding, scratch)
 }
 
-/// Puts a planned message as `write_message` puts it, with its body in pieces, at most as many bytes at a time as the scratch has.
+/// Puts a planned message as `write_message` puts it, as bytes or as hex text, at most as many bytes at a time as the scratch has.
+/// It answers how many bytes the message has before its body, and in it.
+///
+/// # Errors
+///
+/// Those of `write_message`.
+pub fn write_plan_as<W: Sink>(
+    sink: &mut W,
+    plan: &BodyPlan,
+    encoding: Encoding,
+    scratch: &mut [u8],
+) -> Result<(usize, usize), IpcError>
+    requires { 64 * made_width encoding ≤ length scratch.old }
+    ensures ok { IfOk result (λ r. r ≡ (8 + up_to 8 (length plan.now.ipc_message.items), plan.now.body_length)) }
+    ensures too_large { (result ≡ Err TooLarge) ↔ (2 ^ 31 ≤ up_to 8 (length plan.now.ipc_message.items)) }
+    ensures puts { PutsMessage (moved (W.written sink.old) (W.written sink.new) (W.faults sink.old) (W.faults sink.new) (W.wants sink.old) (W.wants sink.new)) result (up_to 8 (length plan.now.ipc_message.items)) (text_of encoding (message_frame plan.now.ipc_message.items (body_bytes 0 plan.now.buffers.items))) }
+    ensures same_references { W.references sink.new ≡ W.references sink.old }
+    ensures scratch { length scratch.new ≡ length scratch.old }
+{
+    let padded = plan.ipc_message.len().next_multiple_of(8);
+    if padded > MOST_METADATA {
+        return Err(IpcError::TooLarge);
+    }
+    put_plan(sink, plan, padded, encoding, scratch)?;
+    Ok((8 + padded, plan.body_length))
+}
+
+/// Puts a planned message as `write_message` puts it, at most as many bytes at a time as the scratch has.
 ///
 /// # Errors
 ///
@@ -151,12 +218,7 @@ pub fn write_plan<W: Sink>(
     ensures same_references { W.references sink.new ≡ W.references sink.old }
     ensures scratch { length scratch.new ≡ length scratch.old }
 {
-    let padded = plan.ipc_message.len().next_multiple_of(8);
-    if padded > MOST_METADATA {
-        return Err(IpcError::TooLarge);
-    }
-    put_plan(sink, plan, padded, scratch)?;
-    Ok((8 + padded, plan.body_length))
+    write_plan_as(sink, plan, Encoding::Bytes, scratch)
 }
 
 fn push_zeros(out: &mut Vec<u8>, count: usize) -> Result<(), AllocError>

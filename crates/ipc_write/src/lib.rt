@@ -17,7 +17,9 @@ mod values;
 pub use dictionary::write_dictionary;
 pub use encode::{encode_record_batch, plan_batch};
 pub use encoded::{BodyPlan, EncodedData};
-pub use frame::{message_to_bytes, pad_to_64, write_continuation, write_message, write_plan};
+pub use frame::{
+    message_to_bytes, pad_to_64, write_continuation, write_message, write_plan, write_plan_as,
+};
 pub use ipc_bodies::{BodyBuffer, put_body};
 pub use ipc_write_arrays::write;
 pub use options::{Compression, WriteOptions};

@@ -1,13 +1,16 @@
 //! The metadata of the messages of record batches and of dictionaries' values (Arrow Columnar Format, "RecordBatch message", "Dictionary Messages").
-ghost use Rattle.std.specs.Prelude.{◌≡◌, ◌^◌, ◌<◌, ◌++◌, [], length, OnOk, IfOk};
+ghost use Rattle.std.specs.Prelude.{◌≡◌, ◌^◌, ◌<◌, ◌++◌, length, OnOk, IfOk};
 ghost use Rattle.std.specs.List.{flat_map};
-ghost use Rattle.arrow_spec.specs.Layout.{table, no_more};
-ghost use Rattle.arrow_spec.specs.Sent.{i64_bytes, node_bytes, buffer_bytes, message_slots};
+ghost use Rattle.arrow_spec.specs.Layout.{no_more};
+ghost use Rattle.arrow_spec.specs.Sent.{i64_bytes, node_bytes, buffer_bytes};
+ghost use Rattle.ipc_fields.specs.IpcFields.{metadata_in};
 ghost use Rattle.arrow_flat.specs.Nodes.{node_of, slot_of, in_front};
-ghost use Rattle.ipc_write.specs.Metadata.{content_node, content_tag, counts_slot, header_node, metadata_node, Builds, BuildsMetadata};
+ghost use Rattle.ipc_write.specs.Metadata.{content_custom, content_node, content_tag, counts_slot, header_node, metadata_node, Builds, BuildsMetadata};
 
 use arrow_flat::{BuildError, Node, Slot, finish};
 use arrow_spec::{FieldNode, IpcBuffer, IpcError};
+use arrow_types::Metadata;
+use schema_writer::message_node;
 use std::alloc::{AllocError, Global};
 
 /// With so many nodes or buffers, of 16 bytes each, the metadata is too large.
@@ -15,19 +18,30 @@ const TOO_MANY: usize = 1 << 27;
 
 /// What a message is of (Message.fbs, MessageHeader).
 #[derive(Clone, Copy)]
-pub(crate) enum Content {
-    RecordBatch,
+pub(crate) enum Content<'a> {
+    /// With the pairs of the message.
+    RecordBatch(Option<&'a Metadata>),
     /// The values of a dictionary under an id, and whether they stand behind those before them.
     DictionaryBatch(i64, bool),
 }
 
 /// Its tag.
-fn tag(content: Content) -> u8
-    ensures { result ≡ content_tag content }
+fn tag(content: Content<'_>) -> u8
+    ensures { result ≡ content_tag content.entry }
 {
     match content {
-        Content::RecordBatch => 3,
+        Content::RecordBatch(_) => 3,
         Content::DictionaryBatch(_, _) => 2,
+    }
+}
+
+/// Its pairs. Those of dictionaries' messages have none.
+fn custom_of(content: Content<'_>) -> Option<&Metadata>
+    ensures { metadata_in result ≡ content_custom content.entry }
+{
+    match content {
+        Content::RecordBatch(custom) => custom,
+        Content::DictionaryBatch(_, _) => None,
     }
 }
 
@@ -106,11 +120,11 @@ fn header_node(
 }
 
 /// The header of a message by the table of its record batch (Message.fbs, DictionaryBatch).
-fn content_node(alloc: Global, content: Content, batch: Node) -> Result<Node, AllocError>
-    ensures { IfOk result (λ n. node_of n ≡ content_node content (node_of batch)) }
+fn content_node(alloc: Global, content: Content<'_>, batch: Node) -> Result<Node, AllocError>
+    ensures { IfOk result (λ n. node_of n ≡ content_node content.entry (node_of batch)) }
 {
     match content {
-        Content::RecordBatch => Ok(batch),
+        Content::RecordBatch(_) => Ok(batch),
         Content::DictionaryBatch(id, is_delta) => {
             let flag = Slot::boolean(is_delta, false);
             Ok(Node::Table(vec![in alloc; Slot::i64(id, 0), Slot::Child(batch), flag]?))
@@ -118,19 +132,9 @@ fn content_node(alloc: Global, content: Content, batch: Node) -> Result<Node, Al
     }
 }
 
-/// A message of version V5, with its tag and header, and how long its body is.
-fn message_node(alloc: Global, tag: u8, header: Node, body: usize) -> Result<Node, AllocError>
-    requires { body < 2 ^ 63 }
-    ensures { IfOk result (λ n. node_of n ≡ table (message_slots tag (node_of header) body [])) }
-{
-    let length = Slot::i64(body as i64, 0);
-    let tag = Slot::U8(tag);
-    Ok(Node::Table(vec![in alloc; Slot::I16(4), tag, Slot::Child(header), length]?))
-}
-
 fn built(
     alloc: Global,
-    content: Content,
+    content: Content<'_>,
     rows: usize,
     nodes: &[FieldNode],
     buffers: &[IpcBuffer],
@@ -141,18 +145,18 @@ fn built(
     requires nodes { length nodes.now < 2 ^ 27 }
     requires buffers { length buffers.now < 2 ^ 27 }
     requires body { body < 2 ^ 63 }
-    ensures { Builds result (metadata_node content rows nodes.now buffers.now counts.items body) }
+    ensures { Builds result (metadata_node content.entry rows nodes.now buffers.now counts.items body) }
 {
     let batch = header_node(alloc, rows, nodes, buffers, counts)?;
     let header = content_node(alloc, content, batch)?;
-    let node = message_node(alloc, tag(content), header, body)?;
+    let node = message_node(alloc, tag(content), header, body, custom_of(content))?;
     finish(alloc, &node)
 }
 
 /// The metadata of so many rows with nodes, buffers and view counts, and a body of so many bytes.
 pub(crate) fn batch_metadata(
     alloc: Global,
-    content: Content,
+    content: Content<'_>,
     rows: usize,
     nodes: &[FieldNode],
     buffers: &[IpcBuffer],
@@ -161,7 +165,7 @@ pub(crate) fn batch_metadata(
 ) -> Result<Vec<u8>, IpcError>
     requires few { rows < 2 ^ 63 }
     requires body { body < 2 ^ 63 }
-    ensures { BuildsMetadata result (metadata_node content rows nodes.now buffers.now counts.items body) }
+    ensures { BuildsMetadata result (metadata_node content.entry rows nodes.now buffers.now counts.items body) }
 {
     if nodes.len() >= TOO_MANY {
         return Err(IpcError::TooLarge);

@@ -17,13 +17,13 @@ pub(crate) const MOST_ROWS: usize = 0x7fff_ffff_ffff_ffff;
 /// The message of so many rows of planned arrays, whose padded metadata is within a limit, with the buffers of its body.
 pub(crate) fn message_plan(
     alloc: Global,
-    content: Content,
+    content: Content<'_>,
     rows: usize,
     planned: Outputs,
     limit: usize,
 ) -> Result<BodyPlan, IpcError>
     requires { rows < 2 ^ 63 }
-    ensures { MakesMessage result limit rows (planned_message content rows (outputs_of planned)) (outputs_of planned).pieces }
+    ensures { MakesMessage result limit rows (planned_message content.entry rows (outputs_of planned)) (outputs_of planned).pieces }
 {
     let body = planned_body(alloc, planned)?;
     let PlannedBody {

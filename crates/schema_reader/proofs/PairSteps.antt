@@ -1,5 +1,5 @@
 -- Pairs that are read one after another.
-use Rattle.std.proofs.Common.{◌≡◌, ℕ, suc, ◌+◌, ◌-◌, ◌*◌, ◌<◌, ◌≤◌, List, [], ◌∷◌, Bool, true, false, cond, Option, Some, Ok, Err, Ordering, Less, Equal, Greater, String, Global, string_bytes, string_cmp, nat_cmp, refl, sym, ◌∙◌, ap, arith, subst}
+use Rattle.std.proofs.Common.{◌≡◌, ℕ, suc, ◌+◌, ◌-◌, ◌*◌, ◌<◌, ◌≤◌, List, [], ◌∷◌, Bool, true, false, cond, Option, Some, Result, Ok, Err, inl, Ordering, Less, Equal, Greater, String, Global, string_bytes, string_cmp, nat_cmp, refl, sym, ◌∙◌, ap, arith, subst}
 use Rattle.std.specs.Prelude.{nat_eq, nat_lt, ◌||◌, ◌&&◌}
 use Rattle.std.specs.Ordering.{match_ordering, is_eq, is_lt, ordering_then}
 use Rattle.std.specs.Cmp.Lexicographic.{slice_cmp}
@@ -8,60 +8,68 @@ use Rattle.std.specs.BTreeMap.{insert_entry}
 use Rattle.std.specs.Option.{option_map}
 use Rattle.std.proofs.lemmas.Map.Text.{is_eq-slice_cmp}
 use Rattle.arrow_spec.specs.declared.error.IpcError.{IpcError}
-use Rattle.arrow_spec.specs.Readings.{bind, Reading, refusals}
+use Rattle.arrow_spec.specs.Readings.{bind, Reading, as_kind, refusals}
 use Rattle.ipc_fields.specs.Causes.{RefusesBytes}
 use Rattle.arrow_spec.specs.Flat.{Vector}
 use Rattle.arrow_spec.specs.Kinds.{Metadata}
-use Rattle.arrow_spec.specs.declared.error.OutOfSpecKind.TheVariants.{InvalidFlatbufferSchema}
+use Rattle.arrow_spec.specs.declared.error.FlatError.{FlatError}
+use Rattle.arrow_spec.specs.declared.error.OutOfSpecKind.{OutOfSpecKind}
+use Rattle.arrow_spec.specs.declared.error.IpcError.TheVariants.{OutOfSpec}
 use Rattle.arrow_spec.specs.Schema.{pairs_from, with_pair, with_read_pair, stands_before}
 use Rattle.arrow_spec.proofs.PairOrder.{key_same}
 use Rattle.arrow_types.specs.KindOf.{texts_of}
 use Rattle.arrow_types.proofs.Metadata.{Entry, put, texts_of-insert_entry}
-use Rattle.schema_reader.specs.Parts.{pair_put}
+use Rattle.schema_reader.specs.Pairs.{owner_text, pair_put, pairs_kind}
+use Rattle.schema_reader.specs.declared.pairs.PairsOwner.{PairsOwner}
 use Rattle.ipc_fields.proofs.Steps.{step, ok_next, none_refused}
 use Rattle.ipc_fields.proofs.TextOrder.{before_same}
 
+-- a fault is a refusal of what it was met in
+pub fault_refused : {A B : Type 0} (owner : PairsOwner) (error : IpcError) (e : FlatError) (r : Result A FlatError) (f : A → Reading B) → error ≡ OutOfSpec (pairs_kind owner e) → r ≡ Err e → RefusesBytes error (refusals (bind (as_kind (pairs_kind owner) r) f))
+unfolding bind
+fault_refused owner error e r f is h = rw (is, h) (inl refl)
+
 -- ── one after another ──
 
-step-one : (b : List ℕ) (at n : ℕ) (m : Metadata) → pairs_from InvalidFlatbufferSchema b at (suc n) m ≡ bind (pair_put b at m) (λ x. pairs_from InvalidFlatbufferSchema b (at + 4) n x)
+step-one : (kind : FlatError → OutOfSpecKind) (b : List ℕ) (at n : ℕ) (m : Metadata) → pairs_from kind b at (suc n) m ≡ bind (pair_put kind b at m) (λ x. pairs_from kind b (at + 4) n x)
 unfolding pairs_from pair_put
-step-one b at n m = step _ _ _ _ (λ t _. step _ _ _ _ (λ key _. step _ _ _ _ (λ value _. ok_next _ _)))
+step-one kind b at n m = step _ _ _ _ (λ t _. step _ _ _ _ (λ key _. step _ _ _ _ (λ value _. ok_next _ _)))
 
-pub no_pairs_at : (b : List ℕ) (m : Metadata) → pairs_from InvalidFlatbufferSchema b 0 0 m ≡ Ok m
+pub no_pairs_at : (kind : FlatError → OutOfSpecKind) (b : List ℕ) (m : Metadata) → pairs_from kind b 0 0 m ≡ Ok m
 unfolding pairs_from
-no_pairs_at b m = refl
+no_pairs_at kind b m = refl
 
-pub pairs_begun : (b : List ℕ) (v : Vector) (m : Metadata) → m ≡ [] → pairs_from InvalidFlatbufferSchema b (v.first + 4 * 0) (v.count - 0) m ≡ pairs_from InvalidFlatbufferSchema b v.first v.count []
-pairs_begun b v m h =
+pub pairs_begun : (kind : FlatError → OutOfSpecKind) (b : List ℕ) (v : Vector) (m : Metadata) → m ≡ [] → pairs_from kind b (v.first + 4 * 0) (v.count - 0) m ≡ pairs_from kind b v.first v.count []
+pairs_begun kind b v m h =
     let at : v.first + 4 * 0 ≡ v.first = omega arith in
     let n : v.count - 0 ≡ v.count = omega arith in
     rw (at, n, h) refl
 
-pub pairs_more : (b : List ℕ) (first n i : ℕ) (m next : Metadata) (whole : Reading Metadata) → i < n → pairs_from InvalidFlatbufferSchema b (first + 4 * i) (n - i) m ≡ whole → pair_put b (first + 4 * i) m ≡ Ok next → pairs_from InvalidFlatbufferSchema b (first + 4 * (i + 1)) (n - (i + 1)) next ≡ whole
+pub pairs_more : (kind : FlatError → OutOfSpecKind) (b : List ℕ) (first n i : ℕ) (m next : Metadata) (whole : Reading Metadata) → i < n → pairs_from kind b (first + 4 * i) (n - i) m ≡ whole → pair_put kind b (first + 4 * i) m ≡ Ok next → pairs_from kind b (first + 4 * (i + 1)) (n - (i + 1)) next ≡ whole
 unfolding bind
-pairs_more b first n i m next whole less h got =
+pairs_more kind b first n i m next whole less h got =
     let count : n - i ≡ suc (n - (i + 1)) = omega arith in
     let at : first + 4 * (i + 1) ≡ (first + 4 * i) + 4 = omega arith in
-    let s : pairs_from InvalidFlatbufferSchema b (first + 4 * i) (n - i) m ≡ bind (pair_put b (first + 4 * i) m) (λ x. pairs_from InvalidFlatbufferSchema b ((first + 4 * i) + 4) (n - (i + 1)) x) = ap (λ k. pairs_from InvalidFlatbufferSchema b (first + 4 * i) k m) count ∙ step-one b (first + 4 * i) (n - (i + 1)) m in
-    ap (λ a. pairs_from InvalidFlatbufferSchema b a (n - (i + 1)) next) at ∙ sym (ap (λ r. bind r (λ x. pairs_from InvalidFlatbufferSchema b ((first + 4 * i) + 4) (n - (i + 1)) x)) got) ∙ sym s ∙ h
+    let s : pairs_from kind b (first + 4 * i) (n - i) m ≡ bind (pair_put kind b (first + 4 * i) m) (λ x. pairs_from kind b ((first + 4 * i) + 4) (n - (i + 1)) x) = ap (λ k. pairs_from kind b (first + 4 * i) k m) count ∙ step-one kind b (first + 4 * i) (n - (i + 1)) m in
+    ap (λ a. pairs_from kind b a (n - (i + 1)) next) at ∙ sym (ap (λ r. bind r (λ x. pairs_from kind b ((first + 4 * i) + 4) (n - (i + 1)) x)) got) ∙ sym s ∙ h
 
-stopped_by : (e : IpcError) (r : Reading Metadata) (b : List ℕ) (first n i : ℕ) (m : Metadata) (whole : Reading Metadata) → i < n → pairs_from InvalidFlatbufferSchema b (first + 4 * i) (n - i) m ≡ whole → pair_put b (first + 4 * i) m ≡ r → RefusesBytes e (refusals r) → RefusesBytes e (refusals whole)
+stopped_by : (kind : FlatError → OutOfSpecKind) (e : IpcError) (r : Reading Metadata) (b : List ℕ) (first n i : ℕ) (m : Metadata) (whole : Reading Metadata) → i < n → pairs_from kind b (first + 4 * i) (n - i) m ≡ whole → pair_put kind b (first + 4 * i) m ≡ r → RefusesBytes e (refusals r) → RefusesBytes e (refusals whole)
 unfolding bind
-stopped_by e (Ok x) b first n i m whole less h same told = none_refused e (refusals whole) told
-stopped_by e (Err es) b first n i m whole less h same told =
+stopped_by kind e (Ok x) b first n i m whole less h same told = none_refused e (refusals whole) told
+stopped_by kind e (Err es) b first n i m whole less h same told =
     let count : n - i ≡ suc (n - (i + 1)) = omega arith in
-    let s : pairs_from InvalidFlatbufferSchema b (first + 4 * i) (n - i) m ≡ bind (pair_put b (first + 4 * i) m) (λ x. pairs_from InvalidFlatbufferSchema b ((first + 4 * i) + 4) (n - (i + 1)) x) = ap (λ k. pairs_from InvalidFlatbufferSchema b (first + 4 * i) k m) count ∙ step-one b (first + 4 * i) (n - (i + 1)) m in
-    let all : whole ≡ Err es = sym h ∙ s ∙ ap (λ r. bind r (λ x. pairs_from InvalidFlatbufferSchema b ((first + 4 * i) + 4) (n - (i + 1)) x)) same in
+    let s : pairs_from kind b (first + 4 * i) (n - i) m ≡ bind (pair_put kind b (first + 4 * i) m) (λ x. pairs_from kind b ((first + 4 * i) + 4) (n - (i + 1)) x) = ap (λ k. pairs_from kind b (first + 4 * i) k m) count ∙ step-one kind b (first + 4 * i) (n - (i + 1)) m in
+    let all : whole ≡ Err es = sym h ∙ s ∙ ap (λ r. bind r (λ x. pairs_from kind b ((first + 4 * i) + 4) (n - (i + 1)) x)) same in
     subst (λ r. RefusesBytes e (refusals r)) (sym all) told
 
-pub pairs_stopped : (b : List ℕ) (first n i : ℕ) (m : Metadata) (whole : Reading Metadata) (e : IpcError) → i < n → pairs_from InvalidFlatbufferSchema b (first + 4 * i) (n - i) m ≡ whole → RefusesBytes e (refusals (pair_put b (first + 4 * i) m)) → RefusesBytes e (refusals whole)
-pairs_stopped b first n i m whole e less h told = stopped_by e (pair_put b (first + 4 * i) m) b first n i m whole less h refl told
+pub pairs_stopped : (kind : FlatError → OutOfSpecKind) (b : List ℕ) (first n i : ℕ) (m : Metadata) (whole : Reading Metadata) (e : IpcError) → i < n → pairs_from kind b (first + 4 * i) (n - i) m ≡ whole → RefusesBytes e (refusals (pair_put kind b (first + 4 * i) m)) → RefusesBytes e (refusals whole)
+pairs_stopped kind b first n i m whole e less h told = stopped_by kind e (pair_put kind b (first + 4 * i) m) b first n i m whole less h refl told
 
-pub pairs_done : (b : List ℕ) (first n i : ℕ) (m : Metadata) (whole : Reading Metadata) → n ≤ i → pairs_from InvalidFlatbufferSchema b (first + 4 * i) (n - i) m ≡ whole → whole ≡ Ok m
+pub pairs_done : (kind : FlatError → OutOfSpecKind) (b : List ℕ) (first n i : ℕ) (m : Metadata) (whole : Reading Metadata) → n ≤ i → pairs_from kind b (first + 4 * i) (n - i) m ≡ whole → whole ≡ Ok m
 unfolding pairs_from
-pairs_done b first n i m whole less h =
+pairs_done kind b first n i m whole less h =
     let count : n - i ≡ 0 = omega arith in
-    let e : pairs_from InvalidFlatbufferSchema b (first + 4 * i) (n - i) m ≡ Ok m = ap (λ k. pairs_from InvalidFlatbufferSchema b (first + 4 * i) k m) count in
+    let e : pairs_from kind b (first + 4 * i) (n - i) m ≡ Ok m = ap (λ k. pairs_from kind b (first + 4 * i) k m) count in
     sym h ∙ e
 
 -- ── a map in the order of its keys ──

@@ -3,3 +3,4 @@ pub mod ReadViews
 pub mod Keyed
 pub mod Messages
 pub mod Metadata
+pub mod Pairs

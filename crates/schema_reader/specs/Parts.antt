@@ -9,20 +9,12 @@ use Rattle.arrow_spec.specs.Flat.{Table, Vector, or_default, slot_unsigned, slot
 use Rattle.arrow_spec.specs.declared.types.IntegerType.{IntegerType}
 use Rattle.arrow_spec.specs.declared.types.IntegerType.TheVariants.{Int32}
 use Rattle.arrow_spec.specs.Kinds.{Kind, Fields, Metadata}
-use Rattle.arrow_spec.specs.Schema.{schema_part, Tag, tag_of, Before, Head, pairs_of, with_read_pair, encoding_at, integer_at, children_at, type_at, choice, natural_slot, positive, union_at, float_of, date_of, interval_of, unit_of, with_extension, with_encoding, without_key, extension_name, extension_metadata, field_at, fields_by, is_whole, order_of, is_little}
+use Rattle.arrow_spec.specs.Schema.{schema_part, Tag, tag_of, Before, Head, pairs_of, encoding_at, integer_at, children_at, type_at, choice, natural_slot, positive, union_at, float_of, date_of, interval_of, unit_of, with_extension, with_encoding, without_key, extension_name, extension_metadata, field_at, fields_by, is_whole, order_of, is_little}
 use Rattle.arrow_types.specs.Child.{Child}
 
 -- a text of a table
 abbrev pub text_at : List ℕ → Table → ℕ → Reading (Option (List ℕ))
 text_at b t slot = schema_part (slot_text b t slot)
-
--- a pair that is put to those before it
-unfoldable pub pair_put : List ℕ → ℕ → Metadata → Reading Metadata
-pair_put b at m = do
-  t ← schema_part (target b at >>= λ p. table_at b p)
-  key ← text_at b t 0
-  value ← text_at b t 1
-  Ok (with_read_pair key value m)
 
 -- ── a field ──
 

@@ -11,4 +11,5 @@ mod shape;
 mod union;
 
 pub use arrow_spec::{Counted, Feature, FlatError, IpcError, OutOfSpecKind};
+pub use pairs::{PairsOwner, if_any, pairs_fault, read_pairs};
 pub use schema::{deserialize_schema, read_schema};

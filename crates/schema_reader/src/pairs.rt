@@ -1,18 +1,39 @@
 //! Pairs of a key and a value (Schema.fbs, KeyValue).
-ghost use Rattle.std.specs.Prelude.{◌≡◌, ◌+◌, ◌*◌, ◌<◌, ◌≤◌, [], IfOk, IfErr, OnErr, Err, string_bytes};
+ghost use Rattle.std.specs.Prelude.{◌≡◌, ◌+◌, ◌*◌, ◌<◌, ◌≤◌, [], IfOk, OnErr, Err, string_bytes};
 ghost use Rattle.std.specs.Option.{option_map};
-ghost use Rattle.arrow_spec.specs.declared.error.IpcError.TheVariants.{Memory};
-ghost use Rattle.arrow_spec.specs.declared.error.OutOfSpecKind.TheVariants.{InvalidFlatbufferSchema};
+ghost use Rattle.arrow_spec.specs.declared.error.IpcError.TheVariants.{Memory, OutOfSpec};
 ghost use Rattle.ipc_fields.specs.Causes.{Decodes};
+ghost use Rattle.ipc_fields.specs.IpcFields.{metadata_of};
 ghost use Rattle.arrow_spec.specs.Schema.{pairs_from, pairs_of, with_read_pair};
 ghost use Rattle.arrow_types.specs.KindOf.{texts_of};
-ghost use Rattle.schema_reader.specs.Parts.{text_at, pair_put};
+ghost use Rattle.schema_reader.specs.Metadata.{HasPairsIfAny};
+ghost use Rattle.schema_reader.specs.Pairs.{owner_text, pair_put, pairs_kind};
+ghost use Rattle.schema_reader.specs.Parts.{text_at};
 ghost use Rattle.schema_reader.specs.ReadViews.{pairs_in};
 
 use arrow_flat::{Table, Vector};
-use arrow_spec::{Counted, IpcError, OutOfSpecKind};
+use arrow_spec::{Counted, FlatError, IpcError, OutOfSpecKind};
 use arrow_types::Metadata;
 use std::alloc::Global;
+
+/// What has the pairs: a fault in them is told by it.
+#[derive(Clone, Copy, Debug, PartialEq, Eq)]
+pub enum PairsOwner {
+    Schema,
+    Footer,
+    Message,
+}
+
+/// A fault in pairs.
+pub fn pairs_fault(owner: PairsOwner, e: FlatError) -> IpcError
+    ensures { result ≡ OutOfSpec (pairs_kind owner e) }
+{
+    match owner {
+        PairsOwner::Schema => IpcError::OutOfSpec(OutOfSpecKind::InvalidFlatbufferSchema(e)),
+        PairsOwner::Footer => IpcError::OutOfSpec(OutOfSpecKind::InvalidFlatbufferFooter(e)),
+        PairsOwner::Message => IpcError::OutOfSpec(OutOfSpecKind::InvalidFlatbufferMessage(e)),
+    }
+}
 
 /// The pairs of a table, and how many pairs of the schema there are up to their end.
 #[derive(Drop)]
@@ -22,6 +43,22 @@ pub(crate) struct Pairs {
 }
 
 /// A text of a table.
+fn read_owner_text(
+    alloc: Global,
+    table: &Table<'_>,
+    slot: usize,
+    owner: PairsOwner,
+) -> Result<Option<String>, IpcError>
+    ensures gives { Decodes (option_map string_bytes) result (owner_text owner table.now.bytes table.now.table slot) }
+{
+    match table.slot_text(slot) {
+        Err(e) => Err(pairs_fault(owner, e)),
+        Ok(None) => Ok(None),
+        Ok(Some(text)) => Ok(Some(text.to_string(alloc)?)),
+    }
+}
+
+/// A text of a schema's table.
 pub(crate) fn read_text(
     alloc: Global,
     table: &Table<'_>,
@@ -29,11 +66,7 @@ pub(crate) fn read_text(
 ) -> Result<Option<String>, IpcError>
     ensures gives { Decodes (option_map string_bytes) result (text_at table.now.bytes table.now.table slot) }
 {
-    match table.slot_text(slot) {
-        Err(e) => Err(IpcError::OutOfSpec(OutOfSpecKind::InvalidFlatbufferSchema(e))),
-        Ok(None) => Ok(None),
-        Ok(Some(text)) => Ok(Some(text.to_string(alloc)?)),
-    }
+    read_owner_text(alloc, table, slot, PairsOwner::Schema)
 }
 
 /// Puts a pair under its key; one without key or value is passed over, and a repeated key's last value stands.
@@ -56,34 +89,40 @@ fn put_pair(
 }
 
 /// Reads one of the pairs of a vector and puts it to those before it.
-#[tactic(auto, using(ipc_fields::proofs::Steps::table_in), unfolding(arrow_spec::specs::Readings::bind, crate::specs::Parts::pair_put))]
+#[tactic(auto, using(ipc_fields::proofs::Steps::table_in, crate::proofs::PairSteps::fault_refused), unfolding(arrow_spec::specs::Readings::bind, crate::specs::Pairs::pair_put))]
 fn read_pair(
     alloc: Global,
     pairs: &Vector<'_>,
     i: usize,
+    owner: PairsOwner,
     metadata: &mut Metadata,
 ) -> Result<(), IpcError>
     requires width { pairs.now.width ≡ 4 }
     requires within { i < pairs.now.vector.count }
-    ensures gives { Decodes (λ u. texts_of metadata.new.entries) result (pair_put pairs.now.bytes (pairs.now.vector.first + 4 * i) (texts_of metadata.old.entries)) }
+    ensures gives { Decodes (λ u. texts_of metadata.new.entries) result (pair_put (pairs_kind owner) pairs.now.bytes (pairs.now.vector.first + 4 * i) (texts_of metadata.old.entries)) }
 {
-    let pair = pairs.get_table(i).map_err(|e| IpcError::OutOfSpec(
-        OutOfSpecKind::InvalidFlatbufferSchema(e),
-    ))?;
-    let key = read_text(alloc, &pair, 0)?;
-    let value = read_text(alloc, &pair, 1)?;
+    let pair = match pairs.get_table(i) {
+        Ok(pair) => pair,
+        Err(e) => return Err(pairs_fault(owner, e)),
+    };
+    let key = read_owner_text(alloc, &pair, 0, owner)?;
+    let value = read_owner_text(alloc, &pair, 1, owner)?;
     put_pair(metadata, key, value)
 }
 
 /// The pairs of a vector.
 #[tactic(auto, using(crate::proofs::PairSteps::pairs_begun, crate::proofs::PairSteps::pairs_more, crate::proofs::PairSteps::pairs_stopped))]
-fn read_pairs(alloc: Global, pairs: &Vector<'_>) -> Result<Metadata, IpcError>
+pub fn read_pairs(
+    alloc: Global,
+    pairs: &Vector<'_>,
+    owner: PairsOwner,
+) -> Result<Metadata, IpcError>
     requires { pairs.now.width ≡ 4 }
-    ensures gives { Decodes (λ m. texts_of m.entries) result (pairs_from InvalidFlatbufferSchema pairs.now.bytes pairs.now.vector.first pairs.now.vector.count []) }
+    ensures gives { Decodes (λ m. texts_of m.entries) result (pairs_from (pairs_kind owner) pairs.now.bytes pairs.now.vector.first pairs.now.vector.count []) }
 {
     let mut metadata = Metadata::new(alloc);
     for i in 0..pairs.len() {
-        read_pair(alloc, pairs, i, &mut metadata)?;
+        read_pair(alloc, pairs, i, owner, &mut metadata)?;
     }
     Ok(metadata)
 }
@@ -112,9 +151,21 @@ pub(crate) fn read_metadata(
     if pairs.len() > 1_048_576 - before {
         return Err(IpcError::TooMany(Counted::Pairs));
     }
-    let metadata = read_pairs(alloc, &pairs)?;
+    let metadata = read_pairs(alloc, &pairs, PairsOwner::Schema)?;
     Ok(Pairs {
         metadata,
         counted: before + pairs.len(),
     })
+}
+
+/// The metadata, where there is any.
+pub fn if_any(metadata: Metadata) -> Option<Metadata>
+    ensures same { metadata_of result ≡ texts_of metadata.entries }
+    ensures no_empty_metadata { HasPairsIfAny result }
+{
+    if metadata.is_empty() {
+        None
+    } else {
+        Some(metadata)
+    }
 }

@@ -1,21 +1,21 @@
 //! The schemas of messages and footers (Schema.fbs, Schema).
-ghost use Rattle.std.specs.Prelude.{◌≡◌, ◌≤◌, ◌∷◌, [], map, is_some, IfOk, IfErr, OnErr, Err, true, length, string_bytes};
+ghost use Rattle.std.specs.Prelude.{◌≡◌, ◌≤◌, ◌∷◌, [], map, is_some, IfOk, OnErr, Err, true, string_bytes};
 ghost use Rattle.arrow_spec.specs.declared.error.IpcError.TheVariants.{Memory};
 ghost use Rattle.ipc_fields.specs.Causes.{Decodes};
 ghost use Rattle.arrow_spec.specs.Schema.{schema_of};
-ghost use Rattle.arrow_types.specs.KindOf.{child_of, fields_of, texts_of};
+ghost use Rattle.arrow_types.specs.KindOf.{child_of, fields_of};
 ghost use Rattle.arrow_types.specs.Schemas.{with_field, field_under, fields_in};
-ghost use Rattle.ipc_fields.specs.IpcFields.{ids_of, fields_with, have_shapes, metadata_of, schema_view, AreNamed};
+ghost use Rattle.ipc_fields.specs.IpcFields.{ids_of, fields_with, have_shapes, schema_view, AreNamed};
 ghost use Rattle.schema_reader.specs.Keyed.{put_keyed, keyed_distinct, checked, schema_by, keyed_in};
 ghost use Rattle.schema_reader.specs.Parts.{order_part, fields_part};
-ghost use Rattle.schema_reader.specs.ReadViews.{before_in, children_in};
+ghost use Rattle.schema_reader.specs.ReadViews.{children_in};
 ghost use Rattle.schema_reader.specs.Messages.{schema_in};
 ghost use Rattle.schema_reader.specs.Metadata.{HasPairsIfAny};
 
 use crate::field::{Children, read_fields};
 use crate::head::Counted;
 use crate::message::{Expected, read_message, read_version};
-use crate::pairs::read_metadata;
+use crate::pairs::{if_any, read_metadata};
 use arrow_flat::{ChoiceWidth, Table};
 use arrow_spec::{Feature, IpcError, OutOfSpecKind};
 use arrow_types::{ArrowSchema, Field, Metadata};
@@ -120,18 +120,6 @@ fn check_fields(alloc: Global, children: Children) -> Result<KeyedFields, IpcErr
         schema,
         ipc_fields: children.ipc_fields,
     })
-}
-
-/// The metadata, where there is any.
-fn if_any(metadata: Metadata) -> Option<Metadata>
-    ensures same { metadata_of result ≡ texts_of metadata.entries }
-    ensures no_empty_metadata { HasPairsIfAny result }
-{
-    if metadata.is_empty() {
-        None
-    } else {
-        Some(metadata)
-    }
 }
 
 #[tactic(auto, unfolding(arrow_spec::specs::Readings::bind, crate::specs::Keyed::schema_by))]

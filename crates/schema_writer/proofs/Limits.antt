@@ -1,5 +1,5 @@
 -- No table of a schema has more than 16 slots.
-use Rattle.std.proofs.Common.{ℕ, suc, zero, ◌≤◌, List, [], ◌∷◌, Option, Some, None, arith, true, false, Bool, ℤ, pos, negsuc}
+use Rattle.std.proofs.Common.{◌≡◌, Result, Ok, Err, IfOk, subst, sym, ℕ, suc, zero, ◌≤◌, List, [], ◌∷◌, Option, Some, None, arith, true, false, Bool, ℤ, pos, negsuc}
 use Rattle.std.specs.Prelude.{◌*◌, if◌then◌else◌}
 use Rattle.arrow_spec.specs.Arrays.{integer_width, is_unsigned}
 use Rattle.std.specs.Int.{Width, byte_len, w8, w16, w32, w64}
@@ -14,9 +14,10 @@ use Rattle.arrow_spec.specs.Kinds.{Kind, Fields, none, field, Metadata, unit_num
 use Rattle.arrow_spec.specs.Layout as layout
 use Rattle.arrow_spec.specs.Layout.{Node, Slots, Nodes, slot_count}
 use Rattle.arrow_spec.specs.Schema.{own_pairs}
-use Rattle.arrow_spec.specs.Sent.{unless_zero, flag, int_node, type_tag, type_node, encoding_slot, field_pairs, pair_nodes, extension_pair, pairs_slot, child_nodes, field_nodes, order_slot, schema_slots, unit_slot, text_slot, ids_slot, message_slots}
+use Rattle.arrow_spec.specs.Sent.{unless_zero, flag, int_node, type_tag, type_node, encoding_slot, field_pairs, pair_nodes, extension_pair, pairs_slot, child_nodes, field_nodes, order_slot, schema_slots, unit_slot, text_slot, ids_slot, custom_slot, message_slots}
 use Rattle.arrow_spec.proofs.MessagesFit.{one_more-least}
-use Rattle.arrow_flat.specs.Nodes.{KeepsSlotLimit, ChildrenKeepSlotLimit, NodesKeepSlotLimit}
+use Rattle.arrow_flat.specs.declared.node.Node.{Node as Built}
+use Rattle.arrow_flat.specs.Nodes.{node_of, KeepsSlotLimit, ChildrenKeepSlotLimit, NodesKeepSlotLimit}
 
 -- at most so many slots, and no more than 16 in the tables below
 abbrev Few : ℕ → Slots → Type 0
@@ -151,3 +152,21 @@ schema_keeps order fs pairs =
     let last : Few 1 ps = pairs_few 0 (pair_nodes pairs) layout.no_more (pairs_keep pairs) none_few in
     let fields : Few 2 (layout.child (layout.tables (field_nodes fs)) ps) = child_few 1 (layout.tables (field_nodes fs)) ps (fields_keep fs) last in
     few_keeps 3 (schema_slots order fs pairs) (omega arith) (order_few 2 order (layout.child (layout.tables (field_nodes fs)) ps) fields)
+
+custom_few : (custom : Metadata) → Few 1 (custom_slot custom)
+custom_few [] = (omega arith, tt)
+custom_few (x ∷ xs) = (omega arith, (pairs_keep (x ∷ xs), tt))
+
+pub message_keeps : (tag : ℕ) (header : Node) (body : ℕ) (custom : Metadata) → KeepsSlotLimit header → KeepsSlotLimit (layout.table (message_slots tag header body custom))
+message_keeps tag header body custom keeps =
+    let last : Few 1 (custom_slot custom) = custom_few custom in
+    let length : Few 2 (unless_zero w64 (pos body) (custom_slot custom)) = zero_few 1 w64 (pos body) (custom_slot custom) last in
+    let below : Few 3 (layout.child header (unless_zero w64 (pos body) (custom_slot custom))) = child_few 2 header (unless_zero w64 (pos body) (custom_slot custom)) keeps length in
+    few_keeps 5 (message_slots tag header body custom) (omega arith)
+    (value_few 4 w16 (pos 4) (layout.value w8 (pos tag) (layout.child header (unless_zero w64 (pos body) (custom_slot custom))))
+    (value_few 3 w8 (pos tag) (layout.child header (unless_zero w64 (pos body) (custom_slot custom))) below))
+
+-- of a message that a call made
+pub given_keeps : {E : Type 0} (tag : ℕ) (header : Node) (body : ℕ) (custom : Metadata) (r : Result Built E) → IfOk r (λ n. node_of n ≡ layout.table (message_slots tag header body custom)) → KeepsSlotLimit header → IfOk r (λ n. KeepsSlotLimit (node_of n))
+given_keeps tag header body custom (Ok n) is keeps = subst KeepsSlotLimit (sym is) (message_keeps tag header body custom keeps)
+given_keeps tag header body custom (Err e) is keeps = tt

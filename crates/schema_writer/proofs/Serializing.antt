@@ -89,13 +89,13 @@ given_keeps order fs own pairs (Err e) h = tt
 abbrev sized : Node → Reading (List ℕ)
 sized n = bind (unless (nat_le (size n) 2147483647) TooLarge) (λ small. Ok (layout n))
 
-is_written : (order : Order) (fs : Fields) (own : Ids) (pairs : Metadata) → written order fs own pairs ≡ bind (serialized order fs own pairs) (λ header. sized (message_node (schema_node order (fields_with fs own) pairs)))
+is_written : (order : Order) (fs : Fields) (own : Ids) (pairs custom : Metadata) → written order fs own pairs custom ≡ bind (serialized order fs own pairs) (λ header. sized (message_node (schema_node order (fields_with fs own) pairs) custom))
 unfolding written schema_message
-is_written order fs own pairs = refl
+is_written order fs own pairs custom = refl
 
-from_header : (order : Order) (fs : Fields) (own : Ids) (pairs : Metadata) (n : Node) → serialized order fs own pairs ≡ Ok n → written order fs own pairs ≡ sized (message_node n)
+from_header : (order : Order) (fs : Fields) (own : Ids) (pairs custom : Metadata) (n : Node) → serialized order fs own pairs ≡ Ok n → written order fs own pairs custom ≡ sized (message_node n custom)
 unfolding bind
-from_header order fs own pairs n h = is_written order fs own pairs ∙ ap (λ r. bind r (λ header. sized (message_node (schema_node order (fields_with fs own) pairs)))) h ∙ ap (λ m. sized (message_node m)) (sym (made_is order fs own pairs n h))
+from_header order fs own pairs custom n h = is_written order fs own pairs custom ∙ ap (λ r. bind r (λ header. sized (message_node (schema_node order (fields_with fs own) pairs) custom))) h ∙ ap (λ m. sized (message_node m custom)) (sym (made_is order fs own pairs n h))
 
 le_true : (a b : ℕ) → a ≤ b → nat_le a b ≡ true
 le_true a b h = grind arith
@@ -111,11 +111,11 @@ large_is : (n : Node) → 2 ^ 31 ≤ size n → sized n ≡ Err (TooLarge ∷ []
 unfolding bind
 large_is n h = let e : nat_le (size n) 2147483647 ≡ false = le_false _ _ (omega (arith, h)) in ap (λ b. bind (unless b TooLarge) (λ small. Ok (layout n))) e
 
-pub bytes_made : (order : Order) (fs : Fields) (own : Ids) (pairs : Metadata) (n : Node) (b : List ℕ) → serialized order fs own pairs ≡ Ok n → size (message_node n) < 2 ^ 31 → b ≡ layout (message_node n) → written order fs own pairs ≡ Ok b
-bytes_made order fs own pairs n b h s e = from_header order fs own pairs n h ∙ small_is (message_node n) s ∙ ap Ok (sym e)
+pub bytes_made : (order : Order) (fs : Fields) (own : Ids) (pairs custom : Metadata) (n : Node) (b : List ℕ) → serialized order fs own pairs ≡ Ok n → size (message_node n custom) < 2 ^ 31 → b ≡ layout (message_node n custom) → written order fs own pairs custom ≡ Ok b
+bytes_made order fs own pairs custom n b h s e = from_header order fs own pairs custom n h ∙ small_is (message_node n custom) s ∙ ap Ok (sym e)
 
-pub bytes_large : (order : Order) (fs : Fields) (own : Ids) (pairs : Metadata) (n : Node) → serialized order fs own pairs ≡ Ok n → 2 ^ 31 ≤ size (message_node n) → Gives {X = Vec ℕ Global} (λ v. v.items) (Err TooLarge) (written order fs own pairs)
-bytes_large order fs own pairs n h s = subst (λ r. Gives {X = Vec ℕ Global} (λ v. v.items) (Err TooLarge) r) (sym (from_header order fs own pairs n h ∙ large_is (message_node n) s)) (inl refl)
+pub bytes_large : (order : Order) (fs : Fields) (own : Ids) (pairs custom : Metadata) (n : Node) → serialized order fs own pairs ≡ Ok n → 2 ^ 31 ≤ size (message_node n custom) → Gives {X = Vec ℕ Global} (λ v. v.items) (Err TooLarge) (written order fs own pairs custom)
+bytes_large order fs own pairs custom n h s = subst (λ r. Gives {X = Vec ℕ Global} (λ v. v.items) (Err TooLarge) r) (sym (from_header order fs own pairs custom n h ∙ large_is (message_node n custom) s)) (inl refl)
 
 handed : {A B : Type 0} (e : IpcError) (r : Reading A) (f : A → Reading B) → Refuses e (refusals r) → Refuses e (refusals (bind r f))
 unfolding bind
@@ -125,8 +125,8 @@ handed errors.ReadFault (Ok x) f h = tt
 handed errors.WriteFault (Ok x) f h = tt
 handed e (Ok x) f h = absurd h
 
-pub refused_first : (order : Order) (fs : Fields) (own : Ids) (pairs : Metadata) (e : IpcError) → Refuses e (refusals (serialized order fs own pairs)) → Refuses e (refusals (written order fs own pairs))
-refused_first order fs own pairs e h = subst (λ r. Refuses e (refusals r)) (sym (is_written order fs own pairs)) (handed e (serialized order fs own pairs) _ h)
+pub refused_first : (order : Order) (fs : Fields) (own : Ids) (pairs custom : Metadata) (e : IpcError) → Refuses e (refusals (serialized order fs own pairs)) → Refuses e (refusals (written order fs own pairs custom))
+refused_first order fs own pairs custom e h = subst (λ r. Refuses e (refusals r)) (sym (is_written order fs own pairs custom)) (handed e (serialized order fs own pairs) _ h)
 
 -- a refusal that is handed on
 pub handed_on : {A B : Type 0} (view : A → B) (r : Result A IpcError) (R : Reading B) (e : IpcError) → r ≡ Err e → Refuses e (refusals R) → Gives view r R

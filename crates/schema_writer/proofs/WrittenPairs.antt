@@ -1,25 +1,26 @@
 -- Pairs one after another.
-use Rattle.std.proofs.Common.{◌≡◌, ℕ, List, [], length, Bool, true, false, cond, not, nat_eq, true≢false, ◌∷◌, ◌++◌, map, Option, Some, None, String, Global, string_cmp, append-nil, refl, sym, ap, ◌∙◌, append_assoc}
+use Rattle.std.proofs.Common.{◌≡◌, ℕ, List, [], length, Bool, true, false, cond, not, nat_eq, true≢false, ◌∷◌, ◌++◌, map, Option, Some, None, String, Global, string_cmp, append-nil, refl, sym, ap, ◌∙◌, append_assoc, arith}
 use Rattle.std.specs.Prelude.{◌||◌}
 use Rattle.std.specs.List.Sorted.{IsStrictlySortedBy}
 use Rattle.std.specs.Str.{bytes_eq}
+use Rattle.std.proofs.lemmas.Bool.{eqb-true}
 use Rattle.std.proofs.lemmas.List.{map-append}
 use Rattle.std.proofs.lemmas.Slice.Eq.{bytes_eq-Decides}
 use Rattle.arrow_spec.specs.Kinds as kind
 use Rattle.arrow_spec.specs.Kinds.{Kind, Metadata}
 use Rattle.arrow_spec.specs.Layout as layout
 use Rattle.arrow_spec.specs.Layout.{Node, Nodes}
-use Rattle.arrow_spec.specs.Sent.{pair_nodes, field_pairs}
+use Rattle.arrow_spec.specs.Sent.{custom_slot, pair_nodes, field_pairs}
 use Rattle.arrow_spec.specs.WrittenSchemas.{extension_first, pairs_for}
 use Rattle.arrow_spec.proofs.ExtensionPairs.{pairs_written}
 use Rattle.arrow_spec.specs.Schema.{extension_name, extension_metadata, own_pairs, is_reserved}
 use Rattle.arrow_types.specs.KindOf.{texts_of}
 use Rattle.ipc_fields.proofs.TextOrder.{sorted_texts}
 use Rattle.arrow_types.proofs.UnionIds.{same_test}
-use Rattle.arrow_flat.specs.Nodes.{SlotValue, leads_to, nodes_of, nodes_from}
+use Rattle.arrow_flat.specs.Nodes.{SlotValue, leads_to, node_of, nodes_of, nodes_from}
 use Rattle.arrow_flat.specs.declared.node.Node.{Node as Built}
 use Rattle.arrow_spec.proofs.OwnPairs.{own_filtered}
-use Rattle.schema_writer.specs.Nodes.{pair_table, unreserved, extension_pairs, pairs_value}
+use Rattle.schema_writer.specs.Nodes.{last_slot, pair_table, unreserved, extension_pairs, pairs_value}
 
 pub nodes_of_pairs : (ps : Metadata) → nodes_from (map pair_table ps) ≡ pair_nodes ps
 nodes_of_pairs [] = refl
@@ -65,3 +66,16 @@ reserved_test key a b first second other = second ∙ bytes_turned key extension
 -- the pairs that are left are none: those put are the field's own
 pub own_done : (es : List (String Global × String Global)) (new old : List Node) → IsStrictlySortedBy string_cmp (map (λ e. e.0) es) → new ++ map pair_table (unreserved []) ≡ old ++ map pair_table (unreserved (texts_of es)) → new ≡ old ++ map pair_table (own_pairs (texts_of es))
 own_done es new old up h = sym (append-nil new) ∙ h ∙ ap (λ m. old ++ map pair_table m) (sym (own_filtered (texts_of es) (sorted_texts es up)))
+
+-- ── the pairs of a footer or of a message ──
+
+-- there are none
+pub no_custom : (ns : List Built) (ps : Metadata) → map node_of ns ≡ map pair_table ps → true ≡ nat_eq (length ns) 0 → custom_slot ps ≡ last_slot None
+no_custom [] [] h k = refl
+no_custom [] (p ∷ ps) h k = cc
+no_custom (x ∷ ns) ps h k = let n : length (x ∷ ns) ≡ 0 = eqb-true (length (x ∷ ns)) 0 (sym k) in absurd (omega (arith, n))
+
+pub some_custom : (ns : List Built) (ps : Metadata) → map node_of ns ≡ map pair_table ps → false ≡ nat_eq (length ns) 0 → custom_slot ps ≡ last_slot (Some (layout.tables (nodes_of ns)))
+some_custom [] ps h k = absurd (true≢false (sym k))
+some_custom (x ∷ ns) [] h k = cc
+some_custom (x ∷ ns) (p ∷ ps) h k = ap (λ m. layout.child (layout.tables m) layout.no_more) (sym (nodes_of_pairs (p ∷ ps)) ∙ ap nodes_from (sym h))

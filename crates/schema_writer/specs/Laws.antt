@@ -11,6 +11,6 @@ use Rattle.schema_writer.specs.Serialized.{written}
 
 -- What is written of a regular schema, whose texts are texts, is read back as its fields with the ids of their IPC fields, whatever stands behind it: all but the reserved keys among a field's own pairs.
 abbrev pub WrittenSchemaReadsBack : Type 0
-WrittenSchemaReadsBack = (order : Order) (fs : Fields) (own : Ids) (pairs : Metadata) (b rest : List ℕ) → written order fs own pairs ≡ Ok b
+WrittenSchemaReadsBack = (order : Order) (fs : Fields) (own : Ids) (pairs custom : Metadata) (b rest : List ℕ) → written order fs own pairs custom ≡ Ok b
     → regular (fields_with fs own) pairs ≡ true → HaveTexts (fields_with fs own) → Ascend [] pairs
     → (m : Message) × (schema_message_of (b ++ rest) ≡ Ok (m, record { order = order; fields = own_fields (fields_with fs own); metadata = pairs }))

@@ -1,5 +1,5 @@
 -- The nodes of a field, with the id of its IPC field and the nodes of its children.
-use Rattle.std.specs.Prelude.{ℕ, List, [], Option, ℤ, pos, not, filter}
+use Rattle.std.specs.Prelude.{ℕ, List, [], Option, None, Some, ℤ, pos, not, filter}
 use Rattle.std.specs.Int.{w8, w64}
 use Rattle.arrow_spec.specs.Flat.{or_default}
 use Rattle.arrow_spec.specs.Kinds as kind
@@ -27,6 +27,11 @@ extension_pairs k = pairs_for k []
 abbrev pub pairs_value : Nodes → SlotValue
 pairs_value layout.none = nothing
 pairs_value (layout.also n ns) = leads_to (layout.tables (layout.also n ns))
+
+-- the last slot of a table, where there is one
+abbrev pub last_slot : Option Node → layout.Slots
+last_slot None = layout.no_more
+last_slot (Some n) = layout.child n layout.no_more
 
 -- a dictionary's index type, order flag and id (Schema.fbs, DictionaryEncoding)
 abbrev pub encoding_value : Kind → Option ℤ → SlotValue

@@ -28,16 +28,16 @@ serialized order fs below pairs = do
   sayable ← unless (representable (fields_with fs below)) NotRepresentable
   Ok (schema_node order (fields_with fs below) pairs)
 
--- the flatbuffer of the schema's message, of at most 2^31 - 1 bytes (Message.fbs, Message)
-unfoldable pub written : Order → Fields → Ids → Metadata → Reading (List ℕ)
-written order fs below pairs = do
+-- the flatbuffer of the schema's message with its own pairs, of at most 2^31 - 1 bytes (Message.fbs, Message)
+unfoldable pub written : Order → Fields → Ids → Metadata → Metadata → Reading (List ℕ)
+written order fs below pairs custom = do
   header ← serialized order fs below pairs
-  small ← unless (nat_le (size (schema_message order (fields_with fs below) pairs []).node) 2147483647) TooLarge
-  Ok (layout (schema_message order (fields_with fs below) pairs []).node)
+  small ← unless (nat_le (size (schema_message order (fields_with fs below) pairs custom).node) 2147483647) TooLarge
+  Ok (layout (schema_message order (fields_with fs below) pairs custom).node)
 
 -- the table of a schema's message around the schema's own
-abbrev pub message_node : Node → Node
-message_node header = table (message_slots 1 header 0 [])
+abbrev pub message_node : Node → Metadata → Node
+message_node header custom = table (message_slots 1 header 0 custom)
 
 -- what a schema's table is refused as, memory aside
 abbrev pub IsOfTable : IpcError → Type 0

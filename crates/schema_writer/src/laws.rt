@@ -2,7 +2,6 @@
 ghost use Rattle.schema_writer.specs.Laws.{WrittenSchemaReadsBack};
 
 /// What is written of a regular schema is read back as it was, with the ids of its IPC fields and its byte order.
-#[tactic(auto, using(crate::proofs::RoundTrip::reads_back))]
 pub fn written_schema_reads_back()
     ensures { WrittenSchemaReadsBack }
 {}

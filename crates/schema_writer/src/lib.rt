@@ -5,4 +5,6 @@ mod laws;
 mod write;
 
 pub use laws::written_schema_reads_back;
-pub use write::{default_ipc_fields, schema_message, schema_to_bytes, serialize_schema};
+pub use write::{
+    default_ipc_fields, message_node, schema_message, schema_to_bytes, serialize_schema,
+};

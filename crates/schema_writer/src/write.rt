@@ -1,5 +1,5 @@
 //! Schemas as they are written (Arrow Columnar Format, "Schema message").
-ghost use Rattle.std.specs.Prelude.{◌≡◌, ◌<◌, ◌≤◌, ◌^◌, true, Err, IfOk, OnOk, IfErr};
+ghost use Rattle.std.specs.Prelude.{◌≡◌, ◌<◌, ◌≤◌, ◌^◌, [], length, true, Err, IfOk, OnOk, IfErr};
 ghost use Rattle.arrow_spec.specs.Flat.{little, order_by};
 ghost use Rattle.arrow_spec.specs.Kinds.{numbered};
 ghost use Rattle.arrow_spec.specs.Layout.{layout, size};
@@ -9,10 +9,12 @@ ghost use Rattle.arrow_types.specs.Schemas.{fields_in};
 ghost use Rattle.ipc_fields.specs.IpcFields.{ids_of, fields_with, have_shapes, metadata_in};
 ghost use Rattle.schema_writer.specs.Defaults.{are_apart};
 ghost use Rattle.schema_writer.specs.Texts.{ReadsBackAs, SchemaSaysTexts};
-ghost use Rattle.schema_writer.specs.Serialized.{belong_to, message_node, serialized, written, IsOfTable, IsOfMessage};
+ghost use Rattle.schema_writer.specs.Serialized.{message_node as schema_message_node};
+ghost use Rattle.schema_writer.specs.Serialized.{belong_to, serialized, written, IsOfTable, IsOfMessage};
 
 mod defaults;
 mod fields;
+mod messages;
 mod pairs;
 mod sayable;
 mod schema;
@@ -20,10 +22,11 @@ mod shape;
 mod types;
 mod uses;
 
-use arrow_flat::{BuildError, Node, Slot, finish};
+use arrow_flat::{BuildError, Node, finish};
 use arrow_spec::IpcError;
 use arrow_types::{ArrowSchema, Metadata};
 use ipc_fields::{IpcField, IpcSchema};
+pub use messages::message_node;
 use schema::{is_sayable, schema_node};
 use std::alloc::{AllocError, Global};
 
@@ -78,21 +81,14 @@ fn table(
     own_table(alloc, schema, ipc_fields, is_little_endian, metadata)
 }
 
-// The table of a message of version V5 around a schema, without a body (Message.fbs, Message).
-fn message_table(alloc: Global, header: Node) -> Result<Node, AllocError>
-    ensures { IfOk result (λ n. node_of n ≡ message_node (node_of header)) }
-{
-    let header = Slot::Child(header);
-    Ok(Node::Table(vec![in alloc; Slot::I16(4), Slot::U8(1), header, Slot::Absent]?))
-}
-
-fn message(alloc: Global, header: Node) -> Result<Vec<u8>, BuildError>
+// The flatbuffer of a message around a schema, without a body.
+fn message(alloc: Global, header: Node, custom: Option<&Metadata>) -> Result<Vec<u8>, BuildError>
     requires { KeepsSlotLimit (node_of header) }
-    ensures bytes { IfOk result (λ v. v.items ≡ layout (message_node (node_of header))) }
-    ensures small { OnOk result (size (message_node (node_of header)) < 2 ^ 31) }
-    ensures large { result ≡ Err BuildError.TooLarge → 2 ^ 31 ≤ size (message_node (node_of header)) }
+    ensures bytes { IfOk result (λ v. v.items ≡ layout (schema_message_node (node_of header) (metadata_in custom.entry))) }
+    ensures small { OnOk result (size (schema_message_node (node_of header) (metadata_in custom.entry)) < 2 ^ 31) }
+    ensures large { result ≡ Err BuildError.TooLarge → 2 ^ 31 ≤ size (schema_message_node (node_of header) (metadata_in custom.entry)) }
 {
-    let node = message_table(alloc, header)?;
+    let node = message_node(alloc, 1, header, 0, custom)?;
     finish(alloc, &node)
 }
 
@@ -102,13 +98,14 @@ fn bytes(
     ipc_fields: &[IpcField],
     is_little_endian: bool,
     metadata: Option<&Metadata>,
+    custom: Option<&Metadata>,
 ) -> Result<Vec<u8>, IpcError>
-    ensures gives { Gives (λ v. v.items) result (written (order_by is_little_endian) (fields_in schema.now) (ids_of ipc_fields.now) (metadata_in metadata.entry)) }
+    ensures gives { Gives (λ v. v.items) result (written (order_by is_little_endian) (fields_in schema.now) (ids_of ipc_fields.now) (metadata_in metadata.entry) (metadata_in custom.entry)) }
     ensures refusals { IfErr result IsOfMessage }
     ensures texts { IfOk result (λ _. SchemaSaysTexts (fields_in schema.now) (metadata_in metadata.entry)) }
 {
     let header = table(alloc, schema, ipc_fields, is_little_endian, metadata)?;
-    match message(alloc, header) {
+    match message(alloc, header, custom) {
         Ok(bytes) => Ok(bytes),
         Err(BuildError::TooLarge) => Err(IpcError::TooLarge),
         Err(BuildError::Memory) => Err(IpcError::Memory),
@@ -151,30 +148,32 @@ pub fn schema_to_bytes(
     ipc_fields: &[IpcField],
     custom_metadata: Option<&Metadata>,
 ) -> Result<Vec<u8>, IpcError>
-    ensures gives { Gives (λ v. v.items) result (written little (fields_in schema.now) (ids_of ipc_fields.now) (metadata_in custom_metadata.entry)) }
+    ensures gives { Gives (λ v. v.items) result (written little (fields_in schema.now) (ids_of ipc_fields.now) (metadata_in custom_metadata.entry) []) }
     ensures refusals { IfErr result IsOfMessage }
 
     // A regular schema is read back.
     ensures read_back { IfOk result (λ v. ReadsBackAs little (fields_with (fields_in schema.now) (ids_of ipc_fields.now)) (metadata_in custom_metadata.entry) v.items) }
 {
-    bytes(alloc, schema, ipc_fields, true, custom_metadata)
+    bytes(alloc, schema, ipc_fields, true, custom_metadata, None)
 }
 
-/// The same in the byte order of the IPC schema.
+/// The same in the byte order of the IPC schema, with the schema's metadata and the message's own, which may have 1,048,576
+/// pairs.
 ///
 /// # Errors
 ///
 /// As for [`schema_to_bytes`].
-#[tactic(auto, using(crate::proofs::RoundTrip::given_back))]
 pub fn schema_message(
     alloc: Global,
     schema: &ArrowSchema,
     ipc_schema: &IpcSchema,
+    custom_schema_metadata: Option<&Metadata>,
     custom_metadata: Option<&Metadata>,
 ) -> Result<Vec<u8>, IpcError>
-    ensures gives { Gives (λ v. v.items) result (written (order_by ipc_schema.now.is_little_endian) (fields_in schema.now) (ids_of ipc_schema.now.fields.items) (metadata_in custom_metadata.entry)) }
+    requires few { length (metadata_in custom_metadata) ≤ 1048576 }
+    ensures gives { Gives (λ v. v.items) result (written (order_by ipc_schema.now.is_little_endian) (fields_in schema.now) (ids_of ipc_schema.now.fields.items) (metadata_in custom_schema_metadata.entry) (metadata_in custom_metadata.entry)) }
     ensures refusals { IfErr result IsOfMessage }
-    ensures read_back { IfOk result (λ v. ReadsBackAs (order_by ipc_schema.now.is_little_endian) (fields_with (fields_in schema.now) (ids_of ipc_schema.now.fields.items)) (metadata_in custom_metadata.entry) v.items) }
+    ensures read_back { IfOk result (λ v. ReadsBackAs (order_by ipc_schema.now.is_little_endian) (fields_with (fields_in schema.now) (ids_of ipc_schema.now.fields.items)) (metadata_in custom_schema_metadata.entry) v.items) }
 {
     let fields = ipc_schema.fields.as_slice();
     bytes(
@@ -182,6 +181,7 @@ pub fn schema_message(
         schema,
         fields,
         ipc_schema.is_little_endian,
+        custom_schema_metadata,
         custom_metadata,
     )
 }

@@ -1,10 +1,15 @@
-//! Dictionaries as they are written: their keys alone.
+//! Dictionaries as they are written: in a batch their keys alone, and their values by themselves.
+ghost use Rattle.std.specs.Prelude.{◌≡◌, true, IfOk};
+ghost use Rattle.ipc_write.specs.Additions.{has_one};
+
 use crate::arrays::utf8;
-use crate::steps::{Written, encoded};
+use crate::round_trips::may_have_views;
+use crate::steps::{Written, encoded, nothing_written};
 use arrow_arrays::{Array, DictionaryArray, DictionaryKeys, ListArray, ListOffsets};
 use arrow_buffers::{ArrayError, Bitmap, Buffer, PrimitiveArray};
 use arrow_spec::{FieldNode, IntegerType, IpcBuffer};
 use arrow_types::{ArrowDataType, Field};
+use ipc_write::write_dictionary;
 use std::alloc::{AllocError, Global};
 use std::test::Fail;
 
@@ -25,11 +30,17 @@ fn keys(alloc: Global) -> Result<DictionaryKeys, ArrayError> {
 }
 
 /// These keys into four texts.
-fn texts_by_key(alloc: Global) -> Result<Array, ArrayError> {
+fn dictionary(alloc: Global) -> Result<DictionaryArray, ArrayError>
+    ensures { IfOk result (λ a. has_one a.children ≡ true) }
+{
     let dtype = texts(alloc)?;
     let keys = keys(alloc)?;
     let values = utf8(alloc)?;
-    Ok(Array::Dictionary(DictionaryArray::try_new(alloc, dtype, keys, values)?))
+    DictionaryArray::try_new(alloc, dtype, keys, values)
+}
+
+fn texts_by_key(alloc: Global) -> Result<Array, ArrayError> {
+    Ok(Array::Dictionary(dictionary(alloc)?))
 }
 
 fn lists(alloc: Global) -> Result<ArrowDataType, AllocError> {
@@ -113,5 +124,42 @@ fn of_keys_below_lists_those_of_the_rows_are_written(rt: HostRuntime) -> Result<
     assert!(rt;
         holds(&written, 192, 0, &[0, 0, 0, 0, 2, 0, 0, 0]) && holds(&written, 192, 128, &[9, 0])
     );
+    Ok(())
+}
+
+/// How many values a dictionary has in its one part, and what is added of them.
+fn values_alone(alloc: Global, dictionary: &DictionaryArray) -> Result<(usize, Written), Fail>
+    requires { has_one dictionary.now.children ≡ true }
+{
+    let Some(values) = dictionary.parts().first() else {
+        return Err(Fail::from("no values"));
+    };
+    if may_have_views(values) {
+        return Err(Fail::from("values that are no texts"));
+    }
+    let mut written = nothing_written(alloc);
+    encoded(alloc, values)?;
+    let count = write_dictionary(
+        dictionary,
+        &mut written.buffers,
+        &mut written.body,
+        &mut written.nodes,
+        &mut written.views,
+        &mut 0,
+        true,
+        false,
+    )?;
+    Ok((count, written))
+}
+
+#[test]
+fn values_are_written_by_themselves(rt: HostRuntime) -> Result<(), Fail> {
+    let alloc = rt.alloc();
+    let dictionary = dictionary(alloc)?;
+    let written = values_alone(alloc, &dictionary);
+    drop(dictionary);
+    let (count, written) = written?;
+    assert!(rt; count == 4 && lies(&written, &[(4, 1)], &[(0, 1), (64, 20), (128, 5)]));
+    assert!(rt; holds(&written, 192, 0, &[0b1011]) && holds(&written, 192, 128, b"b\xC3\xA9-c"));
     Ok(())
 }

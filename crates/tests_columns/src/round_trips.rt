@@ -21,7 +21,7 @@ use std::process::Abort;
 use std::test::Fail;
 
 /// Whether an array has views, which are written in little-endian order alone, or children, which may have some.
-fn may_have_views(array: &Array) -> bool
+pub(crate) fn may_have_views(array: &Array) -> bool
     ensures order { result ≡ false → MayHaveOrder (parts_of array.now) false }
     ensures children { result ≡ false → has_no_children (parts_of array.now) ≡ true }
 {

@@ -30,6 +30,21 @@ pub(crate) struct Written {
     pub(crate) views: Vec<i64>,
 }
 
+/// Nothing of any array.
+pub(crate) fn nothing_written(alloc: Global) -> Written
+    ensures nodes { result.nodes.items ≡ [] }
+    ensures buffers { result.buffers.items ≡ [] }
+    ensures body { result.body.items ≡ [] }
+    ensures views { result.views.items ≡ [] }
+{
+    Written {
+        nodes: Vec::new(alloc),
+        buffers: Vec::new(alloc),
+        body: Vec::new(alloc),
+        views: Vec::new(alloc),
+    }
+}
+
 /// The array alone, in an order.
 pub(crate) fn write_alone(
     alloc: Global,
@@ -40,12 +55,7 @@ pub(crate) fn write_alone(
     requires few { rows_in (parts_of array.now) < 2 ^ 63 }
     requires short { body_of 0 (map length (pieces_in (order_by is_little_endian) (parts_of array.now))) < 2 ^ 63 }
 {
-    let mut written = Written {
-        nodes: Vec::new(alloc),
-        buffers: Vec::new(alloc),
-        body: Vec::new(alloc),
-        views: Vec::new(alloc),
-    };
+    let mut written = nothing_written(alloc);
     write(
         array,
         &mut written.buffers,

@@ -1,6 +1,7 @@
 //! Files over memory, read one record batch after another.
 use crate::files::{
-    FAR_DICTIONARY, MANY_ROWS, NEGATIVE_ROWS, PAIR_OF_MESSAGE, Part, TWO_BATCHES, bytes_of,
+    FAR_DICTIONARY, MANY_ROWS, NEGATIVE_ROWS, PAIR_OF_FOOTER, PAIR_OF_MESSAGE, Part, TWO_BATCHES,
+    bytes_of,
 };
 use crate::kinds::THREE;
 use arrow_arrays::{Array, RecordBatch};
@@ -115,6 +116,44 @@ fn a_reader_gives_the_columns_and_rows_asked_for(rt: HostRuntime) -> Result<(), 
     for case in CASES {
         assert!(rt; has_outcome(rt.alloc(), case)?, "{}", case.title);
     }
+    Ok(())
+}
+
+/// How many pairs a file's footer has, and the message of its first batch.
+fn pair_counts(
+    alloc: Global,
+    file: &[Part],
+    columns: Option<Vec<usize>>,
+) -> Result<(usize, usize), Fail> {
+    let bytes = bytes_of(alloc, file)?;
+    let mut source = MemorySource::new(bytes, Vec::new(alloc), Vec::new(alloc));
+    let metadata = read_file_metadata(alloc, &mut source)?;
+    let footer = match &metadata.custom_metadata {
+        None => 0,
+        Some(pairs) => pairs.len(),
+    };
+    let mut reader = match FileReader::new(alloc, source, metadata, columns, None) {
+        Ok(reader) => reader,
+        Err(refused) => return Err(Fail::from(refused.error)),
+    };
+    let Some(read) = reader.next() else {
+        return Err(Fail::from("a batch"));
+    };
+    let batch = read?;
+    let message = match batch.custom_metadata() {
+        None => 0,
+        Some(pairs) => pairs.len(),
+    };
+    drop(batch);
+    Ok((footer, message))
+}
+
+#[test]
+fn pairs_of_footers_and_of_messages_are_read(rt: HostRuntime) -> Result<(), Fail> {
+    let alloc = rt.alloc();
+    assert!(rt; pair_counts(alloc, PAIR_OF_FOOTER, None)? == (1, 0));
+    assert!(rt; pair_counts(alloc, PAIR_OF_MESSAGE, None)? == (0, 1));
+    assert!(rt; pair_counts(alloc, PAIR_OF_MESSAGE, Some([0].to_vec(alloc)?))? == (0, 1));
     Ok(())
 }
 

@@ -70,6 +70,20 @@ const CASES: &[Case] = &[
         ..WHOLE
     },
     Case {
+        title: "white space between the digits of a byte, and pieces that end between them",
+        input: &[
+            Part::HalfByte,
+            Part::WhiteSpace,
+            Part::RestOfMagic,
+            Part::Schema,
+            Part::OneNull,
+            Part::OneNullBody,
+            Part::EndMark,
+            Part::OneBlock,
+        ],
+        ..WHOLE
+    },
+    Case {
         title: "no batch",
         input: &[Part::Magic, Part::Schema, Part::EndMark, Part::NoBlock],
         text: &[Part::Schema, Part::EndMark, Part::LineFeed],
@@ -110,6 +124,21 @@ const CASES: &[Case] = &[
         input: &[Part::NotHex],
         status: 15,
         notes: b"refused 15 NotHex\n",
+        ..REFUSED
+    },
+    Case {
+        title: "no hex digit in the first piece, and more behind it",
+        input: &[Part::NotHex, Part::Schema, Part::OneNull],
+        status: 15,
+        notes: b"refused 15 NotHex\n",
+        ..REFUSED
+    },
+    Case {
+        title: "no hex digit, and a pull that fails behind it",
+        input: &[Part::NotHex, Part::Schema, Part::OneNull],
+        failing_pulls: &[2],
+        status: 11,
+        notes: b"refused 11 ReadFault\n",
         ..REFUSED
     },
     Case {

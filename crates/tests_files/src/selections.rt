@@ -130,6 +130,20 @@ const CASES: &[Case] = &[
         ..REFUSED
     },
     Case {
+        title: "floats in lists",
+        file: &[Part::Selected(Selected::BelowFile)],
+        columns: Some(&[0]),
+        answer: Err(IpcError::Unsupported(Feature::Float)),
+        ..REFUSED
+    },
+    Case {
+        title: "decimals of 256 bits in structs",
+        file: &[Part::Selected(Selected::BelowFile)],
+        columns: Some(&[1]),
+        answer: Err(IpcError::Unsupported(Feature::Decimal256)),
+        ..REFUSED
+    },
+    Case {
         title: "an offset that falls behind the rows that are read",
         file: &[Part::Selected(Selected::FallingFile)],
         unreadable: (0, 0),

@@ -1,13 +1,14 @@
 //! Files over memory, transcoded whole.
 use crate::files::{
-    ONE_COLUMN, ONE_COLUMN_STREAM, Part, TWO_BATCHES, TWO_BATCHES_STREAM, bytes_of,
+    ONE_COLUMN, ONE_COLUMN_STREAM, PAIR_OF_FOOTER, PAIR_OF_MESSAGE, Part, TWO_BATCHES,
+    TWO_BATCHES_STREAM, bytes_of,
 };
 use crate::kinds::{
     ANEW, ANEW_STREAM, FLOATS, KEPT, KEPT_STREAM, NULLS, NULLS_STREAM, NUMBERS, NUMBERS_STREAM,
     SLICED, SLICED_STREAM, STRINGS, STRINGS_STREAM, THREE, THREE_STREAM, TIMES, TIMES_STREAM,
     VIEWS, VIEWS_STREAM, WASTE, WASTE_STREAM,
 };
-use ipc_schema::{Feature, IpcError, MemorySink, MemorySource, OutOfSpecKind};
+use ipc_schema::{Feature, FlatError, IpcError, MemorySink, MemorySource, OutOfSpecKind};
 use ipc_tool::{Summary, transcode};
 use std::alloc::{AllocError, Global};
 use std::process::Abort;
@@ -174,32 +175,56 @@ const CASES: &[Case] = &[
         ..EMPTY
     },
     Case {
-        title: "a pair of the footer itself is not carried yet",
-        file: &[
-            Part::Magic,
-            Part::Schema,
+        title: "a pair of the footer itself is put on the schema's message",
+        file: PAIR_OF_FOOTER,
+        length: 668,
+        answer: Ok(Summary {
+            batches: 1,
+            rows: 3,
+            bytes: 480,
+        }),
+        stream: &[
+            Part::SchemaWithPair,
             Part::OneNull,
             Part::OneNullBody,
             Part::EndMark,
-            Part::OneBlockWithPair,
         ],
+        added: 480,
+        ..WHOLE
+    },
+    Case {
+        title: "a pair of the footer itself is no text",
+        file: PAIR_OF_FOOTER,
         length: 668,
-        answer: Err(IpcError::Unsupported(Feature::NotYet)),
+        changes: &[(656, 255)],
+        answer: Err(IpcError::OutOfSpec(OutOfSpecKind::InvalidFlatbufferFooter(FlatError::Utf8))),
         added: 0,
         ..WHOLE
     },
     Case {
-        title: "a pair of a batch's message itself is not carried yet",
-        file: &[
-            Part::Magic,
+        title: "a pair of a batch's message itself is put on that message",
+        file: PAIR_OF_MESSAGE,
+        length: 674,
+        answer: Ok(Summary {
+            batches: 1,
+            rows: 3,
+            bytes: 480,
+        }),
+        stream: &[
             Part::Schema,
             Part::OneNullWithPair,
             Part::OneNullBody,
             Part::EndMark,
-            Part::BlockOfPair,
         ],
+        added: 480,
+        ..WHOLE
+    },
+    Case {
+        title: "a pair of a batch's message itself is no text",
+        file: PAIR_OF_MESSAGE,
         length: 674,
-        answer: Err(IpcError::Unsupported(Feature::NotYet)),
+        changes: &[(344, 255)],
+        answer: Err(IpcError::OutOfSpec(OutOfSpecKind::InvalidFlatbufferMessage(FlatError::Utf8))),
         added: 136,
         ..WHOLE
     },

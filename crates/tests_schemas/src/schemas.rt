@@ -35,7 +35,7 @@ fn a_message_has_its_text(rt: HostRuntime) -> Result<(), Fail> {
 
 fn message_again(alloc: Global, message: &str) -> Result<Vec<u8>, Fail> {
     let (schema, ipc_schema, metadata) = read_message(alloc, message)?;
-    Ok(schema_message(alloc, &schema, &ipc_schema, metadata.as_ref())?)
+    Ok(schema_message(alloc, &schema, &ipc_schema, metadata.as_ref(), None)?)
 }
 
 #[test]

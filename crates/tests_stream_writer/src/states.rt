@@ -1,6 +1,7 @@
 //! Calls out of turn, and behind a put that failed.
 use crate::batches::{of_numbers, of_texts, write_numbers, writer};
 use arrow_spec::IpcError;
+use arrow_types::Metadata;
 use ipc_fields::IpcField;
 use ipc_io::MemorySink;
 use ipc_stream_writer::StreamWriter;
@@ -70,5 +71,30 @@ fn other_fields_are_refused(rt: HostRuntime) -> Result<(), Fail> {
     let refused = write_numbers(alloc, &mut writer, Some(others.as_slice()))?;
     assert!(rt; matches!(refused, Err(IpcError::SchemaMismatch)));
     write_numbers(alloc, &mut writer, Some(own.as_slice()))??;
+    Ok(())
+}
+
+/// Gives the message of the schema the pair k and v.
+fn give_pair(
+    alloc: Global,
+    writer: &mut StreamWriter<MemorySink>,
+) -> Result<Result<(), IpcError>, Fail> {
+    let mut pairs = Metadata::new(alloc);
+    drop(pairs.insert(String::from_str(alloc, "k")?, String::from_str(alloc, "v")?)?);
+    if pairs.len() > 1_048_576 {
+        return Err("one pair".into());
+    }
+    Ok(writer.set_message_metadata(pairs))
+}
+
+#[test]
+fn message_of_the_schema_has_pairs(rt: HostRuntime) -> Result<(), Fail> {
+    let alloc = rt.alloc();
+    let mut writer = writer(alloc, WriteOptions::default(), None)?;
+    give_pair(alloc, &mut writer)??;
+    writer.start(&of_numbers(alloc)?, None)?;
+    assert!(rt; is_out_of_turn(give_pair(alloc, &mut writer)?));
+    let sink = writer.into_inner();
+    assert!(rt; sink.bytes().len() == 192);
     Ok(())
 }

@@ -3,8 +3,9 @@ use crate::large_parts::{
     BATCHES_FRONT, BATCHES_PIECE, BLOCKS_BACK, BLOCKS_FRONT, BLOCKS_PIECE, NUMBERS_BACK,
     NUMBERS_FRONT, NUMBERS_PIECE, TEXT_BACK, TEXT_FRONT, TEXT_PIECE,
 };
-use ipc_schema::{MemorySink, MemorySource};
+use ipc_schema::{MemorySink, MemorySource, PutError, Sink};
 use ipc_tool::{Summary, transcode};
+use ipc_transcode::{Encoding, transcode_as};
 use std::alloc::Global;
 use std::test::Fail;
 
@@ -125,5 +126,51 @@ fn a_thousand_blocks(rt: HostRuntime) -> Result<(), Fail> {
         bytes: 216_144,
     };
     assert!(rt; gives(rt.alloc(), &BLOCKS, &BATCHES, summary)?);
+    Ok(())
+}
+
+/// A sink over memory that notes the longest put.
+#[derive(Drop)]
+struct NotingSink {
+    sink: MemorySink,
+    longest: usize,
+}
+
+impl Sink for NotingSink {
+    ghost use Rattle.std.specs.Prelude.{Some};
+
+    ghost written = { λ s. Some s.sink.written };
+
+    ghost faults = { λ s. s.sink.calls.faults };
+
+    ghost wants = { λ s. s.sink.wants };
+
+    fn put(&mut self, bytes: &[u8]) -> Result<(), PutError> {
+        self.longest = self.longest.max(bytes.len());
+        self.sink.put(bytes)
+    }
+}
+
+/// The longest put of a file's stream as hex text, where the text is the stream's.
+fn longest_put(alloc: Global, file: &Repeated, stream: &Repeated) -> Result<Option<usize>, Fail> {
+    let mut source = MemorySource::new(bytes_of(alloc, file)?, Vec::new(alloc), Vec::new(alloc));
+    let sink = MemorySink::new(alloc, None, Vec::new(alloc));
+    let mut sink = NotingSink { sink, longest: 0 };
+    transcode_as(alloc, &mut source, &mut sink, None, None, Encoding::HexText)?;
+    let text = hex::encode(alloc, bytes_of(alloc, stream)?)?;
+    if sink.sink.bytes() != text.as_bytes() {
+        return Ok(None);
+    }
+    Ok(Some(sink.longest))
+}
+
+#[test]
+fn hex_text_of_a_large_body_in_pieces(rt: HostRuntime) -> Result<(), Fail> {
+    let stream = Repeated {
+        before: b"",
+        back: END_MARK,
+        ..NUMBERS
+    };
+    assert!(rt; longest_put(rt.alloc(), &NUMBERS, &stream)? == Some(65_536));
     Ok(())
 }

@@ -3,7 +3,7 @@ use arrow_arrays::{
     Array, BatchError, RecordBatch, extend_from_lengths, is_carried, new_empty_array,
 };
 use arrow_buffers::{ArrayError, Bitmap, Buffer, PrimitiveArray};
-use arrow_types::{ArrowDataType, ArrowSchema, Field, TimeUnit};
+use arrow_types::{ArrowDataType, ArrowSchema, Field, Metadata, TimeUnit};
 use std::alloc::{AllocError, Global};
 use std::rc::Rc;
 use std::test::Fail;
@@ -91,6 +91,31 @@ fn a_copy_of_a_batch_is_equal(rt: HostRuntime) -> Result<(), Fail> {
     let copy = batch.try_clone(rt.alloc())?;
     assert!(rt; copy == batch);
     assert!(rt; copy.len() == 3 && copy.width() == 1 && !copy.is_empty());
+    Ok(())
+}
+
+/// Whether a batch has pairs once they are put, differs from one without, and is it again once they are gone.
+fn keeps_pairs(alloc: Global, batch: RecordBatch) -> Result<bool, Fail> {
+    let mut pairs = Metadata::new(alloc);
+    drop(pairs.insert(String::from_str(alloc, "k")?, String::from_str(alloc, "v")?)?);
+    if pairs.len() > 1_048_576 {
+        return Err("one pair".into());
+    }
+    let plain = batch.try_clone(alloc)?;
+    let marked = batch.with_custom_metadata(pairs);
+    let is_marked = marked.custom_metadata().is_some() && marked != plain;
+    let copy = marked.try_clone(alloc)?;
+    let is_copied = copy == marked;
+    drop(copy);
+    let again = marked.with_custom_metadata(Metadata::new(alloc));
+    let is_again = again.custom_metadata().is_none() && again == plain;
+    Ok(is_marked && is_copied && is_again)
+}
+
+#[test]
+fn a_batch_keeps_its_pairs(rt: HostRuntime) -> Result<(), Fail> {
+    let batch = batch(rt.alloc(), 3, true)?.ok().ok_or("a batch")?;
+    assert!(rt; keeps_pairs(rt.alloc(), batch)?);
     Ok(())
 }
 

@@ -163,7 +163,6 @@ const FEATURES: &[(Feature, &str)] = &[
     (Feature::Compression, "Compression"),
     (Feature::UnionNulls, "UnionNulls"),
     (Feature::BigEndianAppend, "BigEndianAppend"),
-    (Feature::NotYet, "NotYet"),
 ];
 
 const COUNTED: &[(Counted, &str)] = &[

@@ -7,16 +7,14 @@ use Rattle.arrow_spec.specs.declared.error.IpcError.TheVariants.{Projection}
 use Rattle.arrow_spec.specs.Kinds as kind
 use Rattle.arrow_spec.specs.Kinds.{Kind, Fields, Metadata, none, field, width}
 use Rattle.arrow_spec.specs.Columns.{stands_in}
-use Rattle.arrow_spec.specs.Features.{chosen_floats}
 use Rattle.arrow_spec.specs.Files.{columns_right, fields_as_asked, fields_asked, with_field_at, wrong_columns}
 use Rattle.arrow_spec.specs.Schema.{Before, has_distinct_names, has_name}
 use Rattle.arrow_spec.specs.WrittenSchemas.{FieldsFit, SchemaMayBeWritten, after_fields, after_kind, pairs_for}
 use Rattle.arrow_spec.proofs.PairOrder.{key_same}
 use Rattle.arrow_spec.proofs.ReadPairs.{is_true, through}
 use Rattle.transcode_laws.specs.Laws.{AskedSchemaIsSendable}
-use Rattle.transcode_laws.proofs.AskedFeatures.{floats_asked}
+use Rattle.transcode_laws.proofs.AskedFloats.{floats_asked, no_floats}
 use Rattle.transcode_laws.proofs.ChosenColumns.{stands_first, stands_later}
-use Rattle.transcode_laws.proofs.SentFields.{no_floats}
 
 -- ── each column once ──
 
@@ -213,11 +211,6 @@ asked_may fs pairs (Some cs) may right =
       distinct = asked_distinct fs [] cs may.distinct new;
     }
 
-asked_readable : (fs : Fields) (columns : Option (List ℕ)) → chosen_floats None (fields_as_asked columns fs) 0 ≡ [] → chosen_floats columns fs 0 ≡ []
-asked_readable fs None h = h
-asked_readable fs (Some cs) h = floats_asked fs cs h
-
 pub asked_sendable : AskedSchemaIsSendable
-asked_sendable s columns may right chosen =
-    let readable = no_floats (fields_as_asked columns s.fields) 0 chosen in
-    (record { chosen = chosen; readable = readable; may = asked_may s.fields s.metadata columns may right }, asked_readable s.fields columns readable)
+asked_sendable s columns may right readable =
+    record { readable = no_floats (fields_as_asked columns s.fields) 0 (floats_asked s.fields columns readable); may = asked_may s.fields s.metadata columns may right }

@@ -3,7 +3,6 @@ use Rattle.std.proofs.Common.{◌≡◌, ℕ, List, [], ◌∷◌, Option, Ok, E
 use Rattle.arrow_spec.specs.declared.error.IpcError.TheVariants.{TooLarge}
 use Rattle.arrow_spec.specs.declared.message.MetadataVersion.{MetadataVersion}
 use Rattle.arrow_spec.specs.Readings.{bind, ◌>>=◌}
-use Rattle.arrow_spec.specs.Built.{Built}
 use Rattle.arrow_spec.specs.Counts.{RecordBatch, first_place}
 use Rattle.arrow_spec.specs.Kinds.{Fields}
 use Rattle.arrow_spec.specs.WrittenSchemas.{CustomMayBeWritten}
@@ -45,13 +44,13 @@ batch_sendable a c v tables body left x fit custom is known h = (read_may_be_wri
 -- ── a block ──
 
 -- a block that is read as a batch, and sent where its message may be, is sent where the batch may be written
-pub block_is_sent : (built : Built) (b : List ℕ) (a : Asked) (c : Known) (block : FileBlock) (left : Option ℕ) (x : WrittenBatch) → batch_of built.custom to_read b a block left ≡ Ok (table_batch x) → batch_of built.custom to_send b a block left ≡ (if_sent to_send (may_be_sent (written_batch x)) >>= λ size. Ok (table_batch x)) → BatchMayBeWritten (stream_fields a) c x
-    → IsSentBatch built b a c block left x
+pub block_is_sent : (b : List ℕ) (a : Asked) (c : Known) (block : FileBlock) (left : Option ℕ) (x : WrittenBatch) → batch_of to_read b a block left ≡ Ok (table_batch x) → batch_of to_send b a block left ≡ (if_sent to_send (may_be_sent (written_batch x)) >>= λ size. Ok (table_batch x)) → BatchMayBeWritten (stream_fields a) c x
+    → IsSentBatch b a c block left x
 unfolding bind
-block_is_sent built b a c block left x read sent fit = record { read = read; sent = sent ∙ ap (λ k. if_sent to_send k >>= λ u. Ok (table_batch x)) fit.size; fit = fit }
+block_is_sent b a c block left x read sent fit = record { read = read; sent = sent ∙ ap (λ k. if_sent to_send k >>= λ u. Ok (table_batch x)) fit.size; fit = fit }
 
 -- and is refused where its message is too large
-pub block_too_large : (built : Built) (b : List ℕ) (a : Asked) (block : FileBlock) (left : Option ℕ) (x : WrittenBatch) → batch_of built.custom to_send b a block left ≡ (if_sent to_send (may_be_sent (written_batch x)) >>= λ size. Ok (table_batch x)) → may_be_sent (written_batch x) ≡ false
-    → batch_of built.custom to_send b a block left ≡ Err (TooLarge ∷ [])
+pub block_too_large : (b : List ℕ) (a : Asked) (block : FileBlock) (left : Option ℕ) (x : WrittenBatch) → batch_of to_send b a block left ≡ (if_sent to_send (may_be_sent (written_batch x)) >>= λ size. Ok (table_batch x)) → may_be_sent (written_batch x) ≡ false
+    → batch_of to_send b a block left ≡ Err (TooLarge ∷ [])
 unfolding bind
-block_too_large built b a block left x sent large = sent ∙ ap (λ k. if_sent to_send k >>= λ u. Ok (table_batch x)) large
+block_too_large b a block left x sent large = sent ∙ ap (λ k. if_sent to_send k >>= λ u. Ok (table_batch x)) large

@@ -9,10 +9,8 @@ pub mod Streams
 pub mod Refusals
 pub mod Numbers
 pub mod Headers
-pub mod SoFar
-pub mod Everything
-pub mod SentFields
+pub mod Sent
 pub mod ReadTables
 pub mod ChosenColumns
-pub mod AskedFeatures
+pub mod AskedFloats
 pub mod AskedSchemas

@@ -1,12 +1,10 @@
 -- What refuses a part of a file refuses the file where it is to be sent.
-use Rattle.std.proofs.Common.{◌≡◌, ℕ, List, [], ◌∷◌, ◌++◌, length, None, Ok, Err, refl, ◌∙◌, subst, append-nil, true, not}
-use Rattle.std.specs.Prelude.{◌||◌, ◌&&◌}
+use Rattle.std.proofs.Common.{◌≡◌, ℕ, List, [], ◌∷◌, ◌++◌, length, None, Ok, Err, refl, ◌∙◌, subst, append-nil}
 use Rattle.arrow_spec.specs.declared.error.IpcError.{IpcError}
 use Rattle.arrow_spec.specs.Kinds.{Metadata}
-use Rattle.arrow_spec.specs.Built.{Built}
-use Rattle.arrow_spec.specs.Readings.{Reading, Refuses, free_of, is_absent, refusals}
+use Rattle.arrow_spec.specs.Readings.{Reading, Refuses, free_of, refusals}
 use Rattle.arrow_spec.specs.Arrays.{Dictionaries}
-use Rattle.arrow_spec.specs.Files.{FileBlock, Meta, Request, batch_of, custom_of, dictionaries_of, dictionaries_read, file_reading, has_any, meta_of, to_send}
+use Rattle.arrow_spec.specs.Files.{FileBlock, Meta, Request, batch_of, custom_of, dictionaries_of, dictionaries_read, file_reading, meta_of, to_send}
 use Rattle.arrow_spec.proofs.Causes.{refuses_second}
 use Rattle.ipc_write_laws.specs.Streams.{WrittenBatch}
 use Rattle.dictionary_laws.specs.Sending.{Columns}
@@ -28,23 +26,23 @@ refuses_whole e (Err es) whole is h = rw (is es refl) h
 refuses_whole e (Ok x) whole is h = none_refuses e (refusals whole) h
 
 -- what refuses the footer
-pub meta_refuses : (built : Built) (e : IpcError) (b : List ℕ) (r : Request) → (built.requests || (is_absent r.columns && is_absent r.limit)) ≡ true → Refuses e (refusals (meta_of b)) → Refuses e (refusals (file_reading built to_send b r None))
-meta_refuses built e b r known h = refuses_whole e (meta_of b) _ (λ es is. meta_refused built to_send b r None es known is) h
+pub meta_refuses : (e : IpcError) (b : List ℕ) (r : Request) → Refuses e (refusals (meta_of b)) → Refuses e (refusals (file_reading to_send b r None))
+meta_refuses e b r h = refuses_whole e (meta_of b) _ (λ es is. meta_refused to_send b r None es is) h
 
 -- what refuses the footer's pairs
-pub custom_refuses : (built : Built) (e : IpcError) (b : List ℕ) (r : Request) (meta : Meta) → (built.requests || (is_absent r.columns && is_absent r.limit)) ≡ true → meta_of b ≡ Ok meta → Refuses e (refusals (custom_of built.custom b)) → Refuses e (refusals (file_reading built to_send b r None))
-custom_refuses built e b r meta known is h = refuses_whole e (custom_of built.custom b) _ (λ es found. custom_refused built to_send b r None meta es known is found) h
+pub custom_refuses : (e : IpcError) (b : List ℕ) (r : Request) (meta : Meta) → meta_of b ≡ Ok meta → Refuses e (refusals (custom_of b)) → Refuses e (refusals (file_reading to_send b r None))
+custom_refuses e b r meta is h = refuses_whole e (custom_of b) _ (λ es found. custom_refused to_send b r None meta es is found) h
 
 -- what refuses the dictionaries refuses the file, and the file up to its first block
-pub dictionaries_refuse_so : (built : Built) (e : IpcError) (b : List ℕ) (r : Request) (meta : Meta) (custom : Metadata) → IsSentFile built b r meta custom → (built.dictionaries || not (has_any (dictionaries_read meta.blocks meta.dictionaries))) ≡ true
-    → Refuses e (refusals (dictionaries_of b meta [] (dictionaries_read meta.blocks meta.dictionaries))) → Refuses e (refusals (file_reading built to_send b r None)) × StopsBehind built b r 0 e
-dictionaries_refuse_so built e b r meta custom file known h =
+pub dictionaries_refuse_so : (e : IpcError) (b : List ℕ) (r : Request) (meta : Meta) (custom : Metadata) → IsSentFile b r meta custom
+    → Refuses e (refusals (dictionaries_of b meta [] (dictionaries_read meta.blocks meta.dictionaries))) → Refuses e (refusals (file_reading to_send b r None)) × StopsBehind b r 0 e
+dictionaries_refuse_so e b r meta custom file h =
     let part = dictionaries_of b meta [] (dictionaries_read meta.blocks meta.dictionaries) in
-    (refuses_whole e part _ (λ es is. (dictionaries_refuse built b r meta custom es file known is).0) h, refuses_whole e part _ (λ es is. (dictionaries_refuse built b r meta custom es file known is).1) h)
+    (refuses_whole e part _ (λ es is. (dictionaries_refuse b r meta custom es file is).0) h, refuses_whole e part _ (λ es is. (dictionaries_refuse b r meta custom es file is).1) h)
 
 -- what refuses a block behind those that were sent refuses the file, and the file up to it
-pub block_refuses : (built : Built) (e : IpcError) (b : List ℕ) (r : Request) (meta : Meta) (custom : Metadata) (d : Dictionaries) (columns : Columns) (blocks : List FileBlock) (block : FileBlock) (rest : List FileBlock) (xs : List WrittenBatch) → IsSentFile built b r meta custom → HasRead built b meta d
-    → meta.blocks ≡ blocks ++ block ∷ rest → SentSoFar built b columns (asked_of b meta r d) blocks r.limit xs → Refuses e (refusals (batch_of built.custom to_send b (asked_of b meta r d) block (left_behind r.limit xs))) → Refuses e (refusals (file_reading built to_send b r None)) × StopsBehind built b r (length blocks) e
-block_refuses built e b r meta custom d columns blocks block rest xs file has parts s h =
-    let part = batch_of built.custom to_send b (asked_of b meta r d) block (left_behind r.limit xs) in
-    (refuses_whole e part _ (λ es is. (file_refused built b r meta custom d columns blocks block rest xs es file has parts s is).0) h, refuses_whole e part _ (λ es is. (file_refused built b r meta custom d columns blocks block rest xs es file has parts s is).1) h)
+pub block_refuses : (e : IpcError) (b : List ℕ) (r : Request) (meta : Meta) (custom : Metadata) (d : Dictionaries) (columns : Columns) (blocks : List FileBlock) (block : FileBlock) (rest : List FileBlock) (xs : List WrittenBatch) → IsSentFile b r meta custom → HasRead b meta d
+    → meta.blocks ≡ blocks ++ block ∷ rest → SentSoFar b columns (asked_of b meta r d) blocks r.limit xs → Refuses e (refusals (batch_of to_send b (asked_of b meta r d) block (left_behind r.limit xs))) → Refuses e (refusals (file_reading to_send b r None)) × StopsBehind b r (length blocks) e
+block_refuses e b r meta custom d columns blocks block rest xs file has parts s h =
+    let part = batch_of to_send b (asked_of b meta r d) block (left_behind r.limit xs) in
+    (refuses_whole e part _ (λ es is. (file_refused b r meta custom d columns blocks block rest xs es file has parts s is).0) h, refuses_whole e part _ (λ es is. (file_refused b r meta custom d columns blocks block rest xs es file has parts s is).1) h)

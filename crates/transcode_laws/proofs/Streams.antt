@@ -7,7 +7,6 @@ use Rattle.std.proofs.lemmas.List.Concat.{flat_map-cons}
 use Rattle.arrow_spec.specs.Readings.{meaning}
 use Rattle.arrow_spec.specs.Flat.{little}
 use Rattle.arrow_spec.specs.Kinds.{Fields, Metadata, bare, numbered}
-use Rattle.arrow_spec.specs.Built.{Built}
 use Rattle.arrow_spec.specs.Arrays.{Dictionaries}
 use Rattle.arrow_spec.specs.Features.{chosen_floats}
 use Rattle.arrow_spec.specs.Sent.{all_may_be_sent, dictionary_messages, may_be_sent, schema_message}
@@ -38,14 +37,14 @@ values_and_batches fs c [] xs h k = batches_may fs c xs k
 values_and_batches fs c (v ∷ vs) xs h k = (h.0, values_and_batches fs (with_message (values v) c) vs xs h.1 k)
 
 -- a schema that may be sent, and messages that may be written behind it
-schema_and : (built : Built) (b : List ℕ) (r : Request) (meta : Meta) (custom : Metadata) (xs : List WrittenMessage) → IsSentFile built b r meta custom → AllMayBeWritten (numbered (fields_as_asked r.columns meta.schema.fields) 0) none_known xs
+schema_and : (b : List ℕ) (r : Request) (meta : Meta) (custom : Metadata) (xs : List WrittenMessage) → IsSentFile b r meta custom → AllMayBeWritten (numbered (fields_as_asked r.columns meta.schema.fields) 0) none_known xs
     → MessagesMayBeWritten (numbered (fields_as_asked r.columns meta.schema.fields) 0) meta.schema.metadata custom xs
-schema_and built b r meta custom xs file may =
+schema_and b r meta custom xs file may =
     let fs = fields_as_asked r.columns meta.schema.fields in
     let twice : numbered (numbered fs 0) 0 ≡ numbered fs 0 = numbered_twice fs 0 0 in
     record {
       schema = (numbered_may fs meta.schema.metadata file.schema.may).0;
-      message = custom_may built.custom b custom file.pairs;
+      message = custom_may b custom file.pairs;
       ids = twice;
       readable = chosen_numbered None fs 0 0 ∙ file.schema.readable;
       size = ap (λ gs. may_be_sent (schema_message little gs meta.schema.metadata custom)) twice ∙ file.small;
@@ -53,26 +52,26 @@ schema_and built b r meta custom xs file may =
     }
 
 -- the values of the dictionaries may be written where none of their messages is too large
-values_may : (built : Built) (b : List ℕ) (r : Request) (meta : Meta) (custom : Metadata) (d : Dictionaries) (columns : Columns) → IsSentFile built b r meta custom → HasRead built b meta d → AllHaveColumns columns d (fields_as_asked r.columns meta.schema.fields) 0
+values_may : (b : List ℕ) (r : Request) (meta : Meta) (custom : Metadata) (d : Dictionaries) (columns : Columns) → IsSentFile b r meta custom → HasRead b meta d → AllHaveColumns columns d (fields_as_asked r.columns meta.schema.fields) 0
     → all_may_be_sent (dictionary_messages d (fields_as_asked r.columns meta.schema.fields)) ≡ true → AreRead columns d (fields_as_asked r.columns meta.schema.fields)
-values_may built b r meta custom d columns file has cs small =
+values_may b r meta custom d columns file has cs small =
     let fs = fields_as_asked r.columns meta.schema.fields in
     let floats : chosen_floats None (numbered fs 0) 0 ≡ [] = chosen_numbered None fs 0 0 ∙ file.schema.readable in
     let few = few_dictionaries fs meta.schema.metadata file.schema.may in
     values_read columns d fs (replaces_none b meta (dictionaries_read meta.blocks meta.dictionaries) d has.read) cs floats few small
 
 -- what was sent is a stream of messages that may be written
-pub messages_may : (built : Built) (b : List ℕ) (r : Request) (meta : Meta) (custom : Metadata) (d : Dictionaries) (columns : Columns) (blocks : List FileBlock) (xs : List WrittenBatch) → IsSentFile built b r meta custom → HasRead built b meta d
-    → ((xs ≡ [] → ⊥) → AllHaveColumns columns d (fields_as_asked r.columns meta.schema.fields) 0) → SentSoFar built b columns (asked_of b meta r d) blocks r.limit xs
+pub messages_may : (b : List ℕ) (r : Request) (meta : Meta) (custom : Metadata) (d : Dictionaries) (columns : Columns) (blocks : List FileBlock) (xs : List WrittenBatch) → IsSentFile b r meta custom → HasRead b meta d
+    → ((xs ≡ [] → ⊥) → AllHaveColumns columns d (fields_as_asked r.columns meta.schema.fields) 0) → SentSoFar b columns (asked_of b meta r d) blocks r.limit xs
     → MessagesMayBeWritten (numbered (fields_as_asked r.columns meta.schema.fields) 0) meta.schema.metadata custom (messages_sent columns (asked_of b meta r d) xs)
-messages_may built b r meta custom d columns blocks xs file has cs s = schema_and built b r meta custom (messages_sent columns (asked_of b meta r d) xs) file (by_batches xs cs s)
+messages_may b r meta custom d columns blocks xs file has cs s = schema_and b r meta custom (messages_sent columns (asked_of b meta r d) xs) file (by_batches xs cs s)
   where
-    by_batches : (ys : List WrittenBatch) → ((ys ≡ [] → ⊥) → AllHaveColumns columns d (fields_as_asked r.columns meta.schema.fields) 0) → SentSoFar built b columns (asked_of b meta r d) blocks r.limit ys → AllMayBeWritten (numbered (fields_as_asked r.columns meta.schema.fields) 0) none_known (messages_sent columns (asked_of b meta r d) ys)
+    by_batches : (ys : List WrittenBatch) → ((ys ≡ [] → ⊥) → AllHaveColumns columns d (fields_as_asked r.columns meta.schema.fields) 0) → SentSoFar b columns (asked_of b meta r d) blocks r.limit ys → AllMayBeWritten (numbered (fields_as_asked r.columns meta.schema.fields) 0) none_known (messages_sent columns (asked_of b meta r d) ys)
     by_batches [] ds t = tt
     by_batches (y ∷ ys) ds t =
         let fs = fields_as_asked r.columns meta.schema.fields in
         let a = asked_of b meta r d in
-        let read = values_may built b r meta custom d columns file has (ds (λ e. cc)) (dictionaries_small built b columns a blocks r.limit y ys t) in
+        let read = values_may b r meta custom d columns file has (ds (λ e. cc)) (dictionaries_small b columns a blocks r.limit y ys t) in
         values_and_batches (numbered fs 0) none_known (dictionary_values columns d fs) (y ∷ ys) read.may t.fit
 
 -- ── the table ──
@@ -103,39 +102,39 @@ same_table fs pairs custom ms xs h = ap (λ gs. table gs (flat_map batch_in ms))
 -- ── streams ──
 
 -- a front with a part of the file that it means
-front_with : (built : Built) (b : List ℕ) (r : Request) (meta : Meta) (custom : Metadata) (ms : List WrittenMessage) (xs : List WrittenBatch) → IsSentFile built b r meta custom
+front_with : (b : List ℕ) (r : Request) (meta : Meta) (custom : Metadata) (ms : List WrittenMessage) (xs : List WrittenBatch) → IsSentFile b r meta custom
     → MessagesMayBeWritten (numbered (fields_as_asked r.columns meta.schema.fields) 0) meta.schema.metadata custom ms → flat_map batch_in ms ≡ map table_batch xs
-    → meaning (file_reading built to_read b r (Some (length xs))) ≡ Some (bare_table (fields_as_asked r.columns meta.schema.fields) meta.schema.metadata custom xs)
-    → IsFrontOf built b r (stream_so_far (numbered (fields_as_asked r.columns meta.schema.fields) 0) meta.schema.metadata custom ms) (bare_table (fields_as_asked r.columns meta.schema.fields) meta.schema.metadata custom xs)
-front_with built b r meta custom ms xs file may same part =
+    → meaning (file_reading to_read b r (Some (length xs))) ≡ Some (bare_table (fields_as_asked r.columns meta.schema.fields) meta.schema.metadata custom xs)
+    → IsFrontOf b r (stream_so_far (numbered (fields_as_asked r.columns meta.schema.fields) 0) meta.schema.metadata custom ms) (bare_table (fields_as_asked r.columns meta.schema.fields) meta.schema.metadata custom xs)
+front_with b r meta custom ms xs file may same part =
     let fs = fields_as_asked r.columns meta.schema.fields in
     let means = messages_front_means (numbered fs 0) meta.schema.metadata custom ms may in
     record {
       not_ended = means.0;
       stream = means.1 ∙ ap Some (same_table fs meta.schema.metadata custom ms xs same);
-      file = subst (λ k. meaning (file_reading built to_read b r (Some k)) ≡ Some (bare_table fs meta.schema.metadata custom xs)) (sym (length-map xs table_batch)) part;
+      file = subst (λ k. meaning (file_reading to_read b r (Some k)) ≡ Some (bare_table fs meta.schema.metadata custom xs)) (sym (length-map xs table_batch)) part;
     }
 
 -- after some blocks the bytes are a front of the stream
 pub front_of : SentBlocksAreAFront
-front_of built b r meta custom d columns n xs file has cs s count =
+front_of b r meta custom d columns n xs file has cs s count =
     let a = asked_of b meta r d in
     let fs = fields_as_asked r.columns meta.schema.fields in
-    front_with built b r meta custom (messages_sent columns a xs) xs file (messages_may built b r meta custom d columns (take n meta.blocks) xs file has cs s) (batches_among columns a xs)
-    (subst (λ k. meaning (file_reading built to_read b r (Some k)) ≡ Some (bare_table fs meta.schema.metadata custom xs)) (sym count) (part_of_file built b r meta custom d columns n xs file has s))
+    front_with b r meta custom (messages_sent columns a xs) xs file (messages_may b r meta custom d columns (take n meta.blocks) xs file has cs s) (batches_among columns a xs)
+    (subst (λ k. meaning (file_reading to_read b r (Some k)) ≡ Some (bare_table fs meta.schema.metadata custom xs)) (sym count) (part_of_file b r meta custom d columns n xs file has s))
 
 -- after all blocks and the end mark they are the stream
 pub stream_of : SentFileIsItsStream
-stream_of built b r meta custom d columns xs file has cs s =
+stream_of b r meta custom d columns xs file has cs s =
     let a = asked_of b meta r d in
     let fs = fields_as_asked r.columns meta.schema.fields in
     let ms = messages_sent columns a xs in
-    let means = messages_stream_means (numbered fs 0) meta.schema.metadata custom ms (messages_may built b r meta custom d columns meta.blocks xs file has cs s) in
-    record { is_closed = means.0; stream = means.1 ∙ ap Some (same_table fs meta.schema.metadata custom ms xs (batches_among columns a xs)); file = whole_file built b r meta custom d columns xs file has s }
+    let means = messages_stream_means (numbered fs 0) meta.schema.metadata custom ms (messages_may b r meta custom d columns meta.blocks xs file has cs s) in
+    record { is_closed = means.0; stream = means.1 ∙ ap Some (same_table fs meta.schema.metadata custom ms xs (batches_among columns a xs)); file = whole_file b r meta custom d columns xs file has s }
 
 -- before the first block the schema's message is a front
 pub schema_front : SchemaIsAFront
-schema_front built b r meta custom file = front_with built b r meta custom [] [] file (schema_and built b r meta custom [] file tt) refl (ap meaning (no_batches built to_read b r meta custom file))
+schema_front b r meta custom file = front_with b r meta custom [] [] file (schema_and b r meta custom [] file tt) refl (ap meaning (no_batches to_read b r meta custom file))
 
 -- the first of some messages may be written where all may
 first_may : (fs : Fields) (c : Known) (xs ys : List WrittenMessage) → AllMayBeWritten fs c (xs ++ ys) → AllMayBeWritten fs c xs
@@ -144,12 +143,12 @@ first_may fs c (x ∷ xs) ys h = (h.0, first_may fs (with_message x c) xs ys h.1
 
 -- behind some messages of the dictionaries they are a front
 pub values_front : SentValuesAreAFront
-values_front built b r meta custom d columns first rest file has cs small whole =
+values_front b r meta custom d columns first rest file has cs small whole =
     let fs = fields_as_asked r.columns meta.schema.fields in
     let all : AllMayBeWritten (numbered fs 0) none_known (map values first ++ map values rest) =
-    subst (AllMayBeWritten (numbered fs 0) none_known) (ap (map values) whole ∙ map-append values first rest) (values_may built b r meta custom d columns file has cs small).may in
+    subst (AllMayBeWritten (numbered fs 0) none_known) (ap (map values) whole ∙ map-append values first rest) (values_may b r meta custom d columns file has cs small).may in
     let may = first_may (numbered fs 0) none_known (map values first) (map values rest) all in
-    front_with built b r meta custom (map values first) [] file (schema_and built b r meta custom (map values first) file may) (values_alone first) (ap meaning (no_batches built to_read b r meta custom file))
+    front_with b r meta custom (map values first) [] file (schema_and b r meta custom (map values first) file may) (values_alone first) (ap meaning (no_batches to_read b r meta custom file))
 
 -- ── one batch more ──
 

@@ -1,19 +1,18 @@
 -- Files whose fields are of any kinds, as they are read under a request to be sent as a stream.
-use Rattle.std.specs.Prelude.{◌≡◌, ℕ, suc, List, [], ◌∷◌, ◌++◌, length, map, not, slice_get, Option, Some, None, Ok, true, FitsSigned, ◌&&◌, ◌||◌}
+use Rattle.std.specs.Prelude.{◌≡◌, ℕ, suc, List, [], ◌∷◌, ◌++◌, length, map, slice_get, Option, Some, None, Ok, true, FitsSigned}
 use Rattle.std.specs.Int.{w64}
 use Rattle.std.specs.List.{AllByRecursion}
 use Rattle.arrow_spec.specs.declared.error.IpcError.{IpcError}
-use Rattle.arrow_spec.specs.Readings.{Refuses, is_absent, meaning, refusals}
+use Rattle.arrow_spec.specs.Readings.{Refuses, meaning, refusals}
 use Rattle.arrow_spec.specs.Flat.{little}
 use Rattle.arrow_spec.specs.Kinds.{Fields, Metadata, numbered, width}
-use Rattle.arrow_spec.specs.Built.{Built}
 use Rattle.arrow_spec.specs.Schema.{Schema}
 use Rattle.arrow_spec.specs.Counts.{RecordBatch, first_place}
 use Rattle.arrow_spec.specs.Arrays.{Dictionaries}
 use Rattle.arrow_spec.specs.Features.{chosen_floats}
 use Rattle.arrow_spec.specs.Messages.{BatchHeader}
 use Rattle.arrow_spec.specs.Sent.{columns_written, may_be_sent, stream_schema, written_as_asked}
-use Rattle.arrow_spec.specs.Files.{ArrowTable, Asked, FileBlock, Meta, Request, TableBatch, batch_of, batches_of, columns_right, custom_of, dictionaries_of, dictionaries_read, fields_as_asked, file_reading, has_any, meta_of, to_read, to_send, what_is_left}
+use Rattle.arrow_spec.specs.Files.{ArrowTable, Asked, FileBlock, Meta, Request, TableBatch, batch_of, batches_of, columns_right, custom_of, dictionaries_of, dictionaries_read, fields_as_asked, file_reading, meta_of, to_read, to_send, what_is_left}
 use Rattle.arrow_spec.specs.Streams.{closed, stream_table, unended}
 use Rattle.arrow_spec.specs.WrittenSchemas.{SchemaMayBeWritten}
 use Rattle.arrow_spec.specs.Bodies.{BufferFits, NodeFits}
@@ -63,9 +62,8 @@ left_behind left (x ∷ xs) = left_behind (what_is_left left x.rows) xs
 
 -- ── the schema ──
 
--- a schema that a stream takes, in whatever byte order: of built kinds that can be read, which may be written
-pub record IsSendable (built : Built) (s : Schema) : Type 0 where
-  pub chosen : built.chosen s.order s.fields ≡ true
+-- a schema that a stream takes, in whatever byte order: of kinds that can be read, which may be written
+pub record IsSendable (s : Schema) : Type 0 where
   pub readable : chosen_floats None s.fields 0 ≡ []
   pub may : SchemaMayBeWritten s.fields s.metadata
 
@@ -74,18 +72,16 @@ abbrev pub table_of : Fields → Metadata → Metadata → List TableBatch → A
 table_of fs pairs custom batches = record { metadata = pairs; custom = custom; fields = fs; batches = batches }
 
 -- a file whose schema under a request may be sent with these pairs of its footer
-pub record IsSentFile (built : Built) (b : List ℕ) (r : Request) (meta : Meta) (custom : Metadata) : Type 0 where
-  pub known : (built.requests || (is_absent r.columns && is_absent r.limit)) ≡ true
+pub record IsSentFile (b : List ℕ) (r : Request) (meta : Meta) (custom : Metadata) : Type 0 where
   pub read : meta_of b ≡ Ok meta
-  pub pairs : custom_of built.custom b ≡ Ok custom
+  pub pairs : custom_of b ≡ Ok custom
   pub columns : columns_right r.columns (width meta.schema.fields) ≡ Ok tt
   pub readable : chosen_floats r.columns meta.schema.fields 0 ≡ []
-  pub schema : IsSendable built (asked_schema meta.schema r.columns)
+  pub schema : IsSendable (asked_schema meta.schema r.columns)
   pub small : may_be_sent (stream_schema (fields_as_asked r.columns meta.schema.fields) meta.schema.metadata custom) ≡ true
 
--- the dictionaries that are read of it before its first block, where they are built
-pub record HasRead (built : Built) (b : List ℕ) (meta : Meta) (d : Dictionaries) : Type 0 where
-  pub known : (built.dictionaries || not (has_any (dictionaries_read meta.blocks meta.dictionaries))) ≡ true
+-- the dictionaries that are read of it before its first block
+pub record HasRead (b : List ℕ) (meta : Meta) (d : Dictionaries) : Type 0 where
   pub read : dictionaries_of b meta [] (dictionaries_read meta.blocks meta.dictionaries) ≡ Ok d
 
 -- ── batches ──
@@ -109,15 +105,15 @@ abbrev pub known_of : Columns → Asked → Known
 known_of columns a = with_messages (map values (dictionary_values columns a.dictionaries (asked_fields a))) none_known
 
 -- a block that is read, where rows are left to be read, and sent as a batch that may be written where so much is known
-pub record IsSentBatch (built : Built) (b : List ℕ) (a : Asked) (c : Known) (block : FileBlock) (left : Option ℕ) (x : WrittenBatch) : Type 0 where
-  pub read : batch_of built.custom to_read b a block left ≡ Ok (table_batch x)
-  pub sent : batch_of built.custom to_send b a block left ≡ Ok (table_batch x)
+pub record IsSentBatch (b : List ℕ) (a : Asked) (c : Known) (block : FileBlock) (left : Option ℕ) (x : WrittenBatch) : Type 0 where
+  pub read : batch_of to_read b a block left ≡ Ok (table_batch x)
+  pub sent : batch_of to_send b a block left ≡ Ok (table_batch x)
   pub fit : BatchMayBeWritten (stream_fields a) c x
 
 -- some blocks were read and sent as such batches, behind the values of the dictionaries
-pub record SentSoFar (built : Built) (b : List ℕ) (columns : Columns) (a : Asked) (blocks : List FileBlock) (left : Option ℕ) (xs : List WrittenBatch) : Type 0 where
-  pub read : batches_of built.custom to_read b a true blocks left ≡ Ok (map table_batch xs)
-  pub sent : batches_of built.custom to_send b a true blocks left ≡ Ok (map table_batch xs)
+pub record SentSoFar (b : List ℕ) (columns : Columns) (a : Asked) (blocks : List FileBlock) (left : Option ℕ) (xs : List WrittenBatch) : Type 0 where
+  pub read : batches_of to_read b a true blocks left ≡ Ok (map table_batch xs)
+  pub sent : batches_of to_send b a true blocks left ≡ Ok (map table_batch xs)
   pub fit : AllByRecursion (λ x. BatchMayBeWritten (stream_fields a) (known_of columns a) x) xs
 
 -- the messages behind the schema's: the dictionaries' values stand before the first batch, and nowhere where there is none
@@ -128,17 +124,17 @@ messages_sent columns a (x ∷ xs) = map values (dictionary_values columns a.dic
 -- ── streams ──
 
 -- one whole stream, closed, that means what the file means
-pub record IsStreamOf (built : Built) (b : List ℕ) (r : Request) (x : List ℕ) (table : ArrowTable) : Type 0 where
+pub record IsStreamOf (b : List ℕ) (r : Request) (x : List ℕ) (table : ArrowTable) : Type 0 where
   pub is_closed : closed x
   pub stream : stream_table x None ≡ Some table
-  pub file : meaning (file_reading built to_read b r None) ≡ Some table
+  pub file : meaning (file_reading to_read b r None) ≡ Some table
 
 -- an unended stream, with nothing behind its messages, that means the file's schema and first batches
-pub record IsFrontOf (built : Built) (b : List ℕ) (r : Request) (x : List ℕ) (table : ArrowTable) : Type 0 where
+pub record IsFrontOf (b : List ℕ) (r : Request) (x : List ℕ) (table : ArrowTable) : Type 0 where
   pub not_ended : unended x
   pub stream : stream_table x None ≡ Some table
-  pub file : meaning (file_reading built to_read b r (Some (length table.batches))) ≡ Some table
+  pub file : meaning (file_reading to_read b r (Some (length table.batches))) ≡ Some table
 
 -- the file's first n blocks and the one behind them are refused so where they are to be sent; a device's fault and want of memory come anywhere
-abbrev pub StopsBehind : Built → List ℕ → Request → ℕ → IpcError → Type 0
-StopsBehind built b r n e = Refuses e (refusals (file_reading built to_send b r (Some (suc n))))
+abbrev pub StopsBehind : List ℕ → Request → ℕ → IpcError → Type 0
+StopsBehind b r n e = Refuses e (refusals (file_reading to_send b r (Some (suc n))))

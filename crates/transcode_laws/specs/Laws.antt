@@ -1,35 +1,28 @@
 -- What holds of files that are sent. Each statement is the contract of a public function without a body (src/lib.rt).
-use Rattle.std.specs.Prelude.{◌≡◌, ◌⊎◌, ℕ, suc, List, [], ◌∷◌, ◌++◌, ◌||◌, length, map, not, take, Option, Some, None, Ok, Err, true, false}
+use Rattle.std.specs.Prelude.{◌≡◌, ◌⊎◌, ℕ, suc, List, [], ◌∷◌, ◌++◌, length, map, take, Option, Some, None, Ok, Err, true, false}
 use Rattle.arrow_spec.specs.declared.error.IpcError.{IpcError}
 use Rattle.arrow_spec.specs.declared.error.IpcError.TheVariants.{TooLarge}
 use Rattle.arrow_spec.specs.declared.message.MetadataVersion.{MetadataVersion}
-use Rattle.arrow_spec.specs.Readings.{◌>>=◌, IsAmong, meaning}
+use Rattle.arrow_spec.specs.Readings.{◌>>=◌, meaning}
 use Rattle.arrow_spec.specs.Flat.{Table}
 use Rattle.arrow_spec.specs.Arrays.{Dictionaries}
-use Rattle.arrow_spec.specs.Kinds.{Fields, Metadata, numbered, width}
-use Rattle.arrow_spec.specs.Built.{Built, everything}
-use Rattle.arrow_spec.specs.Features.{chosen_floats, feature_faults}
+use Rattle.arrow_spec.specs.Kinds.{Metadata, numbered, width}
+use Rattle.arrow_spec.specs.Features.{chosen_floats}
 use Rattle.arrow_spec.specs.Schema.{Schema, schema_of}
 use Rattle.arrow_spec.specs.Messages.{BatchHeader}
 use Rattle.arrow_spec.specs.Sent.{all_may_be_sent, dictionary_messages, may_be_sent}
-use Rattle.arrow_spec.specs.Files.{ArrowTable, Asked, FileBlock, Meta, Purpose, Request, TableBatch, batch_of, batch_of_tables, columns_right, dictionaries_of, dictionaries_read, fields_as_asked, file_reading, has_any, if_sent, record_batch_of, to_read, to_send}
+use Rattle.arrow_spec.specs.Files.{ArrowTable, Asked, FileBlock, Meta, Request, TableBatch, batch_of, batch_of_tables, columns_right, dictionaries_of, dictionaries_read, fields_as_asked, file_reading, if_sent, record_batch_of, to_read, to_send}
 use Rattle.arrow_spec.specs.WrittenSchemas.{AreSizes, CustomMayBeWritten, SchemaMayBeWritten, sizes_in}
 use Rattle.ipc_write_laws.specs.Streams.{WrittenBatch, bare_table, table_batch, written_batch}
 use Rattle.ipc_write_laws.specs.Messages.{BatchMayBeWritten, Known, WrittenValues, ended_stream, stream_so_far, values}
 use Rattle.dictionary_laws.specs.Sending.{AllAreKnown, AllHaveColumns, Columns, NoneReplaced, dictionary_values}
-use Rattle.transcode_laws.specs.Built.{so_far}
-use Rattle.transcode_laws.specs.Meaning.{file_table}
+use Rattle.arrow_spec.specs.Meaning.{file_table}
 use Rattle.transcode_laws.specs.Files.{HasRead, HeaderFits, IsFrontOf, IsReadBatch, IsSendable, IsSentFile, IsStreamOf, SentSoFar, asked_fields, asked_of, asked_schema, left_behind, messages_sent, stream_fields}
 
--- A schema that was read, of built kinds that can be read, is one that a stream takes.
+-- A schema that was read, of kinds that can be read, is one that a stream takes.
 abbrev pub ReadSchemaIsSendable : Type 0
-ReadSchemaIsSendable = (built : Built) (b : List ℕ) (t : Table) (s : Schema) → schema_of b t ≡ Ok s → built.chosen s.order s.fields ≡ true
-    → chosen_floats None s.fields 0 ≡ [] → AreSizes (sizes_in s.fields) → IsSendable built s
-
--- So is each schema that was read and is let through so far.
-abbrev pub SchemaSoFarIsSendable : Type 0
-SchemaSoFarIsSendable = (b : List ℕ) (t : Table) (s : Schema) → schema_of b t ≡ Ok s → so_far.chosen s.order s.fields ≡ true → AreSizes (sizes_in s.fields)
-    → IsSendable so_far s
+ReadSchemaIsSendable = (b : List ℕ) (t : Table) (s : Schema) → schema_of b t ≡ Ok s
+    → chosen_floats None s.fields 0 ≡ [] → AreSizes (sizes_in s.fields) → IsSendable s
 
 -- A batch that was read may be written where its message may be sent, behind the values of its dictionaries, and there it is sent.
 abbrev pub BatchIsSendable : Type 0
@@ -45,93 +38,81 @@ FileReplacesNone = (b : List ℕ) (meta : Meta) (blocks : List FileBlock) (d : D
 
 -- A file of which all blocks were sent means the table that is written: in it unions state their ids.
 abbrev pub WholeFileMeansItsTable : Type 0
-WholeFileMeansItsTable = (built : Built) (b : List ℕ) (r : Request) (meta : Meta) (custom : Metadata) (d : Dictionaries) (columns : Columns) (xs : List WrittenBatch)
-    → IsSentFile built b r meta custom → HasRead built b meta d → SentSoFar built b columns (asked_of b meta r d) meta.blocks r.limit xs
-    → meaning (file_reading built to_read b r None) ≡ Some (bare_table (fields_as_asked r.columns meta.schema.fields) meta.schema.metadata custom xs)
+WholeFileMeansItsTable = (b : List ℕ) (r : Request) (meta : Meta) (custom : Metadata) (d : Dictionaries) (columns : Columns) (xs : List WrittenBatch)
+    → IsSentFile b r meta custom → HasRead b meta d → SentSoFar b columns (asked_of b meta r d) meta.blocks r.limit xs
+    → meaning (file_reading to_read b r None) ≡ Some (bare_table (fields_as_asked r.columns meta.schema.fields) meta.schema.metadata custom xs)
 
 -- Where its first blocks were sent, they mean the table that is written.
 abbrev pub PartOfFileMeansItsTable : Type 0
-PartOfFileMeansItsTable = (built : Built) (b : List ℕ) (r : Request) (meta : Meta) (custom : Metadata) (d : Dictionaries) (columns : Columns) (n : ℕ) (xs : List WrittenBatch)
-    → IsSentFile built b r meta custom → HasRead built b meta d → SentSoFar built b columns (asked_of b meta r d) (take n meta.blocks) r.limit xs
-    → meaning (file_reading built to_read b r (Some n)) ≡ Some (bare_table (fields_as_asked r.columns meta.schema.fields) meta.schema.metadata custom xs)
+PartOfFileMeansItsTable = (b : List ℕ) (r : Request) (meta : Meta) (custom : Metadata) (d : Dictionaries) (columns : Columns) (n : ℕ) (xs : List WrittenBatch)
+    → IsSentFile b r meta custom → HasRead b meta d → SentSoFar b columns (asked_of b meta r d) (take n meta.blocks) r.limit xs
+    → meaning (file_reading to_read b r (Some n)) ≡ Some (bare_table (fields_as_asked r.columns meta.schema.fields) meta.schema.metadata custom xs)
 
 -- A block behind those that were sent is refused, and so are the file, and the file up to that block, where they are to be sent.
 abbrev pub BlockRefusesItsFile : Type 0
-BlockRefusesItsFile = (built : Built) (b : List ℕ) (r : Request) (meta : Meta) (custom : Metadata) (d : Dictionaries) (columns : Columns) (blocks : List FileBlock)
-    (block : FileBlock) (rest : List FileBlock) (xs : List WrittenBatch) (es : List IpcError) → IsSentFile built b r meta custom → HasRead built b meta d
-    → meta.blocks ≡ blocks ++ block ∷ rest → SentSoFar built b columns (asked_of b meta r d) blocks r.limit xs
-    → batch_of built.custom to_send b (asked_of b meta r d) block (left_behind r.limit xs) ≡ Err es
-    → (file_reading built to_send b r None ≡ Err es) × (file_reading built to_send b r (Some (suc (length blocks))) ≡ Err es)
+BlockRefusesItsFile = (b : List ℕ) (r : Request) (meta : Meta) (custom : Metadata) (d : Dictionaries) (columns : Columns) (blocks : List FileBlock)
+    (block : FileBlock) (rest : List FileBlock) (xs : List WrittenBatch) (es : List IpcError) → IsSentFile b r meta custom → HasRead b meta d
+    → meta.blocks ≡ blocks ++ block ∷ rest → SentSoFar b columns (asked_of b meta r d) blocks r.limit xs
+    → batch_of to_send b (asked_of b meta r d) block (left_behind r.limit xs) ≡ Err es
+    → (file_reading to_send b r None ≡ Err es) × (file_reading to_send b r (Some (suc (length blocks))) ≡ Err es)
 
 -- Dictionaries that are refused refuse the file, and the file up to its first block.
 abbrev pub DictionariesRefuseTheirFile : Type 0
-DictionariesRefuseTheirFile = (built : Built) (b : List ℕ) (r : Request) (meta : Meta) (custom : Metadata) (es : List IpcError) → IsSentFile built b r meta custom
-    → (built.dictionaries || not (has_any (dictionaries_read meta.blocks meta.dictionaries))) ≡ true
+DictionariesRefuseTheirFile = (b : List ℕ) (r : Request) (meta : Meta) (custom : Metadata) (es : List IpcError) → IsSentFile b r meta custom
     → dictionaries_of b meta [] (dictionaries_read meta.blocks meta.dictionaries) ≡ Err es
-    → (file_reading built to_send b r None ≡ Err es) × (file_reading built to_send b r (Some 1) ≡ Err es)
+    → (file_reading to_send b r None ≡ Err es) × (file_reading to_send b r (Some 1) ≡ Err es)
 
 -- So do dictionaries of which a message is too large, where the first block is not refused.
 abbrev pub LargeDictionariesRefuseTheirFile : Type 0
-LargeDictionariesRefuseTheirFile = (built : Built) (b : List ℕ) (r : Request) (meta : Meta) (custom : Metadata) (d : Dictionaries) (block : FileBlock) (rest : List FileBlock)
-    (x : TableBatch) → IsSentFile built b r meta custom → HasRead built b meta d → meta.blocks ≡ block ∷ rest
-    → batch_of built.custom to_send b (asked_of b meta r d) block r.limit ≡ Ok x
+LargeDictionariesRefuseTheirFile = (b : List ℕ) (r : Request) (meta : Meta) (custom : Metadata) (d : Dictionaries) (block : FileBlock) (rest : List FileBlock)
+    (x : TableBatch) → IsSentFile b r meta custom → HasRead b meta d → meta.blocks ≡ block ∷ rest
+    → batch_of to_send b (asked_of b meta r d) block r.limit ≡ Ok x
     → all_may_be_sent (dictionary_messages d (fields_as_asked r.columns meta.schema.fields)) ≡ false
-    → (file_reading built to_send b r None ≡ Err (TooLarge ∷ [])) × (file_reading built to_send b r (Some 1) ≡ Err (TooLarge ∷ []))
+    → (file_reading to_send b r None ≡ Err (TooLarge ∷ [])) × (file_reading to_send b r (Some 1) ≡ Err (TooLarge ∷ []))
 
 -- What is written of all blocks, and ended, is one stream that means what the file means. The dictionaries' columns are asked for where there is a batch.
 abbrev pub SentFileIsItsStream : Type 0
-SentFileIsItsStream = (built : Built) (b : List ℕ) (r : Request) (meta : Meta) (custom : Metadata) (d : Dictionaries) (columns : Columns) (xs : List WrittenBatch)
-    → IsSentFile built b r meta custom → HasRead built b meta d → ((xs ≡ [] → ⊥) → AllHaveColumns columns d (fields_as_asked r.columns meta.schema.fields) 0)
-    → SentSoFar built b columns (asked_of b meta r d) meta.blocks r.limit xs
-    → IsStreamOf built b r (ended_stream (numbered (fields_as_asked r.columns meta.schema.fields) 0) meta.schema.metadata custom (messages_sent columns (asked_of b meta r d) xs))
+SentFileIsItsStream = (b : List ℕ) (r : Request) (meta : Meta) (custom : Metadata) (d : Dictionaries) (columns : Columns) (xs : List WrittenBatch)
+    → IsSentFile b r meta custom → HasRead b meta d → ((xs ≡ [] → ⊥) → AllHaveColumns columns d (fields_as_asked r.columns meta.schema.fields) 0)
+    → SentSoFar b columns (asked_of b meta r d) meta.blocks r.limit xs
+    → IsStreamOf b r (ended_stream (numbered (fields_as_asked r.columns meta.schema.fields) 0) meta.schema.metadata custom (messages_sent columns (asked_of b meta r d) xs))
     (bare_table (fields_as_asked r.columns meta.schema.fields) meta.schema.metadata custom xs)
 
 -- What is written of the first n blocks is a front that means what they mean.
 abbrev pub SentBlocksAreAFront : Type 0
-SentBlocksAreAFront = (built : Built) (b : List ℕ) (r : Request) (meta : Meta) (custom : Metadata) (d : Dictionaries) (columns : Columns) (n : ℕ) (xs : List WrittenBatch)
-    → IsSentFile built b r meta custom → HasRead built b meta d → ((xs ≡ [] → ⊥) → AllHaveColumns columns d (fields_as_asked r.columns meta.schema.fields) 0)
-    → SentSoFar built b columns (asked_of b meta r d) (take n meta.blocks) r.limit xs → length xs ≡ n
-    → IsFrontOf built b r (stream_so_far (numbered (fields_as_asked r.columns meta.schema.fields) 0) meta.schema.metadata custom (messages_sent columns (asked_of b meta r d) xs))
+SentBlocksAreAFront = (b : List ℕ) (r : Request) (meta : Meta) (custom : Metadata) (d : Dictionaries) (columns : Columns) (n : ℕ) (xs : List WrittenBatch)
+    → IsSentFile b r meta custom → HasRead b meta d → ((xs ≡ [] → ⊥) → AllHaveColumns columns d (fields_as_asked r.columns meta.schema.fields) 0)
+    → SentSoFar b columns (asked_of b meta r d) (take n meta.blocks) r.limit xs → length xs ≡ n
+    → IsFrontOf b r (stream_so_far (numbered (fields_as_asked r.columns meta.schema.fields) 0) meta.schema.metadata custom (messages_sent columns (asked_of b meta r d) xs))
     (bare_table (fields_as_asked r.columns meta.schema.fields) meta.schema.metadata custom xs)
 
 -- What is written of the first messages of the dictionaries is a front that means the file's schema, where none of their messages is too large.
 abbrev pub SentValuesAreAFront : Type 0
-SentValuesAreAFront = (built : Built) (b : List ℕ) (r : Request) (meta : Meta) (custom : Metadata) (d : Dictionaries) (columns : Columns) (first rest : List WrittenValues)
-    → IsSentFile built b r meta custom → HasRead built b meta d → AllHaveColumns columns d (fields_as_asked r.columns meta.schema.fields) 0
+SentValuesAreAFront = (b : List ℕ) (r : Request) (meta : Meta) (custom : Metadata) (d : Dictionaries) (columns : Columns) (first rest : List WrittenValues)
+    → IsSentFile b r meta custom → HasRead b meta d → AllHaveColumns columns d (fields_as_asked r.columns meta.schema.fields) 0
     → all_may_be_sent (dictionary_messages d (fields_as_asked r.columns meta.schema.fields)) ≡ true
     → dictionary_values columns d (fields_as_asked r.columns meta.schema.fields) ≡ first ++ rest
-    → IsFrontOf built b r (stream_so_far (numbered (fields_as_asked r.columns meta.schema.fields) 0) meta.schema.metadata custom (map values first))
+    → IsFrontOf b r (stream_so_far (numbered (fields_as_asked r.columns meta.schema.fields) 0) meta.schema.metadata custom (map values first))
     (bare_table (fields_as_asked r.columns meta.schema.fields) meta.schema.metadata custom [])
 
 -- The schema's message alone is a front, whatever stands in the file's dictionaries and blocks.
 abbrev pub SchemaIsAFront : Type 0
-SchemaIsAFront = (built : Built) (b : List ℕ) (r : Request) (meta : Meta) (custom : Metadata) → IsSentFile built b r meta custom
-    → IsFrontOf built b r (stream_so_far (numbered (fields_as_asked r.columns meta.schema.fields) 0) meta.schema.metadata custom [])
+SchemaIsAFront = (b : List ℕ) (r : Request) (meta : Meta) (custom : Metadata) → IsSentFile b r meta custom
+    → IsFrontOf b r (stream_so_far (numbered (fields_as_asked r.columns meta.schema.fields) 0) meta.schema.metadata custom [])
     (bare_table (fields_as_asked r.columns meta.schema.fields) meta.schema.metadata custom [])
 
--- A schema may be written, and is sendable where it is let through so far, also in some of its fields, each once, in any order.
+-- A schema that may be written is sendable also in some of its fields, each once, in any order, where these can be read.
 abbrev pub AskedSchemaIsSendable : Type 0
 AskedSchemaIsSendable = (s : Schema) (columns : Option (List ℕ)) → SchemaMayBeWritten s.fields s.metadata → columns_right columns (width s.fields) ≡ Ok tt
-    → so_far.chosen s.order (fields_as_asked columns s.fields) ≡ true
-    → IsSendable so_far (asked_schema s columns) × (chosen_floats columns s.fields 0 ≡ [])
+    → chosen_floats columns s.fields 0 ≡ [] → IsSendable (asked_schema s columns)
 
--- What is named as not carried of the fields that are asked for, in the order asked, refuses the request.
-abbrev pub AskedFeaturesRefuse : Type 0
-AskedFeaturesRefuse = (fs : Fields) (columns : Option (List ℕ)) (e : IpcError) → columns_right columns (width fs) ≡ Ok tt
-    → IsAmong (feature_faults None (fields_as_asked columns fs) false) e → IsAmong (feature_faults columns fs false) e
-
--- ── what is built so far ──
+-- ── what is sent ──
 
 -- A file that means a table can be sent, or a message of it is too large.
 abbrev pub SentOrTooLarge : Type 0
-SentOrTooLarge = (b : List ℕ) (r : Request) (t : ArrowTable) → file_table b r ≡ Some t → (file_reading so_far to_send b r None ≡ Ok t)
-    ⊎ (file_reading so_far to_send b r None ≡ Err (TooLarge ∷ []))
+SentOrTooLarge = (b : List ℕ) (r : Request) (t : ArrowTable) → file_table b r ≡ Some t → (file_reading to_send b r None ≡ Ok t)
+    ⊎ (file_reading to_send b r None ≡ Err (TooLarge ∷ []))
 
 -- What is sent is what the file means.
 abbrev pub SentMeans : Type 0
-SentMeans = (b : List ℕ) (r : Request) (t : ArrowTable) → file_reading so_far to_send b r None ≡ Ok t → file_table b r ≡ Some t
-
--- What is read of a file as far as is built is read so with everything built.
-abbrev pub MeansSoWithEverything : Type 0
-MeansSoWithEverything = (built : Built) (purpose : Purpose) (b : List ℕ) (r : Request) (j : Option ℕ) (t : ArrowTable) → file_reading built purpose b r j ≡ Ok t
-    → file_reading everything purpose b r j ≡ Ok t
+SentMeans = (b : List ℕ) (r : Request) (t : ArrowTable) → file_reading to_send b r None ≡ Ok t → file_table b r ≡ Some t

@@ -1,26 +1,16 @@
 //! Files that are sent as streams: what is read of their dictionaries and blocks, and what is written of it. Each function's contract is a law, proved in `proofs/`.
 #![tactic(auto)]
 
-ghost use Rattle.transcode_laws.specs.Laws.{AskedFeaturesRefuse, AskedSchemaIsSendable, BatchIsSendable, BlockRefusesItsFile, DictionariesRefuseTheirFile, FileReplacesNone, LargeDictionariesRefuseTheirFile, MeansSoWithEverything, PartOfFileMeansItsTable, ReadSchemaIsSendable, SchemaIsAFront, SchemaSoFarIsSendable, SentBlocksAreAFront, SentFileIsItsStream, SentMeans, SentOrTooLarge, SentValuesAreAFront, WholeFileMeansItsTable};
+ghost use Rattle.transcode_laws.specs.Laws.{AskedSchemaIsSendable, BatchIsSendable, BlockRefusesItsFile, DictionariesRefuseTheirFile, FileReplacesNone, LargeDictionariesRefuseTheirFile, PartOfFileMeansItsTable, ReadSchemaIsSendable, SchemaIsAFront, SentBlocksAreAFront, SentFileIsItsStream, SentMeans, SentOrTooLarge, SentValuesAreAFront, WholeFileMeansItsTable};
 
 /// A schema that was read, in either byte order, is one that a stream takes (Arrow Columnar Format, "Schema message").
 pub fn read_schema_is_sendable()
     ensures { ReadSchemaIsSendable }
 {}
 
-/// So is a schema of columns of the kinds that are let through so far.
-pub fn schema_so_far_is_sendable()
-    ensures { SchemaSoFarIsSendable }
-{}
-
 /// Some fields of a schema that may be written, each once and in any order, are a schema that a stream takes.
 pub fn asked_schema_is_sendable()
     ensures { AskedSchemaIsSendable }
-{}
-
-/// What is named as not carried of the fields in the order asked refuses the columns asked for.
-pub fn asked_features_refuse()
-    ensures { AskedFeaturesRefuse }
 {}
 
 /// A batch that was read is sent where its message may be, and may be written there behind the values of its dictionaries (Arrow Columnar Format, "RecordBatch message").
@@ -86,9 +76,4 @@ pub fn sent_or_too_large()
 /// A file that is read to be sent is read as what it means.
 pub fn sent_means()
     ensures { SentMeans }
-{}
-
-/// A file that means a table as far as is built means the same table with everything built.
-pub fn means_so_with_everything()
-    ensures { MeansSoWithEverything }
 {}

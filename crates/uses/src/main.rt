@@ -1,10 +1,11 @@
-//! Five uses of `arrow_ipc`. An Arrow file comes on standard input: the first column of its first record batch and the rows of each batch are printed, a batch of numbers is written, by itself and as a stream, and the file is sent as a stream.
+//! Six uses of `arrow_ipc`. An Arrow file comes on standard input: the first column of its first record batch and the rows of each batch are printed, a batch of numbers is written, by itself, as a stream and as a file, and the file is sent as a stream.
 #![tactic(auto)]
 
 mod each_batch;
 mod file_to_stream;
 mod read_column;
 mod write_batch;
+mod write_file;
 mod write_stream;
 
 use arrow_ipc::io::MemorySource;
@@ -16,6 +17,7 @@ use std::alloc::Global;
 use std::io::Read;
 use std::process::ExitCode;
 use write_batch::message_of;
+use write_file::file_of_numbers;
 use write_stream::stream_of_numbers;
 
 /// The column, where the file has a batch.
@@ -35,10 +37,11 @@ fn input(rt: &HostRuntime) -> Result<Vec<u8>, &'static str> {
     }
 }
 
-/// How many bytes a stream of two numbers has.
-fn written(alloc: Global) -> Result<usize, IpcError> {
-    let sink = stream_of_numbers(alloc, vec![in alloc; 1, 3]?)?;
-    Ok(sink.bytes().len())
+/// How many bytes a stream and a file of two numbers have.
+fn written(alloc: Global) -> Result<(usize, usize), IpcError> {
+    let stream = stream_of_numbers(alloc, vec![in alloc; 1, 3]?)?;
+    let file = file_of_numbers(alloc, vec![in alloc; 1, 3]?)?;
+    Ok((stream.bytes().len(), file.bytes().len()))
 }
 
 /// The lengths of a message of two numbers, and of the stream of a file.
@@ -62,11 +65,11 @@ fn show_batches(rt: &HostRuntime, source: &mut MemorySource) -> Result<(), IpcEr
     Ok(())
 }
 
-/// The length of a stream that is written.
+/// The lengths of a stream and a file that are written.
 fn show_written(rt: &HostRuntime) -> Result<(), &'static str> {
     match written(rt.alloc()) {
-        Ok(length) => {
-            let _ = println!(rt; "a stream of {length} bytes that was written");
+        Ok((stream, file)) => {
+            let _ = println!(rt; "a stream of {stream} bytes that was written, a file of {file}");
             Ok(())
         }
         Err(error) => Err(error.name()),

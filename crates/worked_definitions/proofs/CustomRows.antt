@@ -1,7 +1,8 @@
 -- A file of an Int32 column with pairs of its footer and of its record message: what it means, how it is sent, and what refuses such pairs.
 use Rattle.std.proofs.Common.{◌≡◌, ℕ, ◌+◌, List, [], ◌∷◌, ◌++◌, length, Some, None, refl, true, pos}
 use Rattle.std.specs.Prelude.{codes}
-use Rattle.worked_definitions.proofs.Int32Table.{computed, int32_table, whole_table}
+use Rattle.worked_definitions.proofs.Int32Table.{computed, int32_table}
+use Rattle.arrow_spec.specs.Meaning.{file_table}
 use Rattle.worked_definitions.proofs.StreamLengths.{stream_length}
 use Rattle.arrow_spec.specs.declared.error.IpcError.{IpcError}
 use Rattle.arrow_spec.specs.declared.error.IpcError.TheVariants.{OutOfSpec}
@@ -15,7 +16,6 @@ use Rattle.arrow_spec.specs.Layout.{layout, table_head, u32, zeros}
 use Rattle.arrow_spec.specs.Sent.{SentMessage, batch_node, message, stream_schema}
 use Rattle.arrow_spec.specs.Framing.{body_bytes, message_bytes, padded_size}
 use Rattle.arrow_spec.specs.Footers.{footer_node}
-use Rattle.arrow_spec.specs.Built.{everything}
 use Rattle.arrow_spec.specs.Files.{ArrowTable, FileBlock, «all», batch_sent, batches_sent, file_reading, sent, to_read}
 use Rattle.arrow_spec.specs.Streams.{end_mark, stream_table}
 
@@ -60,12 +60,24 @@ broken = (codes "k", 255 ∷ []) ∷ []
 pub nothing_more : table_with [] [] ≡ int32_table
 nothing_more = refl
 
-pub both-table : whole_table (file_with one two) «all» ≡ Some (table_with one two)
+pub both-table : file_table (file_with one two) «all» ≡ Some (table_with one two)
 unfolding computed message_bytes layout table_head
 both-table = refl
 
+pub footer-table : file_table (file_with one []) «all» ≡ Some (table_with one [])
+unfolding computed message_bytes layout table_head
+footer-table = refl
+
+pub message-table : file_table (file_with [] two) «all» ≡ Some (table_with [] two)
+unfolding computed message_bytes layout table_head
+message-table = refl
+
+pub neither-table : file_table (file_with [] []) «all» ≡ Some int32_table
+unfolding computed message_bytes layout table_head
+neither-table = refl
+
 -- without columns and rows the pairs stay
-pub pairs_kept : whole_table (file_with one two) (record { columns = Some []; limit = Some 0 }) ≡ Some (record { metadata = []; custom = one; fields = none; batches = record { rows = 0; columns = []; custom = two } ∷ [] })
+pub pairs_kept : file_table (file_with one two) (record { columns = Some []; limit = Some 0 }) ≡ Some (record { metadata = []; custom = one; fields = none; batches = record { rows = 0; columns = []; custom = two } ∷ [] })
 unfolding computed message_bytes layout table_head
 pairs_kept = refl
 
@@ -86,7 +98,7 @@ stream_size = refl
 -- ── what refuses them ──
 
 abbrev why : List ℕ → List IpcError
-why b = refusals (file_reading everything to_read b «all» None)
+why b = refusals (file_reading to_read b «all» None)
 
 pub broken_footer : why (file_with broken broken) ≡ OutOfSpec (InvalidFlatbufferFooter Utf8) ∷ []
 unfolding computed message_bytes layout table_head

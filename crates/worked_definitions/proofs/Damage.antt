@@ -1,14 +1,14 @@
 use Rattle.std.proofs.Common.{◌≡◌, ◌^◌, ◌+◌, ◌-◌, ℕ, List, [], ◌∷◌, ◌++◌, length, take, drop, Some, None, refl}
 use Rattle.std.specs.Int.{to_le_bytes, w32, w64}
 use Rattle.worked_definitions.proofs.Vectors.{int32_file}
-use Rattle.worked_definitions.proofs.Int32Table.{computed, int32_table, whole_table}
+use Rattle.worked_definitions.proofs.Int32Table.{computed, int32_table}
+use Rattle.arrow_spec.specs.Meaning.{file_table}
 use Rattle.arrow_spec.specs.declared.error.IpcError.{IpcError}
 use Rattle.arrow_spec.specs.declared.error.IpcError.TheVariants.{OutOfSpec, Unsupported}
 use Rattle.arrow_spec.specs.declared.error.FlatError.TheVariants.{Number}
 use Rattle.arrow_spec.specs.declared.error.Feature.TheVariants as features
 use Rattle.arrow_spec.specs.declared.error.OutOfSpecKind.TheVariants as kinds
 use Rattle.arrow_spec.specs.Readings.{refusals}
-use Rattle.arrow_spec.specs.Built.{everything}
 use Rattle.arrow_spec.specs.Files.{file_reading, «all», to_send}
 
 -- int32_file with these bytes from a place on
@@ -16,7 +16,7 @@ abbrev pub int32_file_with : ℕ → List ℕ → List ℕ
 int32_file_with p bytes = take p int32_file ++ bytes ++ drop (p + length bytes) int32_file
 
 abbrev pub why : List ℕ → List IpcError
-why b = refusals (file_reading everything to_send b «all» None)
+why b = refusals (file_reading to_send b «all» None)
 
 pub version_3 : why (int32_file_with 172 (2 ∷ 0 ∷ [])) ≡ Unsupported features.Version ∷ []
 unfolding computed
@@ -26,7 +26,7 @@ pub version_6 : why (int32_file_with 172 (5 ∷ 0 ∷ [])) ≡ OutOfSpec (kinds.
 unfolding computed
 version_6 = refl
 
-pub version_4 : whole_table (int32_file_with 172 (3 ∷ 0 ∷ [])) «all» ≡ Some int32_table
+pub version_4 : file_table (int32_file_with 172 (3 ∷ 0 ∷ [])) «all» ≡ Some int32_table
 unfolding computed
 version_4 = refl
 

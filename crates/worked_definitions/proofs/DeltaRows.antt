@@ -2,7 +2,8 @@
 use Rattle.std.proofs.Common.{◌≡◌, ℕ, ◌+◌, List, [], ◌∷◌, ◌++◌, length, None, Ok, refl, Bool, true, false, pos}
 use Rattle.std.specs.Prelude.{codes, map}
 use Rattle.std.specs.List.{flat_map}
-use Rattle.worked_definitions.proofs.Int32Table.{computed, whole_table}
+use Rattle.worked_definitions.proofs.Int32Table.{computed}
+use Rattle.arrow_spec.specs.Meaning.{file_table}
 use Rattle.worked_definitions.proofs.Rows.{batches, why}
 use Rattle.arrow_spec.specs.declared.error.IpcError.TheVariants.{OutOfSpec}
 use Rattle.arrow_spec.specs.declared.error.OutOfSpecKind.TheVariants as kinds
@@ -30,13 +31,13 @@ pub record Whole : Type 0 where
 abbrev written_with : List FieldNode → List (List ℕ) → Written
 written_with nodes pieces = record { nodes = nodes; lengths = map length pieces; views = [] }
 
-abbrev node : ℕ → FieldNode
+abbrev pub node : ℕ → FieldNode
 node n = record { length = pos n; null_count = pos 0 }
 
 abbrev dictionary : ℕ → Bool → List FieldNode → List (List ℕ) → Whole
 dictionary id is_delta nodes pieces = record { message = dictionary_message id is_delta (written_with nodes pieces); body = body_bytes 0 pieces }
 
-abbrev batch : ℕ → List FieldNode → List (List ℕ) → Whole
+abbrev pub batch : ℕ → List FieldNode → List (List ℕ) → Whole
 batch rows nodes pieces = record { message = message 3 (batch_node rows (written_with nodes pieces)) (length (body_bytes 0 pieces)) []; body = body_bytes 0 pieces }
 
 abbrev bytes_of : Whole → List ℕ
@@ -61,7 +62,7 @@ abbrev footer : Fields → Fields → List Whole → List Whole → List ℕ
 footer fs written ds bs = layout (footer_node fs [] [] (blocks_from (schema_end written) ds) (blocks_from (after_all (schema_end written) ds) bs))
 
 -- a file of a schema's dictionaries and batches
-abbrev file_of : Fields → List Whole → List Whole → List ℕ
+abbrev pub file_of : Fields → List Whole → List Whole → List ℕ
 file_of fs ds bs = codes "ARROW1" ++ zeros 2 ++ framed fs (ds ++ bs) ++ end_mark ++ footer fs fs ds bs ++ u32 (length (footer fs fs ds bs)) ++ codes "ARROW1"
 
 abbrev stream_of : Fields → List Whole → List ℕ
@@ -93,7 +94,7 @@ parts_file = file_of texts base_and_delta (keys (2 ∷ 0 ∷ []) ∷ [])
 abbrev letter : List ℕ → Cell
 letter x = cells.text x
 
-pub parts_read : batches (whole_table parts_file «all») ≡ ((letter (codes "z") ∷ letter (codes "x") ∷ []) ∷ []) ∷ []
+pub parts_read : batches (file_table parts_file «all») ≡ ((letter (codes "z") ∷ letter (codes "x") ∷ []) ∷ []) ∷ []
 unfolding computed message_bytes layout table_head
 parts_read = refl
 
@@ -105,7 +106,7 @@ pub parts_sent : sent parts_file «all» None ≡ Ok (stream_schema texts [] [] 
 unfolding computed sent batch_sent batches_sent message_bytes layout table_head
 parts_sent = refl
 
-pub parts_streamed : stream_table (stream_of texts (base_and_delta ++ keys (2 ∷ 0 ∷ []) ∷ [])) None ≡ whole_table parts_file «all»
+pub parts_streamed : stream_table (stream_of texts (base_and_delta ++ keys (2 ∷ 0 ∷ []) ∷ [])) None ≡ file_table parts_file «all»
 unfolding computed message_bytes layout table_head
 parts_streamed = refl
 
@@ -118,7 +119,7 @@ delta_first = refl
 abbrev deltas_alone : List ℕ
 deltas_alone = file_of texts (letters 0 true (codes "x") ∷ letters 0 true [] ∷ letters 0 true (codes "yz") ∷ []) (keys (2 ∷ 0 ∷ []) ∷ [])
 
-pub alone_read : batches (whole_table deltas_alone «all») ≡ ((letter (codes "z") ∷ letter (codes "x") ∷ []) ∷ []) ∷ []
+pub alone_read : batches (file_table deltas_alone «all») ≡ ((letter (codes "z") ∷ letter (codes "x") ∷ []) ∷ []) ∷ []
 unfolding computed message_bytes layout table_head
 alone_read = refl
 
@@ -152,7 +153,7 @@ nested_file = file_of nested inner_and_outer (keys (1 ∷ 2 ∷ []) ∷ [])
 abbrev of_letter : List ℕ → Cell
 of_letter x = cells.struct (cells.also (letter x) cells.none)
 
-pub nested_read : batches (whole_table nested_file «all») ≡ ((of_letter (codes "y") ∷ of_letter (codes "x") ∷ []) ∷ []) ∷ []
+pub nested_read : batches (file_table nested_file «all») ≡ ((of_letter (codes "y") ∷ of_letter (codes "x") ∷ []) ∷ []) ∷ []
 unfolding computed message_bytes layout table_head
 nested_read = refl
 
@@ -161,7 +162,7 @@ pub nested_sent : sent nested_file «all» None ≡ Ok (stream_schema nested [] 
 unfolding computed sent batch_sent batches_sent message_bytes layout table_head
 nested_sent = refl
 
-pub nested_streamed : stream_table (stream_of nested (inner_and_outer ++ keys (1 ∷ 2 ∷ []) ∷ [])) None ≡ whole_table nested_file «all»
+pub nested_streamed : stream_table (stream_of nested (inner_and_outer ++ keys (1 ∷ 2 ∷ []) ∷ [])) None ≡ file_table nested_file «all»
 unfolding computed message_bytes layout table_head
 nested_streamed = refl
 

@@ -27,4 +27,4 @@ pub mod StreamPrefixes
 pub mod StreamLengths
 pub mod WrittenVectors
 pub mod WrittenRows
-pub mod BuiltRows
+pub mod NestedFloats

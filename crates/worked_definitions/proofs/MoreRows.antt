@@ -4,7 +4,8 @@ use Rattle.std.specs.Prelude.{pos, codes}
 use Rattle.worked_definitions.proofs.Vectors.{int32_file}
 use Rattle.worked_definitions.proofs.WorkedFiles.{empty_file_far_dictionary, three_columns_file, two_batches_file}
 use Rattle.worked_definitions.proofs.MoreFiles.{defaults_file, delta_file, no_dictionary_file, missing_dictionary_file, float_file, compressed_file, views_file, wrong_prefix_file}
-use Rattle.worked_definitions.proofs.Int32Table.{computed, whole_table, int32_table}
+use Rattle.worked_definitions.proofs.Int32Table.{computed, int32_table}
+use Rattle.arrow_spec.specs.Meaning.{file_table}
 use Rattle.worked_definitions.proofs.Damage.{int32_file_with}
 use Rattle.worked_definitions.proofs.Rows.{batches, option_fields, why, int, request}
 use Rattle.arrow_spec.specs.declared.types.IntegerType.TheVariants.{Int32}
@@ -18,24 +19,24 @@ use Rattle.arrow_spec.specs.Cells as cells
 use Rattle.arrow_spec.specs.Files.{«all»}
 
 -- no dictionary is read where there is no batch
-pub far_dictionary : batches (whole_table empty_file_far_dictionary «all») ≡ []
+pub far_dictionary : batches (file_table empty_file_far_dictionary «all») ≡ []
 unfolding computed
 far_dictionary = refl
 
-pub no_columns : batches (whole_table two_batches_file (request (Some []) None)) ≡ [] ∷ [] ∷ []
+pub no_columns : batches (file_table two_batches_file (request (Some []) None)) ≡ [] ∷ [] ∷ []
 unfolding computed
 no_columns = refl
 
-pub defaults : option_fields (whole_table defaults_file «all») ≡ field (codes "d") true [] kind.date64 (field (codes "t") true [] (kind.time32 Millisecond) (field (codes "k") true [] (kind.dictionary Int32 false (pos 0) (kind.utf8 small)) none))
+pub defaults : option_fields (file_table defaults_file «all») ≡ field (codes "d") true [] kind.date64 (field (codes "t") true [] (kind.time32 Millisecond) (field (codes "k") true [] (kind.dictionary Int32 false (pos 0) (kind.utf8 small)) none))
 unfolding computed
 defaults = refl
 
 -- a delta begins a dictionary that there is none of
-pub delta : batches (whole_table delta_file «all») ≡ ((cells.text (codes "x") ∷ []) ∷ []) ∷ []
+pub delta : batches (file_table delta_file «all») ≡ ((cells.text (codes "x") ∷ []) ∷ []) ∷ []
 unfolding computed
 delta = refl
 
-pub no_dictionary : batches (whole_table no_dictionary_file «all») ≡ ((cells.null ∷ cells.null ∷ []) ∷ []) ∷ []
+pub no_dictionary : batches (file_table no_dictionary_file «all») ≡ ((cells.null ∷ cells.null ∷ []) ∷ []) ∷ []
 unfolding computed
 no_dictionary = refl
 
@@ -43,7 +44,7 @@ pub missing_dictionary : why missing_dictionary_file «all» ≡ OutOfSpec (kind
 unfolding computed
 missing_dictionary = refl
 
-pub float_passed_over : batches (whole_table float_file (request (Some (1 ∷ [])) None)) ≡ ((int 7 ∷ []) ∷ []) ∷ []
+pub float_passed_over : batches (file_table float_file (request (Some (1 ∷ [])) None)) ≡ ((int 7 ∷ []) ∷ []) ∷ []
 unfolding computed
 float_passed_over = refl
 
@@ -55,7 +56,7 @@ pub compressed : why compressed_file «all» ≡ Unsupported features.Compressio
 unfolding computed
 compressed = refl
 
-pub views : batches (whole_table views_file «all») ≡ ((cells.text (codes "abcdefghijkl") ∷ cells.text (codes "abcdefghijklm") ∷ cells.null ∷ []) ∷ []) ∷ []
+pub views : batches (file_table views_file «all») ≡ ((cells.text (codes "abcdefghijkl") ∷ cells.text (codes "abcdefghijklm") ∷ cells.null ∷ []) ∷ []) ∷ []
 unfolding computed
 views = refl
 
@@ -68,12 +69,12 @@ unfolding computed
 no_such_column = refl
 
 -- null bits are passed over where no null is counted
-pub no_nulls : batches (whole_table (int32_file_with 248 (0 ∷ [])) «all») ≡ ((int 1 ∷ int 0 ∷ int 3 ∷ []) ∷ []) ∷ []
+pub no_nulls : batches (file_table (int32_file_with 248 (0 ∷ [])) «all») ≡ ((int 1 ∷ int 0 ∷ int 3 ∷ []) ∷ []) ∷ []
 unfolding computed
 no_nulls = refl
 
 -- a padded length of a buffer
-pub padded_length : whole_table (int32_file_with 288 (64 ∷ [])) «all» ≡ Some int32_table
+pub padded_length : file_table (int32_file_with 288 (64 ∷ [])) «all» ≡ Some int32_table
 unfolding computed
 padded_length = refl
 

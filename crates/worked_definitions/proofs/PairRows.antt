@@ -1,7 +1,8 @@
 -- A file of an Int32 column with pairs of the column and of the schema: what it means, and the text of its schema.
 use Rattle.std.proofs.Common.{◌≡◌, ℕ, ◌+◌, List, [], ◌∷◌, ◌++◌, length, Some, Ok, refl, false, pos}
 use Rattle.std.specs.Prelude.{codes}
-use Rattle.worked_definitions.proofs.Int32Table.{computed, whole_table}
+use Rattle.worked_definitions.proofs.Int32Table.{computed}
+use Rattle.arrow_spec.specs.Meaning.{file_table}
 use Rattle.arrow_spec.specs.declared.types.IntegerType.TheVariants.{Int32}
 use Rattle.arrow_spec.specs.Kinds.{Fields, none, field, integer, Metadata}
 use Rattle.arrow_spec.specs.Cells as cells
@@ -39,7 +40,7 @@ pairs_file = codes "ARROW1" ++ zeros 2 ++ message_bytes (stream_schema column pa
 abbrev pub pairs_table : ArrowTable
 pairs_table = record { metadata = pairs; custom = []; fields = column; batches = record { rows = 2; columns = (cells.number (pos 5) ∷ cells.number (pos 6) ∷ []) ∷ []; custom = [] } ∷ [] }
 
-pub pairs_file-table : whole_table pairs_file «all» ≡ Some pairs_table
+pub pairs_file-table : file_table pairs_file «all» ≡ Some pairs_table
 unfolding computed message_bytes layout table_head
 pairs_file-table = refl
 

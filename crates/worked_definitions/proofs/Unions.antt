@@ -1,7 +1,8 @@
 use Rattle.std.proofs.Common.{◌≡◌, [], ◌∷◌, Some, refl}
 use Rattle.std.specs.Prelude.{pos}
 use Rattle.worked_definitions.proofs.MoreFiles.{big_endian_file, dense_union_file, older_dense_union_file, older_union_nulls_file, unknown_union_type_file}
-use Rattle.worked_definitions.proofs.Int32Table.{computed, whole_table, int32_table}
+use Rattle.worked_definitions.proofs.Int32Table.{computed, int32_table}
+use Rattle.arrow_spec.specs.Meaning.{file_table}
 use Rattle.worked_definitions.proofs.Rows.{batches, why, txt, int}
 use Rattle.arrow_spec.specs.declared.error.IpcError.TheVariants.{OutOfSpec, Unsupported}
 use Rattle.arrow_spec.specs.declared.error.Feature.TheVariants as features
@@ -9,15 +10,15 @@ use Rattle.arrow_spec.specs.declared.error.OutOfSpecKind.TheVariants as kinds
 use Rattle.arrow_spec.specs.Cells as cells
 use Rattle.arrow_spec.specs.Files.{«all»}
 
-pub big_endian : whole_table big_endian_file «all» ≡ Some int32_table
+pub big_endian : file_table big_endian_file «all» ≡ Some int32_table
 unfolding computed
 big_endian = refl
 
-pub dense : batches (whole_table dense_union_file «all») ≡ ((cells.tagged (pos 5) (int 1) ∷ cells.tagged (pos 7) (txt 120) ∷ cells.tagged (pos 5) (int 2) ∷ []) ∷ []) ∷ []
+pub dense : batches (file_table dense_union_file «all») ≡ ((cells.tagged (pos 5) (int 1) ∷ cells.tagged (pos 7) (txt 120) ∷ cells.tagged (pos 5) (int 2) ∷ []) ∷ []) ∷ []
 unfolding computed
 dense = refl
 
-pub dense_v4 : batches (whole_table older_dense_union_file «all») ≡ batches (whole_table dense_union_file «all»)
+pub dense_v4 : batches (file_table older_dense_union_file «all») ≡ batches (file_table dense_union_file «all»)
 unfolding computed
 dense_v4 = refl
 

@@ -1,13 +1,14 @@
 //! The metadata of fields and schemas (Schema.fbs, KeyValue).
 ghost use Rattle.std.specs.Prelude.{◌≡◌, ◌++◌, ◌∷◌, [], IfOk, OnOk, map, string_bytes};
 ghost use Rattle.std.specs.Option.{option_map};
-ghost use Rattle.arrow_spec.specs.Sent.{pair_node, pair_nodes, field_pairs};
+ghost use Rattle.arrow_spec.specs.Sent.{custom_slot, pair_node, pair_nodes, field_pairs};
+ghost use Rattle.ipc_fields.specs.IpcFields.{metadata_in};
 ghost use Rattle.arrow_spec.specs.WrittenSchemas.{extension_first};
 ghost use Rattle.arrow_spec.specs.Schema.{extension_name};
 ghost use Rattle.arrow_spec.specs.Schema as schemas;
 ghost use Rattle.arrow_flat.specs.Nodes.{node_of, nodes_of, slot_of};
 ghost use Rattle.arrow_types.specs.KindOf.{kind_of, extension_kind_of, texts_of};
-ghost use Rattle.schema_writer.specs.Nodes.{pair_table, unreserved, extension_pairs, pairs_value};
+ghost use Rattle.schema_writer.specs.Nodes.{last_slot, pair_table, unreserved, extension_pairs, pairs_value};
 ghost use Rattle.schema_writer.specs.Texts.{PairsAscend};
 
 use arrow_flat::{Node, Slot};
@@ -137,4 +138,20 @@ pub fn own_pairs(alloc: Global, t: &ArrowDataType, metadata: &Metadata) -> Resul
     put_extension_of(alloc, &mut nodes, t)?;
     put_own_pairs(alloc, &mut nodes, metadata)?;
     Ok(pairs_slot(nodes))
+}
+
+/// The pairs of a footer or of a message, by key, where there are any.
+pub fn custom_pairs(alloc: Global, metadata: Option<&Metadata>) -> Result<Option<Node>, AllocError>
+    ensures slot { IfOk result (λ o. custom_slot (metadata_in metadata.entry) ≡ last_slot (option_map node_of o)) }
+    ensures ascend { IfOk result (λ _. PairsAscend (metadata_in metadata.entry)) }
+{
+    let Some(metadata) = metadata else {
+        return Ok(None);
+    };
+    let mut nodes = Vec::new(alloc);
+    put_pairs(alloc, &mut nodes, metadata)?;
+    if nodes.is_empty() {
+        return Ok(None);
+    }
+    Ok(Some(Node::Tables(nodes)))
 }

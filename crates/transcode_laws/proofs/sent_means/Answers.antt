@@ -1,4 +1,4 @@
-use Rattle.transcode_laws.proofs.SoFar.{sent_means}
+use Rattle.transcode_laws.proofs.Sent.{sent_means}
 use Rattle.transcode_laws.proofs.sent_means.Goals as goal
 
 pub returns : goal.returns

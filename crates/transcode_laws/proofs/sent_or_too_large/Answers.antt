@@ -1,4 +1,4 @@
-use Rattle.transcode_laws.proofs.SoFar.{sent_or_too_large}
+use Rattle.transcode_laws.proofs.Sent.{sent_or_too_large}
 use Rattle.transcode_laws.proofs.sent_or_too_large.Goals as goal
 
 pub returns : goal.returns

@@ -4,7 +4,7 @@ pub use arrow_spec::{Block, FieldNode, IpcBuffer, MetadataVersion};
 pub use ipc_files::{
     Dictionaries, FileMetadata, Footer, check_columns, decode_footer_len, deserialize_footer,
     get_row_count, get_row_count_from_blocks, read_batch, read_block_header, read_block_rows,
-    read_file_dictionaries, read_file_metadata, read_projected_batch,
+    read_file_dictionaries, read_file_metadata, read_file_schema, read_projected_batch,
 };
 pub use ipc_projection::{
     ProjectionInfo, ProjectionIter, ProjectionResult, apply_projection, prepare_projection,
@@ -20,5 +20,7 @@ pub use ipc_read::{
 pub use ipc_reader::{FileCursor, FileReader, Refused};
 pub use ipc_schema::{
     BatchHeader, Message, MessageHeader, RecordMessage, deserialize_record_blocks,
-    deserialize_schema, message_prefix, read_message_header, read_record_message,
+    deserialize_schema, deserialize_schema_and_blocks, footer_metadata, message_metadata,
+    message_prefix, read_message_header, read_record_message,
 };
+pub use ipc_streams::{StreamMetadata, StreamReader, StreamState, read_stream_metadata};

@@ -18,7 +18,7 @@ plan_dictionaries-requires g c =
     let columns = columns_of c.args.selection.now.columns in
     let gs = schema_fields c.deref.result.now c.deref-2.result.now in
     let same : gs ≡ fields_as_asked columns (meta_view file).schema.fields = ap (λ s. schema_fields s c.deref-2.result.now) c.deref.ensures ∙ ap (schema_fields (rc_value c.selected_schema-schema.result.now)) c.deref-2.ensures.value ∙ c.in_ok-fields.ensures.fields (rc_value c.selected_schema-schema.result.now) c.selected_schema-schema.ensures in
-    let both = asked_carried file columns c.requires.right c.requires.built c.requires.read in
+    let both = asked_carried file columns c.requires.right c.requires.readable c.requires.read in
     record { carried = ap are_carried same ∙ both.0; few = subst (λ n. n < 2 ^ 63) (sym (ap dictionary_counts same)) both.1 }
 
 pub returns-in_err-fields-clause-refused : goal.returns-in_err-fields-clause-refused

@@ -1,27 +1,26 @@
-use Rattle.std.proofs.Common.{◌≡◌, Err, None, Some, subst}
+use Rattle.std.proofs.Common.{◌≡◌, Err, subst}
 use Rattle.std.specs.Rc.{rc_value}
 use Rattle.ipc_read.specs.Held.{held_in}
 use Rattle.ipc_read.specs.Projection.{columns_of}
 use Rattle.ipc_files.specs.FileBlocks.{file_block}
 use Rattle.ipc_files.specs.FileViews.{meta_view}
 use Rattle.ipc_files.proofs.Errors.{is_err}
-use Rattle.ipc_transcode.proofs.SentFiles.{built_floats}
 use Rattle.ipc_files.proofs.Selected.{selected_fetched}
-use Rattle.ipc_transcode.specs.FileViews.{IsBuilt}
-use Rattle.ipc_transcode.proofs.Selected.{all_selected, built_rising, each_answer, each_refused, may_apply, selected}
+use Rattle.ipc_transcode.specs.FileViews.{AreReadable}
+use Rattle.ipc_transcode.proofs.Selected.{all_selected, each_answer, each_refused, may_apply, rising_readable, selected}
 use Rattle.ipc_transcode.proofs.selection.read_selected.Goals as goal
 
 pub read_block-requires-clause-floats : goal.read_block-requires-clause-floats
 read_block-requires-clause-floats g c =
     let file = c.args.selection.now.file.now in
     let all = all_selected (rc_value file.schema) c.args.selection.now.columns c.args.selection.now.projection c.in_default.is c.requires.selected in
-    built_floats file None (subst (IsBuilt (meta_view file)) all c.requires.built)
+    subst (AreReadable (meta_view file)) all c.requires.readable
 
 pub read_block-requires-2-clause-floats : goal.read_block-requires-2-clause-floats
 read_block-requires-2-clause-floats g c =
     let file = c.args.selection.now.file.now in
     let h = selected (rc_value file.schema) c.args.selection.now.columns c.args.selection.now.projection c.in-Some.projection c.in-Some.is c.requires.selected in
-    built_floats file (Some c.as_slice.result.now) (built_rising file (columns_of c.args.selection.now.columns) c.in-Some.projection.now c.as_slice.result.now c.as_slice.ensures.value h c.requires.built)
+    rising_readable file (columns_of c.args.selection.now.columns) c.in-Some.projection.now c.as_slice.result.now c.as_slice.ensures.value h c.requires.readable
 
 pub returns-in_err-batch-clause-gives : goal.returns-in_err-batch-clause-gives
 returns-in_err-batch-clause-gives g c =

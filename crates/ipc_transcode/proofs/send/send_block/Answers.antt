@@ -20,7 +20,7 @@ returns-in_err-batch-clause-refused g c =
     let columns = columns_of c.args.selection.now.columns in
     let h = held_in c.args.dictionaries.now.held in
     let ps = part_trees c.args.dictionaries.now.parts.items in
-    let is : IsAsked file columns h = record { right = c.requires.right; built = c.requires.built; read = c.requires.read; uses = c.requires.uses } in
+    let is : IsAsked file columns h = record { right = c.requires.right; readable = c.requires.readable; read = c.requires.read; uses = c.requires.uses } in
     let e : c.from_residual.result ≡ Err c.in_err-batch.field-0.0 = is_err _ _ _ c.from_residual.ensures.0 c.from_residual.ensures.1 (λ f h. h) in
     of_err c.from_residual.result c.in_err-batch.field-0.0 _ e
     (block_not_read file columns h ps is (columns_in ps) c.args.is_first (g.S.Source.content c.args.source.now) (file_block c.args.block.now) c.args.left c.args.encoding c.in_err-batch.field-0.0 _ _ _ _ _ _ (keeps_same _) c.in_err-batch.ensures.gives)
@@ -31,7 +31,7 @@ returns-in_err-plan-clause-refused g c =
     let columns = columns_of c.args.selection.now.columns in
     let h = held_in c.args.dictionaries.now.held in
     let ps = part_trees c.args.dictionaries.now.parts.items in
-    let is : IsAsked file columns h = record { right = c.requires.right; built = c.requires.built; read = c.requires.read; uses = c.requires.uses } in
+    let is : IsAsked file columns h = record { right = c.requires.right; readable = c.requires.readable; read = c.requires.read; uses = c.requires.uses } in
     let e : c.from_residual-in_err-plan.result ≡ Err c.in_err-plan.field-0.0 = is_err _ _ _ c.from_residual-in_err-plan.ensures.0 c.from_residual-in_err-plan.ensures.1 (λ f h. h) in
     of_err c.from_residual-in_err-plan.result c.in_err-plan.field-0.0 _ e
     (block_not_written file columns h ps is (columns_in ps) c.args.is_first (g.S.Source.content c.args.source.now) (file_block c.args.block.now) c.args.left c.args.encoding c.in_err-plan.field-0.0 _ _ _ _ _ _ c.in_ok-batch.batch (keeps_same _) c.in_err-plan.ensures.plans c.in_ok-batch.ensures.gives)
@@ -42,7 +42,7 @@ returns-in_err-before-clause-refused g c =
     let columns = columns_of c.args.selection.now.columns in
     let h = held_in c.args.dictionaries.now.held in
     let ps = part_trees c.args.dictionaries.now.parts.items in
-    let is : IsAsked file columns h = record { right = c.requires.right; built = c.requires.built; read = c.requires.read; uses = c.requires.uses } in
+    let is : IsAsked file columns h = record { right = c.requires.right; readable = c.requires.readable; read = c.requires.read; uses = c.requires.uses } in
     let e : c.from_residual-in_err-before.result ≡ Err c.in_err-before.field-0.0 = is_err _ _ _ c.from_residual-in_err-before.ensures.0 c.from_residual-in_err-before.ensures.1 (λ f h. h) in
     of_err c.from_residual-in_err-before.result c.in_err-before.field-0.0 _ e
     (block_behind file columns h ps is (columns_in ps) c.args.is_first (g.S.Source.content c.args.source.now) (file_block c.args.block.now) c.args.left c.args.encoding c.in_err-before.field-0.0 _ _ _ _ _ _ c.in_ok-batch.batch c.in_ok-plan.ensures.plans.size (stops_of (meta_view file) columns c.args.is_first c.args.encoding _ _ c.in_err-before.field-0.0 _ _ _ _ c.as_slice-parts.result.now c.args.dictionaries.now.parts.items c.as_slice-parts.ensures.value c.in_err-before.ensures.refused) c.in_ok-batch.ensures.gives)
@@ -53,7 +53,7 @@ returns-in_err-length-clause-refused g c =
     let columns = columns_of c.args.selection.now.columns in
     let h = held_in c.args.dictionaries.now.held in
     let ps = part_trees c.args.dictionaries.now.parts.items in
-    let is : IsAsked file columns h = record { right = c.requires.right; built = c.requires.built; read = c.requires.read; uses = c.requires.uses } in
+    let is : IsAsked file columns h = record { right = c.requires.right; readable = c.requires.readable; read = c.requires.read; uses = c.requires.uses } in
     let w : IsWritten c.in_ok-batch.batch (plan_bytes c.in_ok-plan.plan) = record { size = c.in_ok-plan.ensures.plans.size; is = c.in_ok-plan.ensures.plans.is; means = c.in_ok-plan.ensures.means } in
     let e : c.from_residual-in_err-length.result ≡ Err c.in_err-length.field-0.0 = is_err _ _ _ c.from_residual-in_err-length.ensures.0 c.from_residual-in_err-length.ensures.1 (λ f h. h) in
     of_err c.from_residual-in_err-length.result c.in_err-length.field-0.0 _ e
@@ -65,7 +65,7 @@ returns-clause-sent g c =
     let columns = columns_of c.args.selection.now.columns in
     let h = held_in c.args.dictionaries.now.held in
     let ps = part_trees c.args.dictionaries.now.parts.items in
-    let is : IsAsked file columns h = record { right = c.requires.right; built = c.requires.built; read = c.requires.read; uses = c.requires.uses } in
+    let is : IsAsked file columns h = record { right = c.requires.right; readable = c.requires.readable; read = c.requires.read; uses = c.requires.uses } in
     let w : IsWritten c.in_ok-batch.batch (plan_bytes c.in_ok-plan.plan) = record { size = c.in_ok-plan.ensures.plans.size; is = c.in_ok-plan.ensures.plans.is; means = c.in_ok-plan.ensures.means } in
     block_was_sent file columns h ps is (columns_in ps) c.args.is_first (g.S.Source.content c.args.source.now) (file_block c.args.block.now) c.args.left c.args.encoding _ _ _ _ c.in_ok-before.before _ c.in_ok-batch.batch (plan_bytes c.in_ok-plan.plan) w (puts_of (meta_view file) columns c.args.is_first c.args.encoding _ _ c.in_ok-before.before c.as_slice-parts.result.now c.args.dictionaries.now.parts.items c.as_slice-parts.ensures.value c.in_ok-before.ensures.sent) c.in_ok-length.ensures.bytes c.height-rows.ensures.rows (ap (λ n. c.in_ok-before.before + n) (c.in_ok-length.ensures.length c.in_ok-plan.ensures.plans.limits)) c.in_ok-batch.ensures.gives
 
@@ -75,7 +75,7 @@ returns-clause-rows g c =
     let columns = columns_of c.args.selection.now.columns in
     let h = held_in c.args.dictionaries.now.held in
     let ps = part_trees c.args.dictionaries.now.parts.items in
-    let is : IsAsked file columns h = record { right = c.requires.right; built = c.requires.built; read = c.requires.read; uses = c.requires.uses } in
+    let is : IsAsked file columns h = record { right = c.requires.right; readable = c.requires.readable; read = c.requires.read; uses = c.requires.uses } in
     block_rows file columns h ps is (columns_in ps) c.args.is_first (g.S.Source.content c.args.source.now) (file_block c.args.block.now) c.args.left c.args.encoding _ c.in_ok-batch.batch c.height-rows.ensures.rows c.in_ok-batch.ensures.gives
 
 pub returns-clause-small : goal.returns-clause-small

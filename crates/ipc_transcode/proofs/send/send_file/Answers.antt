@@ -1,6 +1,6 @@
 use Rattle.std.proofs.Common.{◌≡◌, Err}
 use Rattle.ipc_read.specs.Projection.{columns_of}
-use Rattle.ipc_files.specs.FileViews.{meta_view}
+use Rattle.ipc_files.specs.FileViews.{file_custom, meta_view}
 use Rattle.ipc_files.specs.Requests.{asked}
 use Rattle.ipc_files.proofs.Errors.{is_err}
 use Rattle.ipc_files.proofs.ReadFiles.{of_err}
@@ -18,4 +18,4 @@ returns-in_err-file-clause-fetched g c = file_by_footer (g.S.Source.content c.ar
 
 pub returns-clause-fetched : goal.returns-clause-fetched
 returns-clause-fetched g c =
-    file_by_table (g.S.Source.content c.args.source.now) _ (meta_view c.in_ok-file.file) (asked (columns_of c.args.columns) c.args.limit) _ _ _ c.in_ok-file.ensures.fetched c.in_ok-file.ensures.says c.in_ok-file.ensures.kept.content c.send_columns.ensures.fetched
+    file_by_table (g.S.Source.content c.args.source.now) _ (meta_view c.in_ok-file.file) (file_custom c.in_ok-file.file) (asked (columns_of c.args.columns) c.args.limit) _ _ _ c.in_ok-file.ensures.fetched c.in_ok-file.ensures.says c.in_ok-file.ensures.kept.content c.send_columns.ensures.fetched

@@ -11,7 +11,7 @@ returns-then-rows-gt-MOST_ROWS-clause-makes c = many_rows c.args.limit c.args.ba
 
 pub returns-clause-makes : goal.returns-clause-makes
 returns-clause-makes c =
-    batch_planned c.message_plan.result c.args.limit c.height-rows.result c.args.batch.now (outputs_of c.in_ok-columns.columns) (all_parts_of c.arrays.result.now) c.height-rows.ensures.rows c.arrays.ensures c.in_ok-columns.ensures.planned c.message_plan.ensures
+    batch_planned c.message_plan.result c.args.limit c.height-rows.result c.args.batch.now (outputs_of c.in_ok-columns.columns) (all_parts_of c.arrays.result.now) c.custom_metadata.result c.height-rows.ensures.rows c.arrays.ensures c.custom_metadata.ensures.pairs c.in_ok-columns.ensures.planned c.message_plan.ensures
 
 pub returns-clause-means : goal.returns-clause-means
 returns-clause-means c =

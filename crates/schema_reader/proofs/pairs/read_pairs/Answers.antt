@@ -3,4 +3,4 @@ use Rattle.schema_reader.proofs.PairSteps.{pairs_done}
 use Rattle.schema_reader.proofs.pairs.read_pairs.Goals as goal
 
 pub returns : goal.returns
-returns c = record { gives = pairs_done _ _ _ _ _ _ (omega arith) c.loop-i.invariant }
+returns c = record { gives = pairs_done _ _ _ _ _ _ _ (omega arith) c.loop-i.invariant }

@@ -1,5 +1,6 @@
 use Rattle.std.proofs.Common.{◌≡◌, ◌⊎◌, ◌≤◌, ◌-◌, ◌%◌, length, take}
 use Rattle.std.specs.Io.KnownBytes.{Appends}
+use Rattle.ipc_bodies.specs.Encodings.{text_of}
 use Rattle.ipc_bodies.specs.Puts.{moved, NoneFalls}
 use Rattle.ipc_bodies.proofs.buffer.BodyBuffer.put_made.Given as goal
 
@@ -7,7 +8,7 @@ abbrev pub invariant-loop-at : goal.invariant-loop-at
 invariant-loop-at g l = record {
   within : l.at ≤ length l.self;
   whole : (l.at % 64 ≡ 0) ⊎ (l.at ≡ length l.self);
-  puts : Appends (g.W.Sink.written l.fn.sink) (g.W.Sink.written l.sink) (take l.at l.self)
+  puts : Appends (g.W.Sink.written l.fn.sink) (g.W.Sink.written l.sink) (text_of l.encoding (take l.at l.self))
       × NoneFalls (moved (g.W.Sink.written l.fn.sink) (g.W.Sink.written l.sink) (g.W.Sink.faults l.fn.sink) (g.W.Sink.faults l.sink) (g.W.Sink.wants l.fn.sink) (g.W.Sink.wants l.sink));
   references : g.W.Sink.references l.sink ≡ g.W.Sink.references l.fn.sink;
   scratch : length l.scratch ≡ length l.fn.scratch;

@@ -1,6 +1,7 @@
 use Rattle.std.proofs.Common.{◌≡◌, inl, refl, sym, ◌∙◌, true, false}
-use Rattle.ipc_stream_writer.specs.States.{is_started}
-use Rattle.ipc_stream_writer.proofs.Calling.{finish_stopped, leaves, untouched}
+use Rattle.ipc_write_messages.specs.States.{is_started}
+use Rattle.ipc_write_messages.proofs.Putting.{untouched}
+use Rattle.ipc_stream_writer.proofs.Calling.{finish_stopped, leaves}
 use Rattle.ipc_stream_writer.proofs.stream.StreamCore.finish.Goals as goal
 
 pub returns-then-not-is_started-clause-finishes : goal.returns-then-not-is_started-clause-finishes

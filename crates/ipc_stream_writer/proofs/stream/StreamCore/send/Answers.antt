@@ -2,8 +2,9 @@ use Rattle.std.proofs.Common.{Ok, refl, ◌∙◌, ap}
 use Rattle.arrow_arrays.specs.PartsOf.{all_parts_of}
 use Rattle.ipc_dictionaries.specs.Tracker.{held_by}
 use Rattle.ipc_dictionaries.specs.declared.tracker.DictionaryTracker.{DictionaryTracker}
-use Rattle.ipc_stream_writer.proofs.Calling.{untouched}
-use Rattle.ipc_stream_writer.proofs.Sending.{found_in, not_found, not_sent, was_sent}
+use Rattle.ipc_write_messages.proofs.Putting.{untouched}
+use Rattle.ipc_write_messages.proofs.Finding.{found_in}
+use Rattle.ipc_stream_writer.proofs.Sending.{not_found, not_sent, was_sent}
 use Rattle.ipc_stream_writer.proofs.stream.StreamCore.send.Goals as goal
 
 pub returns-in_err-new-clause-sends : goal.returns-in_err-new-clause-sends

@@ -1,25 +1,14 @@
-use Rattle.std.proofs.Common.{◌≡◌, ap, sym, ◌∙◌, subst, true, true≢false}
-use Rattle.arrow_spec.specs.Kinds.{have_same_kinds}
-use Rattle.arrow_types.specs.Schemas.{fields_in}
-use Rattle.arrow_arrays.specs.Parts.{forest}
-use Rattle.ipc_dictionaries.specs.Columns.{columns_of}
+use Rattle.std.proofs.Common.{subst, sym}
 use Rattle.ipc_fields.specs.IpcFields.{ids_of}
-use Rattle.ipc_stream_writer.specs.Fields.{IsOwn, given_ids}
+use Rattle.ipc_write_messages.specs.Batches.{Suits}
+use Rattle.ipc_write_messages.specs.Fields.{given_ids}
 use Rattle.ipc_stream_writer.proofs.stream.StreamCore.takes.Goals as goal
-
-pub returns-then-not-are_of_fields : goal.returns-then-not-are_of_fields
-returns-then-not-are_of_fields c =
-    let fs = fields_in c.args.self.now.schema in (
-      λ h. absurd (true≢false (sym h)),
-      λ s. absurd (true≢false (sym s.types ∙ ap (λ ps. have_same_kinds fs (columns_of (forest ps))) (sym c.arrays.ensures) ∙ sym c.are_of_fields.ensures ∙ c.if-not-are_of_fields.true)),
-    )
 
 pub returns : goal.returns
 returns c =
-    let fs = fields_in c.args.self.now.schema in
     let given = given_ids c.args.ipc_fields in
-    let types : have_same_kinds fs (columns_of (forest c.args.batch.now.arrays)) ≡ true
-    = ap (λ ps. have_same_kinds fs (columns_of (forest ps))) (sym c.arrays.ensures) ∙ sym c.are_of_fields.ensures ∙ c.if-not-are_of_fields.false in (
-      λ h. record { types = types; own = subst (λ xs. IsOwn given (ids_of xs)) c.as_slice.ensures.value (c.are_own.ensures.0 h) },
-      λ s. c.are_own.ensures.1 (subst (λ xs. IsOwn given (ids_of xs)) (sym c.as_slice.ensures.value) s.own),
+    let s = c.args.self.now.schema in
+    let b = c.args.batch.now in (
+      λ h. subst (λ xs. Suits s (ids_of xs) b given) c.as_slice.ensures.value (c.is_of_schema.ensures.0 h),
+      λ k. c.is_of_schema.ensures.1 (subst (λ xs. Suits s (ids_of xs) b given) (sym c.as_slice.ensures.value) k),
     )

@@ -1,0 +1,7 @@
+pub mod BatchSteps
+pub mod BlockBytes
+pub mod Calling
+pub mod Ending
+pub mod FooterNodes
+pub mod Growing
+pub mod PlacedBlocks

@@ -1,0 +1,32 @@
+use Rattle.std.proofs.Common.{◌≡◌, false, inl, refl, subst, sym, true, ◌∙◌}
+use Rattle.std.specs.Io.KnownBytes.{Appends}
+use Rattle.ipc_write_messages.specs.States.{is_started}
+use Rattle.ipc_write_messages.proofs.Putting.{untouched}
+use Rattle.ipc_file_writer.proofs.Calling.{leaves, not_ended}
+use Rattle.ipc_file_writer.proofs.file.FileCore.finish.Goals as goal
+
+pub returns-then-not-is_started-clause-finishes : goal.returns-then-not-is_started-clause-finishes
+returns-then-not-is_started-clause-finishes g c =
+    let e : is_started c.args.self.now.state ≡ false = sym c.is_started.ensures ∙ c.if-not-is_started.true in
+    inl (inl (refl, e), leaves _ c.args.self.now (untouched _ _ _))
+
+pub returns-in_err-ending-clause-finishes : goal.returns-in_err-ending-clause-finishes
+returns-in_err-ending-clause-finishes g c =
+    let n : is_started c.args.self.now.state ≡ true = sym c.is_started.ensures ∙ c.if-not-is_started.false in
+    not_ended c.from_residual.result c.in_err-ending.field-0.0 _ c.args.self.now c.from_residual.ensures.1 n c.in_err-ending.ensures (untouched _ _ _)
+
+pub returns-in-Ok-clause-finishes : goal.returns-in-Ok-clause-finishes
+returns-in-Ok-clause-finishes g c = record {
+  started = sym c.is_started.ensures ∙ c.if-not-is_started.false;
+  state = refl;
+  bytes = c.in_ok-ending.ending.items;
+  text = c.in_ok-ending.ensures;
+  appended = subst (Appends _ _) c.as_slice.ensures.value c.in-Ok.ensures.puts.0;
+  counts = c.in-Ok.ensures.puts.1;
+  same = record {
+    held = λ q. refl;
+    blocks = record { dictionaries = refl; records = refl; end = refl };
+    written = refl;
+    stays = record { options = refl; schema = refl; ipc_schema = refl; pairs = refl; tracker = refl };
+  };
+}

@@ -1,0 +1,11 @@
+use Rattle.std.proofs.Common.{map, refl}
+use Rattle.ipc_dictionaries.specs.Walks.{to_send}
+use Rattle.ipc_file_writer.proofs.BatchSteps.{all_put}
+use Rattle.ipc_file_writer.proofs.file.FileCore.put.Goals as goal
+
+pub returns-in_ok-put_messages-in-Ok-clause-puts : goal.returns-in_ok-put_messages-in-Ok-clause-puts
+returns-in_ok-put_messages-in-Ok-clause-puts g c =
+    let h = c.in-Ok.ensures.left.held in
+    all_put _ c.args.self.now c.plan.new.self _ (map to_send c.args.messages.now) c.args.batch.now c.in-Ok.planned c.as_slice.result.now c.in-Ok.ensures c.as_slice.ensures.value
+    c.in_ok-put_messages-in-Ok.ensures.puts c.add.ensures.dictionaries c.add.ensures.records c.add.ensures.end refl
+    (record { state = h.state; tracker = h.tracker; stays = record { options = h.stays.options; schema = h.stays.schema; ipc_schema = h.stays.ipc_schema; pairs = h.stays.pairs; tracker = h.stays.tracker } })

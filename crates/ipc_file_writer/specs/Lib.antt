@@ -1,0 +1,6 @@
+pub mod Blocks
+pub mod Footers
+pub mod Ends
+pub mod Fields
+pub mod Calls
+pub mod Sending

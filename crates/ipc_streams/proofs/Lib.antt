@@ -1,0 +1,13 @@
+pub mod Pulled
+pub mod Handed
+pub mod HeadsRead
+pub mod StreamSchemas
+pub mod ReadBatches
+pub mod Fronts
+pub mod ReadStarts
+pub mod ReadHeads
+pub mod TakenSteps
+pub mod TakenMessages
+pub mod TakenCalls
+pub mod NextBatches
+pub mod StreamLaws

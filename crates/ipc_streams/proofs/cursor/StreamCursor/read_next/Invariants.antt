@@ -1,0 +1,17 @@
+use Rattle.arrow_spec.specs.Arrays.{Dictionaries}
+use Rattle.arrow_spec.specs.Streams.{Reader}
+use Rattle.ipc_read_laws.specs.Held.{HoldsCells}
+use Rattle.ipc_read.specs.Held.{held_in}
+use Rattle.ipc_streams.specs.Nexts.{KeepsColumns}
+use Rattle.ipc_streams.specs.Readers.{IsReader}
+use Rattle.ipc_streams.proofs.NextBatches.{Reached}
+use Rattle.ipc_streams.proofs.cursor.StreamCursor.read_next.Given as goal
+
+abbrev pub invariant-messages : goal.invariant-messages
+invariant-messages g l = record {
+  reached : (s : Reader) (d : Dictionaries) → IsReader l.fn.self.columns s → HoldsCells d (held_in l.fn.self.dictionaries) → Reached (g.F.Feed.rest l.fn.feed) s d (g.F.Feed.rest l.feed) (held_in l.self.dictionaries) l.left;
+  kept : KeepsColumns g.F.Feed.rest g.F.Feed.faults g.F.Feed.references l.fn.feed l.feed l.fn.self l.self;
+}
+
+abbrev pub decreases-messages : goal.decreases-messages
+decreases-messages g l = l.left

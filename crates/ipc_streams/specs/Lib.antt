@@ -1,0 +1,10 @@
+pub mod Feeds
+pub mod Frames
+pub mod Bodies
+pub mod Steps
+pub mod Starts
+pub mod Heads
+pub mod Readers
+pub mod States
+pub mod Nexts
+pub mod Laws

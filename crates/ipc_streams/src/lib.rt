@@ -1,0 +1,20 @@
+//! Arrow streams, read one record batch after another (Arrow Columnar Format, "IPC Streaming Format").
+#![tactic(auto)]
+
+mod body;
+mod columns;
+mod cursor;
+mod frame;
+mod head;
+mod laws;
+mod metadata;
+mod pull;
+mod reader;
+mod readings;
+mod state;
+mod takes;
+
+pub use laws::{a_next_is_of_the_stream, nexts_are_the_stream};
+pub use metadata::{StreamMetadata, read_stream_metadata};
+pub use reader::StreamReader;
+pub use state::StreamState;

@@ -1,0 +1,7 @@
+pub mod Beginning
+pub mod Columns
+pub mod Finding
+pub mod Floats
+pub mod GivenFields
+pub mod Planning
+pub mod Putting

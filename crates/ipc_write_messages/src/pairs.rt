@@ -1,0 +1,23 @@
+//! The pairs of the message with which a stream begins.
+ghost use Rattle.std.specs.Prelude.{◌≡◌};
+ghost use Rattle.ipc_fields.specs.IpcFields.{metadata_in, metadata_of};
+
+use arrow_types::Metadata;
+
+/// The pairs of a stream's schema, and those of its message (Schema.fbs, Schema: custom_metadata; Message.fbs, Message:
+/// custom_metadata).
+#[derive(Drop)]
+pub struct StreamPairs {
+    pub schema: Option<Metadata>,
+    pub message: Option<Metadata>,
+}
+
+/// The pairs, where there are any.
+pub fn lent(pairs: &Option<Metadata>) -> Option<&Metadata>
+    ensures { metadata_in result ≡ metadata_of pairs.now }
+{
+    match pairs {
+        None => None,
+        Some(pairs) => Some(pairs),
+    }
+}

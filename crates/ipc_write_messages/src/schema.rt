@@ -1,0 +1,99 @@
+//! The message of a stream's schema (Arrow Columnar Format, "Schema message").
+ghost use Rattle.std.specs.Prelude.{◌≡◌, ◌≤◌, length, true};
+ghost use Rattle.arrow_spec.specs.Features.{floats_in};
+ghost use Rattle.arrow_types.specs.Schemas.{fields_in};
+ghost use Rattle.ipc_fields.specs.IpcFields.{ids_of, metadata_of};
+ghost use Rattle.ipc_write_messages.specs.Fields.{given_ids};
+ghost use Rattle.ipc_write_messages.specs.Schemas.{Begins, ChecksFeatures, GivesText, stream_text};
+
+use crate::features::unsent_feature;
+use crate::fields::fields_for;
+use crate::pairs::{StreamPairs, lent};
+use arrow_spec::{Feature, IpcError};
+use arrow_types::ArrowSchema;
+use ipc_fields::IpcField;
+use ipc_schema::{IpcSchema, schema_message};
+use ipc_write::{WriteOptions, message_to_bytes};
+use std::alloc::Global;
+
+/// The most bytes of a message's padded metadata.
+const MOST_METADATA: usize = 0x7fff_ffff;
+
+/// What a stream is begun with: its schema, with its IPC fields, and the bytes of its message.
+#[derive(Drop)]
+pub struct StreamStart {
+    pub schema: ArrowSchema,
+    pub fields: Vec<IpcField>,
+    pub message: Vec<u8>,
+}
+
+/// Refuses what no stream is written with, and fields that no array is of.
+fn check_features(schema: &ArrowSchema, options: &WriteOptions) -> Result<(), IpcError>
+    ensures { ChecksFeatures result options.now (floats_in (fields_in schema.now)) }
+{
+    if options.compression.is_some() {
+        return Err(IpcError::Unsupported(Feature::Compression));
+    }
+    match unsent_feature(schema) {
+        Some(feature) => Err(IpcError::Unsupported(feature)),
+        None => Ok(()),
+    }
+}
+
+/// The bytes of the message of a schema, with the pairs of both.
+///
+/// # Errors
+///
+/// `Unsupported(Compression)` where compression is asked for; `Unsupported(Float)` and `Unsupported(Decimal256)` for fields of such
+/// types, at any depth; `SchemaMismatch` and `NotRepresentable` as of `schema_to_bytes`; `TooLarge` where the padded metadata passes
+/// its limit; `Memory`.
+pub fn schema_text(
+    alloc: Global,
+    schema: &ArrowSchema,
+    ipc_schema: &IpcSchema,
+    pairs: &StreamPairs,
+    options: &WriteOptions,
+) -> Result<Vec<u8>, IpcError>
+    requires order { ipc_schema.now.is_little_endian ≡ true }
+    requires few { length (metadata_of pairs.now.message) ≤ 1048576 }
+    ensures { GivesText result (stream_text options.now (fields_in schema.now) (ids_of ipc_schema.now.fields.items) pairs.now) }
+{
+    check_features(schema, options)?;
+    let own = lent(&pairs.schema);
+    let custom = lent(&pairs.message);
+    let metadata = schema_message(alloc, schema, ipc_schema, own, custom)?;
+    if metadata.len().next_multiple_of(8) > options.metadata_limit.min(MOST_METADATA) {
+        return Err(IpcError::TooLarge);
+    }
+    message_to_bytes(alloc, metadata.as_slice(), &[])
+}
+
+/// What a stream of a schema is begun with, under the IPC fields that are given or under those whose ids count from 0.
+///
+/// # Errors
+///
+/// Those of `schema_text`.
+pub fn stream_start(
+    alloc: Global,
+    schema: &ArrowSchema,
+    given: Option<&[IpcField]>,
+    pairs: &StreamPairs,
+    options: &WriteOptions,
+) -> Result<StreamStart, IpcError>
+    requires few { length (metadata_of pairs.now.message) ≤ 1048576 }
+    ensures { Begins result options.now schema.now (given_ids given.entry) pairs.now }
+{
+    let fields = fields_for(alloc, schema, given)?;
+    let ipc_schema = IpcSchema {
+        fields,
+        is_little_endian: true,
+    };
+    let message = schema_text(alloc, schema, &ipc_schema, pairs, options)?;
+    let schema = schema.try_clone(alloc)?;
+    let IpcSchema { fields, .. } = ipc_schema;
+    Ok(StreamStart {
+        schema,
+        fields,
+        message,
+    })
+}

@@ -1,0 +1,38 @@
+//! What calls a writer takes.
+ghost use Rattle.std.specs.Prelude.{◌≡◌};
+ghost use Rattle.ipc_write_messages.specs.States.{is_new, is_started, state_behind};
+
+/// What a writer has done: nothing yet, its stream is begun or ended, or a put has failed.
+#[derive(Clone, Copy, Debug, PartialEq, Eq)]
+pub enum WriterState {
+    New,
+    Started,
+    Finished,
+    Failed,
+}
+
+impl WriterState {
+    /// Nothing was put yet.
+    pub fn is_new(self) -> bool
+        ensures { result ≡ is_new self }
+    {
+        matches!(self, WriterState::New)
+    }
+
+    /// A stream or a file is begun and not ended.
+    pub fn is_started(self) -> bool
+        ensures { result ≡ is_started self }
+    {
+        matches!(self, WriterState::Started)
+    }
+
+    /// Behind a put that stopped: where a byte may have been put, the writer has failed.
+    pub fn behind(self, has_begun: bool) -> WriterState
+        ensures { result ≡ state_behind has_begun self }
+    {
+        if has_begun {
+            return WriterState::Failed;
+        }
+        self
+    }
+}

@@ -1,0 +1,9 @@
+//! Streams that are read one record batch after another. All of it is tests.
+#![tactic(auto)]
+
+#[cfg(test)]
+mod dictionaries;
+#[cfg(test)]
+mod parts;
+#[cfg(test)]
+mod readers;

@@ -1,0 +1,20 @@
+//! A record batch that is written as a file.
+use crate::write_batch::batch_of;
+use arrow_ipc::io::MemorySink;
+use arrow_ipc::io::ipc::IpcError;
+use arrow_ipc::io::ipc::write::{FileWriter, WriteOptions};
+use std::alloc::Global;
+
+/// A file of one batch of numbers, in memory.
+pub(crate) fn file_of_numbers(alloc: Global, numbers: Vec<i32>) -> Result<MemorySink, IpcError> {
+    let batch = batch_of(alloc, numbers)?;
+    let sink = MemorySink::new(alloc, None, Vec::new(alloc));
+    let schema = batch.schema().clone()?;
+    let mut writer = match FileWriter::try_new(alloc, sink, schema, None, WriteOptions::default()) {
+        Ok(writer) => writer,
+        Err(refused) => return Err(refused.error),
+    };
+    writer.write(&batch, None)?;
+    writer.finish()?;
+    Ok(writer.into_inner())
+}
