@@ -29,6 +29,7 @@ pub use carried::is_carried;
 pub use dictionary::are_of_type;
 pub use empty_nested::new_empty_array;
 pub use keys::DictionaryKeys;
+pub use list::list_of;
 pub use offsets::ListOffsets;
 pub use pieces::extend_from_lengths;
 pub use record_batch::{BatchError, RecordBatch, RecordBatchT};

@@ -42,6 +42,25 @@ pub(crate) fn is_of(field: &Field, values: &ArrowDataType) -> bool
     *field.dtype() == *values
 }
 
+/// The array of lists of parts that are known to be one: nothing is looked at again.
+pub fn list_of(
+    alloc: Global,
+    dtype: ArrowDataType,
+    offsets: ListOffsets,
+    values: Array,
+    validity: Option<Bitmap>,
+) -> Result<ListArray, AllocError>
+    requires { fault_in (nested (listed (record { kind = kind_of dtype; width = width_in offsets; offsets = offsets_in offsets; validity = validity })) (only values)) ≡ None }
+    ensures { IfOk result (λ a. a ≡ record { head = record { kind = kind_of dtype; width = width_in offsets; offsets = offsets_in offsets; validity = validity }; children = only values }) }
+{
+    Ok(ListArray {
+        dtype,
+        offsets,
+        values: Box::new(alloc, values)?,
+        validity,
+    })
+}
+
 impl ListArray {
     /// The array of these parts.
     pub fn try_new(

@@ -13,3 +13,4 @@ pub mod VariableParts
 pub mod Views
 pub mod ViewParts
 pub mod OneText
+pub mod TextViews

@@ -1,5 +1,5 @@
 -- Arrays of views of byte strings and texts: what they are seen as, their cells, and why their parts are refused. (Arrow Columnar Format, "Variable-size Binary View Layout".)
-use Rattle.std.specs.Prelude.{ℕ, ◌+◌, ◌*◌, ◌/◌, ◌%◌, List, [], ◌&&◌, Bool, Option, Some, None, length, take, drop, nat_le, nat_lt, nat_eq, not, slice_index_or, if◌then◌else◌, refl}
+use Rattle.std.specs.Prelude.{◌≡◌, ℕ, ◌+◌, ◌*◌, ◌/◌, ◌%◌, ◌<◌, true, List, [], ◌&&◌, Bool, Option, Some, None, length, take, drop, nat_le, nat_lt, nat_eq, not, slice_index_or, if◌then◌else◌, refl}
 use Rattle.std.specs.Option.{option_map}
 use Rattle.std.specs.Str.{is_utf8, bytes_eq}
 use Rattle.std.specs.Coded.{Coded, code_by, coded×, coded_ℕ, coded_list, coded_option, coded_bool}
@@ -59,6 +59,14 @@ leads_right buffers view = nat_lt (u32_of view 8) (length buffers) && nat_le (u3
 -- a view's padding is zero, or it leads to its bytes
 unfoldable pub is_good_view : List (List ℕ) → List ℕ → Bool
 is_good_view buffers view = if nat_le (u32_of view 0) 12 then all_zero (drop (4 + u32_of view 0) view) else leads_right buffers view
+
+-- each of the buffers is UTF-8
+abbrev pub AreTexts : List (List ℕ) → Type 0
+AreTexts buffers = (number : ℕ) → number < length buffers → is_utf8 (buffer_at buffers number) ≡ true
+
+-- a good view, and text
+abbrev pub is_text_view : List (List ℕ) → List ℕ → Bool
+is_text_view buffers view = is_good_view buffers view && is_utf8 (view_bytes buffers view)
 
 -- a good view, and no text
 abbrev pub is_no_text_view : List (List ℕ) → List ℕ → Bool

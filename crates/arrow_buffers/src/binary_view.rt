@@ -7,6 +7,7 @@ ghost use Rattle.arrow_buffers.specs.Rows.{part, has_rows, null_rows, is_valid};
 ghost use Rattle.arrow_buffers.specs.Layouts.{is_view};
 ghost use Rattle.arrow_buffers.specs.Views.{view_rows, view_at, view_bytes, view_part, view_cells, view_fault};
 
+use crate::text_view::are_text_views;
 use crate::validity::are_whole_rows;
 use crate::view::{VIEW_SIZE, are_good_views, are_view_texts, bytes_in, clone_buffers, view_at};
 use crate::{
@@ -49,6 +50,33 @@ impl<V: ViewType> Model for BinaryViewArrayGeneric<V> {
     ghost invariant = { λ a. view_fault V.IS_TEXT (is_view V.IS_TEXT (physical_of (kind_of a.dtype))) (record { kind = kind_of a.dtype; views = a.views; buffers = a.data_buffers.items; validity = a.validity }) ≡ None };
 }
 
+/// Why these parts are no array, where they are none. Good parts are looked at once.
+fn fault_in<V: ViewType>(
+    dtype: &ArrowDataType,
+    views: &Buffer<u8>,
+    buffers: &[Buffer<u8>],
+    validity: &Option<Bitmap>,
+) -> Option<ArrayError>
+    ensures { result ≡ view_fault V.IS_TEXT (is_view V.IS_TEXT (physical_of (kind_of dtype.now))) (record { kind = kind_of dtype.now; views = views.now; buffers = buffers.now; validity = validity.now }) }
+{
+    if !layout::is_view(dtype, V::IS_TEXT) {
+        return Some(ArrayError::DataType);
+    }
+    if !are_whole_rows(VIEW_SIZE, views.len(), validity) {
+        return Some(ArrayError::Length);
+    }
+    if V::IS_TEXT && are_text_views(views.as_slice(), buffers, validity) {
+        return None;
+    }
+    if V::IS_TEXT && !are_view_texts(views.as_slice(), buffers, validity) {
+        return Some(ArrayError::Utf8);
+    }
+    if !are_good_views(views.as_slice(), buffers, validity) {
+        return Some(ArrayError::View);
+    }
+    None
+}
+
 impl<V: ViewType> BinaryViewArrayGeneric<V> {
     /// The array of these parts.
     pub fn try_new(
@@ -61,25 +89,16 @@ impl<V: ViewType> BinaryViewArrayGeneric<V> {
         ensures sound { IfOk result (λ _. view_fault V.IS_TEXT (is_view V.IS_TEXT (physical_of (kind_of dtype))) (record { kind = kind_of dtype; views = views; buffers = data_buffers.items; validity = validity }) ≡ None) }
         ensures err { IfErr result (λ e. view_fault V.IS_TEXT (is_view V.IS_TEXT (physical_of (kind_of dtype))) (record { kind = kind_of dtype; views = views; buffers = data_buffers.items; validity = validity }) ≡ Some e) }
     {
-        if !layout::is_view(&dtype, V::IS_TEXT) {
-            return Err(ArrayError::DataType);
+        match fault_in::<V>(&dtype, &views, data_buffers.as_slice(), &validity) {
+            Some(fault) => Err(fault),
+            None => Ok(BinaryViewArrayGeneric {
+                dtype,
+                views,
+                data_buffers,
+                validity,
+                rows: PhantomData,
+            }),
         }
-        if !are_whole_rows(VIEW_SIZE, views.len(), &validity) {
-            return Err(ArrayError::Length);
-        }
-        if V::IS_TEXT && !are_view_texts(views.as_slice(), data_buffers.as_slice(), &validity) {
-            return Err(ArrayError::Utf8);
-        }
-        if !are_good_views(views.as_slice(), data_buffers.as_slice(), &validity) {
-            return Err(ArrayError::View);
-        }
-        Ok(BinaryViewArrayGeneric {
-            dtype,
-            views,
-            data_buffers,
-            validity,
-            rows: PhantomData,
-        })
     }
 
     pub fn len(&self) -> usize

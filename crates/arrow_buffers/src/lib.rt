@@ -11,6 +11,7 @@ mod layout;
 mod null;
 mod offsets;
 mod primitive;
+mod text_view;
 mod texts;
 mod validity;
 mod variable;

@@ -17,7 +17,7 @@ pub(crate) fn is_text(bytes: &[u8]) -> bool
 }
 
 /// Whether no character of a text passes over the place.
-fn is_boundary(text: &[u8], at: usize) -> bool
+pub(crate) fn is_boundary(text: &[u8], at: usize) -> bool
     requires { at ≤ length text.now }
     ensures { IsTrue result → IsCharBoundary text.now at }
 {

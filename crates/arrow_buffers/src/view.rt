@@ -16,10 +16,10 @@ use std::alloc::{AllocError, Global};
 pub(crate) const VIEW_SIZE: usize = 16;
 
 /// The most bytes that stand in a view itself.
-const SHORT: usize = 12;
+pub(crate) const SHORT: usize = 12;
 
 /// The number at a place of a view.
-fn number_at(view: &[u8], at: usize) -> usize
+pub(crate) fn number_at(view: &[u8], at: usize) -> usize
     requires { at + 4 ≤ length view.now }
     ensures number { result ≡ u32_of view.now at }
     ensures small { result < 2 ^ 32 }

@@ -2,7 +2,7 @@
 
 pub mod ipc;
 
-pub use ipc_disk::{Disk, DiskTail, MemoryDisk, RefusedDisk};
+pub use ipc_disk::{Disk, DiskTail, FileDisk, MemoryDisk, RefusedDisk};
 pub use ipc_io::{
     Entry, Failed, Feed, Got, MemoryFeed, MemoryShelf, MemorySink, MemorySource, PutError, Shelf,
     ShelfError, Sink, Source,

@@ -2,7 +2,7 @@
 use Rattle.std.proofs.Common.{◌≡◌, ℕ, suc, ◌+◌, ◌<◌, ◌^◌, List, [], ◌∷◌, ◌++◌, length, Option, Some, None, refl, sym, ap, subst, ◌∙◌, arith, true, Bool, not, ℤ}
 use Rattle.std.specs.Prelude.{map, nat_eq}
 use Rattle.std.specs.List.{AllByRecursion}
-use Rattle.std.proofs.lemmas.Bool.{and_parts, and_from, eq-eqb}
+use Rattle.std.proofs.lemmas.Bool.{and_parts, and_from, eq-eqb, ne_eqb}
 use Rattle.std.proofs.lemmas.List.Concat.{length-flat_map}
 use Rattle.arrow_spec.specs.Kinds as kind
 use Rattle.arrow_spec.specs.Kinds.{Kind, Fields, none, field, dictionary_count, dictionary_counts, numbered, uses_in}
@@ -11,6 +11,7 @@ use Rattle.arrow_spec.specs.Arrays.{Dictionaries, cells_before}
 use Rattle.arrow_spec.specs.Features.{chosen_floats, float_faults}
 use Rattle.arrow_spec.specs.Readings.{is_absent}
 use Rattle.arrow_spec.specs.Sent.{all_may_be_sent, dictionary_messages, may_be_sent, sent_under}
+use Rattle.arrow_spec.proofs.MessageTables.{fits_pos}
 use Rattle.ipc_write_laws.specs.Messages.{AllMayBeWritten, Known, ValuesMayBeWritten, WrittenValues, none_known, values, values_message, with_messages, with_values}
 use Rattle.dictionary_laws.specs.Sending.{AllHaveColumns, Columns, HaveColumns, IsColumnOf, NoneReplaced, SentValues, also_values, count_values, histories, histories_to_send, no_values, or_never_read, part_cells, read_under, send_all, send_each, send_of, send_values, sendable, values_at}
 use Rattle.dictionary_laws.specs.Laws.{AreRead}
@@ -62,7 +63,7 @@ module _ (columns : Columns) (whole : Dictionaries) (unreplaced : NoneReplaced w
     readable = ap float_faults c.kind ∙ stand.readable;
     good = λ d known. c.good (known_behind s) d (known_visited k (read_under h) (suc id) s read.0) known;
     rows = c.rows;
-    small = omega (arith, stand.small);
+    small = fits_pos id (omega (arith, stand.small));
     few = c.few;
     nodes = c.nodes;
     views = c.views;
@@ -96,7 +97,7 @@ module _ (columns : Columns) (whole : Dictionaries) (unreplaced : NoneReplaced w
       let now : state (also_values x u) id ≡ (count, Some (cells_before is_delta known ++ part_cells h)) =
       here ∙ ap (λ (p : Option ℕ × Option (List Cell)). (p.0, Some (cells_before is_delta p.1 ++ x.column.cells))) kept ∙ ap (λ cells. (count, Some (cells_before is_delta known ++ cells))) cs.0.cells in
       let visited = visited_as (λ p. p ≡ Some under) (λ p. Precedes p (Some under)) (λ p q. subst (λ r. Precedes r (Some under)) (sym q) (precedes_itself (Some under))) k (suc id) (state u) (state (also_values x u))
-      (λ i low high. sym (kept_also x u i (λ same. omega (arith, same, low)))) read.0 in
+      (λ i low high. sym (kept_also x u i (ne_eqb id i (λ e. omega (arith, e, low))))) read.0 in
       parts_are_read k id d behind stand inner (Some under) hs true (also_values x u) count (Some (cells_before is_delta known ++ part_cells h)) a.1 cs.1 now visited (part_may k id is_delta h u stand cs.0 read)
 
   dictionary_is_read : (k : Kind) (id : ℕ) (d : Dictionaries) (old : ℤ) (o : Option Dictionaries) (s : SentValues) → IsBehind d whole → UseStandsIn (uses_in fs) k id → AllByRecursion (HasColumn k id) ([] ∷ sendable (histories whole old))

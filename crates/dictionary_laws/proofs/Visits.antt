@@ -3,7 +3,7 @@ use Rattle.std.proofs.Common.{◌≡◌, ℕ, suc, ◌+◌, ◌≤◌, ◌<◌, 
 use Rattle.std.specs.Prelude.{map, nat_eq}
 use Rattle.std.proofs.lemmas.Bool.{ne_eqb}
 use Rattle.arrow_spec.specs.Kinds as kind
-use Rattle.arrow_spec.specs.Kinds.{Kind, Fields, none, field, dictionary_count, dictionary_counts}
+use Rattle.arrow_spec.specs.Kinds.{Kind, Fields, none, field, dictionary_count, dictionary_counts, same}
 use Rattle.arrow_spec.specs.Cells.{Cell}
 use Rattle.arrow_spec.specs.Arrays.{Dictionaries}
 use Rattle.arrow_spec.specs.Readings.{is_absent}
@@ -104,8 +104,8 @@ known_more (y ∷ ys) x c = known_more ys x (with_values y c)
 pub state_also : (x : WrittenValues) (s : SentValues) (i : ℕ) → state (also_values x s) i ≡ (sent_under s.counts i, with_values x (known_behind s) (pos i))
 state_also x s i = ap (λ (c : Known). (sent_under s.counts i, c (pos i))) (known_more s.values x none_known)
 
-pub kept_also : (x : WrittenValues) (s : SentValues) (i : ℕ) → (x.id ≡ i → ⊥) → state (also_values x s) i ≡ state s i
-kept_also x s i other = let test : nat_eq x.id i ≡ false = ne_eqb x.id i other in state_also x s i ∙ rw test refl
+pub kept_also : (x : WrittenValues) (s : SentValues) (i : ℕ) → same x.id (pos i) ≡ false → state (also_values x s) i ≡ state s i
+kept_also x s i test = state_also x s i ∙ rw test refl
 
 pub kept_count : (id : ℕ) (hs : List Dictionaries) (s : SentValues) (i : ℕ) → (id ≡ i → ⊥) → state (count_values id hs s) i ≡ state s i
 kept_count id hs s i other = let test : nat_eq id i ≡ false = ne_eqb id i other in rw test refl
@@ -117,7 +117,7 @@ module _ (columns : Columns) where
   kept_each inner k id is_delta (h ∷ hs) s i other kept =
       let u = inner (read_under h) s in
       let x = values_at columns k id is_delta h in
-      kept_each inner k id true hs (also_values x u) i other kept ∙ kept_also x u i other ∙ kept (read_under h) s
+      kept_each inner k id true hs (also_values x u) i other kept ∙ kept_also x u i (ne_eqb id i other) ∙ kept (read_under h) s
 
   -- what is sent of a kind leaves the ids as they are that are not its own
   mutual

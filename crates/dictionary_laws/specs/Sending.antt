@@ -132,7 +132,7 @@ histories_to_send (Some n) hs = histories_beyond n hs
 
 -- the values of a part under an id
 abbrev pub values_at : Columns → Kind → ℕ → Bool → Dictionaries → WrittenValues
-values_at columns k id is_delta h = record { id = id; is_delta = is_delta; rows = length (part_cells h); column = columns h k (suc id) }
+values_at columns k id is_delta h = record { id = pos id; is_delta = is_delta; rows = length (part_cells h); column = columns h k (suc id) }
 
 abbrev pub also_values : WrittenValues → SentValues → SentValues
 also_values x s = record { values = s.values ++ x ∷ []; counts = s.counts }

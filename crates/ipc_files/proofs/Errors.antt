@@ -1,11 +1,12 @@
 -- An error that is handed on.
-use Rattle.std.proofs.Common.{◌≡◌, ℕ, List, [], Result, Ok, Err, ap, IfErr}
+use Rattle.std.proofs.Common.{◌≡◌, ℕ, List, [], Result, Ok, Err, ap, arith, IfErr}
 use Rattle.std.specs.Result.{IsErr, IsErrAnd}
 use Rattle.arrow_spec.specs.declared.error.IpcError.{IpcError}
 use Rattle.arrow_spec.specs.declared.error.IpcError.TheVariants as errors
 use Rattle.arrow_spec.specs.Readings.{Reading, Refuses}
 use Rattle.ipc_fields.specs.Causes.{Decodes}
 use Rattle.ipc_files.specs.FileViews.{FileCause}
+use Rattle.ipc_files.specs.RowCounts.{CountCause}
 
 pub is_err : {X : Type 0} → (r : Result X IpcError) (e : IpcError) (P : IpcError → Type 0) → IsErr r → IsErrAnd r P → ((f : IpcError) → P f → f ≡ e) → r ≡ Err e
 is_err (Ok x) e P h p k = cc
@@ -43,3 +44,7 @@ bytes_cause view (Err errors.SchemaMismatch) R n m h = absurd h
 bytes_cause view (Err (errors.DictionaryReplaced id)) R n m h = absurd h
 bytes_cause view (Err errors.NotRepresentable) R n m h = absurd h
 bytes_cause view (Err errors.State) R n m h = absurd h
+
+-- why rows are not counted is a reason why metadata is refused
+pub file_cause : (e : IpcError) (n m : ℕ) → CountCause e n m → FileCause e n m
+file_cause e n m h = grind arith

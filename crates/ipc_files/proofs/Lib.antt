@@ -1,4 +1,5 @@
 pub mod Errors
+pub mod PlainRefusals
 pub mod FieldCounts
 pub mod ReadFits
 pub mod ReadBlocks

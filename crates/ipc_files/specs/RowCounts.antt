@@ -1,8 +1,11 @@
 -- How many rows the record batches of a file have, by their messages alone: no pairs and no body are looked at. (Arrow Columnar Format, "IPC File Format"; Message.fbs, RecordBatch.)
 use Rattle.std.specs.Prelude.{ℕ, ◌+◌, ◌-◌, ◌^◌, ◌≡◌, ◌≤◌, List, [], ◌∷◌, length, Option, Some, None, ℤ, pos, Ok, ⊤, nat_le, nat_lt, if◌then◌else◌}
+use Rattle.arrow_spec.specs.declared.error.IpcError.{IpcError}
+use Rattle.arrow_spec.specs.declared.error.IpcError.TheVariants.{OutOfSpec, Unsupported, ReadFault, Memory}
 use Rattle.arrow_spec.specs.declared.error.OutOfSpecKind.TheVariants as kinds
 use Rattle.arrow_spec.specs.Readings.{Reading, ◌>>=◌, natural, only_if}
 use Rattle.arrow_spec.specs.Files.{FileBlock, footer_of}
+use Rattle.ipc_io.specs.Outside.{Rose}
 use Rattle.ipc_schema.specs.Footers.{record_blocks_in}
 use Rattle.ipc_files.specs.FileBlocks.{block_header}
 use Rattle.ipc_files.specs.Fetching.{message_cost}
@@ -36,6 +39,14 @@ blocks_passed b [] number left = Ok (number, left)
 blocks_passed b (block ∷ blocks) number left = do
   rows ← block_rows b block
   if nat_le rows left then blocks_passed b blocks (number + 1) (left - rows) else Ok (number, left)
+
+-- why rows are not counted: bytes that are damaged or not supported, want of memory, or a fault of the source
+abbrev pub CountCause : IpcError → ℕ → ℕ → Type 0
+CountCause (OutOfSpec kind) faults faults' = ⊤
+CountCause (Unsupported feature) faults faults' = ⊤
+CountCause ReadFault faults faults' = Rose faults faults'
+CountCause Memory faults faults' = ⊤
+CountCause e faults faults' = ⊥
 
 -- ── what is fetched ──
 

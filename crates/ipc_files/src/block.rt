@@ -10,6 +10,7 @@ ghost use Rattle.ipc_files.specs.FileBlocks.{block_header, message_metadata as m
 ghost use Rattle.ipc_files.specs.FileDictionaries.{DictionaryIn};
 ghost use Rattle.ipc_files.specs.FileViews.{FileCause};
 ghost use Rattle.ipc_files.specs.Fetching.{FrontFetched, MessageFetched, MetadataFetched};
+ghost use Rattle.ipc_files.specs.RowCounts.{CountCause};
 
 use crate::fetch::fetch;
 use crate::integers::magnitude;
@@ -41,7 +42,7 @@ fn read_prefix<S: Source>(
     requires small { at < 2 ^ 63 }
     ensures prefix { PrefixIn (S.content source.old) at size result }
     ensures within { IfOk result (λ p. p.0 + p.1 ≤ size) }
-    ensures cause { IfErr result (λ e. FileCause e (S.faults source.old) (S.faults source.new)) }
+    ensures cause { IfErr result (λ e. CountCause e (S.faults source.old) (S.faults source.new)) }
     ensures fetched { FrontFetched (S.content source.old) at size (S.fetched source.old) (S.fetched source.new) }
     ensures kept { SourceKept S.content S.faults S.references source.old source.new }
 {
@@ -93,7 +94,7 @@ fn fetch_metadata<S: Source>(
     requires { IsSize (S.content source.old) size }
     ensures within { OnOk result ((file_block block.now).offset + (file_block block.now).metadata + (file_block block.now).body ≤ size) }
     ensures metadata { GivesIn (S.content source.old) (λ v. v.items) result (λ b. metadata_at b (file_block block.now)) }
-    ensures cause { IfErr result (λ e. FileCause e (S.faults source.old) (S.faults source.new)) }
+    ensures cause { IfErr result (λ e. CountCause e (S.faults source.old) (S.faults source.new)) }
     ensures fetched { MetadataFetched (S.content source.old) (file_block block.now) (S.fetched source.old) (S.fetched source.new) }
     ensures kept { SourceKept S.content S.faults S.references source.old source.new }
 {
@@ -166,7 +167,7 @@ pub fn read_block_header<S: Source>(
 ) -> Result<RecordMessage, IpcError>
     requires { IsSize (S.content source.old) size }
     ensures header { GivesIn (S.content source.old) message_of result (λ b. block_header b (file_block block.now)) }
-    ensures cause { IfErr result (λ e. FileCause e (S.faults source.old) (S.faults source.new)) }
+    ensures cause { IfErr result (λ e. CountCause e (S.faults source.old) (S.faults source.new)) }
     ensures fetched { MetadataFetched (S.content source.old) (file_block block.now) (S.fetched source.old) (S.fetched source.new) }
     ensures kept { SourceKept S.content S.faults S.references source.old source.new }
 {

@@ -1,7 +1,7 @@
 //! Bytes of a source.
 ghost use Rattle.std.specs.Prelude.{◌≡◌, ◌+◌, ◌≤◌, length, IfOk, IfErr};
 ghost use Rattle.ipc_files.specs.FileBlocks.{Lies, Fetched, Faulted};
-ghost use Rattle.ipc_files.specs.FileViews.{FileCause};
+ghost use Rattle.ipc_files.specs.RowCounts.{CountCause};
 ghost use Rattle.ipc_io.specs.Outside.{SourceKept};
 
 use arrow_spec::{IpcError, OutOfSpecKind};
@@ -19,7 +19,7 @@ pub(crate) fn fetch<S: Source>(
     ensures bytes { IfOk result (λ v. Fetched (S.content source.old) at count v.items) }
     ensures count { IfOk result (λ v. length v.items ≡ count) }
     ensures refused { IfErr result (λ e. Faulted (S.content source.old) e) }
-    ensures cause { IfErr result (λ e. FileCause e (S.faults source.old) (S.faults source.new)) }
+    ensures cause { IfErr result (λ e. CountCause e (S.faults source.old) (S.faults source.new)) }
     ensures fetched { S.fetched source.new ≤ S.fetched source.old + count }
     ensures kept { SourceKept S.content S.faults S.references source.old source.new }
 {

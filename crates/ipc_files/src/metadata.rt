@@ -11,6 +11,7 @@ ghost use Rattle.ipc_files.specs.FileBlocks.{GivesIn};
 ghost use Rattle.ipc_files.specs.FileViews.{file_custom, meta_view, FileCause, FileSays, WasRead};
 ghost use Rattle.ipc_files.specs.Fetching.{FooterFetched};
 ghost use Rattle.ipc_io.specs.Outside.{IsSize, SourceKept};
+ghost use Rattle.ipc_files.specs.RowCounts.{CountCause};
 
 use crate::fetch::fetch;
 use arrow_spec::{Block, IpcError, OutOfSpecKind};
@@ -39,7 +40,7 @@ pub struct FileMetadata {
 fn fetch_footer<S: Source>(alloc: Global, source: &mut S, size: u64) -> Result<Vec<u8>, IpcError>
     requires { IsSize (S.content source.old) size }
     ensures footer { GivesIn (S.content source.old) (λ v. v.items) result footer_of }
-    ensures cause { IfErr result (λ e. FileCause e (S.faults source.old) (S.faults source.new)) }
+    ensures cause { IfErr result (λ e. CountCause e (S.faults source.old) (S.faults source.new)) }
     ensures fetched { FooterFetched (S.content source.old) (S.fetched source.old) (S.fetched source.new) }
     ensures kept { SourceKept S.content S.faults S.references source.old source.new }
 {
@@ -64,7 +65,7 @@ pub(crate) fn read_footer<S: Source>(alloc: Global, source: &mut S) -> Result<Fo
     ensures footer { GivesIn (S.content source.old) (λ f. f.bytes.items) result footer_of }
     ensures size { IfOk result (λ f. IsSize (S.content source.old) f.size) }
     ensures bound { IfOk result (λ f. f.size < 2 ^ 63) }
-    ensures cause { IfErr result (λ e. FileCause e (S.faults source.old) (S.faults source.new)) }
+    ensures cause { IfErr result (λ e. CountCause e (S.faults source.old) (S.faults source.new)) }
     ensures fetched { FooterFetched (S.content source.old) (S.fetched source.old) (S.fetched source.new) }
     ensures kept { SourceKept S.content S.faults S.references source.old source.new }
 {

@@ -22,7 +22,7 @@ ghost use Rattle.ipc_read.specs.Sources.{Answers, offsets_of_rows, faults_where,
 
 use crate::child_rows::next_rows;
 use crate::readers::{BufferReader, ColumnReader};
-use arrow_arrays::{Array, ListArray, ListOffsets, MapArray};
+use arrow_arrays::{Array, ListOffsets, MapArray, list_of};
 use arrow_buffers::{ArrayError, Bitmap, Buffer, place_of, rise_within};
 use arrow_spec::{IpcError, OutOfSpecKind};
 use arrow_types::{ArrowDataType, Field, Offset};
@@ -158,11 +158,8 @@ fn make_list(
     let dtype = dtype.try_clone(alloc)?;
     let held = values.len();
     let _ = held;
-    match ListArray::try_new(alloc, dtype, parts.offsets, values, parts.validity) {
-        Ok(array) => Ok(Array::List(array)),
-        Err(ArrayError::Memory) => Err(IpcError::Memory),
-        Err(_) => unreachable!(),
-    }
+    let array = list_of(alloc, dtype, parts.offsets, values, parts.validity)?;
+    Ok(Array::List(array))
 }
 
 impl<'a, S: Source> BufferReader<'a, S> {

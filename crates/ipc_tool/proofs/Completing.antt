@@ -1,16 +1,18 @@
--- Where the source means a table, or says a schema, and no device failed, few refusals are left.
+-- Where the source means a table, or a text is said of it, and no device failed, few refusals are left.
 use Rattle.std.proofs.Common.{◌≡◌, ℕ, ◌<◌, ◌^◌, ◌⊎◌, inl, inr, List, length, Option, None, Some, IfSome, IsSome, IsSomeAnd, IsNone, option_map, subst, ap, ◌∙◌, refl, arith, length-append}
 use Rattle.std.specs.Prelude.{IsOk}
 use Rattle.std.specs.Io.KnownBytes.{Consumes}
 use Rattle.arrow_spec.specs.declared.error.IpcError.TheVariants as errors
 use Rattle.arrow_spec.specs.Meaning.{file_table}
-use Rattle.arrow_spec.specs.SchemaText.{schema_text_of}
-use Rattle.arrow_spec.specs.Words.{Command, SchemaAsked, bytes_of_hex, StreamAsked, Held, source_of}
+use Rattle.arrow_spec.specs.Words.{bytes_of_hex, Held, source_of}
+use Rattle.ipc_tool.specs.Asked.{Command, StreamAsked, TextAsked}
 use Rattle.ipc_io.specs.Outside.{Stands}
 use Rattle.ipc_tool.specs.declared.refusal.Refusal.{Refusal}
 use Rattle.ipc_tool.specs.declared.refusal.Refusal.TheVariants.{Ipc, Words, NotHex, InputTooLong, NoName}
 use Rattle.ipc_tool.specs.Refusal.{number_of}
-use Rattle.ipc_tool.specs.Request.{stream_asked, schema_asked, table_asked}
+use Rattle.ipc_tool.specs.Request.{stream_asked, table_asked, text_asked}
+use Rattle.ipc_tool.specs.TextPuts.{file_text}
+use Rattle.ipc_tool.specs.declared.request.FileText.{FileText}
 use Rattle.ipc_tool.specs.declared.request.StreamOptions.{StreamOptions}
 use Rattle.ipc_tool.specs.Input.{TakesTooMany, IsNoHex, HexCause}
 use Rattle.ipc_tool.specs.Run.{Outside, MayBe, NoneFailed, HasMeaning, HasText, IsMissing, IsOfOpening, name_in, IsLeft, IsComplete, IsTold}
@@ -62,8 +64,8 @@ hex_left P NoName rest rest' faults faults' c h f = absurd c
 pub read_left : (e : Refusal) (options : StreamOptions) (old new : Outside) → HexCause e old.rest new.rest old.input_faults new.input_faults → IsComplete e (stream_asked options None) old new
 read_left e options old new c = λ h f. inl (hex_left (λ b. IsSome (file_table b (table_asked options))) e old.rest new.rest old.input_faults new.input_faults c h f.input)
 
-pub schema_left : (e : Refusal) (old new : Outside) → HexCause e old.rest new.rest old.input_faults new.input_faults → IsTold e (schema_asked None) old new
-schema_left e old new c = λ h f. hex_left (λ b. IsOk (schema_text_of b)) e old.rest new.rest old.input_faults new.input_faults c h f.input
+pub text_left : (e : Refusal) (what : FileText) (old new : Outside) → HexCause e old.rest new.rest old.input_faults new.input_faults → IsTold e (text_asked what None) old new
+text_left e what old new c = λ h f. hex_left (λ b. IsOk (file_text what b)) e old.rest new.rest old.input_faults new.input_faults c h f.input
 
 -- the statuses that are left
 abbrev Left : ℕ → StreamAsked → Outside → Type 0
@@ -77,7 +79,7 @@ pub completes : (o : Option StreamAsked) (e : Refusal) (old new : Outside) (n : 
 completes None e old new n is c = tt
 completes (Some s) e old new n is c = λ h f. left e s old n is (c h f)
 
-pub tells : (o : Option SchemaAsked) (e : Refusal) (old new : Outside) (n : ℕ) → n ≡ number_of e → IfSome o (λ s. IsTold e s old new) → IfSome o (λ s. HasText s old → NoneFailed old new → (n ≡ 0) ⊎ (n ≡ 13))
+pub tells : (o : Option TextAsked) (e : Refusal) (old new : Outside) (n : ℕ) → n ≡ number_of e → IfSome o (λ s. IsTold e s old new) → IfSome o (λ s. HasText s old → NoneFailed old new → (n ≡ 0) ⊎ (n ≡ 13))
 tells None e old new n is c = tt
 tells (Some s) e old new n is c = λ h f. inr (is ∙ ap number_of (c h f))
 

@@ -4,5 +4,5 @@ pub mod Decoding
 pub mod Digits
 pub mod Front
 pub mod Noting
-pub mod SchemaTexts
+pub mod FileTexts
 pub mod Words

@@ -1,6 +1,6 @@
 -- What words ask for.
 use Rattle.std.proofs.Common.{◌≡◌, ◌⊎◌, ℕ, List, Option, Some, None, IsSome, IsNone, MatchOption, option_map, is_some, inl, inr, ap, refl, subst, ◌∙◌}
-use Rattle.arrow_spec.specs.Words.{Command}
+use Rattle.ipc_tool.specs.Asked.{Command}
 use Rattle.ipc_words.specs.Requests.{Request, request_of as asked_of}
 use Rattle.arrow_spec.specs.declared.error.IpcError.TheVariants.{Memory}
 use Rattle.ipc_words.specs.declared.words_error.WordsError.{WordsError}

@@ -6,9 +6,10 @@ use Rattle.ipc_io.specs.Outside.{AppendsPrefix, Lacks, Rose}
 use Rattle.ipc_tool.specs.Input.{TakesTooMany, IsNoHex}
 use Rattle.ipc_words.specs.Help.{asks_for_help}
 use Rattle.ipc_words.specs.Requests.{request_of as asked_of}
-use Rattle.ipc_tool.specs.Request.{command_of, request_of, schema_request_of}
+use Rattle.ipc_tool.specs.Request.{command_of, request_of, text_request_of}
 use Rattle.ipc_tool.specs.Run.{HasMeaning, HasText, IsMissing, IsNoted, IsRefused, IsText, IsWhole, MayBe, NoneFailed, Outside, SourceFailed, name_in}
 use Rattle.ipc_tool.specs.Refusal.{number_of}
+use Rattle.ipc_tool.specs.TextPuts.{IsStatusOf}
 use Rattle.ipc_tool.specs.declared.refusal.Refusal.{Refusal}
 use Rattle.ipc_tool.specs.declared.refusal.Refusal.TheVariants.{Ipc}
 
@@ -31,16 +32,16 @@ noted_of written faults wants notes = record { written = written notes; faults =
 pub record Ran (status : ℕ) (words : List (List ℕ)) (old new : Outside) (noted noted' : Noted) : Type 0 where
   pub request : status ≡ 0 → IsSome (command_of words)
   pub whole : status ≡ 0 → IfSome (request_of words) (λ s. IsWhole s old new)
-  pub text : status ≡ 0 → IfSome (schema_request_of words) (λ s. IsText s old new)
+  pub text : status ≡ 0 → IfSome (text_request_of words) (λ s. IsText s old new)
   pub at_end : status ≡ 0 → IfSome (command_of words) (λ c. IsNone (name_in c) → IsAtEnd new.rest)
   pub quiet : status ≡ 0 → Keeps noted.written noted'.written
   pub refused : (status ≡ 0 → ⊥) → (e : Refusal) × IsRefused status e words old new
       × IsNoted e noted.written noted'.written noted.faults noted'.faults noted.wants noted'.wants
   pub complete : IfSome (request_of words) (λ s. HasMeaning s old → NoneFailed old new
       → (status ≡ 0) ⊎ (status ≡ 13) ⊎ ((status ≡ 6) × MayBe errors.TooLarge s old))
-  pub told : IfSome (schema_request_of words) (λ s. HasText s old → NoneFailed old new → (status ≡ 0) ⊎ (status ≡ 13))
+  pub told : IfSome (text_request_of words) (λ s. HasText s old → NoneFailed old new → (status ≡ 0) ⊎ (status ≡ 13))
   pub is : IsStatus status
-  pub of_schema : IfSome (schema_request_of words) (λ s. (status ≤ 4) ⊎ (11 ≤ status))
+  pub of_text : IfSome (text_request_of words) (λ s. IsStatusOf s.what status)
   pub read_fault : status ≡ 11 → IsSomeAnd (command_of words) (λ c. SourceFailed (name_in c) old new)
   pub write_fault : status ≡ 12 → Rose old.output_faults new.output_faults
   pub words_are : status ≡ 14 → IsNone (asked_of words)

@@ -1,7 +1,8 @@
 pub mod Refusal
+pub mod Asked
 pub mod Request
 pub mod Commands
-pub mod SchemaPuts
+pub mod TextPuts
 pub mod StreamPuts
 pub mod Input
 pub mod Decoding

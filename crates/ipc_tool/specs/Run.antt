@@ -5,12 +5,12 @@ use Rattle.arrow_spec.specs.declared.error.IpcError.{IpcError}
 use Rattle.arrow_spec.specs.declared.error.IpcError.TheVariants as errors
 use Rattle.arrow_spec.specs.Meaning.{file_table, may}
 use Rattle.arrow_spec.specs.Files.{Request}
-use Rattle.arrow_spec.specs.Words.{SchemaAsked, Command, of_stream, of_schema, StreamAsked, Held, source_of}
-use Rattle.arrow_spec.specs.SchemaText.{schema_text_of}
+use Rattle.arrow_spec.specs.Words.{Held, source_of}
+use Rattle.ipc_tool.specs.Asked.{Command, StreamAsked, TextAsked, of_stream, of_text}
 use Rattle.ipc_io.specs.Outside.{Rose, Stands, Lacks, AppendsPrefix}
 use Rattle.ipc_tool.specs.Refusal.{number_of, line_of}
 use Rattle.ipc_tool.specs.Request.{WordsCause, command_of}
-use Rattle.ipc_tool.specs.SchemaPuts.{AddsText, AddsTextFront, may_print}
+use Rattle.ipc_tool.specs.TextPuts.{AddsText, AddsTextFront, file_text, may_print}
 use Rattle.ipc_tool.specs.StreamPuts.{AddsStreamPart, shown_as}
 use Rattle.ipc_transcode.specs.Transcode.{AddsStream}
 use Rattle.ipc_tool.specs.Input.{TakesTooMany, IsNoHex}
@@ -74,7 +74,7 @@ SourceFailed (Some name) old new = Rose old.shelf_faults new.shelf_faults
 -- the name of a request's source
 abbrev pub name_in : Command → Option (List ℕ)
 name_in (of_stream s) = s.name
-name_in (of_schema s) = s.name
+name_in (of_text s) = s.name
 
 -- what is told of the shelf lacks the name of a request's source
 abbrev pub IsMissing : Option (List ℕ) → Option Held → Type 0
@@ -118,51 +118,51 @@ RequestCause NotHex s old new = IsNone s.name × IsNoHex old.rest new.rest
 RequestCause InputTooLong s old new = IsNone s.name × TakesTooMany old.rest new.rest
 RequestCause NoName s old new = IsSomeAnd s.name (Lacks old.held)
 
--- ── the text of a schema ──
+-- ── a text of a file ──
 
--- The output has the text of the schema more that the source's bytes say.
-abbrev pub IsText : SchemaAsked → Outside → Outside → Type 0
-IsText s old new = IfSome (source_in s.name old) (λ bytes. IsSomeAnd bytes (λ b. AddsText b old.written new.written))
+-- The output has the text more that is said of the source's bytes.
+abbrev pub IsText : TextAsked → Outside → Outside → Type 0
+IsText s old new = IfSome (source_in s.name old) (λ bytes. IsSomeAnd bytes (λ b. AddsText s.what b old.written new.written))
 
--- what a schema's request that was refused added: nothing; after a failed put a part of the text
-abbrev pub AddsTextOf : Refusal → SchemaAsked → Outside → Outside → Type 0
-AddsTextOf (Ipc errors.WriteFault) s old new = IfSome (source_in s.name old) (λ bytes. IsSomeAnd bytes (λ b. AddsTextFront b old.written new.written))
+-- what a text's request that was refused added: nothing; after a failed put a part of the text
+abbrev pub AddsTextOf : Refusal → TextAsked → Outside → Outside → Type 0
+AddsTextOf (Ipc errors.WriteFault) s old new = IfSome (source_in s.name old) (λ bytes. IsSomeAnd bytes (λ b. AddsTextFront s.what b old.written new.written))
 AddsTextOf _ s old new = Keeps old.written new.written
 
 -- the source's bytes may be refused so
-abbrev pub MayPrint : IpcError → SchemaAsked → Outside → Type 0
-MayPrint e s old = IfSome (source_in s.name old) (λ bytes. IsSomeAnd bytes (λ b. may_print b e))
+abbrev pub MayPrint : IpcError → TextAsked → Outside → Type 0
+MayPrint e s old = IfSome (source_in s.name old) (λ bytes. IsSomeAnd bytes (λ b. may_print s.what b e))
 
--- why a schema's request is refused
-abbrev pub SchemaCause : Refusal → SchemaAsked → Outside → Outside → Type 0
-SchemaCause (Ipc (errors.OutOfSpec kind)) s old new = MayPrint (errors.OutOfSpec kind) s old
-SchemaCause (Ipc (errors.Unsupported feature)) s old new = MayPrint (errors.Unsupported feature) s old
-SchemaCause (Ipc errors.TooDeep) s old new = MayPrint errors.TooDeep s old
-SchemaCause (Ipc (errors.TooMany counted)) s old new = MayPrint (errors.TooMany counted) s old
-SchemaCause (Ipc errors.ReadFault) s old new = SourceFailed s.name old new
-SchemaCause (Ipc errors.WriteFault) s old new = Rose old.output_faults new.output_faults
-SchemaCause (Ipc errors.Memory) s old new = ⊤
-SchemaCause (Ipc _) s old new = ⊥
-SchemaCause Words s old new = ⊥
-SchemaCause NotHex s old new = IsNone s.name × IsNoHex old.rest new.rest
-SchemaCause InputTooLong s old new = IsNone s.name × TakesTooMany old.rest new.rest
-SchemaCause NoName s old new = IsSomeAnd s.name (Lacks old.held)
+-- why a text's request is refused
+abbrev pub TextCause : Refusal → TextAsked → Outside → Outside → Type 0
+TextCause (Ipc (errors.OutOfSpec kind)) s old new = MayPrint (errors.OutOfSpec kind) s old
+TextCause (Ipc (errors.Unsupported feature)) s old new = MayPrint (errors.Unsupported feature) s old
+TextCause (Ipc errors.TooDeep) s old new = MayPrint errors.TooDeep s old
+TextCause (Ipc (errors.TooMany counted)) s old new = MayPrint (errors.TooMany counted) s old
+TextCause (Ipc errors.ReadFault) s old new = SourceFailed s.name old new
+TextCause (Ipc errors.WriteFault) s old new = Rose old.output_faults new.output_faults
+TextCause (Ipc errors.Memory) s old new = ⊤
+TextCause (Ipc _) s old new = ⊥
+TextCause Words s old new = ⊥
+TextCause NotHex s old new = IsNone s.name × IsNoHex old.rest new.rest
+TextCause InputTooLong s old new = IsNone s.name × TakesTooMany old.rest new.rest
+TextCause NoName s old new = IsSomeAnd s.name (Lacks old.held)
 
--- the source's bytes are told, and say a schema
-abbrev pub HasText : SchemaAsked → Outside → Type 0
-HasText s old = IsSomeAnd (source_in s.name old) (λ bytes. IsSomeAnd bytes (λ b. IsOk (schema_text_of b)))
+-- the source's bytes are told, and the text is said of them
+abbrev pub HasText : TextAsked → Outside → Type 0
+HasText s old = IsSomeAnd (source_in s.name old) (λ bytes. IsSomeAnd bytes (λ b. IsOk (file_text s.what b)))
 
 -- ── either command ──
 
 -- why a request is refused
 abbrev pub CommandCause : Refusal → Command → Outside → Outside → Type 0
 CommandCause e (of_stream s) old new = RequestCause e s old new
-CommandCause e (of_schema s) old new = SchemaCause e s old new
+CommandCause e (of_text s) old new = TextCause e s old new
 
 -- what a request that was refused added
 abbrev pub CommandAdds : Refusal → Command → Outside → Outside → Type 0
 CommandAdds e (of_stream s) old new = AddsPartOf e s old new
-CommandAdds e (of_schema s) old new = AddsTextOf e s old new
+CommandAdds e (of_text s) old new = AddsTextOf e s old new
 
 -- a status other than 0: there is a refusal of that number, with its cause, and what was added is a part
 pub record IsRefused (status : ℕ) (e : Refusal) (words : List (List ℕ)) (old new : Outside) : Type 0 where
@@ -192,6 +192,6 @@ IsLeft e s old = (e ≡ Ipc errors.Memory) ⊎ ((e ≡ Ipc errors.TooLarge) × M
 abbrev pub IsComplete : Refusal → StreamAsked → Outside → Outside → Type 0
 IsComplete e s old new = HasMeaning s old → NoneFailed old new → IsLeft e s old
 
--- the only refusal where the source says a schema and no device failed
-abbrev pub IsTold : Refusal → SchemaAsked → Outside → Outside → Type 0
+-- the only refusal where the text is said of the source and no device failed
+abbrev pub IsTold : Refusal → TextAsked → Outside → Outside → Type 0
 IsTold e s old new = HasText s old → NoneFailed old new → e ≡ Ipc errors.Memory

@@ -1,4 +1,4 @@
-//! The run of the program, over objects that it is lent: its words, hex text, statuses and notes, and the text of a file's schema.
+//! The run of the program, over objects that it is lent: its words, hex text, statuses and notes, and the texts that are said of a file.
 #![tactic(auto)]
 
 mod adapters;
@@ -10,8 +10,8 @@ mod note;
 mod program;
 mod refusal;
 mod request;
-mod schema_output;
 mod stream_output;
+mod text_output;
 
 pub use adapters::{InputFeed, OutputSink};
 pub use command_line::{answer, status_of_process};

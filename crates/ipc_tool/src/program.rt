@@ -5,18 +5,19 @@ ghost use Rattle.ipc_io.specs.Outside.{Rose, Lacks};
 ghost use Rattle.ipc_tool.specs.Refusal.{number_of};
 ghost use Rattle.ipc_words.specs.Requests.{request_of as asked_of};
 ghost use Rattle.ipc_words.specs.Views.{texts};
-ghost use Rattle.ipc_tool.specs.Request.{stream_asked, schema_asked, command_of, request_of, schema_request_of, WordsCause};
+ghost use Rattle.ipc_tool.specs.Request.{stream_asked, text_asked, command_of, request_of, text_request_of, WordsCause};
 ghost use Rattle.ipc_tool.specs.Input.{TakesTooMany, IsNoHex};
-ghost use Rattle.ipc_tool.specs.Run.{HasMeaning, HasText, IsRefused, IsWhole, IsText, AddsPartOf, AddsTextOf, RequestCause, SchemaCause, CommandAdds, CommandCause, NoneFailed, IsNoted, MayBe, IsComplete, IsTold, SourceFailed, IsMissing, IsOfOpening, name_in, outside_of, beside_shelf, beside_input};
+ghost use Rattle.ipc_tool.specs.TextPuts.{IsStatusOf};
+ghost use Rattle.ipc_tool.specs.Run.{HasMeaning, HasText, IsRefused, IsWhole, IsText, AddsPartOf, AddsTextOf, RequestCause, TextCause, CommandAdds, CommandCause, NoneFailed, IsNoted, MayBe, IsComplete, IsTold, SourceFailed, IsMissing, IsOfOpening, name_in, outside_of, beside_shelf, beside_input};
 ghost use Rattle.ipc_tool.specs.declared.refusal.Refusal.{Refusal};
 ghost use Rattle.arrow_spec.specs.declared.error.IpcError.TheVariants.{TooLarge};
 
 use crate::input::read_hex;
 use crate::note::note_refusal;
 use crate::refusal::Refusal;
-use crate::request::{Command, StreamOptions, read_command};
-use crate::schema_output::write_schema;
+use crate::request::{Command, FileText, StreamOptions, read_command};
 use crate::stream_output::write_stream;
+use crate::text_output::write_text;
 use ipc_schema::{Failed, Feed, Got, Shelf, Sink, Source};
 use std::alloc::Global;
 
@@ -111,25 +112,26 @@ fn stream_from_shelf<H: Shelf, W: Sink>(
     Ok(())
 }
 
-// The text of the schema of the input.
-fn schema_from_input<I: Feed, W: Sink>(
+// A text of the file that the input stands for.
+fn text_from_input<I: Feed, W: Sink>(
     alloc: Global,
     input: &mut I,
     output: &mut W,
+    what: FileText,
 ) -> Result<(), Refusal>
-    ensures text { OnOk result (IsText (schema_asked None)
+    ensures text { OnOk result (IsText (text_asked what None)
         (beside_shelf I.rest I.faults W.written W.faults W.wants input.old output.old)
         (beside_shelf I.rest I.faults W.written W.faults W.wants input.new output.new)) }
-    ensures part { IfErr result (λ e. AddsTextOf e (schema_asked None)
+    ensures part { IfErr result (λ e. AddsTextOf e (text_asked what None)
         (beside_shelf I.rest I.faults W.written W.faults W.wants input.old output.old)
         (beside_shelf I.rest I.faults W.written W.faults W.wants input.new output.new)) }
-    ensures cause { IfErr result (λ e. SchemaCause e (schema_asked None)
+    ensures cause { IfErr result (λ e. TextCause e (text_asked what None)
         (beside_shelf I.rest I.faults W.written W.faults W.wants input.old output.old)
         (beside_shelf I.rest I.faults W.written W.faults W.wants input.new output.new)) }
-    ensures told { IfErr result (λ e. IsTold e (schema_asked None)
+    ensures told { IfErr result (λ e. IsTold e (text_asked what None)
         (beside_shelf I.rest I.faults W.written W.faults W.wants input.old output.old)
         (beside_shelf I.rest I.faults W.written W.faults W.wants input.new output.new)) }
-    ensures few { IfErr result (λ e. (number_of e ≤ 4) ⊎ (11 ≤ number_of e)) }
+    ensures few { IfErr result (λ e. IsStatusOf what (number_of e)) }
     ensures at_end { OnOk result (IsAtEnd (I.rest input.new)) }
     ensures reads { I.faults input.old ≤ I.faults input.new }
     ensures not_read { IfErr result (λ e. number_of e ≡ 11 → Keeps (W.written output.old) (W.written output.new)) }
@@ -137,30 +139,31 @@ fn schema_from_input<I: Feed, W: Sink>(
     ensures untouched { IfErr result (λ e. 14 ≤ number_of e → Keeps (W.written output.old) (W.written output.new)) }
 {
     let bytes = read_hex(alloc, input)?;
-    write_schema(alloc, &mut Bytes { bytes }, output)?;
+    write_text(alloc, &mut Bytes { bytes }, output, what)?;
     Ok(())
 }
 
-// The text of the schema of what stands under a name.
-fn schema_from_shelf<H: Shelf, W: Sink>(
+// A text of the file that stands under a name.
+fn text_from_shelf<H: Shelf, W: Sink>(
     alloc: Global,
     shelf: &mut H,
     name: &str,
     output: &mut W,
+    what: FileText,
 ) -> Result<(), Refusal>
-    ensures text { OnOk result (IsText (schema_asked (Some name.now))
+    ensures text { OnOk result (IsText (text_asked what (Some name.now))
         (beside_input H.held H.faults W.written W.faults W.wants shelf.old output.old)
         (beside_input H.held H.faults W.written W.faults W.wants shelf.new output.new)) }
-    ensures part { IfErr result (λ e. AddsTextOf e (schema_asked (Some name.now))
+    ensures part { IfErr result (λ e. AddsTextOf e (text_asked what (Some name.now))
         (beside_input H.held H.faults W.written W.faults W.wants shelf.old output.old)
         (beside_input H.held H.faults W.written W.faults W.wants shelf.new output.new)) }
-    ensures cause { IfErr result (λ e. SchemaCause e (schema_asked (Some name.now))
+    ensures cause { IfErr result (λ e. TextCause e (text_asked what (Some name.now))
         (beside_input H.held H.faults W.written W.faults W.wants shelf.old output.old)
         (beside_input H.held H.faults W.written W.faults W.wants shelf.new output.new)) }
-    ensures told { IfErr result (λ e. IsTold e (schema_asked (Some name.now))
+    ensures told { IfErr result (λ e. IsTold e (text_asked what (Some name.now))
         (beside_input H.held H.faults W.written W.faults W.wants shelf.old output.old)
         (beside_input H.held H.faults W.written W.faults W.wants shelf.new output.new)) }
-    ensures few { IfErr result (λ e. (number_of e ≤ 4) ⊎ (11 ≤ number_of e)) }
+    ensures few { IfErr result (λ e. IsStatusOf what (number_of e)) }
     ensures missing { IsMissing (Some name.now) (H.held shelf.old) → IsErrAnd result IsOfOpening }
     ensures held { H.held shelf.new ≡ H.held shelf.old }
     ensures reads { H.faults shelf.old ≤ H.faults shelf.new }
@@ -168,7 +171,7 @@ fn schema_from_shelf<H: Shelf, W: Sink>(
     ensures untouched { IfErr result (λ e. 14 ≤ number_of e → Keeps (W.written output.old) (W.written output.new)) }
 {
     let mut file = shelf.open_file(name)?;
-    let done = write_schema(alloc, &mut file, output);
+    let done = write_text(alloc, &mut file, output, what);
     shelf.close_file(file);
     done?;
     Ok(())
@@ -186,7 +189,7 @@ fn work<H: Shelf, I: Feed, W: Sink>(
     ensures whole { OnOk result (IfSome (request_of (texts words.now)) (λ s. IsWhole s
         (outside_of H.held H.faults I.rest I.faults W.written W.faults W.wants shelf.old input.old output.old)
         (outside_of H.held H.faults I.rest I.faults W.written W.faults W.wants shelf.new input.new output.new))) }
-    ensures text { OnOk result (IfSome (schema_request_of (texts words.now)) (λ s. IsText s
+    ensures text { OnOk result (IfSome (text_request_of (texts words.now)) (λ s. IsText s
         (outside_of H.held H.faults I.rest I.faults W.written W.faults W.wants shelf.old input.old output.old)
         (outside_of H.held H.faults I.rest I.faults W.written W.faults W.wants shelf.new input.new output.new))) }
     ensures part { IfErr result (λ e. MatchOption (command_of (texts words.now)) (Keeps (W.written output.old) (W.written output.new)) (λ c. CommandAdds e c
@@ -198,10 +201,10 @@ fn work<H: Shelf, I: Feed, W: Sink>(
     ensures complete { IfErr result (λ e. IfSome (request_of (texts words.now)) (λ s. IsComplete e s
         (outside_of H.held H.faults I.rest I.faults W.written W.faults W.wants shelf.old input.old output.old)
         (outside_of H.held H.faults I.rest I.faults W.written W.faults W.wants shelf.new input.new output.new))) }
-    ensures told { IfErr result (λ e. IfSome (schema_request_of (texts words.now)) (λ s. IsTold e s
+    ensures told { IfErr result (λ e. IfSome (text_request_of (texts words.now)) (λ s. IsTold e s
         (outside_of H.held H.faults I.rest I.faults W.written W.faults W.wants shelf.old input.old output.old)
         (outside_of H.held H.faults I.rest I.faults W.written W.faults W.wants shelf.new input.new output.new))) }
-    ensures few { IfErr result (λ e. IfSome (schema_request_of (texts words.now)) (λ s. (number_of e ≤ 4) ⊎ (11 ≤ number_of e))) }
+    ensures few { IfErr result (λ e. IfSome (text_request_of (texts words.now)) (λ s. IsStatusOf s.what (number_of e))) }
     ensures missing { IfSome (command_of (texts words.now)) (λ c. IsMissing (name_in c) (H.held shelf.old) → IsErrAnd result IsOfOpening) }
     ensures at_end { OnOk result (IfSome (command_of (texts words.now)) (λ c. IsNone (name_in c) → IsAtEnd (I.rest input.new))) }
     ensures unread { MatchOption (command_of (texts words.now)) (input.new ≡ input.old) (λ c. IsSome (name_in c) → input.new ≡ input.old) }
@@ -218,9 +221,9 @@ fn work<H: Shelf, I: Feed, W: Sink>(
             None => stream_from_input(alloc, input, output, &options),
             Some(name) => stream_from_shelf(alloc, shelf, name, output, &options),
         },
-        Command::Schema { name } => match name {
-            None => schema_from_input(alloc, input, output),
-            Some(name) => schema_from_shelf(alloc, shelf, name, output),
+        Command::Text { what, name } => match name {
+            None => text_from_input(alloc, input, output, what),
+            Some(name) => text_from_shelf(alloc, shelf, name, output, what),
         },
     }
 }
@@ -229,7 +232,7 @@ fn work<H: Shelf, I: Feed, W: Sink>(
 ///
 /// The file is what stands on the shelf under NAME, which is opened, and closed before the answer. Without NAME, or with `-`, it is what the input's hex text stands for, which is read to its end.
 /// `stream` adds to the output one stream that means what the file means: its bytes with `--raw`, and else their hex text and a line feed. With `--columns` it has the columns of these numbers, in this order, and with `--limit` at most so many rows in all.
-/// `schema` adds the text of the schema that the file's footer says, for columns of all types and in either byte order, as it is and in one put.
+/// `schema` adds the text of the schema that the file's footer says, for columns of all types and in either byte order, as it is and in one put; `rows` adds the number of the file's rows, by its footer and the messages of its record batches, in decimal digits, and a line feed, likewise.
 /// Words that ask for help or the version are no request here.
 /// The status is 0 then, and else that of a refusal, of which one line is noted: `refused`, the status, the name. What the notes answer changes nothing.
 pub fn run<H: Shelf, I: Feed, W: Sink, N: Sink>(
@@ -240,12 +243,12 @@ pub fn run<H: Shelf, I: Feed, W: Sink, N: Sink>(
     output: &mut W,
     notes: &mut N,
 ) -> u8
-    // At 0 the words are a request. For a stream the output has one whole stream more that means what the source means, for a schema the text of the source's schema more; and nothing was noted.
+    // At 0 the words are a request. For a stream the output has one whole stream more that means what the source means, for a text the text of the source more; and nothing was noted.
     ensures request { result ≡ 0 → IsSome (command_of (texts words.now)) }
     ensures whole { result ≡ 0 → IfSome (request_of (texts words.now)) (λ s. IsWhole s
         (outside_of H.held H.faults I.rest I.faults W.written W.faults W.wants shelf.old input.old output.old)
         (outside_of H.held H.faults I.rest I.faults W.written W.faults W.wants shelf.new input.new output.new)) }
-    ensures text { result ≡ 0 → IfSome (schema_request_of (texts words.now)) (λ s. IsText s
+    ensures text { result ≡ 0 → IfSome (text_request_of (texts words.now)) (λ s. IsText s
         (outside_of H.held H.faults I.rest I.faults W.written W.faults W.wants shelf.old input.old output.old)
         (outside_of H.held H.faults I.rest I.faults W.written W.faults W.wants shelf.new input.new output.new)) }
     ensures at_end { result ≡ 0 → IfSome (command_of (texts words.now)) (λ c. IsNone (name_in c) → IsAtEnd (I.rest input.new)) }
@@ -258,17 +261,17 @@ pub fn run<H: Shelf, I: Feed, W: Sink, N: Sink>(
         (outside_of H.held H.faults I.rest I.faults W.written W.faults W.wants shelf.new input.new output.new)
         × IsNoted e (N.written notes.old) (N.written notes.new) (N.faults notes.old) (N.faults notes.new) (N.wants notes.old) (N.wants notes.new) }
 
-    // Where the source means a table and no device failed, memory may be wanting, or a message of it is too large; where it says a schema, memory may be wanting.
+    // Where the source means a table and no device failed, memory may be wanting, or a message of it is too large; where the text is said of it, memory may be wanting.
     ensures complete { let old = outside_of H.held H.faults I.rest I.faults W.written W.faults W.wants shelf.old input.old output.old in
         let new = outside_of H.held H.faults I.rest I.faults W.written W.faults W.wants shelf.new input.new output.new in
         IfSome (request_of (texts words.now)) (λ s. HasMeaning s old → NoneFailed old new → (result ≡ 0) ⊎ (result ≡ 13) ⊎ ((result ≡ 6) × MayBe TooLarge s old)) }
     ensures told { let old = outside_of H.held H.faults I.rest I.faults W.written W.faults W.wants shelf.old input.old output.old in
         let new = outside_of H.held H.faults I.rest I.faults W.written W.faults W.wants shelf.new input.new output.new in
-        IfSome (schema_request_of (texts words.now)) (λ s. HasText s old → NoneFailed old new → (result ≡ 0) ⊎ (result ≡ 13)) }
+        IfSome (text_request_of (texts words.now)) (λ s. HasText s old → NoneFailed old new → (result ≡ 0) ⊎ (result ≡ 13)) }
 
     // Each status has its cause.
     ensures never { (result ≤ 6) ⊎ (11 ≤ result) }
-    ensures of_schema { IfSome (schema_request_of (texts words.now)) (λ s. (result ≤ 4) ⊎ (11 ≤ result)) }
+    ensures of_text { IfSome (text_request_of (texts words.now)) (λ s. IsStatusOf s.what result) }
     ensures at_most { result ≤ 17 }
     ensures read_fault { result ≡ 11 → IsSomeAnd (command_of (texts words.now)) (λ c. SourceFailed (name_in c)
         (outside_of H.held H.faults I.rest I.faults W.written W.faults W.wants shelf.old input.old output.old)

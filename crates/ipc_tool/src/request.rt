@@ -21,6 +21,15 @@ pub struct StreamOptions {
     pub raw: bool,
 }
 
+/// A text that is said of a file.
+#[derive(Clone, Copy, Debug, PartialEq, Eq)]
+pub enum FileText {
+    /// Its schema.
+    Schema,
+    /// How many rows it has.
+    Rows,
+}
+
 /// What words ask for, of the file under a name, or of that whose hex text is the input.
 #[derive(Drop)]
 pub enum Command<'a> {
@@ -29,13 +38,14 @@ pub enum Command<'a> {
         options: StreamOptions,
         name: Option<&'a str>,
     },
-    /// The text of its schema.
-    Schema {
+    /// A text that is said of it.
+    Text {
+        what: FileText,
         name: Option<&'a str>,
     },
 }
 
-/// The command that the words ask for: `stream` or `schema`.
+/// The command that the words ask for: `stream`, `schema` or `rows`.
 pub fn read_command<'a>(alloc: Global, words: &'a [&'a str]) -> Result<Command<'a>, Refusal>
     ensures request { IfOk result (λ c. command_of (texts words.entry.now) ≡ Some (asked_command c)) }
     ensures cause { IfErr result (λ e. (e ≡ Ipc Memory) ⊎ ((command_of (texts words.entry.now) ≡ None) × WordsCause e (texts words.entry.now))) }
@@ -49,6 +59,13 @@ pub fn read_command<'a>(alloc: Global, words: &'a [&'a str]) -> Result<Command<'
             },
             name: stream.name,
         }),
-        Request::Schema(name) => Ok(Command::Schema { name }),
+        Request::Schema(name) => Ok(Command::Text {
+            what: FileText::Schema,
+            name,
+        }),
+        Request::Rows(name) => Ok(Command::Text {
+            what: FileText::Rows,
+            name,
+        }),
     }
 }

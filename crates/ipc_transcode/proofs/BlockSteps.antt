@@ -96,7 +96,7 @@ values_text (v ∷ vs) = flat_map-cons bytes_of (values v) (map values vs) ∙ a
 
 values_front_bytes : (custom : Metadata) (meta : Meta) (r : Request) (vs : List WrittenValues) → front_bytes custom meta r (map values vs) ≡ front_bytes custom meta r [] ++ all_values vs
 values_front_bytes custom meta r vs =
-    let schema = message_bytes (stream_schema (numbered (fields_as_asked r.columns meta.schema.fields) 0) meta.schema.metadata custom).node [] in
+    let schema = message_bytes (stream_schema (fields_as_asked r.columns meta.schema.fields) meta.schema.metadata custom).node [] in
     ap (λ xs. schema ++ xs) (values_text vs) ∙ ap (λ xs. xs ++ all_values vs) (sym (append-nil schema))
 
 -- a batch more, behind what stands before it

@@ -16,10 +16,8 @@ use Rattle.arrow_spec.specs.Columns.{stands_in}
 use Rattle.arrow_spec.specs.Features.{chosen_floats}
 use Rattle.arrow_spec.specs.Files.{FileBlock, Meta, Request, TableBatch, columns_right, custom_of, dictionaries_of, dictionaries_read, fields_as_asked, file_reading, to_send, wrong_columns}
 use Rattle.arrow_spec.specs.Framing.{message_bytes}
-use Rattle.arrow_spec.specs.Flat.{little}
-use Rattle.arrow_spec.specs.Kinds.{Fields, Metadata, numbered, width}
-use Rattle.transcode_laws.proofs.StreamFields.{numbered_twice}
-use Rattle.arrow_spec.specs.Sent.{may_be_sent, schema_message, stream_schema}
+use Rattle.arrow_spec.specs.Kinds.{Fields, Metadata, width}
+use Rattle.arrow_spec.specs.Sent.{may_be_sent, stream_schema}
 use Rattle.arrow_spec.specs.Streams.{end_mark}
 use Rattle.ipc_write_laws.specs.Streams.{WrittenBatch, table_batch}
 use Rattle.transcode_laws.specs.Files.{IsSendable, IsSentFile, asked_of, asked_schema, messages_sent}
@@ -106,7 +104,7 @@ sent_file b meta custom r h is size = subst (IsSentFile b r meta) (custom_is b c
 first_written : (meta : Meta) (custom : Metadata) (r : Request) (m : List ℕ) → m ≡ message_bytes (stream_schema (fields_as_asked r.columns meta.schema.fields) meta.schema.metadata custom).node [] → m ≡ front_bytes custom meta r []
 first_written meta custom r m is =
     let fs = fields_as_asked r.columns meta.schema.fields in
-    is ∙ ap (λ gs. message_bytes (schema_message little gs meta.schema.metadata custom).node []) (sym (numbered_twice fs 0 0)) ∙ sym (append-nil (message_bytes (stream_schema (numbered fs 0) meta.schema.metadata custom).node []))
+    is ∙ sym (append-nil (message_bytes (stream_schema fs meta.schema.metadata custom).node []))
 
 -- a schema's message that was written
 pub record IsSchemaWritten (meta : Meta) (custom : Metadata) (r : Request) (m : List ℕ) : Type 0 where

@@ -3,11 +3,11 @@ use Rattle.std.proofs.Common.{◌≡◌, ℕ, List, [], ◌∷◌, true, false, 
 use Rattle.clap.specs.Faults.{fault_of, is_simple_and_free}
 use Rattle.clap.specs.declared.error.kind.ErrorKind.TheVariants as kind
 use Rattle.clap.proofs.OnLiterals.{clap_on_literals}
-use Rattle.ipc_words.specs.CommandLine.{command_line, stream_shape, schema_shape}
-use Rattle.ipc_words.specs.Requests.{asked_by, request_of, schema, stream}
+use Rattle.ipc_words.specs.CommandLine.{command_line, stream_shape, schema_shape, rows_shape}
+use Rattle.ipc_words.specs.Requests.{asked_by, request_of, rows, schema, stream}
 
 unfoldable pub line : List ℕ
-unfolding command_line stream_shape schema_shape request_of asked_by
+unfolding command_line stream_shape schema_shape rows_shape request_of asked_by
 line = []
 
 simple : is_simple_and_free command_line ≡ true
@@ -66,6 +66,18 @@ schema_alone = refl
 schema_named : request_of (codes "schema" ∷ codes "F3" ∷ []) ≡ Some (schema (Some (codes "F3")))
 unfolding clap_on_literals line
 schema_named = refl
+
+rows_alone : request_of (codes "rows" ∷ []) ≡ Some (rows None)
+unfolding clap_on_literals line
+rows_alone = refl
+
+rows_named : request_of (codes "rows" ∷ codes "F3" ∷ []) ≡ Some (rows (Some (codes "F3")))
+unfolding clap_on_literals line
+rows_named = refl
+
+no_request_rows_with_limit : request_of (codes "rows" ∷ codes "--limit" ∷ codes "5" ∷ []) ≡ None
+unfolding clap_on_literals line
+no_request_rows_with_limit = refl
 
 no_request_of_no_words : request_of [] ≡ None
 unfolding clap_on_literals line

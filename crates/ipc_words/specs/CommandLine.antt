@@ -39,6 +39,10 @@ stream_shape = command (codes "stream") (columns ∷ limit ∷ raw ∷ name ∷ 
 unfoldable pub schema_shape : Shape
 schema_shape = command (codes "schema") (name ∷ [])
 
+-- rows [NAME]
+unfoldable pub rows_shape : Shape
+rows_shape = command (codes "rows") (name ∷ [])
+
 -- the program: one command of these has to stand first; `--help` and `--version` are known, the command `help` is not
 unfoldable pub command_line : App
 command_line = record {
@@ -49,5 +53,5 @@ command_line = record {
     has_version = true;
     subcommand_required = true;
   };
-  subs = stream_shape ∷ schema_shape ∷ [];
+  subs = stream_shape ∷ schema_shape ∷ rows_shape ∷ [];
 }

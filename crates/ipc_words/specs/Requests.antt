@@ -25,6 +25,8 @@ pub data Request : Type 0 where
   stream : Stream → Request
   -- the name of the file, or the input
   schema : Option Text → Request
+  -- the same
+  rows : Option Text → Request
 
 -- ── what the options and places of a command say, by the rows that `clap` found ──
 
@@ -69,11 +71,15 @@ stream_in found = option_and_then (λ columns. option_map (λ limit. stream (rec
 abbrev pub schema_in : List Row → Option Request
 schema_in found = Some (schema (name_in found))
 
+abbrev pub rows_in : List Row → Option Request
+rows_in found = Some (rows (name_in found))
+
 -- what a command asks for, by its name and what `clap` found of its own words
 unfoldable pub asked_by : Text → List Row → Option Request
 asked_by name found =
     if bytes_eq name (codes "stream") then stream_in found
     else if bytes_eq name (codes "schema") then schema_in found
+    else if bytes_eq name (codes "rows") then rows_in found
     else None
 
 abbrev pub asked : Option (Text × List Row) → Option Request

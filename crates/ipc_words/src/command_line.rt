@@ -1,6 +1,6 @@
 //! The commands of the program, as `clap` is told of them.
 ghost use Rattle.std.specs.Prelude.{IfOk};
-ghost use Rattle.ipc_words.specs.CommandLine.{columns, limit, raw, name, stream_shape, schema_shape, command_line};
+ghost use Rattle.ipc_words.specs.CommandLine.{columns, limit, raw, name, stream_shape, schema_shape, rows_shape, command_line};
 ghost use Rattle.ipc_words.specs.Commands.{IsArg, Reads, leaf};
 
 use clap::{Arg, ArgAction, Command};
@@ -60,6 +60,14 @@ fn schema_command<'a>(alloc: Global) -> Result<Command<'a>, AllocError>
         .arg(name_word(alloc))
 }
 
+fn rows_command<'a>(alloc: Global) -> Result<Command<'a>, AllocError>
+    ensures { IfOk result (Reads (leaf rows_shape)) }
+{
+    Command::new(alloc, "rows")
+        .about("Prints how many rows a file has")
+        .arg(name_word(alloc))
+}
+
 /// The program's command line.
 pub(crate) fn program<'a>(alloc: Global) -> Result<Command<'a>, AllocError>
     ensures { IfOk result (Reads command_line) }
@@ -72,5 +80,6 @@ pub(crate) fn program<'a>(alloc: Global) -> Result<Command<'a>, AllocError>
         .disable_help_subcommand(true)
         .subcommand_required(true)
         .subcommand(stream_command(alloc)?)?
-        .subcommand(schema_command(alloc)?)
+        .subcommand(schema_command(alloc)?)?
+        .subcommand(rows_command(alloc)?)
 }

@@ -20,4 +20,6 @@ pub enum Request<'a> {
     Stream(Stream<'a>),
     /// The text of a file's schema, by the name of the file, or of the input.
     Schema(Option<&'a str>),
+    /// The number of a file's rows, likewise.
+    Rows(Option<&'a str>),
 }

@@ -43,6 +43,9 @@ fn read_command<'a>(
     if name == "schema" {
         return Ok(Request::Schema(read_name(found)));
     }
+    if name == "rows" {
+        return Ok(Request::Rows(read_name(found)));
+    }
     Err(WordsError::NoRequest)
 }
 

@@ -10,6 +10,7 @@ use Rattle.arrow_spec.specs.Sent.{node_rows}
 use Rattle.arrow_arrays.specs.Nodes.{counts_in}
 use Rattle.arrow_arrays.specs.Parts.{Parts, leaf, nested, rows_in, fault_in}
 use Rattle.arrow_arrays.specs.Heads.{head_rows}
+use Rattle.ipc_write_laws.specs.Messages.{message_of_values}
 use Rattle.ipc_write_arrays.specs.Outputs.{Outputs, written_behind}
 use Rattle.ipc_write_arrays.specs.Pieces.{nodes_in, pieces_in}
 use Rattle.ipc_write_arrays.specs.Trims.{sent}
@@ -17,7 +18,7 @@ use Rattle.ipc_write_arrays.proofs.TreeColumns.{own_node}
 use Rattle.ipc_write_arrays.proofs.TrimLaws.{all_rows-trim}
 use Rattle.ipc_write.specs.Encoding.{no_outputs}
 use Rattle.ipc_write.specs.Planned.{MakesMessage, planned_message}
-use Rattle.ipc_write.specs.Values.{PlansValues, EncodesValues, IsOfValues, message_of_values, values_message}
+use Rattle.ipc_write.specs.Values.{PlansValues, EncodesValues, IsOfValues, values_message}
 use Rattle.ipc_write.specs.declared.encoded.BodyPlan.{BodyPlan}
 use Rattle.ipc_write.specs.declared.encoded.EncodedData.{EncodedData}
 use Rattle.ipc_write.specs.declared.metadata.Content.TheVariants.{DictionaryBatch}

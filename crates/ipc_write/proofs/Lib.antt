@@ -4,6 +4,7 @@ mod Headers
 mod ColumnSteps
 pub mod PlannedMessages
 mod Messages
+mod ViewCounts
 pub mod DictionaryValues
 pub mod CompactedViews
 pub mod CompactedRows

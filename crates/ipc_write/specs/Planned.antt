@@ -1,7 +1,10 @@
 -- The message of arrays that were planned. (Arrow Columnar Format, "Encapsulated message format".)
-use Rattle.std.specs.Prelude.{◌≡◌, ℕ, List, length, map, min, ⊤, Bool, true, false, nat_le, ◌&&◌, Result, Ok, Err}
+use Rattle.std.specs.Prelude.{◌≡◌, ◌<◌, ◌^◌, ℕ, List, length, map, min, ⊤, Bool, true, false, nat_le, ◌&&◌, Result, Ok, Err}
+use Rattle.std.specs.List.{AllByRecursion}
 use Rattle.arrow_spec.specs.declared.error.IpcError.{IpcError}
 use Rattle.arrow_spec.specs.declared.error.IpcError.TheVariants as errors
+use Rattle.arrow_spec.specs.Bodies.{NodeFits}
+use Rattle.arrow_spec.specs.Counts.{Written}
 use Rattle.arrow_spec.specs.Layout.{layout, size, up_to}
 use Rattle.arrow_spec.specs.Sent.{SentMessage, body_of, placed}
 use Rattle.ipc_write_arrays.specs.Outputs.{Outputs}
@@ -27,3 +30,13 @@ MakesMessage (Ok p) limit rows m pieces = (is_short limit rows m ≡ true) × (p
 MakesMessage (Err errors.TooLarge) limit rows m pieces = is_short limit rows m ≡ false
 MakesMessage (Err errors.Memory) limit rows m pieces = ⊤
 MakesMessage (Err e) limit rows m pieces = ⊥
+
+-- the numbers of nodes, and view counts, have 64 bits
+pub record NodesFit (w : Written) : Type 0 where
+  pub nodes : AllByRecursion NodeFits w.nodes
+  pub views : AllByRecursion (λ n. n < 2 ^ 63) w.views
+
+-- what a message can say: the numbers of its nodes have 64 bits, and its buffers are fewer than would pass the length of metadata
+pub record OutputsFit (o : Outputs) : Type 0 where
+  pub nodes : AllByRecursion NodeFits o.nodes
+  pub few : length o.pieces < 2 ^ 27

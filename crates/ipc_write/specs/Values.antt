@@ -1,29 +1,20 @@
 -- The message of a dictionary's values. (Arrow Columnar Format, "Dictionary Messages".)
 use Rattle.std.specs.Prelude.{◌≡◌, [], ◌∷◌, Bool, true, false, None, ℤ, Result, Ok, Err, IsSome}
-use Rattle.std.specs.Int.{w64}
 use Rattle.arrow_spec.specs.declared.error.IpcError.{IpcError}
 use Rattle.arrow_spec.specs.declared.error.IpcError.TheVariants as errors
 use Rattle.arrow_spec.specs.declared.error.Feature.TheVariants as features
 use Rattle.arrow_spec.specs.Flat.{little}
-use Rattle.arrow_spec.specs.Layout.{Slots, table, child, layout, no_more}
-use Rattle.arrow_spec.specs.Counts.{Written}
+use Rattle.arrow_spec.specs.Layout.{layout}
 use Rattle.arrow_spec.specs.Framing.{body_bytes}
-use Rattle.arrow_spec.specs.Sent.{SentMessage, batch_node, body_of, flag, message, node_rows, unless_zero}
+use Rattle.arrow_spec.specs.Sent.{SentMessage}
 use Rattle.arrow_arrays.specs.Parts.{Parts, rows_in}
 use Rattle.ipc_write_laws.specs.Streams.{written_of}
+use Rattle.ipc_write_laws.specs.Messages.{message_of_values}
 use Rattle.ipc_write_arrays.specs.Pieces.{column_in, pieces_in}
 use Rattle.ipc_write.specs.Planned.{is_short}
 use Rattle.ipc_write.specs.declared.encoded.BodyPlan.{BodyPlan}
 use Rattle.ipc_write.specs.declared.encoded.EncodedData.{EncodedData}
 use Rattle.ipc_write.specs.declared.options.WriteOptions.{WriteOptions}
-
--- the slots of a dictionary batch under any id; under a natural number they are the `dictionary_slots` of what is sent (Message.fbs, DictionaryBatch)
-abbrev pub values_slots : ℤ → Bool → Written → Slots
-values_slots id is_delta w = unless_zero w64 id (child (batch_node (node_rows w.nodes) w) (flag is_delta no_more))
-
--- the message of what is written
-abbrev pub message_of_values : ℤ → Bool → Written → SentMessage
-message_of_values id is_delta w = message 2 (table (values_slots id is_delta w)) (body_of 0 w.lengths) []
 
 -- the message of an array as values under an id
 abbrev pub values_message : ℤ → Bool → Parts → SentMessage

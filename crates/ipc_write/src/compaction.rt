@@ -49,7 +49,11 @@ fn value_length<V: ViewType>(array: &BinaryViewArrayGeneric<V>, row: usize) -> u
     ensures length { result ≡ value_length array.now row }
     ensures small { result < 2 ^ 32 }
 {
-    if array.value(row).is_none() {
+    let is_null = match array.validity() {
+        None => false,
+        Some(bits) => !bits.get(row),
+    };
+    if is_null {
         return 0;
     }
     number_at(view_at(array.views().as_slice(), row), 0)

@@ -2,9 +2,10 @@
 ghost use Rattle.std.specs.Prelude.{◌≡◌, map, IfOk};
 ghost use Rattle.arrow_spec.specs.Framing.{body_bytes};
 ghost use Rattle.arrow_arrays.specs.Parts.{cells_in};
-ghost use Rattle.ipc_write.specs.Batches.{written_batch_of};
+ghost use Rattle.ipc_write.specs.Batches.{columns_written, written_batch_of};
 ghost use Rattle.ipc_write.specs.Encoding.{AllMean, Makes};
 ghost use Rattle.ipc_write.specs.Outcomes.{Encodes, Plans};
+ghost use Rattle.ipc_write.specs.Planned.{NodesFit};
 
 use crate::columns::plan_columns;
 use crate::metadata::Content;
@@ -19,6 +20,7 @@ use std::alloc::{AllocError, Global};
 fn batch_plan(alloc: Global, batch: &RecordBatch, limit: usize) -> Result<BodyPlan, IpcError>
     ensures makes { Makes result limit batch.now }
     ensures means { IfOk result (λ _. AllMean batch.now.height batch.now.arrays) }
+    ensures nodes { IfOk result (λ _. NodesFit (columns_written batch.now.arrays)) }
 {
     let rows = batch.height();
     if rows > MOST_ROWS {
@@ -51,6 +53,7 @@ pub fn plan_batch(
     // What is written means the cells of the batch, under any ids of dictionaries under which their values were read.
     ensures means { IfOk result (λ _. AllMean batch.now.height batch.now.arrays) }
     ensures cells { IfOk result (λ _. map (λ c. c.cells) (written_batch_of batch.now).columns ≡ map cells_in batch.now.arrays) }
+    ensures nodes { IfOk result (λ _. NodesFit (columns_written batch.now.arrays)) }
 {
     if options.compression.is_some() {
         return Err(IpcError::Unsupported(Feature::Compression));

@@ -1,6 +1,7 @@
 //! The metadata of the messages of record batches and of dictionaries' values (Arrow Columnar Format, "RecordBatch message", "Dictionary Messages").
 ghost use Rattle.std.specs.Prelude.{◌≡◌, ◌^◌, ◌<◌, ◌++◌, length, OnOk, IfOk};
-ghost use Rattle.std.specs.List.{flat_map};
+ghost use Rattle.std.specs.List.{flat_map, AllByRecursion};
+ghost use Rattle.arrow_spec.specs.Bodies.{NodeFits};
 ghost use Rattle.arrow_spec.specs.Layout.{no_more};
 ghost use Rattle.arrow_spec.specs.Sent.{i64_bytes, node_bytes, buffer_bytes};
 ghost use Rattle.ipc_fields.specs.IpcFields.{metadata_in};
@@ -52,7 +53,8 @@ fn put_i64(out: &mut Vec<u8>, number: i64) -> Result<(), AllocError>
 }
 
 fn put_node(out: &mut Vec<u8>, node: &FieldNode) -> Result<(), AllocError>
-    ensures { OnOk result (out.new.items ≡ out.old.items ++ node_bytes node.now) }
+    ensures bytes { OnOk result (out.new.items ≡ out.old.items ++ node_bytes node.now) }
+    ensures fit { IfOk result (λ _. NodeFits node.now) }
 {
     put_i64(out, node.length)?;
     put_i64(out, node.null_count)
@@ -67,7 +69,8 @@ fn put_buffer(out: &mut Vec<u8>, buffer: &IpcBuffer) -> Result<(), AllocError>
 
 /// The bytes of nodes (Message.fbs, FieldNode).
 fn nodes_bytes(alloc: Global, nodes: &[FieldNode]) -> Result<Vec<u8>, AllocError>
-    ensures { IfOk result (λ v. v.items ≡ flat_map node_bytes nodes.now) }
+    ensures bytes { IfOk result (λ v. v.items ≡ flat_map node_bytes nodes.now) }
+    ensures fit { IfOk result (λ _. AllByRecursion NodeFits nodes.now) }
 {
     let mut out = Vec::new(alloc);
     for node in nodes {
@@ -109,7 +112,8 @@ fn header_node(
     requires few { rows < 2 ^ 63 }
     requires nodes { length nodes.now < 2 ^ 27 }
     requires buffers { length buffers.now < 2 ^ 27 }
-    ensures { IfOk result (λ n. node_of n ≡ header_node rows nodes.now buffers.now counts.items) }
+    ensures node { IfOk result (λ n. node_of n ≡ header_node rows nodes.now buffers.now counts.items) }
+    ensures fit { IfOk result (λ _. AllByRecursion NodeFits nodes.now) }
 {
     let length = Slot::i64(rows as i64, 0);
     let node_slot = Slot::Child(Node::Structs(nodes.len() as u32, nodes_bytes(alloc, nodes)?));
@@ -145,7 +149,8 @@ fn built(
     requires nodes { length nodes.now < 2 ^ 27 }
     requires buffers { length buffers.now < 2 ^ 27 }
     requires body { body < 2 ^ 63 }
-    ensures { Builds result (metadata_node content.entry rows nodes.now buffers.now counts.items body) }
+    ensures builds { Builds result (metadata_node content.entry rows nodes.now buffers.now counts.items body) }
+    ensures fit { IfOk result (λ _. AllByRecursion NodeFits nodes.now) }
 {
     let batch = header_node(alloc, rows, nodes, buffers, counts)?;
     let header = content_node(alloc, content, batch)?;
@@ -165,7 +170,9 @@ pub(crate) fn batch_metadata(
 ) -> Result<Vec<u8>, IpcError>
     requires few { rows < 2 ^ 63 }
     requires body { body < 2 ^ 63 }
-    ensures { BuildsMetadata result (metadata_node content.entry rows nodes.now buffers.now counts.items body) }
+    ensures builds { BuildsMetadata result (metadata_node content.entry rows nodes.now buffers.now counts.items body) }
+    ensures fit { IfOk result (λ _. AllByRecursion NodeFits nodes.now) }
+    ensures few { IfOk result (λ _. length buffers.now < 2 ^ 27) }
 {
     if nodes.len() >= TOO_MANY {
         return Err(IpcError::TooLarge);

@@ -1,7 +1,7 @@
 //! Planned arrays to a message (Arrow Columnar Format, "Encapsulated message format").
-ghost use Rattle.std.specs.Prelude.{◌^◌, ◌<◌};
+ghost use Rattle.std.specs.Prelude.{◌^◌, ◌<◌, IfOk};
 ghost use Rattle.ipc_write_arrays.specs.OutputsOf.{outputs_of};
-ghost use Rattle.ipc_write.specs.Planned.{MakesMessage, planned_message};
+ghost use Rattle.ipc_write.specs.Planned.{MakesMessage, OutputsFit, planned_message};
 
 use crate::BodyPlan;
 use crate::body::{PlannedBody, planned_body};
@@ -23,7 +23,8 @@ pub(crate) fn message_plan(
     limit: usize,
 ) -> Result<BodyPlan, IpcError>
     requires { rows < 2 ^ 63 }
-    ensures { MakesMessage result limit rows (planned_message content.entry rows (outputs_of planned)) (outputs_of planned).pieces }
+    ensures makes { MakesMessage result limit rows (planned_message content.entry rows (outputs_of planned)) (outputs_of planned).pieces }
+    ensures fit { IfOk result (λ _. OutputsFit (outputs_of planned)) }
 {
     let body = planned_body(alloc, planned)?;
     let PlannedBody {

@@ -4,6 +4,7 @@ pub mod Children
 pub mod NoRows
 pub mod Tops
 pub mod Counts
+pub mod ValuesMessages
 pub mod Messages
 pub mod Streams
 pub mod SentBatches

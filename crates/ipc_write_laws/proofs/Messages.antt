@@ -1,5 +1,5 @@
 -- What a writer frames means the table of its batches, whatever the kinds of their columns: values of dictionaries and batches, one message after another.
-use Rattle.std.proofs.Common.{◌≡◌, ℕ, suc, zero, ◌+◌, ◌^◌, ◌<◌, ◌≤◌, List, [], ◌∷◌, ◌++◌, length, drop, Some, None, Ok, Bool, refl, sym, ap, subst, ◌∙◌, arith, true, false, length-append, append_assoc, append-nil, pos}
+use Rattle.std.proofs.Common.{◌≡◌, ℕ, suc, zero, ◌+◌, ◌^◌, ◌<◌, ◌≤◌, List, [], ◌∷◌, ◌++◌, length, drop, Some, None, Ok, Bool, refl, sym, ap, subst, ◌∙◌, arith, true, false, length-append, append_assoc, append-nil}
 use Rattle.std.specs.Prelude.{nat_eq, ◌||◌}
 use Rattle.std.specs.List.{flat_map, AllByRecursion}
 use Rattle.std.proofs.lemmas.List.Concat.{flat_map-cons}
@@ -10,7 +10,7 @@ use Rattle.arrow_spec.specs.declared.message.MetadataVersion.TheVariants.{V5}
 use Rattle.arrow_spec.specs.Bodies.{NodeFits}
 use Rattle.arrow_spec.specs.Readings.{bind, is_absent, only_if, meaning}
 use Rattle.arrow_spec.specs.Flat.{little}
-use Rattle.arrow_spec.specs.Kinds.{Fields, field, none, Metadata, numbered}
+use Rattle.arrow_spec.specs.Kinds.{Fields, field, none, Metadata}
 use Rattle.arrow_spec.specs.Schema.{Schema, schema_of}
 use Rattle.arrow_spec.specs.Counts.{Written, first_place}
 use Rattle.arrow_spec.specs.Arrays.{Dictionaries, HeldDictionary, found}
@@ -18,14 +18,13 @@ use Rattle.arrow_spec.specs.Features.{chosen_floats}
 use Rattle.arrow_spec.specs.Layout.{Node, Slots, table, u32}
 use Rattle.arrow_spec.specs.Messages.{Message}
 use Rattle.arrow_spec.specs.Files.{dictionary_of, record_batch_of}
-use Rattle.arrow_spec.specs.Sent.{SentMessage, body_of, dictionary_slots, may_be_sent, message, node_rows, schema_slots, stream_schema, schema_message, written}
+use Rattle.arrow_spec.specs.Sent.{SentMessage, body_of, may_be_sent, message, node_rows, schema_slots, schema_message, written}
 use Rattle.arrow_spec.specs.Framing.{message_bytes, padded_size, padded, prefixed}
 use Rattle.arrow_spec.specs.Laws.{IsNextMessage, TablesFit, header_of}
 use Rattle.arrow_spec.specs.Streams.{Framed, Reader, next_message, stream_head, stream_prefix, stream_batch, stream_dictionary, stream_step, stream_batches, stream_reading, stream_table, first_message, behind_messages, body_in, closed, unended, end_mark}
-use Rattle.arrow_spec.proofs.BatchTables.{batch_message_back, dictionary_message_back}
+use Rattle.arrow_spec.proofs.BatchTables.{batch_message_back}
 use Rattle.arrow_spec.proofs.MessagesFit.{message_fits}
 use Rattle.arrow_spec.proofs.SchemasFit.{schema_fits}
-use Rattle.arrow_spec.proofs.NumberedFields.{numbered_may}
 use Rattle.arrow_spec.proofs.NestedSchemas.{schema_back, stream_head_read}
 use Rattle.arrow_spec.proofs.NextMessages.{framed_message_is_next}
 use Rattle.arrow_spec.proofs.Projection.{on}
@@ -34,9 +33,10 @@ use Rattle.arrow_spec.proofs.SentMessages.{sent_bounds}
 use Rattle.arrow_spec.proofs.WholeMessages.{body_told}
 use Rattle.arrow_spec.proofs.Bodies.{length-body}
 use Rattle.ipc_write_laws.specs.Streams.{WrittenBatch, body_for, pieces_of, table_batch, written_batch, written_of}
-use Rattle.ipc_write_laws.specs.Messages.{AllMayBeWritten, BatchMayBeWritten, IsKnown, Known, MessageMayBeWritten, MessagesMayBeWritten, ValuesMayBeWritten, WrittenMessage, WrittenValues, values, batch, batch_in, bytes_of, ended_stream, none_known, stream_so_far, table_of_messages, values_message, with_message, with_messages, with_values}
+use Rattle.ipc_write_laws.specs.Messages.{AllMayBeWritten, BatchMayBeWritten, IsKnown, Known, MessageMayBeWritten, MessagesMayBeWritten, ValuesMayBeWritten, WrittenMessage, WrittenValues, values, batch, batch_in, bytes_of, ended_stream, none_known, stream_so_far, table_of_messages, values_message, values_slots, with_message, with_messages, with_values}
 use Rattle.ipc_write_laws.proofs.Batches.{batch_read}
-use Rattle.ipc_write_laws.proofs.Counts.{batch_counts, dictionary_counts}
+use Rattle.ipc_write_laws.proofs.Counts.{batch_counts, values_counts}
+use Rattle.ipc_write_laws.proofs.ValuesMessages.{values_message_back}
 use Rattle.ipc_write_laws.proofs.SentBatches.{written_of_one}
 
 abbrev the_schema : Fields → Metadata → Schema
@@ -97,7 +97,7 @@ values_fit : (fs : Fields) (c : Known) (x : WrittenValues) → ValuesMayBeWritte
 values_fit fs c x w =
     let bounds = sent_bounds (values_message x) w.size in
     let all = written_of (x.column ∷ []) in
-    let counts = dictionary_counts x.id x.is_delta all (body_of 0 all.lengths) bounds.0 in
+    let counts = values_counts x.id x.is_delta all (body_of 0 all.lengths) bounds.0 in
     let one = sym (written_of_one x.column) in
     record {
       few = subst (λ (a : Written). node_rows a.nodes < 2 ^ 63) one (omega (arith, w.rows, w.few));
@@ -111,7 +111,7 @@ values_fit fs c x w =
 -- values as they are held that were read
 abbrev held_values : WrittenValues → HeldDictionary
 held_values x = record {
-  id = pos x.id;
+  id = x.id;
   is_delta = x.is_delta;
   cells = x.column.cells;
   written = written (record_batch_of little V5 (header_of x.rows (written_of (x.column ∷ []))) (body_for (x.column ∷ []))) x.column.kind first_place x.rows 0 x.rows;
@@ -123,21 +123,21 @@ always_new true is_first k = refl
 always_new false is_first k = refl
 
 values_read : (fs : Fields) (kv : Metadata) (c : Known) (d : Dictionaries) (x : WrittenValues) (rows : ℕ) → rows ≡ x.rows → IsKnown c d → ValuesMayBeWritten fs c x
-    → dictionary_of (the_schema fs kv) d (length (body_for (x.column ∷ []))) (record { id = pos x.id; is_delta = x.is_delta; values = header_of rows (written_of (x.column ∷ [])) }) V5 (body_for (x.column ∷ [])) true ≡ Ok (held_values x)
+    → dictionary_of (the_schema fs kv) d (length (body_for (x.column ∷ []))) (record { id = x.id; is_delta = x.is_delta; values = header_of rows (written_of (x.column ∷ [])) }) V5 (body_for (x.column ∷ [])) true ≡ Ok (held_values x)
 unfolding dictionary_of bind
 values_read fs kv c d x rows counted known w =
     let cells = batch_read (field [] true [] x.column.kind none) (x.column ∷ []) d x.rows [] (refl, tt) (w.good d known, tt) in
-    rw (counted, w.kind, always_new x.is_delta (is_absent (found d (pos x.id))) DuplicateDictionary, w.readable, cells) refl
+    rw (counted, w.kind, always_new x.is_delta (is_absent (found d x.id)) DuplicateDictionary, w.readable, cells) refl
 
 -- their message says how long their body is
 abbrev sized_values : WrittenValues → SentMessage
-sized_values x = message 2 (table (dictionary_slots x.id x.is_delta (written_of (x.column ∷ [])))) (length (body_for (x.column ∷ []))) []
+sized_values x = message 2 (table (values_slots x.id x.is_delta (written_of (x.column ∷ [])))) (length (body_for (x.column ∷ []))) []
 
 values_same : (x : WrittenValues) → sized_values x ≡ values_message x
 values_same x =
     let all = written_of (x.column ∷ []) in
     let same : length (body_for (x.column ∷ [])) ≡ body_of 0 all.lengths = omega (arith, length-body (pieces_of (x.column ∷ [])) 0) in
-    ap (λ n. message 2 (table (dictionary_slots x.id x.is_delta all)) n []) same
+    ap (λ n. message 2 (table (values_slots x.id x.is_delta all)) n []) same
 
 -- what is known with them
 values_known : (c : Known) (d : Dictionaries) (x : WrittenValues) → IsKnown c d → IsKnown (with_values x c) (held_values x ∷ d)
@@ -149,7 +149,7 @@ values_taken fs kv c d x rest readable known w =
     let all = written_of (x.column ∷ []) in
     let body = body_for (x.column ∷ []) in
     let bounds = sent_bounds (sized_values x) (subst (λ y. may_be_sent y ≡ true) (sym (values_same x)) w.size) in
-    let next = dictionary_message_back either_tag x.id x.is_delta all body rest refl w.small (values_fit fs c x w) bounds.1 bounds.0 in
+    let next = values_message_back either_tag x.id x.is_delta all body rest refl w.small (values_fit fs c x w) bounds.1 bounds.0 in
     let m = next.0 in
     let counted : node_rows all.nodes ≡ x.rows = ap (λ (a : Written). node_rows a.nodes) (written_of_one x.column) ∙ w.rows in
     let test : nat_eq m.found.tag 2 ≡ true = rw m.tag_is refl in
@@ -221,21 +221,20 @@ messages_ended (x ∷ xs) end = ap (λ t. bytes_of x ++ t) (messages_ended xs en
 record Begun (fs : Fields) (kv custom : Metadata) (rest : List ℕ) : Type 0 where
   framed : Framed
   found : Message
-  next : next_message (message_bytes (stream_schema fs kv custom).node [] ++ rest) ≡ Ok (Some framed)
+  next : next_message (message_bytes (schema_message little fs kv custom).node [] ++ rest) ≡ Ok (Some framed)
   head : stream_head framed.metadata ≡ Ok (found, custom, the_schema fs kv)
   body_is : body_in framed found ≡ Ok []
   rest_is : drop found.body framed.behind ≡ rest
-  passed : (most : ℕ) → behind_messages (suc most) (message_bytes (stream_schema fs kv custom).node [] ++ rest) ≡ behind_messages most rest
+  passed : (most : ℕ) → behind_messages (suc most) (message_bytes (schema_message little fs kv custom).node [] ++ rest) ≡ behind_messages most rest
 
 begun : (fs : Fields) (kv custom : Metadata) (xs : List WrittenMessage) (rest : List ℕ) → MessagesMayBeWritten fs kv custom xs → Begun fs kv custom rest
 unfolding schema_message
 begun fs kv custom xs rest w =
-    let bounds = sent_bounds (stream_schema fs kv custom) w.size in
-    let may = numbered_may fs kv w.schema in
-    let s = schema_slots little (numbered fs 0) kv in
-    let fits = message_fits 1 0 (table s) custom (omega arith) (omega arith) (schema_fits little (numbered fs 0) kv may.0.fit may.1.within) in
+    let bounds = sent_bounds (schema_message little fs kv custom) w.size in
+    let s = schema_slots little fs kv in
+    let fits = message_fits 1 0 (table s) custom (omega arith) (omega arith) (schema_fits little fs kv w.schema.fit w.ids.within) in
     let m = framed_message_is_next (λ tag. nat_eq tag 1) 1 s [] custom rest (omega arith) (omega arith) refl (omega arith) w.message fits bounds.0 in
-    let schema : schema_of m.framed.metadata m.found.header ≡ Ok (the_schema fs kv) = schema_back little (numbered fs 0) kv m.framed.metadata m.found.header may.0 may.1 m.header ∙ ap (λ gs. Ok (the_schema gs kv)) w.ids in
+    let schema : schema_of m.framed.metadata m.found.header ≡ Ok (the_schema fs kv) = schema_back little fs kv m.framed.metadata m.found.header w.schema w.ids m.header in
     record {
       framed = m.framed;
       found = m.found;
@@ -247,10 +246,10 @@ begun fs kv custom xs rest w =
     }
 
 abbrev stream_bytes : Fields → Metadata → Metadata → List WrittenMessage → List ℕ → List ℕ
-stream_bytes fs kv custom xs end = message_bytes (stream_schema fs kv custom).node [] ++ messages_bytes xs end
+stream_bytes fs kv custom xs end = message_bytes (schema_message little fs kv custom).node [] ++ messages_bytes xs end
 
 stream_long : (fs : Fields) (kv custom : Metadata) (xs : List WrittenMessage) (end : List ℕ) → suc (length xs) ≤ length (stream_bytes fs kv custom xs end)
-stream_long fs kv custom xs end = omega (arith, message_long (stream_schema fs kv custom).node [] (messages_bytes xs end), enough_bytes xs end)
+stream_long fs kv custom xs end = omega (arith, message_long (schema_message little fs kv custom).node [] (messages_bytes xs end), enough_bytes xs end)
 
 stream_read : (fs : Fields) (kv custom : Metadata) (xs : List WrittenMessage) (end : List ℕ) → next_message end ≡ Ok None → MessagesMayBeWritten fs kv custom xs → stream_reading (stream_bytes fs kv custom xs end) None ≡ Ok (table_of_messages fs kv custom xs)
 unfolding stream_reading first_message bind
@@ -269,7 +268,7 @@ stream_back : (fs : Fields) (kv custom : Metadata) (xs : List WrittenMessage) (e
     → (behind_messages (length (stream_so_far fs kv custom xs ++ end)) (stream_so_far fs kv custom xs ++ end) ≡ Ok end) × (stream_table (stream_so_far fs kv custom xs ++ end) None ≡ Some (table_of_messages fs kv custom xs))
 unfolding stream_table
 stream_back fs kv custom xs end ended w =
-    let start = message_bytes (stream_schema fs kv custom).node [] in
+    let start = message_bytes (schema_message little fs kv custom).node [] in
     let all : stream_bytes fs kv custom xs end ≡ stream_so_far fs kv custom xs ++ end = ap (λ t. start ++ t) (messages_ended xs end) ∙ sym (append_assoc start (flat_map bytes_of xs) end) in
     let left = stream_passed fs kv custom xs end (length (stream_bytes fs kv custom xs end)) (stream_long fs kv custom xs end) ended w in
     subst (λ b. (behind_messages (length b) b ≡ Ok end) × (stream_table b None ≡ Some (table_of_messages fs kv custom xs))) all (left, ap meaning (stream_read fs kv custom xs end ended w))
@@ -287,7 +286,7 @@ messages_front_means fs kv custom xs w =
 
 -- the stream grows by a message's bytes at its end
 pub one_more_message : (fs : Fields) (kv custom : Metadata) (xs : List WrittenMessage) (x : WrittenMessage) → stream_so_far fs kv custom (xs ++ x ∷ []) ≡ stream_so_far fs kv custom xs ++ bytes_of x
-one_more_message fs kv custom xs x = sym (flat_map_more bytes_of (message_bytes (stream_schema fs kv custom).node []) xs x)
+one_more_message fs kv custom xs x = sym (flat_map_more bytes_of (message_bytes (schema_message little fs kv custom).node []) xs x)
 
 all_and_one : (fs : Fields) (c : Known) (xs : List WrittenMessage) (x : WrittenMessage) → AllMayBeWritten fs c xs → MessageMayBeWritten fs (with_messages xs c) x → AllMayBeWritten fs c (xs ++ x ∷ [])
 all_and_one fs c [] x w may = (may, tt)

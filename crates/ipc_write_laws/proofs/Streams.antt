@@ -1,17 +1,19 @@
 -- What a writer frames of a table without dictionaries means the table that is written: it is a stream of messages that are all batches.
 use Rattle.std.proofs.Common.{◌≡◌, List, [], ◌∷◌, ◌++◌, Some, None, refl, sym, ap, subst, ◌∙◌, true}
 use Rattle.std.specs.Prelude.{map, ℤ, pos, negsuc}
-use Rattle.std.specs.List.{AllByRecursion}
+use Rattle.std.specs.List.{AllByRecursion, flat_map}
 use Rattle.std.proofs.lemmas.List.{flat_map_more}
 use Rattle.std.proofs.lemmas.List.Concat.{flat_map_single}
 use Rattle.std.proofs.lemmas.List.Folds.{flat_map-map}
 use Rattle.arrow_spec.specs.Flat.{little}
-use Rattle.arrow_spec.specs.Kinds.{Fields, Metadata, bare, same}
+use Rattle.arrow_spec.specs.Kinds.{Fields, Metadata, bare, numbered, same}
 use Rattle.arrow_spec.specs.Arrays.{Dictionaries, found}
-use Rattle.arrow_spec.specs.Sent.{stream_schema}
+use Rattle.arrow_spec.specs.Sent.{may_be_sent, schema_message, stream_schema}
 use Rattle.arrow_spec.specs.Framing.{message_bytes}
 use Rattle.arrow_spec.specs.Streams.{closed, end_mark, stream_table, unended}
+use Rattle.arrow_spec.specs.WrittenSchemas.{IdsMayBeWritten}
 use Rattle.arrow_spec.proofs.IntegerSchemas.{is_same}
+use Rattle.arrow_spec.proofs.NumberedFields.{numbered_may}
 use Rattle.ipc_write_laws.specs.Columns.{Means}
 use Rattle.ipc_write_laws.specs.Streams.{MayBeWritten, StreamMayBeWritten, TableMayBeWritten, WrittenBatch, bare_table, batch_bytes, table_batch, written_so_far, written_stream, written_table}
 use Rattle.ipc_write_laws.specs.Messages.{AllMayBeWritten, BatchMayBeWritten, IsKnown, MessagesMayBeWritten, batch, batch_in, bytes_of, none_known, stream_so_far, table_of_messages}
@@ -44,10 +46,19 @@ batches_may fs [] w = tt
 batches_may fs (x ∷ xs) w = (batch_may fs x w.0, batches_may fs xs w.1)
 
 stream_may : (fs : Fields) (kv custom : Metadata) (xs : List WrittenBatch) → StreamMayBeWritten fs kv custom xs → MessagesMayBeWritten fs kv custom (map batch xs)
-stream_may fs kv custom xs w = record { schema = w.schema; message = w.message; ids = w.plain; readable = w.readable; size = w.size; messages = batches_may fs xs w.batches }
+stream_may fs kv custom xs w = record {
+  schema = w.schema;
+  message = w.message;
+  ids = subst (λ gs. IdsMayBeWritten gs) w.plain (numbered_may fs kv w.schema).1;
+  readable = w.readable;
+  size = ap (λ gs. may_be_sent (schema_message little gs kv custom)) (sym w.plain) ∙ w.size;
+  messages = batches_may fs xs w.batches;
+}
 
-same_bytes : (fs : Fields) (kv custom : Metadata) (xs : List WrittenBatch) → stream_so_far fs kv custom (map batch xs) ≡ written_so_far fs kv custom xs
-same_bytes fs kv custom xs = ap (λ t. message_bytes (stream_schema fs kv custom).node [] ++ t) (flat_map-map bytes_of batch xs)
+same_bytes : (fs : Fields) (kv custom : Metadata) (xs : List WrittenBatch) → numbered fs 0 ≡ fs → stream_so_far fs kv custom (map batch xs) ≡ written_so_far fs kv custom xs
+same_bytes fs kv custom xs plain =
+    ap (λ gs. message_bytes (schema_message little gs kv custom).node [] ++ flat_map bytes_of (map batch xs)) (sym plain)
+    ∙ ap (λ t. message_bytes (stream_schema fs kv custom).node [] ++ t) (flat_map-map bytes_of batch xs)
 
 same_batches : (fs : Fields) (kv custom : Metadata) (xs : List WrittenBatch) → Some (table_of_messages fs kv custom (map batch xs)) ≡ Some (bare_table fs kv custom xs)
 same_batches fs kv custom xs = ap (λ ts. Some (record { metadata = kv; custom = custom; fields = bare fs; batches = ts })) (flat_map-map batch_in batch xs ∙ flat_map_single table_batch xs)
@@ -56,13 +67,13 @@ same_batches fs kv custom xs = ap (λ ts. Some (record { metadata = kv; custom =
 pub bare_stream_means : (fs : Fields) (kv custom : Metadata) (xs : List WrittenBatch) → StreamMayBeWritten fs kv custom xs → closed (written_stream fs kv custom xs) × (stream_table (written_stream fs kv custom xs) None ≡ Some (bare_table fs kv custom xs))
 bare_stream_means fs kv custom xs w =
     let whole = messages_stream_means fs kv custom (map batch xs) (stream_may fs kv custom xs w) in
-    subst (λ b. closed (b ++ end_mark) × (stream_table (b ++ end_mark) None ≡ Some (bare_table fs kv custom xs))) (same_bytes fs kv custom xs) (whole.0, whole.1 ∙ same_batches fs kv custom xs)
+    subst (λ b. closed (b ++ end_mark) × (stream_table (b ++ end_mark) None ≡ Some (bare_table fs kv custom xs))) (same_bytes fs kv custom xs w.plain) (whole.0, whole.1 ∙ same_batches fs kv custom xs)
 
 -- what was written before the end mark means the written table, and is not ended
 pub bare_front_means : (fs : Fields) (kv custom : Metadata) (xs : List WrittenBatch) → StreamMayBeWritten fs kv custom xs → unended (written_so_far fs kv custom xs) × (stream_table (written_so_far fs kv custom xs) None ≡ Some (bare_table fs kv custom xs))
 bare_front_means fs kv custom xs w =
     let front = messages_front_means fs kv custom (map batch xs) (stream_may fs kv custom xs w) in
-    subst (λ b. unended b × (stream_table b None ≡ Some (bare_table fs kv custom xs))) (same_bytes fs kv custom xs) (front.0, front.1 ∙ same_batches fs kv custom xs)
+    subst (λ b. unended b × (stream_table b None ≡ Some (bare_table fs kv custom xs))) (same_bytes fs kv custom xs w.plain) (front.0, front.1 ∙ same_batches fs kv custom xs)
 
 -- ── where the unions state their ids ──
 

@@ -1,16 +1,19 @@
 -- Streams of dictionaries' values and of batches, one message after another. (Arrow Columnar Format, "IPC Streaming Format", "Dictionary Messages".)
-use Rattle.std.specs.Prelude.{◌≡◌, ℕ, ◌^◌, ◌<◌, List, [], ◌∷◌, ◌++◌, Bool, Option, Some, None, true, if◌then◌else◌, ℤ, pos}
+use Rattle.std.specs.Prelude.{FitsSigned, ◌≡◌, ℕ, ◌^◌, ◌<◌, List, [], ◌∷◌, ◌++◌, Bool, Option, Some, None, true, if◌then◌else◌, ℤ}
+use Rattle.std.specs.Int.{w64}
 use Rattle.std.specs.List.{flat_map, AllByRecursion}
 use Rattle.arrow_spec.specs.Flat.{little}
-use Rattle.arrow_spec.specs.Kinds.{Fields, Metadata, bare, numbered, same, uses_in, values_under}
+use Rattle.arrow_spec.specs.Kinds.{Fields, Metadata, bare, same, uses_in, values_under}
 use Rattle.arrow_spec.specs.Cells.{Cell}
 use Rattle.arrow_spec.specs.Arrays.{Dictionaries, cells_before, found}
 use Rattle.arrow_spec.specs.Features.{chosen_floats, float_faults}
-use Rattle.arrow_spec.specs.Sent.{SentMessage, dictionary_message, may_be_sent, node_rows, stream_schema}
+use Rattle.arrow_spec.specs.Layout.{Slots, table, child, no_more}
+use Rattle.arrow_spec.specs.Counts.{Written}
+use Rattle.arrow_spec.specs.Sent.{SentMessage, batch_node, body_of, flag, may_be_sent, message, node_rows, schema_message, unless_zero}
 use Rattle.arrow_spec.specs.Framing.{message_bytes}
 use Rattle.arrow_spec.specs.Files.{ArrowTable, TableBatch}
 use Rattle.arrow_spec.specs.Streams.{end_mark}
-use Rattle.arrow_spec.specs.WrittenSchemas.{CustomMayBeWritten, SchemaMayBeWritten}
+use Rattle.arrow_spec.specs.WrittenSchemas.{CustomMayBeWritten, IdsMayBeWritten, SchemaMayBeWritten}
 use Rattle.arrow_spec.specs.Bodies.{NodeFits}
 use Rattle.ipc_write_laws.specs.Columns.{WrittenColumn, Means}
 use Rattle.ipc_write_laws.specs.Streams.{AreOf, WrittenBatch, batch_bytes, body_for, table_batch, written_batch, written_of}
@@ -19,7 +22,7 @@ use Rattle.ipc_write_laws.specs.Streams.{AreOf, WrittenBatch, batch_bytes, body_
 
 -- some values of a dictionary under an id, which stand behind those before them, or in their place: a column of so many rows
 pub record WrittenValues : Type 0 where
-  pub id : ℕ
+  pub id : ℤ
   pub is_delta : Bool
   pub rows : ℕ
   pub column : WrittenColumn
@@ -28,9 +31,17 @@ pub data WrittenMessage : Type 0 where
   values : WrittenValues → WrittenMessage
   batch : WrittenBatch → WrittenMessage
 
+-- the slots of a dictionary batch under any id; under a natural number they are the `dictionary_slots` of what is sent (Message.fbs, DictionaryBatch)
+abbrev pub values_slots : ℤ → Bool → Written → Slots
+values_slots id is_delta w = unless_zero w64 id (child (batch_node (node_rows w.nodes) w) (flag is_delta no_more))
+
+-- the message of what is written
+abbrev pub message_of_values : ℤ → Bool → Written → SentMessage
+message_of_values id is_delta w = message 2 (table (values_slots id is_delta w)) (body_of 0 w.lengths) []
+
 -- the message of values
 abbrev pub values_message : WrittenValues → SentMessage
-values_message x = dictionary_message x.id x.is_delta (written_of (x.column ∷ []))
+values_message x = message_of_values x.id x.is_delta (written_of (x.column ∷ []))
 
 -- its bytes: the message with its body
 abbrev pub values_bytes : WrittenValues → List ℕ
@@ -56,7 +67,7 @@ none_known id = None
 
 -- with some values more
 abbrev pub with_values : WrittenValues → Known → Known
-with_values x c id = if same (pos x.id) id then Some (cells_before x.is_delta (c id) ++ x.column.cells) else c id
+with_values x c id = if same x.id id then Some (cells_before x.is_delta (c id) ++ x.column.cells) else c id
 
 abbrev pub with_message : WrittenMessage → Known → Known
 with_message (values x) c = with_values x c
@@ -74,11 +85,11 @@ IsKnown c d = (id : ℤ) → found d id ≡ c id
 
 -- values of the kind that some fields have under the id, which mean their cells where so much is known, in a message of which no part is too large
 pub record ValuesMayBeWritten (fs : Fields) (c : Known) (x : WrittenValues) : Type 0 where
-  pub kind : values_under (pos x.id) (uses_in fs) ≡ Some x.column.kind
+  pub kind : values_under x.id (uses_in fs) ≡ Some x.column.kind
   pub readable : float_faults x.column.kind ≡ []
   pub good : (d : Dictionaries) → IsKnown c d → Means little d x.rows x.column
   pub rows : node_rows x.column.nodes ≡ x.rows
-  pub small : x.id < 2 ^ 63
+  pub small : FitsSigned w64 x.id
   pub few : x.rows < 2 ^ 63
   pub nodes : AllByRecursion NodeFits x.column.nodes
   pub views : AllByRecursion (λ n. n < 2 ^ 63) x.column.views
@@ -105,18 +116,18 @@ AllMayBeWritten fs c (x ∷ xs) = MessageMayBeWritten fs c x × AllMayBeWritten 
 
 -- ── the stream ──
 
--- a schema whose dictionaries' ids count from 0 in preorder, and messages that may be written behind it
+-- a schema that may be written with its own ids, and messages that may be written behind it
 pub record MessagesMayBeWritten (fs : Fields) (pairs custom : Metadata) (xs : List WrittenMessage) : Type 0 where
   pub schema : SchemaMayBeWritten fs pairs
   pub message : CustomMayBeWritten custom
-  pub ids : numbered fs 0 ≡ fs
+  pub ids : IdsMayBeWritten fs
   pub readable : chosen_floats None fs 0 ≡ []
-  pub size : may_be_sent (stream_schema fs pairs custom) ≡ true
+  pub size : may_be_sent (schema_message little fs pairs custom) ≡ true
   pub messages : AllMayBeWritten fs none_known xs
 
 -- what a writer has put after some messages
 abbrev pub stream_so_far : Fields → Metadata → Metadata → List WrittenMessage → List ℕ
-stream_so_far fs pairs custom xs = message_bytes (stream_schema fs pairs custom).node [] ++ flat_map bytes_of xs
+stream_so_far fs pairs custom xs = message_bytes (schema_message little fs pairs custom).node [] ++ flat_map bytes_of xs
 
 -- what it has put once the stream is ended
 abbrev pub ended_stream : Fields → Metadata → Metadata → List WrittenMessage → List ℕ

@@ -14,14 +14,14 @@ use Rattle.arrow_spec.specs.Sent.{SentMessage}
 use Rattle.arrow_spec.proofs.NextMessages.{length-layout}
 use Rattle.arrow_arrays.specs.Batches.{Batch}
 use Rattle.ipc_fields.proofs.Steps.{drop_item}
-use Rattle.ipc_write_arrays.specs.Pieces.{IsMeant, pieces_in}
+use Rattle.ipc_write_arrays.specs.Pieces.{pieces_in}
 use Rattle.ipc_dictionaries.specs.NewDictionaries.{ToSend}
 use Rattle.ipc_dictionaries.specs.Walks.{to_send}
 use Rattle.ipc_dictionaries.specs.declared.walk.ToEncode.{ToEncode}
-use Rattle.ipc_write.specs.Batches.{batch_body, batch_message, is_within}
+use Rattle.ipc_write.specs.Batches.{batch_body, batch_message, columns_written, is_within}
 use Rattle.ipc_write.specs.Encoding.{AllMean}
 use Rattle.ipc_write.specs.Outcomes.{Plans, message_frame, metadata_frame}
-use Rattle.ipc_write.specs.Planned.{is_short}
+use Rattle.ipc_write.specs.Planned.{NodesFit, is_short}
 use Rattle.ipc_write.specs.Values.{PlansValues, values_message}
 use Rattle.ipc_write.specs.declared.encoded.BodyPlan.{BodyPlan}
 use Rattle.ipc_write.specs.declared.options.WriteOptions.{WriteOptions}
@@ -30,7 +30,7 @@ use Rattle.ipc_write.proofs.Written.{framed_is_batch, framed_whole, length-frame
 use Rattle.ipc_encode.specs.Messages.{Refuses, RefusesOne, all_fit, fits}
 use Rattle.ipc_encode.specs.Chunks.{RefusesChunk}
 use Rattle.ipc_write_messages.specs.declared.messages.PlannedMessage.{PlannedMessage}
-use Rattle.ipc_write_messages.specs.Messages.{AllMeant, ArePlanned, IsBatchPlanned, IsChunkPlanned, IsPlanned, MayBeSent, PlansBatch, PlansOne, chunk_text, message_of, planned_sizes, planned_text, Sizes, sent_sizes, sizes_of, values_text}
+use Rattle.ipc_write_messages.specs.Messages.{AllMayBeValues, ArePlanned, IsBatchPlanned, IsChunkPlanned, IsPlanned, MayBeSent, MayBeValues, PlansBatch, PlansOne, chunk_text, message_of, planned_sizes, planned_text, Sizes, sent_sizes, sizes_of, values_text}
 
 -- ── one message ──
 
@@ -81,7 +81,7 @@ unfolding is_within
 within_small limit b metadata e h = short_small limit b.height (batch_message b) metadata e h
 
 -- the message of values
-pub values_planned : (options : WriteOptions) (s : ToSend) (p : BodyPlan) (m : PlannedMessage) → PlansValues (Ok p) options s.id s.is_delta s.part → IsMeant little s.part
+pub values_planned : (options : WriteOptions) (s : ToSend) (p : BodyPlan) (m : PlannedMessage) → PlansValues (Ok p) options s.id s.is_delta s.part → MayBeValues s.part
     → planned_text m ≡ message_frame p.ipc_message.items (body_bytes 0 p.buffers.items) → planned_sizes m ≡ record { front = 8 + up_to 8 (length p.ipc_message.items); body = p.body_length } → IsPlanned options s m
 values_planned options s p m h k e f =
     let n = (values_message s.id s.is_delta s.part).node in
@@ -90,7 +90,7 @@ values_planned options s p m h k e f =
       fits = h.1;
       text = e ∙ ap (λ xs. message_frame xs (body_bytes 0 p.buffers.items)) h.2 ∙ ap (λ qs. message_frame (layout n) (body_bytes 0 qs)) h.3 ∙ framed_whole n (body_bytes 0 ps) (aligned_pieces ps);
       sizes = f ∙ node_sizes p.ipc_message.items (message_of s) p.body_length h.2 h.4;
-      means = k;
+      may = k;
     }
 
 same_body_length : (b : Batch) → length (batch_body b) ≡ (batch_message b).body
@@ -98,25 +98,26 @@ unfolding batch_message
 same_body_length b = refl
 
 -- the message of a batch
-pub batch_planned : (options : WriteOptions) (b : Batch) (p : BodyPlan) (m : PlannedMessage) → Plans (Ok p) options b → AllMean b.height b.arrays
+pub batch_planned : (options : WriteOptions) (b : Batch) (p : BodyPlan) (m : PlannedMessage) → Plans (Ok p) options b → AllMean b.height b.arrays → NodesFit (columns_written b.arrays)
     → planned_text m ≡ message_frame p.ipc_message.items (body_bytes 0 p.buffers.items) → planned_sizes m ≡ record { front = 8 + up_to 8 (length p.ipc_message.items); body = p.body_length } → IsBatchPlanned options b m
-batch_planned options b p m h k e f = record {
+batch_planned options b p m h k n e f = record {
   within = h.1;
   text = e ∙ ap (λ xs. message_frame xs (body_bytes 0 p.buffers.items)) h.2 ∙ ap (λ qs. message_frame (layout (batch_message b).node) (body_bytes 0 qs)) h.3 ∙ framed_is_batch b;
   sizes = f ∙ node_sizes p.ipc_message.items (batch_message b) p.body_length h.2 (h.4 ∙ same_body_length b);
   mean = k;
+  nodes = n;
 }
 
 -- with its front, or memory was wanted for it
-pub values_framed : (r : Result PlannedMessage IpcError) (options : WriteOptions) (s : ToSend) (p : BodyPlan) → PlansValues (Ok p) options s.id s.is_delta s.part → IsMeant little s.part
+pub values_framed : (r : Result PlannedMessage IpcError) (options : WriteOptions) (s : ToSend) (p : BodyPlan) → PlansValues (Ok p) options s.id s.is_delta s.part → MayBeValues s.part
     → IfOk r (λ m. planned_text m ≡ message_frame p.ipc_message.items (body_bytes 0 p.buffers.items)) → IfOk r (λ m. planned_sizes m ≡ record { front = 8 + up_to 8 (length p.ipc_message.items); body = p.body_length }) → IfErr r (λ e. e ≡ Memory) → PlansOne r options s
 values_framed (Ok m) options s p h k e z f = values_planned options s p m h k e z
 values_framed (Err x) options s p h k e z f = inl f
 
-pub batch_framed : (r : Result PlannedMessage IpcError) (options : WriteOptions) (b : Batch) (p : BodyPlan) → Plans (Ok p) options b → AllMean b.height b.arrays
+pub batch_framed : (r : Result PlannedMessage IpcError) (options : WriteOptions) (b : Batch) (p : BodyPlan) → Plans (Ok p) options b → AllMean b.height b.arrays → NodesFit (columns_written b.arrays)
     → IfOk r (λ m. planned_text m ≡ message_frame p.ipc_message.items (body_bytes 0 p.buffers.items)) → IfOk r (λ m. planned_sizes m ≡ record { front = 8 + up_to 8 (length p.ipc_message.items); body = p.body_length }) → IfErr r (λ e. e ≡ Memory) → PlansBatch r options b
-batch_framed (Ok m) options b p h k e z f = batch_planned options b p m h k e z
-batch_framed (Err x) options b p h k e z f = inl f
+batch_framed (Ok m) options b p h k n e z f = batch_planned options b p m h k n e z
+batch_framed (Err x) options b p h k n e z f = inl f
 
 -- ── messages of values ──
 
@@ -127,9 +128,9 @@ fit_more : (options : WriteOptions) (ss : List ToSend) (s : ToSend) → all_fit 
 fit_more options [] s h k = both_true (fits options s) true k refl
 fit_more options (t ∷ ss) s h k = both_true (fits options t) (all_fit options (ss ++ s ∷ [])) (first_of (fits options t) (all_fit options ss) h) (fit_more options ss s (second_of (fits options t) (all_fit options ss) h) k)
 
-meant_more : (ss : List ToSend) (s : ToSend) → AllMeant ss → IsMeant little s.part → AllMeant (ss ++ s ∷ [])
-meant_more [] s h k = (k, tt)
-meant_more (t ∷ ss) s h k = (h.0, meant_more ss s h.1 k)
+may_more : (ss : List ToSend) (s : ToSend) → AllMayBeValues ss → MayBeValues s.part → AllMayBeValues (ss ++ s ∷ [])
+may_more [] s h k = (k, tt)
+may_more (t ∷ ss) s h k = (h.0, may_more ss s h.1 k)
 
 refused_behind : (options : WriteOptions) (ss : List ToSend) (s : ToSend) (rest : List ToSend) (e : IpcError) → all_fit options ss ≡ true → Refuses e options s → RefusesOne e options (ss ++ s ∷ rest)
 refused_behind options [] s rest e h k = inl k
@@ -142,7 +143,7 @@ pub record IsLeft (options : WriteOptions) (ms : List PlannedMessage) (left all 
   pub whole : done ++ left ≡ all
 
 pub left_begun : (options : WriteOptions) (ms : List PlannedMessage) (all : List ToSend) → ms ≡ [] → IsLeft options ms all all
-left_begun options ms all e = record { done = []; planned = record { fit = refl; text = ap (flat_map planned_text) e; sizes = ap (map planned_sizes) e; mean = tt }; whole = refl }
+left_begun options ms all e = record { done = []; planned = record { fit = refl; text = ap (flat_map planned_text) e; sizes = ap (map planned_sizes) e; may = tt }; whole = refl }
 
 pub left_more : (options : WriteOptions) (ms is : List PlannedMessage) (left rest all : List ToSend) (s : ToSend) (m : PlannedMessage) → left ≡ s ∷ rest → IsPlanned options s m → is ≡ ms ++ m ∷ [] → IsLeft options ms left all → IsLeft options is rest all
 left_more options ms is left rest all s m e p a l = record {
@@ -152,7 +153,7 @@ left_more options ms is left rest all s m e p a l = record {
     text = ap (flat_map planned_text) a ∙ flat_map-append planned_text ms (m ∷ []) ∙ ap (λ xs. xs ++ (planned_text m ++ [])) l.planned.text ∙ ap (λ xs. flat_map values_text l.done ++ (xs ++ [])) p.text
         ∙ sym (flat_map-append values_text l.done (s ∷ []));
     sizes = ap (map planned_sizes) a ∙ map-append planned_sizes ms (m ∷ []) ∙ ap (λ xs. xs ++ planned_sizes m ∷ []) l.planned.sizes ∙ ap (λ x. map sent_sizes l.done ++ x ∷ []) p.sizes ∙ sym (map-append sent_sizes l.done (s ∷ []));
-    mean = meant_more l.done s l.planned.mean p.means;
+    may = may_more l.done s l.planned.may p.may;
   };
   whole = append_assoc l.done (s ∷ []) rest ∙ ap (λ x. l.done ++ x) (sym e) ∙ l.whole;
 }
@@ -175,7 +176,7 @@ all_planned options ms xs i all h l = left_none options ms (map to_send (drop i 
 pub chunk_planned : (options : WriteOptions) (sent : List ToSend) (b : Batch) (ms is : List PlannedMessage) (m : PlannedMessage) → ArePlanned options sent ms → IsBatchPlanned options b m → is ≡ ms ++ m ∷ []
     → IsChunkPlanned options sent b is
 chunk_planned options sent b ms is m h k e = record {
-  may = record { fit = h.fit; within = k.within; values_mean = h.mean; batch_means = k.mean };
+  may = record { fit = h.fit; within = k.within; values = h.may; batch_means = k.mean; batch_nodes = k.nodes };
   text = ap (flat_map planned_text) e ∙ flat_map-append planned_text ms (m ∷ []) ∙ ap (λ xs. xs ++ (planned_text m ++ [])) h.text ∙ ap (λ xs. flat_map values_text sent ++ xs) (append-nil (planned_text m) ∙ k.text);
   sizes = ap (map planned_sizes) e ∙ map-append planned_sizes ms (m ∷ []) ∙ ap (λ xs. xs ++ planned_sizes m ∷ []) h.sizes ∙ ap (λ x. map sent_sizes sent ++ x ∷ []) k.sizes;
 }

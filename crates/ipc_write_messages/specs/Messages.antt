@@ -9,12 +9,14 @@ use Rattle.arrow_spec.specs.Flat.{little}
 use Rattle.arrow_spec.specs.Framing.{body_bytes, message_bytes, padded_size}
 use Rattle.arrow_spec.specs.Sent.{SentMessage}
 use Rattle.arrow_arrays.specs.Batches.{Batch}
-use Rattle.ipc_write_laws.specs.Streams.{batch_bytes}
-use Rattle.ipc_write_arrays.specs.Pieces.{IsMeant, pieces_in}
+use Rattle.arrow_arrays.specs.Parts.{Parts}
+use Rattle.ipc_write_laws.specs.Streams.{batch_bytes, written_of}
+use Rattle.ipc_write_arrays.specs.Pieces.{IsMeant, column_in, pieces_in}
 use Rattle.ipc_dictionaries.specs.NewDictionaries.{ToSend}
-use Rattle.ipc_write.specs.Batches.{batch_message, is_within, written_batch_of}
+use Rattle.ipc_write.specs.Batches.{batch_message, columns_written, is_within, written_batch_of}
 use Rattle.ipc_write.specs.Encoding.{AllMean}
 use Rattle.ipc_write.specs.Outcomes.{Plans}
+use Rattle.ipc_write.specs.Planned.{NodesFit}
 use Rattle.ipc_write.specs.Values.{values_message}
 use Rattle.ipc_write.specs.declared.options.WriteOptions.{WriteOptions}
 use Rattle.ipc_encode.specs.Messages.{Refuses, RefusesOne, all_fit, fits}
@@ -52,16 +54,21 @@ planned_text m = m.front.items ++ body_bytes 0 m.buffers.items
 abbrev pub planned_sizes : PlannedMessage → Sizes
 planned_sizes m = record { front = length m.front.items; body = m.body_length }
 
--- what is sent means its cells, under any ids of dictionaries under which their values were read
-abbrev pub AllMeant : List ToSend → Type 0
-AllMeant sent = AllByRecursion (λ s. IsMeant little s.part) sent
+-- what is sent as values means its cells, under any ids of dictionaries under which their values were read; and its message can say its nodes
+pub record MayBeValues (p : Parts) : Type 0 where
+  pub means : IsMeant little p
+  pub nodes : NodesFit (written_of (column_in little p ∷ []))
+
+-- the same of each
+abbrev pub AllMayBeValues : List ToSend → Type 0
+AllMayBeValues sent = AllByRecursion (λ s. MayBeValues s.part) sent
 
 -- the message of values is planned
 pub record IsPlanned (options : WriteOptions) (s : ToSend) (m : PlannedMessage) : Type 0 where
   pub fits : fits options s ≡ true
   pub text : planned_text m ≡ values_text s
   pub sizes : planned_sizes m ≡ sent_sizes s
-  pub means : IsMeant little s.part
+  pub may : MayBeValues s.part
 
 -- it was, or is refused, or memory was wanted
 abbrev pub PlansOne : Result PlannedMessage IpcError → WriteOptions → ToSend → Type 0
@@ -73,7 +80,7 @@ pub record ArePlanned (options : WriteOptions) (sent : List ToSend) (ms : List P
   pub fit : all_fit options sent ≡ true
   pub text : flat_map planned_text ms ≡ flat_map values_text sent
   pub sizes : map planned_sizes ms ≡ map sent_sizes sent
-  pub mean : AllMeant sent
+  pub may : AllMayBeValues sent
 
 abbrev pub PlansEach : Result (Vec PlannedMessage Global) IpcError → WriteOptions → List ToSend → Type 0
 PlansEach (Ok v) options sent = ArePlanned options sent v.items
@@ -85,6 +92,7 @@ pub record IsBatchPlanned (options : WriteOptions) (b : Batch) (m : PlannedMessa
   pub text : planned_text m ≡ batch_bytes (written_batch_of b)
   pub sizes : planned_sizes m ≡ sizes_of (batch_message b)
   pub mean : AllMean b.height b.arrays
+  pub nodes : NodesFit (columns_written b.arrays)
 
 abbrev pub PlansBatch : Result PlannedMessage IpcError → WriteOptions → Batch → Type 0
 PlansBatch (Ok m) options b = IsBatchPlanned options b m
@@ -94,8 +102,9 @@ PlansBatch (Err e) options b = (e ≡ Memory) ⊎ Plans (Err e) options b
 pub record MayBeSent (options : WriteOptions) (sent : List ToSend) (b : Batch) : Type 0 where
   pub fit : all_fit options sent ≡ true
   pub within : is_within options.metadata_limit b ≡ true
-  pub values_mean : AllMeant sent
+  pub values : AllMayBeValues sent
   pub batch_means : AllMean b.height b.arrays
+  pub batch_nodes : NodesFit (columns_written b.arrays)
 
 -- the messages of values, and of the batch behind them, are planned
 pub record IsChunkPlanned (options : WriteOptions) (sent : List ToSend) (b : Batch) (ms : List PlannedMessage) : Type 0 where

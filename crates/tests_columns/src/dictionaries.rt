@@ -137,8 +137,8 @@ fn values_alone(alloc: Global, dictionary: &DictionaryArray) -> Result<(usize, W
     if may_have_views(values) {
         return Err(Fail::from("values that are no texts"));
     }
+    drop(encoded(alloc, values)?);
     let mut written = nothing_written(alloc);
-    encoded(alloc, values)?;
     let count = write_dictionary(
         dictionary,
         &mut written.buffers,

@@ -68,6 +68,8 @@ pub(crate) enum Part {
     BlockOfNoTexts,
     /// The text of the schema of that column.
     SchemaText,
+    /// A number of rows.
+    Seven,
     /// A line feed.
     LineFeed,
     /// Space, tab, form feed and the end of a line.
@@ -147,6 +149,7 @@ impl Part {
             Part::BlockOfNoTexts =>
                 b"100000000c001400040008000c0010000c0000000400000018000000600000006400000000000000080008000000040008000000040000000100000014000000100014000400080009000c00000010001000000010000000010500001400000014000000010000007400000004000400040000000000000000000000000000000000000001000000800000000000000088000000000000000000000000000000a00000004152524f5731",
             Part::SchemaText => b"little\n\"a\" int32 nullable\n",
+            Part::Seven => b"7",
             Part::LineFeed => b"\n",
             Part::WhiteSpace => b" \t\x0c\r\n",
             Part::RestOfMagic => b"152524f57310000",

@@ -250,7 +250,7 @@ const OF_SELECTIONS: &[Case] = &[
     },
 ];
 
-const OF_SCHEMAS: &[Case] = &[
+const OF_TEXTS: &[Case] = &[
     Case {
         title: "the schema of one column",
         words: &["schema"],
@@ -268,6 +268,21 @@ const OF_SCHEMAS: &[Case] = &[
     Case {
         title: "no schema without a footer",
         words: &["schema"],
+        input: &[Part::Magic, Part::Schema, Part::EndMark],
+        notes: b"refused 1 InvalidFooter\n",
+        ..REFUSED
+    },
+    Case {
+        title: "the rows of both batches",
+        words: &["rows"],
+        input: TWO_BATCHES,
+        text: &[Part::Seven, Part::LineFeed],
+        added: 2,
+        ..WHOLE
+    },
+    Case {
+        title: "no rows without a footer",
+        words: &["rows", "-"],
         input: &[Part::Magic, Part::Schema, Part::EndMark],
         notes: b"refused 1 InvalidFooter\n",
         ..REFUSED
@@ -320,6 +335,6 @@ fn a_run_gives_the_columns_and_rows_asked_for(rt: HostRuntime) -> Result<(), Fai
 }
 
 #[test]
-fn a_run_gives_the_text_of_a_schema(rt: HostRuntime) -> Result<(), Fail> {
-    run_cases(&rt, rt.alloc(), OF_SCHEMAS)
+fn a_run_gives_the_texts_of_a_file(rt: HostRuntime) -> Result<(), Fail> {
+    run_cases(&rt, rt.alloc(), OF_TEXTS)
 }

@@ -5,11 +5,10 @@ use Rattle.std.specs.List.{AllByRecursion, flat_map}
 use Rattle.std.proofs.lemmas.List.{length-map, map-append}
 use Rattle.std.proofs.lemmas.List.Concat.{flat_map-cons}
 use Rattle.arrow_spec.specs.Readings.{meaning}
-use Rattle.arrow_spec.specs.Flat.{little}
 use Rattle.arrow_spec.specs.Kinds.{Fields, Metadata, bare, numbered}
 use Rattle.arrow_spec.specs.Arrays.{Dictionaries}
 use Rattle.arrow_spec.specs.Features.{chosen_floats}
-use Rattle.arrow_spec.specs.Sent.{all_may_be_sent, dictionary_messages, may_be_sent, schema_message}
+use Rattle.arrow_spec.specs.Sent.{all_may_be_sent, dictionary_messages}
 use Rattle.arrow_spec.specs.Files.{ArrowTable, Asked, FileBlock, Meta, Request, TableBatch, dictionaries_read, fields_as_asked, file_reading, to_read}
 use Rattle.arrow_spec.proofs.NumberedFields.{bare_numbered, numbered_may}
 use Rattle.ipc_write_laws.specs.Streams.{WrittenBatch, bare_table, batch_bytes, table_batch}
@@ -24,7 +23,7 @@ use Rattle.transcode_laws.proofs.Blocks.{dictionaries_small}
 use Rattle.transcode_laws.proofs.Dictionaries.{replaces_none}
 use Rattle.transcode_laws.proofs.Files.{part_of_file, whole_file}
 use Rattle.transcode_laws.proofs.Readings.{custom_may, no_batches}
-use Rattle.transcode_laws.proofs.StreamFields.{chosen_numbered, few_dictionaries, numbered_twice}
+use Rattle.transcode_laws.proofs.StreamFields.{chosen_numbered, few_dictionaries}
 
 -- ── the messages may be written ──
 
@@ -41,13 +40,13 @@ schema_and : (b : List ℕ) (r : Request) (meta : Meta) (custom : Metadata) (xs 
     → MessagesMayBeWritten (numbered (fields_as_asked r.columns meta.schema.fields) 0) meta.schema.metadata custom xs
 schema_and b r meta custom xs file may =
     let fs = fields_as_asked r.columns meta.schema.fields in
-    let twice : numbered (numbered fs 0) 0 ≡ numbered fs 0 = numbered_twice fs 0 0 in
+    let numbers = numbered_may fs meta.schema.metadata file.schema.may in
     record {
-      schema = (numbered_may fs meta.schema.metadata file.schema.may).0;
+      schema = numbers.0;
       message = custom_may b custom file.pairs;
-      ids = twice;
+      ids = numbers.1;
       readable = chosen_numbered None fs 0 0 ∙ file.schema.readable;
-      size = ap (λ gs. may_be_sent (schema_message little gs meta.schema.metadata custom)) twice ∙ file.small;
+      size = file.small;
       messages = may;
     }
 

@@ -2,7 +2,8 @@ use Rattle.std.proofs.Common.{◌≡◌, ℕ, List, Vec, Global, Err}
 use Rattle.ipc_schema.specs.Views.{message_of}
 use Rattle.ipc_files.specs.FileBlocks.{file_block}
 use Rattle.ipc_files.proofs.BlockMessages.{header_of_metadata, header_without_metadata}
-use Rattle.ipc_files.proofs.Errors.{bytes_cause, is_err}
+use Rattle.ipc_files.proofs.Errors.{is_err}
+use Rattle.ipc_files.proofs.PlainRefusals.{plain_cause, record_plain}
 use Rattle.ipc_files.proofs.block.read_block_header.Goals as goal
 
 abbrev view : Vec ℕ Global → List ℕ
@@ -17,4 +18,4 @@ pub returns-clause-header : goal.returns-clause-header
 returns-clause-header g c = header_of_metadata (g.S.Source.content c.args.source.now) (file_block c.args.block.now) view c.in_ok-bytes.bytes c.deref.result.now c.read_record_message.result c.in_ok-bytes.ensures.metadata c.deref.ensures.value c.read_record_message.ensures.gives
 
 pub returns-clause-cause : goal.returns-clause-cause
-returns-clause-cause g c = bytes_cause message_of c.read_record_message.result _ _ _ c.read_record_message.ensures.gives
+returns-clause-cause g c = plain_cause message_of c.read_record_message.result _ _ _ (record_plain _) c.read_record_message.ensures.gives

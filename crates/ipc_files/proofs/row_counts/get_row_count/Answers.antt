@@ -6,6 +6,7 @@ use Rattle.ipc_files.specs.FileBlocks.{file_block}
 use Rattle.ipc_files.specs.declared.metadata.FooterBytes.{FooterBytes}
 use Rattle.ipc_files.proofs.BlockRows.{blocks_counted, footer_alone, footer_and_messages, no_blocks, no_footer}
 use Rattle.ipc_files.proofs.Errors.{is_err}
+use Rattle.ipc_files.proofs.PlainRefusals.{plain_handed, record_blocks_plain}
 use Rattle.ipc_files.proofs.row_counts.get_row_count.Goals as goal
 
 abbrev view : FooterBytes → List ℕ
@@ -37,3 +38,8 @@ returns-clause-gives g c =
 pub returns-clause-fetched : goal.returns-clause-fetched
 returns-clause-fetched g c =
     footer_and_messages (g.S.Source.content c.args.source.now) _ view c.in_ok-footer.footer c.deref.result.now c.in_ok-blocks.blocks.items c.deref-2.result.now _ _ _ c.in_ok-footer.ensures.footer c.deref.ensures.value c.in_ok-blocks.ensures.gives c.deref-2.ensures.value c.in_ok-footer.ensures.kept.content c.in_ok-footer.ensures.fetched c.count_rows.ensures.fetched
+
+pub returns-in_err-blocks-clause-cause : goal.returns-in_err-blocks-clause-cause
+returns-in_err-blocks-clause-cause g c =
+    let e : c.from_residual-in_err-blocks.result ≡ Err c.in_err-blocks.field-0.0 = is_err _ _ _ c.from_residual-in_err-blocks.ensures.0 c.from_residual-in_err-blocks.ensures.1 (λ f h. h) in
+    plain_handed c.from_residual-in_err-blocks.result c.in_err-blocks.field-0.0 _ _ _ e (record_blocks_plain _) c.in_err-blocks.ensures.gives

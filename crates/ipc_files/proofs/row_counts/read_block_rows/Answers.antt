@@ -4,7 +4,8 @@ use Rattle.ipc_files.specs.FileBlocks.{file_block}
 use Rattle.ipc_files.specs.RowCounts.{block_rows}
 use Rattle.ipc_files.proofs.BlockMessages.{handed_on}
 use Rattle.ipc_files.proofs.BlockRows.{rows_of_header, rows_without_header}
-use Rattle.ipc_files.proofs.Errors.{bytes_cause, is_err}
+use Rattle.ipc_files.proofs.Errors.{is_err}
+use Rattle.ipc_files.proofs.PlainRefusals.{natural_plain, plain_cause}
 use Rattle.ipc_files.proofs.row_counts.read_block_rows.Goals as goal
 
 pub returns-in_err-message-clause-gives : goal.returns-in_err-message-clause-gives
@@ -17,4 +18,4 @@ pub returns-clause-gives : goal.returns-clause-gives
 returns-clause-gives g c = rows_of_header (g.S.Source.content c.args.source.now) (file_block c.args.block.now) c.in_ok-message.message c.natural_rows.result c.in_ok-message.ensures.header c.natural_rows.ensures.gives
 
 pub returns-clause-cause : goal.returns-clause-cause
-returns-clause-cause g c = bytes_cause _ c.natural_rows.result _ _ _ c.natural_rows.ensures.gives
+returns-clause-cause g c = plain_cause (λ (n : ℕ). n) c.natural_rows.result _ _ _ (natural_plain _) c.natural_rows.ensures.gives

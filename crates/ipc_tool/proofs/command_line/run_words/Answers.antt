@@ -1,6 +1,6 @@
 use Rattle.std.proofs.Common.{◌≡◌, Option, Some, None, IsNone, IsSome, MatchOption, ap, subst, sym}
 use Rattle.std.specs.Io.KnownBytes.{Keeps}
-use Rattle.arrow_spec.specs.Words.{Command}
+use Rattle.ipc_tool.specs.Asked.{Command}
 use Rattle.ipc_transcode.proofs.SentFiles.{keeps_same}
 use Rattle.ipc_words.specs.Views.{texts}
 use Rattle.ipc_tool.specs.Request.{command_of}
@@ -25,7 +25,7 @@ returns g c =
       complete = r.complete;
       told = r.told;
       is = record { never = r.never; at_most = r.at_most };
-      of_schema = r.of_schema;
+      of_text = r.of_text;
       read_fault = r.read_fault;
       write_fault = r.write_fault;
       words_are = r.words;

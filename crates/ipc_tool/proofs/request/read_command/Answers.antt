@@ -10,5 +10,8 @@ returns-in_err-stream-clause-cause c = IfErr-at _ _ _ c.from_residual.ensures.1 
 pub returns-in-Stream-clause-request : goal.returns-in-Stream-clause-request
 returns-in-Stream-clause-request c = is_command (texts c.args.words.now) _ (c.in_ok-stream.ensures.asked ∙ ap (λ r. Some (request_view r)) c.in-Stream.is)
 
+pub returns-in-Rows-clause-request : goal.returns-in-Rows-clause-request
+returns-in-Rows-clause-request c = is_command (texts c.args.words.now) _ (c.in_ok-stream.ensures.asked ∙ ap (λ r. Some (request_view r)) c.in-Rows.is)
+
 pub returns-in-Schema-clause-request : goal.returns-in-Schema-clause-request
 returns-in-Schema-clause-request c = is_command (texts c.args.words.now) _ (c.in_ok-stream.ensures.asked ∙ ap (λ r. Some (request_view r)) c.in-Schema.is)

@@ -4,8 +4,8 @@ use Rattle.arrow_spec.specs.Sent.{i64_bytes}
 use Rattle.ipc_write.proofs.Headers.{two_put}
 use Rattle.ipc_write.proofs.metadata.put_node.Goals as goal
 
-pub returns : goal.returns
-returns c =
+pub returns-clause-bytes : goal.returns-clause-bytes
+returns-clause-bytes c =
     let x = c.args.node.now.length in
     let y = c.args.node.now.null_count in
     let x_fits : SFits w64 x = search rules in

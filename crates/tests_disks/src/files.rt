@@ -1,0 +1,29 @@
+//! A file as a disk.
+use crate::tails::put_behind;
+use ipc_disk::{Disk, FileDisk};
+use ipc_io::{Failed, Got, Source};
+use std::fs::{self, File};
+use std::io;
+use std::test::Fail;
+
+/// A file of ten bytes, made anew.
+fn file_of_ten(rt: &HostRuntime, path: &str) -> io::Result<File> {
+    fs::write(rt, path, b"abcdefghij")?;
+    File::options().read(true).write(true).open(rt, path)
+}
+
+#[test]
+fn a_file_is_a_disk(rt: HostRuntime) -> Result<(), Fail> {
+    let path = "file_disk_test";
+    let mut disk = FileDisk::new(file_of_ten(&rt, path)?);
+    disk.cut(3)?;
+    put_behind(&mut disk, b"kl")?;
+    disk.write_at(0, b"Q")?;
+    assert!(rt; disk.size() == Ok(5));
+    let mut out = [0; 5];
+    assert!(rt; disk.read_at(0, &mut out) == Ok(Got::Full) && out == *b"Qbckl");
+    assert!(rt; disk.read_at(1, &mut out) == Ok(Got::Short));
+    assert!(rt; disk.cut(u64::MAX) == Err(Failed));
+    fs::remove_file(&rt, path)?;
+    Ok(())
+}

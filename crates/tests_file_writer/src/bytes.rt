@@ -1,0 +1,99 @@
+//! The bytes of files, as the worked examples have them.
+use crate::batches::{give_pair, of_numbers, one_pair, with_limit, write_numbers, writer};
+use crate::parts::{
+    BEGIN, END, FOUR_ROWS, NO_BLOCK, ONE_BLOCK, ONE_BLOCK_WITH_PAIR, ONE_NULL, THREE_ROWS,
+    TWO_BLOCKS,
+};
+use arrow_spec::IpcError;
+use ipc_file_writer::FileWriter;
+use ipc_io::MemorySink;
+use ipc_write::WriteOptions;
+use std::alloc::Global;
+use std::test::Fail;
+
+/// A writer whose file is begun.
+fn begun(alloc: Global) -> Result<FileWriter<MemorySink>, Fail> {
+    let mut writer = writer(alloc, of_numbers(alloc)?, WriteOptions::default(), None)?;
+    writer.start()?;
+    Ok(writer)
+}
+
+/// Whether a writer's file has the bytes of hex texts, one behind the other.
+fn has_bytes(alloc: Global, writer: FileWriter<MemorySink>, parts: &[&str]) -> Result<bool, Fail> {
+    let mut text = Vec::new(alloc);
+    for part in parts {
+        text.extend_from_slice(part.as_bytes())?;
+    }
+    let expected = hex::decode(alloc, text.as_slice())?;
+    let sink = writer.into_inner();
+    Ok(sink.bytes() == expected.as_slice())
+}
+
+#[test]
+fn a_file_is_its_messages_and_the_footer(rt: HostRuntime) -> Result<(), Fail> {
+    let alloc = rt.alloc();
+    let mut writer = begun(alloc)?;
+    write_numbers(alloc, &mut writer, &[1, 0, 3], Some(0b101))??;
+    writer.finish()?;
+    assert!(rt; has_bytes(alloc, writer, &[BEGIN, ONE_NULL, END, ONE_BLOCK])?);
+    Ok(())
+}
+
+#[test]
+fn a_file_without_batches_has_no_block(rt: HostRuntime) -> Result<(), Fail> {
+    let alloc = rt.alloc();
+    let mut writer = begun(alloc)?;
+    writer.finish()?;
+    assert!(rt; has_bytes(alloc, writer, &[BEGIN, END, NO_BLOCK])?);
+    Ok(())
+}
+
+#[test]
+fn each_batch_has_its_block(rt: HostRuntime) -> Result<(), Fail> {
+    let alloc = rt.alloc();
+    let mut writer = begun(alloc)?;
+    write_numbers(alloc, &mut writer, &[1, 2, 3], None)??;
+    write_numbers(alloc, &mut writer, &[4, 5, 6, 7], None)??;
+    writer.finish()?;
+    assert!(rt;
+        has_bytes(
+            alloc,
+            writer,
+            &[BEGIN, THREE_ROWS, FOUR_ROWS, END, TWO_BLOCKS]
+        )?
+    );
+    Ok(())
+}
+
+#[test]
+fn a_footer_has_its_pairs(rt: HostRuntime) -> Result<(), Fail> {
+    let alloc = rt.alloc();
+    let mut writer = begun(alloc)?;
+    give_pair(alloc, &mut writer)??;
+    write_numbers(alloc, &mut writer, &[1, 0, 3], Some(0b101))??;
+    assert!(rt; matches!(give_pair(alloc, &mut writer)?, Err(IpcError::State)));
+    writer.finish()?;
+    assert!(rt; has_bytes(alloc, writer, &[BEGIN, ONE_NULL, END, ONE_BLOCK_WITH_PAIR])?);
+    Ok(())
+}
+
+#[test]
+fn the_message_has_no_pairs_of_the_schema(rt: HostRuntime) -> Result<(), Fail> {
+    let alloc = rt.alloc();
+    let mut writer = writer(alloc, of_numbers(alloc)?, WriteOptions::default(), None)?;
+    writer.set_custom_schema_metadata(one_pair(alloc)?);
+    writer.start()?;
+    assert!(rt; has_bytes(alloc, writer, &[BEGIN])?);
+    Ok(())
+}
+
+#[test]
+fn a_footer_beyond_the_limit_is_refused(rt: HostRuntime) -> Result<(), Fail> {
+    let alloc = rt.alloc();
+    let mut writer = writer(alloc, of_numbers(alloc)?, with_limit(151), None)?;
+    writer.start()?;
+    assert!(rt; matches!(writer.finish(), Err(IpcError::TooLarge)));
+    assert!(rt; matches!(writer.finish(), Err(IpcError::TooLarge)));
+    assert!(rt; has_bytes(alloc, writer, &[BEGIN])?);
+    Ok(())
+}

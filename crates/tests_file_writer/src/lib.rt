@@ -1,0 +1,13 @@
+//! Files as they are written, batch by batch. All of it is tests.
+#![tactic(auto)]
+
+#[cfg(test)]
+mod batches;
+#[cfg(test)]
+mod bytes;
+#[cfg(test)]
+mod dictionaries;
+#[cfg(test)]
+mod parts;
+#[cfg(test)]
+mod states;
