@@ -22,7 +22,7 @@ use Rattle.ipc_encode.specs.Chunks.{RefusesChunk, found}
 use Rattle.ipc_encode.proofs.ChunkSteps.{kept_again, stops_behind, stops_found}
 use Rattle.ipc_write_messages.specs.declared.messages.PlannedMessage.{PlannedMessage}
 use Rattle.ipc_write_messages.specs.declared.puts.Stop.{Stop}
-use Rattle.ipc_write_messages.specs.Messages.{IsChunkPlanned, MayBeSent, chunk_text, planned_sizes, planned_text}
+use Rattle.ipc_write_messages.specs.Messages.{IsChunkPlanned, MayBeSent, Sizes, chunk_text, planned_sizes, planned_text}
 use Rattle.ipc_write_messages.specs.Puts.{StopsIn, Untouched}
 use Rattle.ipc_write_messages.specs.States.{state_behind}
 use Rattle.ipc_file_writer.specs.declared.blocks.ChunkBlocks.{ChunkBlocks}
@@ -42,14 +42,14 @@ chunk_refused e c sent b (inl m) = inl m
 chunk_refused e c sent b (inr h) = inr (inl h)
 
 -- their places are
-pub places_refused : (e : IpcError) (c : FileCore) (sent : List ToSend) (b : Batch) (ms qs : List PlannedMessage) → ms ≡ qs → IsChunkPlanned c.options sent b qs → PlacesChunk (Err e) c.blocks.end (map planned_sizes ms)
+pub places_refused : (e : IpcError) (c : FileCore) (sent : List ToSend) (b : Batch) (xs : List Sizes) (qs : List PlannedMessage) → xs ≡ map planned_sizes qs → IsChunkPlanned c.options sent b qs → PlacesChunk (Err e) c.blocks.end xs
     → (e ≡ Memory) ⊎ RefusesMore e c sent b
-places_refused e c sent b ms qs h p (inl m) = inl m
-places_refused e c sent b ms qs h p (inr k) = inr (inr (k.0, p.may, ap (are_placed c.blocks.end) (sym p.sizes ∙ ap (map planned_sizes) (sym h)) ∙ k.1))
+places_refused e c sent b xs qs h p (inl m) = inl m
+places_refused e c sent b xs qs h p (inr k) = inr (inr (k.0, p.may, ap (are_placed c.blocks.end) (sym p.sizes ∙ sym h) ∙ k.1))
 
-pub placed_so : (c : FileCore) (sent : List ToSend) (b : Batch) (ms qs : List PlannedMessage) (k : ChunkBlocks) → ms ≡ qs → IsChunkPlanned c.options sent b qs → PlacesChunk (Ok k) c.blocks.end (map planned_sizes ms)
+pub placed_so : (c : FileCore) (sent : List ToSend) (b : Batch) (xs : List Sizes) (qs : List PlannedMessage) (k : ChunkBlocks) → xs ≡ map planned_sizes qs → IsChunkPlanned c.options sent b qs → IsChunkPlaced c.blocks.end xs k
     → IsChunkPlaced c.blocks.end (chunk_sizes sent b) k
-placed_so c sent b ms qs k h p q = subst (λ xs. IsChunkPlaced c.blocks.end xs k) (ap (map planned_sizes) h ∙ p.sizes) q
+placed_so c sent b xs qs k h p q = subst (λ ys. IsChunkPlaced c.blocks.end ys k) (h ∙ p.sizes) q
 
 -- ── put ──
 

@@ -5,3 +5,4 @@ pub mod Ending
 pub mod FooterNodes
 pub mod Growing
 pub mod PlacedBlocks
+pub mod GivenSteps

@@ -8,11 +8,11 @@ use Rattle.std.proofs.lemmas.List.{length-map, map-append, take-append-drop, tak
 use Rattle.arrow_spec.specs.declared.message.Block.{Block}
 use Rattle.ipc_schema.specs.Footers.{IsNatural, file_block}
 use Rattle.ipc_schema.proofs.Footers.{more_natural, none_natural}
-use Rattle.ipc_write_messages.specs.Messages.{Sizes, planned_sizes}
-use Rattle.ipc_write_messages.specs.declared.messages.PlannedMessage.{PlannedMessage}
+use Rattle.ipc_write_messages.specs.Messages.{Sizes}
+use Rattle.ipc_file_writer.specs.declared.placing.MessageSizes.{MessageSizes}
 use Rattle.ipc_file_writer.specs.declared.placing.PlacedBlock.{PlacedBlock}
 use Rattle.ipc_file_writer.specs.declared.blocks.PlacedMessages.{PlacedMessages}
-use Rattle.ipc_file_writer.specs.Blocks.{ArePlaced, IsPlaced, are_placed, behind, behind_all, block_at, blocks_at, is_placed}
+use Rattle.ipc_file_writer.specs.Blocks.{ArePlaced, IsPlaced, are_placed, behind, behind_all, block_at, blocks_at, is_placed, message_sizes}
 
 -- ── one message more ──
 
@@ -47,22 +47,22 @@ not_placed at xs x rest h k = placed_front at xs (x ∷ rest) h ∙ one_not (is_
 
 -- ── a list of messages ──
 
-sizes_more : (ms : List PlannedMessage) (i : ℕ) (m : PlannedMessage) → i < length ms → m ≡ get_or ms i m → map planned_sizes (take (i + 1) ms) ≡ map planned_sizes (take i ms) ++ planned_sizes m ∷ []
-sizes_more ms i m h e = ap (map planned_sizes) (take_more ms i m h ∙ ap (λ y. take i ms ++ y ∷ []) (sym e)) ∙ map-append planned_sizes (take i ms) (m ∷ [])
+sizes_more : (ms : List MessageSizes) (i : ℕ) (d : MessageSizes) → i < length ms → map message_sizes (take (i + 1) ms) ≡ map message_sizes (take i ms) ++ message_sizes (get_or ms i d) ∷ []
+sizes_more ms i d h = ap (map message_sizes) (take_more ms i d h) ∙ map-append message_sizes (take i ms) (get_or ms i d ∷ [])
 
-sizes_whole : (ms : List PlannedMessage) (i : ℕ) (m : PlannedMessage) → i < length ms → m ≡ get_or ms i m → (map planned_sizes (take i ms) ++ planned_sizes m ∷ []) ++ map planned_sizes (drop (i + 1) ms) ≡ map planned_sizes ms
-sizes_whole ms i m h e =
-    ap (λ xs. xs ++ map planned_sizes (drop (i + 1) ms)) (sym (sizes_more ms i m h e)) ∙ sym (map-append planned_sizes (take (i + 1) ms) (drop (i + 1) ms)) ∙ ap (map planned_sizes) (take-append-drop (i + 1) ms)
+sizes_whole : (ms : List MessageSizes) (i : ℕ) (d : MessageSizes) → i < length ms → (map message_sizes (take i ms) ++ message_sizes (get_or ms i d) ∷ []) ++ map message_sizes (drop (i + 1) ms) ≡ map message_sizes ms
+sizes_whole ms i d h =
+    ap (λ xs. xs ++ map message_sizes (drop (i + 1) ms)) (sym (sizes_more ms i d h)) ∙ sym (map-append message_sizes (take (i + 1) ms) (drop (i + 1) ms)) ∙ ap (map message_sizes) (take-append-drop (i + 1) ms)
 
 -- the first of some messages have blocks
-pub record HaveBlocks (at : ℕ) (ms : List PlannedMessage) (i : ℕ) (bs : List Block) (end : ℕ) : Type 0 where
-  pub fit : are_placed at (map planned_sizes (take i ms)) ≡ true
-  pub blocks : map file_block bs ≡ blocks_at at (map planned_sizes (take i ms))
+pub record HaveBlocks (at : ℕ) (ms : List MessageSizes) (i : ℕ) (bs : List Block) (end : ℕ) : Type 0 where
+  pub fit : are_placed at (map message_sizes (take i ms)) ≡ true
+  pub blocks : map file_block bs ≡ blocks_at at (map message_sizes (take i ms))
   pub natural : All IsNatural bs
-  pub last : end ≡ behind_all at (map planned_sizes (take i ms))
+  pub last : end ≡ behind_all at (map message_sizes (take i ms))
   pub place : end < 2 ^ 63
 
-pub no_blocks : (at : ℕ) (ms : List PlannedMessage) (bs : List Block) → at < 2 ^ 63 → bs ≡ [] → HaveBlocks at ms 0 bs at
+pub no_blocks : (at : ℕ) (ms : List MessageSizes) (bs : List Block) → at < 2 ^ 63 → bs ≡ [] → HaveBlocks at ms 0 bs at
 no_blocks at ms bs h e = record { fit = refl; blocks = ap (map file_block) e; natural = none_natural bs e; last = refl; place = h }
 
 pub below_last : (at : ℕ) (x : Sizes) → is_placed at x ≡ true → behind at x < 2 ^ 63
@@ -72,12 +72,12 @@ below_last at x h = by (nat_le x.front 2147483647) h
     by true k = let near : behind at x ≤ 9223372036854775807 = leb-true (behind at x) 9223372036854775807 k in omega (arith, near)
     by false k = absurd (true≢false (sym k))
 
-pub one_more : (at : ℕ) (ms : List PlannedMessage) (i : ℕ) (m : PlannedMessage) (bs new : List Block) (end : ℕ) (p : PlacedBlock) → i < length ms → m ≡ get_or ms i m → IsPlaced end (planned_sizes m) p
+pub one_more : (at : ℕ) (ms : List MessageSizes) (i : ℕ) (d : MessageSizes) (bs new : List Block) (end : ℕ) (p : PlacedBlock) → i < length ms → IsPlaced end (message_sizes (get_or ms i d)) p
     → new ≡ bs ++ p.block ∷ [] → HaveBlocks at ms i bs end → HaveBlocks at ms (i + 1) new p.end
-one_more at ms i m bs new end p h e k f l =
-    let xs = map planned_sizes (take i ms) in
-    let x = planned_sizes m in
-    let more : map planned_sizes (take (i + 1) ms) ≡ xs ++ x ∷ [] = sizes_more ms i m h e in
+one_more at ms i d bs new end p h k f l =
+    let xs = map message_sizes (take i ms) in
+    let x = message_sizes (get_or ms i d) in
+    let more : map message_sizes (take (i + 1) ms) ≡ xs ++ x ∷ [] = sizes_more ms i d h in
     let fits : is_placed (behind_all at xs) x ≡ true = subst (λ n. is_placed n x ≡ true) l.last k.fits in
     record {
       fit = ap (are_placed at) more ∙ placed_more at xs x l.fit fits;
@@ -88,13 +88,13 @@ one_more at ms i m bs new end p h e k f l =
       place = subst (λ n. n < 2 ^ 63) (sym k.end) (below_last end x k.fits);
     }
 
-pub one_less : (at : ℕ) (ms : List PlannedMessage) (i : ℕ) (m : PlannedMessage) (bs : List Block) (end : ℕ) → i < length ms → m ≡ get_or ms i m → is_placed end (planned_sizes m) ≡ false
-    → HaveBlocks at ms i bs end → are_placed at (map planned_sizes ms) ≡ false
-one_less at ms i m bs end h e k l =
-    let xs = map planned_sizes (take i ms) in
-    let x = planned_sizes m in
-    let rest = map planned_sizes (drop (i + 1) ms) in
-    ap (are_placed at) (sym (sizes_whole ms i m h e) ∙ append_assoc xs (x ∷ []) rest) ∙ not_placed at xs x rest l.fit (subst (λ n. is_placed n x ≡ false) l.last k)
+pub one_less : (at : ℕ) (ms : List MessageSizes) (i : ℕ) (d : MessageSizes) (bs : List Block) (end : ℕ) → i < length ms → is_placed end (message_sizes (get_or ms i d)) ≡ false
+    → HaveBlocks at ms i bs end → are_placed at (map message_sizes ms) ≡ false
+one_less at ms i d bs end h k l =
+    let xs = map message_sizes (take i ms) in
+    let x = message_sizes (get_or ms i d) in
+    let rest = map message_sizes (drop (i + 1) ms) in
+    ap (are_placed at) (sym (sizes_whole ms i d h) ∙ append_assoc xs (x ∷ []) rest) ∙ not_placed at xs x rest l.fit (subst (λ n. is_placed n x ≡ false) l.last k)
 
 length-placed : (at : ℕ) (xs : List Sizes) → length (blocks_at at xs) ≡ length xs
 length-placed at [] = refl
@@ -113,9 +113,18 @@ last_natural bs ds o x e f n =
     let both = All-pop IsNatural bs ds o e n in
     (both.0, subst (λ q. IfSome q IsNatural) f both.1)
 
-pub all_blocks : (at : ℕ) (ms : List PlannedMessage) (i : ℕ) (p : PlacedMessages) → take i ms ≡ ms → HaveBlocks at ms i p.blocks.items p.end → ArePlaced at (map planned_sizes ms) p
+pub all_blocks : (at : ℕ) (ms : List MessageSizes) (i : ℕ) (p : PlacedMessages) → take i ms ≡ ms → HaveBlocks at ms i p.blocks.items p.end → ArePlaced at (map message_sizes ms) p
 all_blocks at ms i p e l = record {
-  fit = subst (λ ys. are_placed at (map planned_sizes ys) ≡ true) e l.fit;
-  blocks = subst (λ ys. map file_block p.blocks.items ≡ blocks_at at (map planned_sizes ys)) e l.blocks;
-  end = subst (λ ys. p.end ≡ behind_all at (map planned_sizes ys)) e l.last;
+  fit = subst (λ ys. are_placed at (map message_sizes ys) ≡ true) e l.fit;
+  blocks = subst (λ ys. map file_block p.blocks.items ≡ blocks_at at (map message_sizes ys)) e l.blocks;
+  end = subst (λ ys. p.end ≡ behind_all at (map message_sizes ys)) e l.last;
 }
+
+-- ── sizes ──
+
+-- the sizes of one message more
+pub next_sizes : {A : Type 0} (sizes : A → Sizes) (ms : List A) (i : ℕ) (m : A) (xs new : List MessageSizes) (x : MessageSizes) → i < length ms → m ≡ get_or ms i m → message_sizes x ≡ sizes m → new ≡ xs ++ x ∷ []
+    → map message_sizes xs ≡ map sizes (take i ms) → map message_sizes new ≡ map sizes (take (i + 1) ms)
+next_sizes sizes ms i m xs new x h e s n l =
+    let more : map sizes (take (i + 1) ms) ≡ map sizes (take i ms) ++ sizes m ∷ [] = ap (map sizes) (take_more ms i m h ∙ ap (λ y. take i ms ++ y ∷ []) (sym e)) ∙ map-append sizes (take i ms) (m ∷ []) in
+    ap (map message_sizes) n ∙ map-append message_sizes xs (x ∷ []) ∙ ap (λ ys. ys ++ message_sizes x ∷ []) l ∙ ap (λ y. map sizes (take i ms) ++ y ∷ []) s ∙ sym more

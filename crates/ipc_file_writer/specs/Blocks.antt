@@ -14,8 +14,13 @@ use Rattle.ipc_write.specs.Batches.{batch_message}
 use Rattle.ipc_write_messages.specs.Messages.{Sizes, chunk_text, sent_sizes, sizes_of, values_text}
 use Rattle.ipc_file_writer.specs.declared.blocks.ChunkBlocks.{ChunkBlocks}
 use Rattle.ipc_file_writer.specs.declared.blocks.FileBlocks.{FileBlocks}
+use Rattle.ipc_file_writer.specs.declared.placing.MessageSizes.{MessageSizes}
 use Rattle.ipc_file_writer.specs.declared.placing.PlacedBlock.{PlacedBlock}
 use Rattle.ipc_file_writer.specs.declared.blocks.PlacedMessages.{PlacedMessages}
+
+-- how many bytes a message has before its body, and in it
+abbrev pub message_sizes : MessageSizes → Sizes
+message_sizes x = record { front = x.front; body = x.body }
 
 -- the block of a message at a place
 abbrev pub block_at : ℕ → Sizes → FileBlock

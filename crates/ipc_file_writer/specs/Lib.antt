@@ -4,3 +4,5 @@ pub mod Ends
 pub mod Fields
 pub mod Calls
 pub mod Sending
+pub mod Given
+pub mod Begun

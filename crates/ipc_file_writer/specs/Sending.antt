@@ -7,10 +7,11 @@ use Rattle.arrow_arrays.specs.Batches.{Batch}
 use Rattle.ipc_bodies.specs.Puts.{Moved, NoneFalls, PutsPart}
 use Rattle.ipc_dictionaries.specs.NewDictionaries.{ToSend}
 use Rattle.ipc_write_messages.specs.declared.puts.Stop.{Stop}
-use Rattle.ipc_write_messages.specs.Messages.{IsChunkPlanned, chunk_text}
+use Rattle.ipc_write_messages.specs.Messages.{IsChunkPlanned, Sizes, chunk_text}
 use Rattle.ipc_write_messages.specs.Puts.{Untouched}
-use Rattle.ipc_file_writer.specs.Blocks.{HasMore, IsChunkPlaced, SameBlocks, chunk_sizes}
+use Rattle.ipc_file_writer.specs.Blocks.{HasMore, IsChunkPlaced, PlacesChunk, SameBlocks, chunk_sizes}
 use Rattle.ipc_file_writer.specs.Calls.{MayBeAdded, RefusesMore, Stays}
+use Rattle.ipc_file_writer.specs.declared.blocks.ChunkBlocks.{ChunkBlocks}
 use Rattle.ipc_file_writer.specs.declared.calls.PlannedChunk.{PlannedChunk}
 use Rattle.ipc_file_writer.specs.declared.file.FileCore.{FileCore}
 
@@ -26,12 +27,28 @@ pub record IsLeft (old new : FileCore) : Type 0 where
   pub blocks : SameBlocks old.blocks new.blocks
   pub written : new.has_written ≡ old.has_written
 
+-- there is room for more blocks, and memory through which bodies are put
+pub record HasRoom (c : FileCore) (more : ChunkBlocks) : Type 0 where
+  pub dictionaries : length c.blocks.dictionaries.items + length more.dictionaries.items ≤ vec_capacity c.blocks.dictionaries
+  pub records : length c.blocks.records.items < vec_capacity c.blocks.records
+  pub scratch : length c.scratch.items ≡ 65536
+
+-- messages have blocks behind those of the file, for which there is room
+pub record ArePlacedMore (old new : FileCore) (xs : List Sizes) (c : ChunkBlocks) : Type 0 where
+  pub placed : IsChunkPlaced old.blocks.end xs c
+  pub room : HasRoom new c
+  pub left : IsLeft old new
+
+-- or a place would be too large, or memory was wanted
+abbrev pub PlacesMore : Result ChunkBlocks IpcError → FileCore → FileCore → List Sizes → Type 0
+PlacesMore (Ok c) old new xs = ArePlacedMore old new xs c
+PlacesMore (Err e) old new xs = PlacesChunk (Err e) old.blocks.end xs × IsLeft old new
+
 -- the messages of a batch and of what is sent before it are planned, with their blocks, for which there is room
 pub record IsPlanned (old new : FileCore) (sent : List ToSend) (b : Batch) (p : PlannedChunk) : Type 0 where
   pub messages : IsChunkPlanned old.options sent b p.messages.items
   pub blocks : IsChunkPlaced old.blocks.end (chunk_sizes sent b) p.blocks
-  pub dictionaries : length new.blocks.dictionaries.items + length p.blocks.dictionaries.items ≤ vec_capacity new.blocks.dictionaries
-  pub records : length new.blocks.records.items < vec_capacity new.blocks.records
+  pub room : HasRoom new p.blocks
   pub left : IsLeft old new
 
 abbrev pub PlansMore : Result PlannedChunk IpcError → FileCore → FileCore → List ToSend → Batch → Type 0

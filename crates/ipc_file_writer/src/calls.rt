@@ -1,5 +1,5 @@
 //! The calls of the writer of a file without its sink.
-ghost use Rattle.std.specs.Prelude.{◌≡◌, ◌↔◌, ◌≤◌, IfOk, IfErr, IsTrue, Some, length, map, true};
+ghost use Rattle.std.specs.Prelude.{◌≡◌, ◌↔◌, ◌<◌, ◌≤◌, IfOk, IfErr, IsTrue, Some, length, map, true};
 ghost use Rattle.std.specs.Rc.{rc_value};
 ghost use Rattle.arrow_spec.specs.declared.error.IpcError.TheVariants.{Memory};
 ghost use Rattle.arrow_types.specs.Schemas.{fields_in};
@@ -8,14 +8,15 @@ ghost use Rattle.ipc_dictionaries.specs.Walks.{to_send};
 ghost use Rattle.ipc_fields.specs.IpcFields.{ids_of};
 ghost use Rattle.ipc_write_messages.specs.Fields.{AreIdsFor, given_ids};
 ghost use Rattle.ipc_write_messages.specs.States.{is_started, state_behind};
+ghost use Rattle.ipc_file_writer.specs.Blocks.{message_sizes};
 ghost use Rattle.ipc_file_writer.specs.Calls.{Finishes, HasNoMore, IsFresh, Sends, SetsFooterPairs, Starts, SuitsFile, Writes, takes_pairs};
 ghost use Rattle.ipc_file_writer.specs.Fields.{own_ids};
-ghost use Rattle.ipc_file_writer.specs.Sending.{PlansMore, PutsMore};
+ghost use Rattle.ipc_file_writer.specs.Sending.{PlacesMore, PlansMore, PutsMore};
 
 use crate::blocks::{ChunkBlocks, FileBlocks};
 use crate::file::FileCore;
 use crate::pairs::FilePairs;
-use crate::placing::chunk_blocks;
+use crate::placing::{MessageSizes, chunk_blocks, planned_sizes};
 use arrow_arrays::RecordBatch;
 use arrow_spec::IpcError;
 use arrow_types::{ArrowSchema, ArrowSchemaRef, Metadata};
@@ -30,7 +31,7 @@ use ipc_write_messages::{
 use std::alloc::{AllocError, Global};
 
 /// The most bytes of a body that are put at once.
-const PIECE_BYTES: usize = 65_536;
+pub(crate) const PIECE_BYTES: usize = 65_536;
 
 /// The messages of a batch and of its dictionaries, and their blocks.
 #[derive(Drop)]
@@ -129,7 +130,7 @@ impl FileCore {
     }
 
     /// What a put leaves that stopped: behind a byte that may have been put the writer has failed.
-    fn stop_at(&mut self, stop: Stop) -> IpcError
+    pub(crate) fn stop_at(&mut self, stop: Stop) -> IpcError
         ensures error { result ≡ stop.error }
         ensures state { self.new.state ≡ state_behind stop.has_begun self.old.state }
         ensures tracker { self.new.tracker ≡ self.old.tracker }
@@ -166,13 +167,25 @@ impl FileCore {
         }
     }
 
+    /// The blocks of messages that are put next, the last of which is a batch's. Room is made for them, and memory is taken through
+    /// which bodies are put.
+    pub(crate) fn place(&mut self, messages: &[MessageSizes]) -> Result<ChunkBlocks, IpcError>
+        requires { 0 < length messages.now }
+        ensures { PlacesMore result self.old self.new (map message_sizes messages.now) }
+    {
+        let blocks = chunk_blocks(self.alloc, self.blocks.end, messages)?;
+        self.blocks.make_room(blocks.dictionaries.len())?;
+        self.scratch.resize(PIECE_BYTES, 0)?;
+        Ok(blocks)
+    }
+
     /// The messages of a batch and of what of its dictionaries is sent before it, with their blocks, for which room is made.
     fn plan(&mut self, messages: &[ToEncode], batch: &RecordBatch) -> Result<PlannedChunk, IpcError>
         ensures { PlansMore result self.old self.new (map to_send messages.now) batch.now }
     {
         let planned = chunk_messages(self.alloc, messages, batch, &self.options)?;
-        let blocks = chunk_blocks(self.alloc, self.blocks.end, planned.as_slice())?;
-        self.blocks.make_room(blocks.dictionaries.len())?;
+        let sizes = planned_sizes(self.alloc, planned.as_slice())?;
+        let blocks = self.place(sizes.as_slice())?;
         Ok(PlannedChunk {
             messages: planned,
             blocks,

@@ -13,7 +13,7 @@ use std::alloc::Global;
 
 /// The writer of a file without its sink, which each call that writes is lent: how batches are written, what was begun or ended,
 /// the file's schema with its IPC fields, its pairs and those of its footer, the dictionaries and the blocks that were put,
-/// whether a batch was, and memory that is used again.
+/// whether a batch was, and memory through which bodies are put.
 #[derive(Drop)]
 pub struct FileCore {
     pub(crate) options: WriteOptions,
@@ -26,7 +26,6 @@ pub struct FileCore {
     pub(crate) has_written: bool,
     pub(crate) scratch: Vec<u8>,
     pub(crate) alloc: Global,
-    ghost pieces: { length scratch.items ≡ 65536 },
     ghost few: { length (metadata_of pairs.footer) ≤ 1048576 },
     ghost order: { ipc_schema.is_little_endian ≡ true },
     ghost kept: { tracker.cannot_replace ≡ true },

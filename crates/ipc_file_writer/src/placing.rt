@@ -1,10 +1,13 @@
 //! Messages that are placed one behind another, and their blocks, which a file keeps.
-ghost use Rattle.std.specs.Prelude.{◌≡◌, ◌+◌, ◌<◌, ◌≤◌, ◌^◌, ◌++◌, ◌∷◌, [], OnOk, length, map, vec_capacity};
+ghost use Rattle.std.specs.Prelude.{◌≡◌, ◌+◌, ◌<◌, ◌≤◌, ◌^◌, ◌++◌, ◌∷◌, [], IfOk, OnOk, length, map, vec_capacity};
+ghost use Rattle.ipc_framed_messages.specs.Framed.{framed_sizes};
 ghost use Rattle.ipc_write_messages.specs.Messages.{planned_sizes};
-ghost use Rattle.ipc_file_writer.specs.Blocks.{Places, PlacesAll, PlacesChunk, SameBlocks};
+ghost use Rattle.ipc_file_writer.specs.Blocks.{Places, PlacesAll, PlacesChunk, SameBlocks, message_sizes};
 
 use crate::blocks::{ChunkBlocks, FileBlocks, PlacedMessages};
 use arrow_spec::{Block, IpcError};
+use ipc_framed_messages::FramedMessage;
+use ipc_write::pad_to_64;
 use ipc_write_messages::PlannedMessage;
 use std::alloc::{AllocError, Global};
 
@@ -14,6 +17,48 @@ const MOST_FRONT: usize = 0x7fff_ffff;
 /// The last place of a file.
 pub(crate) const LAST_PLACE: u128 = 0x7fff_ffff_ffff_ffff;
 
+/// How many bytes a message has before its body, and in its padded body.
+#[derive(Clone, Copy)]
+pub(crate) struct MessageSizes {
+    front: usize,
+    body: usize,
+}
+
+/// The sizes of messages that are planned.
+pub(crate) fn planned_sizes(
+    alloc: Global,
+    messages: &[PlannedMessage],
+) -> Result<Vec<MessageSizes>, AllocError>
+    ensures { IfOk result (λ v. map message_sizes v.items ≡ map planned_sizes messages.now) }
+{
+    let mut sizes = Vec::new(alloc);
+    for message in messages {
+        sizes.push(MessageSizes {
+            front: message.front.len(),
+            body: message.body_length,
+        })?;
+    }
+    Ok(sizes)
+}
+
+/// The sizes of messages that are framed.
+pub(crate) fn framed_sizes(
+    alloc: Global,
+    messages: &[FramedMessage],
+) -> Result<Vec<MessageSizes>, AllocError>
+    ensures { IfOk result (λ v. map message_sizes v.items ≡ map framed_sizes messages.now) }
+{
+    let mut sizes = Vec::new(alloc);
+    for message in messages {
+        let body = message.body.len();
+        sizes.push(MessageSizes {
+            front: message.front.len(),
+            body: body + pad_to_64(body),
+        })?;
+    }
+    Ok(sizes)
+}
+
 /// A message's block, and the place behind the message.
 #[derive(Clone, Copy)]
 struct PlacedBlock {
@@ -22,12 +67,11 @@ struct PlacedBlock {
 }
 
 /// The block of a message at a place.
-fn place_block(at: u64, message: &PlannedMessage) -> Result<PlacedBlock, IpcError>
+fn place_block(at: u64, sizes: MessageSizes) -> Result<PlacedBlock, IpcError>
     requires { at < 2 ^ 63 }
-    ensures { Places result at (planned_sizes message.now) }
+    ensures { Places result at (message_sizes sizes) }
 {
-    let front = message.front.len();
-    let body = message.body_length;
+    let MessageSizes { front, body } = sizes;
     let end = at as u128 + front as u128 + body as u128;
     if front > MOST_FRONT || end > LAST_PLACE {
         return Err(IpcError::TooLarge);
@@ -47,15 +91,15 @@ fn place_block(at: u64, message: &PlannedMessage) -> Result<PlacedBlock, IpcErro
 fn placed_messages(
     alloc: Global,
     at: u64,
-    messages: &[PlannedMessage],
+    messages: &[MessageSizes],
 ) -> Result<PlacedMessages, IpcError>
     requires { at < 2 ^ 63 }
-    ensures { PlacesAll result at (map planned_sizes messages.now) }
+    ensures { PlacesAll result at (map message_sizes messages.now) }
 {
     let mut blocks = Vec::with_capacity(alloc, messages.len())?;
     let mut end = at;
-    for message in messages {
-        let placed = place_block(end, message)?;
+    for sizes in messages {
+        let placed = place_block(end, *sizes)?;
         blocks.push(placed.block)?;
         end = placed.end;
     }
@@ -66,11 +110,11 @@ fn placed_messages(
 pub(crate) fn chunk_blocks(
     alloc: Global,
     at: u64,
-    messages: &[PlannedMessage],
+    messages: &[MessageSizes],
 ) -> Result<ChunkBlocks, IpcError>
     requires place { at < 2 ^ 63 }
     requires batch { 0 < length messages.now }
-    ensures { PlacesChunk result at (map planned_sizes messages.now) }
+    ensures { PlacesChunk result at (map message_sizes messages.now) }
 {
     let placed = placed_messages(alloc, at, messages)?;
     let PlacedMessages { blocks, end } = placed;

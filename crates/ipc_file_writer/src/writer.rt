@@ -1,11 +1,12 @@
 //! A file that is written into a sink.
-ghost use Rattle.std.specs.Prelude.{◌≡◌, ◌≤◌, IfErr, IfOk, MatchResult, Some, length};
+ghost use Rattle.std.specs.Prelude.{[], ◌≡◌, ◌≤◌, IfErr, IfOk, MatchResult, Some, length};
 ghost use Rattle.std.specs.Rc.{rc_value};
 ghost use Rattle.arrow_spec.specs.declared.error.IpcError.TheVariants.{Memory};
 ghost use Rattle.ipc_bodies.specs.Puts.{moved};
 ghost use Rattle.ipc_write_messages.specs.Fields.{given_ids};
 ghost use Rattle.ipc_file_writer.specs.Calls.{Finishes, IsBegun, IsFresh, IsNotBegun, SetsFooterPairs, Starts, Writes};
 ghost use Rattle.ipc_file_writer.specs.Fields.{own_ids};
+ghost use Rattle.ipc_file_writer.specs.Given.{HasOtherScratch, WritesGiven};
 
 use crate::file::FileCore;
 use arrow_arrays::RecordBatch;
@@ -14,7 +15,7 @@ use arrow_types::{ArrowSchemaRef, Metadata};
 use ipc_fields::IpcField;
 use ipc_io::Sink;
 use ipc_reader::Refused;
-use ipc_write::WriteOptions;
+use ipc_write::{EncodedData, WriteOptions};
 use std::alloc::Global;
 
 /// A writer of record batches to a file, with the sink that the file goes into.
@@ -76,6 +77,14 @@ impl<W: Sink> FileWriter<W> {
         }
     }
 
+    /// A writer into a sink that goes on with what was written before, as [`FileCore::of_begun`] makes it.
+    pub fn with_core(sink: W, core: FileCore) -> FileWriter<W>
+        ensures sink { result.sink ≡ sink }
+        ensures core { result.core ≡ core }
+    {
+        FileWriter { sink, core }
+    }
+
     /// Gives the schema pairs of its own, which count for a later `finish`.
     pub fn set_custom_schema_metadata(&mut self, pairs: Metadata)
         ensures pairs { self.new.core.pairs ≡ record { schema = Some pairs; footer = self.old.core.pairs.footer } }
@@ -130,6 +139,55 @@ impl<W: Sink> FileWriter<W> {
         ensures same_references { W.references self.new.sink ≡ W.references self.old.sink }
     {
         self.core.write(&mut self.sink, batch, ipc_fields)
+    }
+
+    /// Writes messages that were encoded before, as [`FileCore::write_encoded`] does.
+    ///
+    /// # Errors
+    ///
+    /// As of [`FileCore::write_encoded`].
+    pub fn write_encoded(
+        &mut self,
+        encoded_dictionaries: &[EncodedData],
+        encoded_message: &EncodedData,
+    ) -> Result<(), IpcError>
+        ensures writes { WritesGiven (moved (W.written self.old.sink) (W.written self.new.sink) (W.faults self.old.sink) (W.faults self.new.sink) (W.wants self.old.sink) (W.wants self.new.sink)) result self.old.core self.new.core encoded_dictionaries.now encoded_message.now }
+        ensures same_references { W.references self.new.sink ≡ W.references self.old.sink }
+    {
+        self.core
+            .write_encoded(&mut self.sink, encoded_dictionaries, encoded_message)
+    }
+
+    /// Writes a batch's message that was encoded before, as [`FileCore::write_encoded_record_batch`] does.
+    ///
+    /// # Errors
+    ///
+    /// As of [`FileCore::write_encoded`].
+    pub fn write_encoded_record_batch(
+        &mut self,
+        encoded_message: &EncodedData,
+    ) -> Result<(), IpcError>
+        ensures writes { WritesGiven (moved (W.written self.old.sink) (W.written self.new.sink) (W.faults self.old.sink) (W.faults self.new.sink) (W.wants self.old.sink) (W.wants self.new.sink)) result self.old.core self.new.core [] encoded_message.now }
+        ensures same_references { W.references self.new.sink ≡ W.references self.old.sink }
+    {
+        self.core
+            .write_encoded_record_batch(&mut self.sink, encoded_message)
+    }
+
+    /// Takes the memory through which bodies are put, as [`FileCore::get_scratches`] does.
+    pub fn get_scratches(&mut self) -> EncodedData
+        ensures core { HasOtherScratch self.old.core self.new.core }
+        ensures sink { self.new.sink ≡ self.old.sink }
+    {
+        self.core.get_scratches()
+    }
+
+    /// Gives memory through which bodies are put.
+    pub fn set_scratches(&mut self, scratches: EncodedData)
+        ensures core { HasOtherScratch self.old.core self.new.core }
+        ensures sink { self.new.sink ≡ self.old.sink }
+    {
+        self.core.set_scratches(scratches);
     }
 
     /// Ends the file, as [`FileCore::finish`] does.

@@ -117,6 +117,12 @@ pub(crate) fn writer(
     }
 }
 
+/// A batch of numbers, none of which is null.
+pub(crate) fn numbers_batch(alloc: Global, rows: &[i32]) -> Result<RecordBatch, Fail> {
+    let array = numbers_array(alloc, rows, None)?;
+    batch_of(alloc, rows.len(), of_numbers(alloc)?, array)
+}
+
 /// Writes a batch of numbers.
 pub(crate) fn write_numbers(
     alloc: Global,

@@ -7,7 +7,7 @@ use crate::parts::{
 use arrow_spec::IpcError;
 use ipc_file_writer::FileWriter;
 use ipc_io::MemorySink;
-use ipc_write::WriteOptions;
+use ipc_write::{EncodedData, WriteOptions};
 use std::alloc::Global;
 use std::test::Fail;
 
@@ -35,6 +35,33 @@ fn a_file_is_its_messages_and_the_footer(rt: HostRuntime) -> Result<(), Fail> {
     let mut writer = begun(alloc)?;
     write_numbers(alloc, &mut writer, &[1, 0, 3], Some(0b101))??;
     writer.finish()?;
+    assert!(rt; has_bytes(alloc, writer, &[BEGIN, ONE_NULL, END, ONE_BLOCK])?);
+    Ok(())
+}
+
+/// The batch of 1, null and 3 as it is encoded: its metadata, and its body without the zeros at the end.
+fn encoded(alloc: Global) -> Result<EncodedData, Fail> {
+    let bytes = hex::decode(alloc, ONE_NULL.as_bytes())?;
+    match (bytes.get(8..152), bytes.get(152..228)) {
+        (Some(metadata), Some(body)) => Ok(EncodedData {
+            ipc_message: metadata.to_vec(alloc)?,
+            arrow_data: body.to_vec(alloc)?,
+        }),
+        _ => Err("no message".into()),
+    }
+}
+
+#[test]
+fn messages_are_put_that_were_encoded_before(rt: HostRuntime) -> Result<(), Fail> {
+    let alloc = rt.alloc();
+    let mut writer = begun(alloc)?;
+    drop(writer.get_scratches());
+    let encoded = encoded(alloc)?;
+    writer.write_encoded_record_batch(&encoded)?;
+    writer.set_scratches(encoded);
+    writer.finish()?;
+    let again = writer.write_encoded(&[], &EncodedData::new(alloc));
+    assert!(rt; matches!(again, Err(IpcError::State)));
     assert!(rt; has_bytes(alloc, writer, &[BEGIN, ONE_NULL, END, ONE_BLOCK])?);
     Ok(())
 }

@@ -1,9 +1,10 @@
-//! Six uses of `arrow_ipc`. An Arrow file comes on standard input: the first column of its first record batch and the rows of each batch are printed, a batch of numbers is written, by itself, as a stream and as a file, and the file is sent as a stream.
+//! Seven uses of `arrow_ipc`. An Arrow file comes on standard input: the first column of its first record batch and the rows of each batch are printed, a batch of numbers is written, by itself, as a stream, which is read again, and as a file, and the file is sent as a stream.
 #![tactic(auto)]
 
 mod each_batch;
 mod file_to_stream;
 mod read_column;
+mod read_stream;
 mod write_batch;
 mod write_file;
 mod write_stream;
@@ -13,6 +14,7 @@ use arrow_ipc::io::ipc::IpcError;
 use each_batch::heights;
 use file_to_stream::stream_of;
 use read_column::{first_batch, first_column};
+use read_stream::first_height;
 use std::alloc::Global;
 use std::io::Read;
 use std::process::ExitCode;
@@ -44,6 +46,12 @@ fn written(alloc: Global) -> Result<(usize, usize), IpcError> {
     Ok((stream.bytes().len(), file.bytes().len()))
 }
 
+/// How many rows are read of the first batch of a stream of two numbers.
+fn read_again(alloc: Global) -> Result<Option<usize>, IpcError> {
+    let stream = stream_of_numbers(alloc, vec![in alloc; 1, 3]?)?;
+    first_height(alloc, stream.bytes().to_vec(alloc)?)
+}
+
 /// The lengths of a message of two numbers, and of the stream of a file.
 fn lengths(alloc: Global, source: &mut MemorySource) -> Result<(usize, usize), IpcError> {
     let message = message_of(alloc, vec![in alloc; 1, 3]?)?;
@@ -70,8 +78,20 @@ fn show_written(rt: &HostRuntime) -> Result<(), &'static str> {
     match written(rt.alloc()) {
         Ok((stream, file)) => {
             let _ = println!(rt; "a stream of {stream} bytes that was written, a file of {file}");
+            show_read(rt)
+        }
+        Err(error) => Err(error.name()),
+    }
+}
+
+/// The rows of a stream that is read.
+fn show_read(rt: &HostRuntime) -> Result<(), &'static str> {
+    match read_again(rt.alloc()) {
+        Ok(Some(height)) => {
+            let _ = println!(rt; "a stream with a batch of {height} rows that was read");
             Ok(())
         }
+        Ok(None) => Err("a stream without a batch"),
         Err(error) => Err(error.name()),
     }
 }

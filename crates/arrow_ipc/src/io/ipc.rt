@@ -1,5 +1,6 @@
 //! Arrow files and streams (Arrow Columnar Format, "Serialization and Interprocess Communication").
 
+pub mod append;
 pub mod read;
 pub mod write;
 

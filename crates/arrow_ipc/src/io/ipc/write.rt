@@ -6,7 +6,7 @@ pub use ipc_dictionaries::{
 pub use ipc_encode::{
     encode_chunk, encode_chunk_amortized, encode_dictionary, encode_new_dictionaries,
 };
-pub use ipc_file_writer::{FileCore, FileWriter};
+pub use ipc_file_writer::{BegunFile, FileCore, FileWriter};
 pub use ipc_schema::{default_ipc_fields, schema_message, schema_to_bytes, serialize_schema};
 pub use ipc_stream_writer::{StreamCore, StreamWriter};
 pub use ipc_write::{

@@ -1,0 +1,102 @@
+//! Tables of one column of numbers, as they are written.
+use arrow_ipc::array::{Array, PrimitiveArray};
+use arrow_ipc::buffer::Buffer;
+use arrow_ipc::datatypes::{ArrowDataType, ArrowSchema, Field};
+use arrow_ipc::io::ipc::IpcError;
+use arrow_ipc::io::ipc::append::try_from_file;
+use arrow_ipc::io::ipc::read::read_file_metadata;
+use arrow_ipc::io::ipc::write::{FileWriter, StreamWriter, WriteOptions};
+use arrow_ipc::io::{Disk, Sink};
+use arrow_ipc::record_batch::RecordBatch;
+use std::alloc::{AllocError, Global};
+use std::rc::Rc;
+
+/// The numbers from 0 on.
+fn numbers(alloc: Global, rows: u32) -> Result<Vec<i64>, AllocError> {
+    let mut numbers = Vec::new(alloc);
+    for number in 0..rows {
+        numbers.push(i64::from(number))?;
+    }
+    Ok(numbers)
+}
+
+/// The schema of one column of numbers.
+fn schema_of(alloc: Global) -> Result<ArrowSchema, AllocError> {
+    let name = String::from_str(alloc, "n")?;
+    let field = Field::new(alloc, name, ArrowDataType::Int64, false);
+    ArrowSchema::from_fields(alloc, vec![in alloc; field]?)
+}
+
+/// A batch of so many numbers.
+fn batch_of(alloc: Global, rows: u32) -> Result<RecordBatch, IpcError> {
+    let numbers = numbers(alloc, rows)?;
+    let height = numbers.len();
+    let values = Buffer::from_vec(numbers)?;
+    let Ok(column) = PrimitiveArray::try_new(ArrowDataType::Int64, values, None) else {
+        return Err(IpcError::SchemaMismatch);
+    };
+    let schema = schema_of(alloc)?;
+    let columns = vec![in alloc; Array::Int64(column)]?;
+    match RecordBatch::try_new(height, Rc::new(alloc, schema)?, columns) {
+        Ok(batch) => Ok(batch),
+        Err(_) => Err(IpcError::SchemaMismatch),
+    }
+}
+
+/// Writes a batch of so many rows, so many times, as a file.
+pub(crate) fn write_file<W: Sink + Drop>(
+    alloc: Global,
+    sink: W,
+    batches: u32,
+    rows: u32,
+) -> Result<(), IpcError> {
+    let batch = batch_of(alloc, rows)?;
+    let schema = batch.schema().clone()?;
+    let mut writer = match FileWriter::try_new(alloc, sink, schema, None, WriteOptions::default()) {
+        Ok(writer) => writer,
+        Err(refused) => return Err(refused.error),
+    };
+    for _ in 0..batches {
+        writer.write(&batch, None)?;
+    }
+    writer.finish()
+}
+
+/// The same as a stream.
+pub(crate) fn write_stream<W: Sink + Drop>(
+    alloc: Global,
+    sink: W,
+    batches: u32,
+    rows: u32,
+) -> Result<(), IpcError> {
+    let batch = batch_of(alloc, rows)?;
+    let mut writer = match StreamWriter::new(alloc, sink, WriteOptions::default()) {
+        Ok(writer) => writer,
+        Err(refused) => return Err(refused.error),
+    };
+    writer.start(batch.schema(), None)?;
+    for _ in 0..batches {
+        writer.write(&batch, None)?;
+    }
+    writer.finish()
+}
+
+/// Writes so many batches behind those of a file.
+pub(crate) fn append<D: Disk + Drop>(
+    alloc: Global,
+    disk: D,
+    batches: u32,
+    rows: u32,
+) -> Result<(), IpcError> {
+    let mut disk = disk;
+    let metadata = read_file_metadata(alloc, &mut disk)?;
+    let mut writer = match try_from_file(alloc, disk, metadata, WriteOptions::default()) {
+        Ok(writer) => writer,
+        Err(refused) => return Err(refused.error),
+    };
+    let batch = batch_of(alloc, rows)?;
+    for _ in 0..batches {
+        writer.write(&batch, None)?;
+    }
+    writer.finish()
+}

@@ -1,0 +1,62 @@
+//! Files on a disk that go on behind their last batch.
+use crate::batches::numbers_batch;
+use crate::parts::{BEGIN, END, NO_BLOCK, ONE_BLOCK, ONE_NULL, ONE_ROW, TWO_BLOCKS_APPENDED};
+use arrow_spec::{IpcError, OutOfSpecKind};
+use ipc_append::try_from_file;
+use ipc_disk::{DiskTail, MemoryDisk};
+use ipc_file_writer::FileWriter;
+use ipc_files::read_file_metadata;
+use ipc_reader::Refused;
+use ipc_write::WriteOptions;
+use std::alloc::Global;
+use std::test::Fail;
+
+/// The bytes of hex texts, one behind the other.
+fn bytes_of(alloc: Global, parts: &[&str]) -> Result<Vec<u8>, Fail> {
+    let mut text = Vec::new(alloc);
+    for part in parts {
+        text.extend_from_slice(part.as_bytes())?;
+    }
+    Ok(hex::decode(alloc, text.as_slice())?)
+}
+
+/// The file of the rows 1, null and 3 goes on with the row 5.
+fn go_on(
+    alloc: Global,
+    parts: &[&str],
+) -> Result<Result<FileWriter<DiskTail<MemoryDisk>>, Refused<MemoryDisk>>, Fail> {
+    let mut disk = MemoryDisk::new(bytes_of(alloc, parts)?, Vec::new(alloc), Vec::new(alloc));
+    let metadata = read_file_metadata(alloc, &mut disk)?;
+    Ok(try_from_file(alloc, disk, metadata, WriteOptions::default()))
+}
+
+#[test]
+fn a_file_goes_on_behind_its_last_block(rt: HostRuntime) -> Result<(), Fail> {
+    let alloc = rt.alloc();
+    let Ok(mut writer) = go_on(alloc, &[BEGIN, ONE_NULL, END, ONE_BLOCK])? else {
+        return Err("refused".into());
+    };
+    let batch = numbers_batch(alloc, &[5])?;
+    writer.write(&batch, None)?;
+    drop(batch);
+    writer.finish()?;
+    let disk = writer.into_inner().into_inner();
+    let expected = bytes_of(alloc, &[BEGIN, ONE_NULL, ONE_ROW, END, TWO_BLOCKS_APPENDED])?;
+    assert!(rt; disk.bytes().len() == 858);
+    assert!(rt; disk.bytes() == expected.as_slice());
+    Ok(())
+}
+
+#[test]
+fn a_file_without_a_batch_does_not_go_on(rt: HostRuntime) -> Result<(), Fail> {
+    let alloc = rt.alloc();
+    let parts = [BEGIN, END, NO_BLOCK];
+    let Err(refused) = go_on(alloc, &parts)? else {
+        return Err("taken".into());
+    };
+    let kind = OutOfSpecKind::MissingRecordBatches;
+    assert!(rt; refused.error == IpcError::OutOfSpec(kind));
+    let before = bytes_of(alloc, &parts)?;
+    assert!(rt; refused.object.bytes() == before.as_slice());
+    Ok(())
+}
