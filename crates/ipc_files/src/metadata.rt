@@ -1,5 +1,6 @@
 //! What a file's footer says (Arrow Columnar Format, "IPC File Format", File.fbs).
 ghost use Rattle.std.specs.Prelude.{◌≡◌, ◌<◌, ◌^◌, true, length, None, IfOk, IfErr, IfSome};
+ghost use Rattle.std.specs.Rc.{rc_value};
 ghost use Rattle.arrow_spec.specs.Readings.{Gives, Refuses, refusals};
 ghost use Rattle.arrow_spec.specs.Files.{Request, file_reading, footer_of, meta_in, meta_of, to_send};
 ghost use Rattle.arrow_spec.specs.WrittenSchemas.{CustomMayBeWritten, IdsMayBeWritten, SchemaMayBeWritten};
@@ -8,18 +9,18 @@ ghost use Rattle.ipc_fields.specs.IpcFields.{have_shapes, ids_of, metadata_in, m
 ghost use Rattle.ipc_fields.specs.Causes.{Decodes};
 ghost use Rattle.ipc_schema.specs.Footers.{footer_view};
 ghost use Rattle.ipc_files.specs.FileBlocks.{GivesIn};
-ghost use Rattle.ipc_files.specs.FileViews.{file_custom, meta_view, FileCause, FileSays, WasRead};
+ghost use Rattle.ipc_files.specs.FileViews.{file_custom, meta_view, FileCause, FileSays, IsReadable, WasRead};
 ghost use Rattle.ipc_files.specs.Fetching.{FooterFetched};
 ghost use Rattle.ipc_io.specs.Outside.{IsSize, SourceKept};
 ghost use Rattle.ipc_files.specs.RowCounts.{CountCause};
 
 use crate::fetch::fetch;
 use arrow_spec::{Block, IpcError, OutOfSpecKind};
-use arrow_types::{ArrowSchemaRef, Metadata};
+use arrow_types::{ArrowSchemaRef, Metadata, copy_metadata};
 use ipc_schema::{
     Footer, IpcSchema, Source, decode_footer_len, deserialize_schema_and_blocks, footer_metadata,
 };
-use std::alloc::Global;
+use std::alloc::{AllocError, Global};
 use std::rc::Rc;
 
 /// The schema with its IPC schema and its metadata, the footer's own pairs, the blocks of record batches and of dictionaries
@@ -33,6 +34,38 @@ pub struct FileMetadata {
     pub blocks: Vec<Block>,
     pub dictionaries: Vec<Block>,
     pub size: u64,
+}
+
+/// A copy of pairs, where there are any.
+pub fn copy_if_any(alloc: Global, pairs: &Option<Metadata>) -> Result<Option<Metadata>, AllocError>
+    ensures { IfOk result (λ m. metadata_of m ≡ metadata_of pairs.now) }
+{
+    match pairs {
+        None => Ok(None),
+        Some(pairs) => Ok(Some(copy_metadata(alloc, pairs)?)),
+    }
+}
+
+impl FileMetadata {
+    /// A copy, which shares the schema.
+    pub fn try_clone(&self, alloc: Global) -> Result<FileMetadata, AllocError>
+        ensures view { IfOk result (λ m. meta_view m ≡ meta_view self.now) }
+        ensures custom { IfOk result (λ m. file_custom m ≡ file_custom self.now) }
+        ensures size { IfOk result (λ m. m.size ≡ self.now.size) }
+        ensures schema { IfOk result (λ m. rc_value m.schema ≡ rc_value self.now.schema) }
+        ensures ids { IfOk result (λ m. ids_of m.ipc_schema.fields.items ≡ ids_of self.now.ipc_schema.fields.items) }
+        ensures readable { IsReadable self.now → IfOk result IsReadable }
+    {
+        Ok(FileMetadata {
+            schema: self.schema.clone()?,
+            ipc_schema: self.ipc_schema.try_clone(alloc)?,
+            custom_schema_metadata: copy_if_any(alloc, &self.custom_schema_metadata)?,
+            custom_metadata: copy_if_any(alloc, &self.custom_metadata)?,
+            blocks: self.blocks.as_slice().to_vec(alloc)?,
+            dictionaries: self.dictionaries.as_slice().to_vec(alloc)?,
+            size: self.size,
+        })
+    }
 }
 
 /// The bytes of the footer of a file of `size` bytes.

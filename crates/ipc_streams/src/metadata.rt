@@ -1,18 +1,19 @@
 //! What a stream begins with (Arrow Columnar Format, "IPC Streaming Format", "Schema message").
-ghost use Rattle.std.specs.Prelude.{IfOk, IfErr};
+ghost use Rattle.std.specs.Prelude.{◌≡◌, IfOk, IfErr};
 ghost use Rattle.ipc_fields.specs.Causes.{Decodes};
 ghost use Rattle.ipc_files.specs.FileViews.{FileCause};
 ghost use Rattle.ipc_streams.specs.Feeds.{FeedKept};
-ghost use Rattle.ipc_streams.specs.Starts.{GivesFirst, GivesStart, IsReadable, head_in, head_view};
+ghost use Rattle.ipc_streams.specs.Starts.{GivesFirst, GivesStart, IsReadable, head_in, head_view, start_view};
 
 use crate::body::read_body;
 use crate::frame::{Frame, read_frame};
 use arrow_spec::{IpcError, MetadataVersion, OutOfSpecKind};
 use arrow_types::{ArrowSchemaRef, Metadata};
+use ipc_files::copy_if_any;
 use ipc_io::Feed;
 use ipc_schema::{IpcSchema, message_metadata, read_schema};
 use schema_reader::message::{Expected, read_message, read_version};
-use std::alloc::Global;
+use std::alloc::{AllocError, Global};
 use std::rc::Rc;
 
 /// The schema with its IPC schema and its metadata, the metadata of the schema's message, and the message's version.
@@ -23,6 +24,22 @@ pub struct StreamMetadata {
     pub custom_schema_metadata: Option<Metadata>,
     pub custom_metadata: Option<Metadata>,
     pub version: MetadataVersion,
+}
+
+impl StreamMetadata {
+    /// A copy, which shares the schema.
+    pub fn try_clone(&self, alloc: Global) -> Result<StreamMetadata, AllocError>
+        ensures view { IfOk result (λ m. start_view m ≡ start_view self.now) }
+        ensures readable { IsReadable self.now → IfOk result IsReadable }
+    {
+        Ok(StreamMetadata {
+            schema: self.schema.clone()?,
+            ipc_schema: self.ipc_schema.try_clone(alloc)?,
+            custom_schema_metadata: copy_if_any(alloc, &self.custom_schema_metadata)?,
+            custom_metadata: copy_if_any(alloc, &self.custom_metadata)?,
+            version: self.version,
+        })
+    }
 }
 
 /// The metadata of a stream, and how many bytes the body of its schema message has.

@@ -5,7 +5,9 @@ use crate::files::{
 };
 use crate::kinds::THREE;
 use arrow_arrays::{Array, RecordBatch};
-use ipc_files::{RecordMessage, get_row_count, get_row_count_from_blocks, read_file_metadata};
+use ipc_files::{
+    FileMetadata, RecordMessage, get_row_count, get_row_count_from_blocks, read_file_metadata,
+};
 use ipc_reader::{FileCursor, FileReader};
 use ipc_schema::{IpcError, MemorySource, OutOfSpecKind};
 use std::alloc::Global;
@@ -298,5 +300,22 @@ fn messages_are_read_without_their_batches(rt: HostRuntime) -> Result<(), Fail> 
     assert!(rt; stated(rt.alloc(), TWO_BATCHES)? == [Some(3), Some(4), None]);
     assert!(rt; stated(rt.alloc(), NEGATIVE_ROWS)? == [Some(3), Some(-1), None]);
     assert!(rt; stated(rt.alloc(), PAIR_OF_MESSAGE)? == [Some(3), None, None]);
+    Ok(())
+}
+
+/// Whether a copy of a file's metadata has its schema, its blocks and its size.
+fn has_equal_copy(alloc: Global, metadata: &FileMetadata) -> Result<bool, Fail> {
+    let copy = metadata.try_clone(alloc)?;
+    let has_blocks = copy.blocks.as_slice() == metadata.blocks.as_slice();
+    Ok(has_blocks && copy.size == metadata.size && *copy.schema == *metadata.schema)
+}
+
+#[test]
+fn a_copy_of_metadata_is_equal(rt: HostRuntime) -> Result<(), Fail> {
+    let alloc = rt.alloc();
+    let bytes = bytes_of(alloc, TWO_BATCHES)?;
+    let mut source = MemorySource::new(bytes, Vec::new(alloc), Vec::new(alloc));
+    let metadata = read_file_metadata(alloc, &mut source)?;
+    assert!(rt; metadata.blocks.len() == 2 && has_equal_copy(alloc, &metadata)?);
     Ok(())
 }

@@ -225,3 +225,12 @@ fn messages_have_their_own_pairs(rt: HostRuntime) -> Result<(), Fail> {
     assert!(rt; reader.next().is_none());
     Ok(())
 }
+
+#[test]
+fn a_copy_of_metadata_is_equal(rt: HostRuntime) -> Result<(), Fail> {
+    let mut feed = feed_of(rt.alloc(), NUMBERS, usize::MAX, 100)?;
+    let metadata = read_stream_metadata(rt.alloc(), &mut feed)?;
+    let copy = metadata.try_clone(rt.alloc())?;
+    assert!(rt; *copy.schema == *metadata.schema && copy.version == metadata.version);
+    Ok(())
+}
