@@ -5,7 +5,7 @@ use Rattle.std.specs.Coded.{Coded, code_by, coded×, coded_ℕ, coded_list}
 use Rattle.arrow_spec.specs.Kinds.{Metadata}
 use Rattle.arrow_types.specs.KindCode.{pairs_code}
 use Rattle.arrow_types.specs.Schemas.{Keyed, schema_code}
-use Rattle.arrow_arrays.specs.Parts.{Parts, rows_in}
+use Rattle.arrow_arrays.specs.Parts.{Parts, rows_in, forest, fault_each}
 use Rattle.arrow_arrays.specs.PartsCode.{parts_code}
 use Rattle.arrow_arrays.specs.declared.record_batch.BatchError.{BatchError}
 use Rattle.arrow_arrays.specs.declared.record_batch.BatchError.TheVariants.{Width, Height}
@@ -36,4 +36,5 @@ batch_fault b =
 -- what holds of every batch
 pub record IsBatch (b : Batch) : Type 0 where
   pub columns : batch_fault b ≡ None
+  pub sound : fault_each (forest b.arrays) ≡ None
   pub few : length b.custom ≤ 1048576

@@ -3,12 +3,14 @@ ghost use Rattle.std.specs.Prelude.{◌≡◌, ◌==◌, ◌<◌, ◌≤◌, len
 ghost use Rattle.std.specs.Rc.{rc_value};
 ghost use Rattle.arrow_types.specs.KindOf.{texts_of};
 ghost use Rattle.ipc_fields.specs.IpcFields.{metadata_of, metadata_in};
-ghost use Rattle.arrow_arrays.specs.PartsOf.{all_parts_of};
+ghost use Rattle.arrow_arrays.specs.Parts.{forest, fault_each};
+ghost use Rattle.arrow_arrays.specs.PartsOf.{all_parts_of, forest_of};
 ghost use Rattle.arrow_arrays.specs.Batches.{batch_fault, have_rows};
 
 use crate::array::Array;
-use crate::structs::clone_each;
-use arrow_types::{ArrowSchemaRef, Metadata, copy_metadata};
+use crate::structs::{are_of_rows, clone_each};
+use arrow_types::{ArrowSchemaRef, Metadata};
+use ipc_fields::copy_if_any;
 use std::alloc::{AllocError, Global};
 use std::marker::Model;
 use thiserror::Error;
@@ -54,27 +56,13 @@ impl Model for RecordBatchT {
     ghost invariant = { λ a. IsBatch (record { height = a.height; schema = rc_value a.schema; arrays = all_parts_of a.arrays.items; custom = metadata_of a.custom_metadata }) × IfSome a.custom_metadata (λ m. 0 < length m.entries) };
 }
 
-/// A copy of metadata, where there is any.
-fn copy_if_any(alloc: Global, metadata: &Option<Metadata>) -> Result<Option<Metadata>, AllocError>
-    ensures same { IfOk result (λ m. metadata_of m ≡ metadata_of metadata.now) }
-    ensures some { IfSome metadata.now (λ m. 0 < length m.entries) → IfOk result (λ c. IfSome c (λ m. 0 < length m.entries)) }
-{
-    match metadata {
-        None => Ok(None),
-        Some(metadata) => Ok(Some(copy_metadata(alloc, metadata)?)),
-    }
-}
-
 /// Whether each array has so many rows.
+#[tactic(auto, using(crate::proofs::Heights::heights_are_rows))]
 fn are_of_height(arrays: &[Array], height: usize) -> bool
-    ensures { result ≡ have_rows height (all_parts_of arrays.now) }
+    ensures rows { result ≡ have_rows height (all_parts_of arrays.now) }
+    ensures sound { result ≡ true → fault_each (forest_of arrays.now) ≡ None }
 {
-    for array in arrays {
-        if array.len() != height {
-            return false;
-        }
-    }
-    true
+    are_of_rows(arrays, height)
 }
 
 impl RecordBatchT {
@@ -102,11 +90,14 @@ impl RecordBatchT {
         })
     }
 
-    /// The batch of columns that are known to suit the schema and the height.
+    /// The batch of columns that are known to suit the schema and the height. It looks at each column's length.
     pub fn new(height: usize, schema: ArrowSchemaRef, arrays: Vec<Array>) -> RecordBatch
         requires { batch_fault (record { height = height; schema = rc_value schema; arrays = all_parts_of arrays.items; custom = [] }) ≡ None }
         ensures { result ≡ record { height = height; schema = rc_value schema; arrays = all_parts_of arrays.items; custom = [] } }
     {
+        if !are_of_height(arrays.as_slice(), height) {
+            unreachable!();
+        }
         RecordBatchT {
             height,
             schema,
@@ -198,6 +189,7 @@ impl RecordBatchT {
     pub fn height(&self) -> usize
         ensures rows { result ≡ self.now.height }
         ensures each { have_rows self.now.height self.now.arrays ≡ true }
+        ensures sound { fault_each (forest self.now.arrays) ≡ None }
     {
         self.height
     }

@@ -2,8 +2,10 @@
 
 pub mod ipc;
 
-pub use ipc_disk::{Disk, DiskTail, FileDisk, MemoryDisk, RefusedDisk};
+pub use ipc_disk::{
+    Disk, DiskTail, Entry, FileDisk, MemoryDisk, MemoryShelf, PlaceShelf, RefusedDisk,
+};
 pub use ipc_io::{
-    Entry, Failed, Feed, Got, MemoryFeed, MemoryShelf, MemorySink, MemorySource, PutError, Shelf,
-    ShelfError, Sink, Source,
+    Failed, Feed, Got, MemoryFeed, MemorySink, MemorySource, PutError, Shelf, ShelfError, Sink,
+    Source,
 };

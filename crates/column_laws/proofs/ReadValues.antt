@@ -1,5 +1,5 @@
 -- The dictionaries of an array that was read hold their values under new ids, where these are known.
-use Rattle.std.proofs.Common.{◌≡◌, ℕ, ◌+◌, ◌*◌, List, [], ◌∷◌, Option, Some, None, ℤ, pos, ap, sym, refl, ◌∙◌}
+use Rattle.std.proofs.Common.{◌≡◌, ℕ, ◌+◌, ◌*◌, List, [], ◌∷◌, Option, Some, None, ℤ, pos, ap, sym, refl, ◌∙◌, append-nil}
 use Rattle.std.specs.Option.{option_map}
 use Rattle.std.proofs.Math.Nat.{zero-div}
 use Rattle.arrow_spec.specs.declared.types.UnionMode.TheVariants.{Dense, Sparse}
@@ -70,7 +70,8 @@ module _ (m : RecordBatch) (h : Held) (e : Dictionaries) (holds : HoldsCells e h
     values_under l (kind.struct fs) p rows id known = values_each fs (inside 1 p) (λ q. rows) id known
     values_under l (kind.union Sparse stated ids fs) p rows id known = values_each fs (inside (union_buffers m.version Sparse) p) (λ q. rows) id known
     values_under l (kind.union Dense stated ids fs) p rows id known = values_each fs (inside (union_buffers m.version Dense) p) (λ q. dense_rows m q rows) id known
-    values_under l (kind.dictionary t ordered old k) p rows id known = told (pos id) ∙ known ∙ ap Some (cells_held e old (h old) k (holds old))
+    values_under l (kind.dictionary t ordered old k) p rows id known =
+        ([], told (pos id) ∙ known ∙ ap Some (cells_held e old (h old) k (holds old) ∙ sym (append-nil (joined (cells_each (parts_or_empty (h old) k))))))
     values_under l (kind.extension name metadata k) p rows id known = under_extension d name metadata (numbered_kind k id) (parts_under l m h k p rows) (values_under l k p rows id known)
     values_under l k p rows id known = tt
 

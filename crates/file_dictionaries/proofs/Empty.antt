@@ -302,7 +302,7 @@ module _ (a : Known) (s : Dictionaries) (told : IsKnown a s) where
     none_held l (kind.union Dense stated ids fs) i known c = no_fields_held fs i known (and_parts (are_right ids (width fs)) (are_carried fs) c).1
     none_held l (kind.dictionary t ordered old k) i known c =
         let cells : cells_in (empty_parts (plain_kind k)) ≡ [] = cells-empty (plain_kind k) (carried_plain k ∙ c) in
-        told (pos i) ∙ known ∙ sym (ap (λ xs. Some (joined (xs ∷ []))) cells)
+        ([], told (pos i) ∙ known ∙ sym (ap (λ xs. Some (joined (xs ∷ []) ++ [])) cells))
     none_held l (kind.extension name metadata k) i known c = held_under s name metadata (numbered_kind k i) (empty_under l (plain_kind k)) (none_held l k i known c)
     none_held l k i known c = tt
 

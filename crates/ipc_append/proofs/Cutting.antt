@@ -1,5 +1,5 @@
 -- What a file is looked at for before it is cut, one thing after another.
-use Rattle.std.proofs.Common.{◌≡◌, ℕ, ◌≤◌, ◌<◌, Bool, true, false, length, Option, None, Some, Ok, refl, sym, ap, ◌∙◌, subst, arith}
+use Rattle.std.proofs.Common.{◌≡◌, ℕ, ◌≤◌, ◌<◌, Bool, true, false, List, [], ◌∷◌, length, Option, None, Some, Ok, refl, sym, ap, ◌∙◌, subst, arith}
 use Rattle.std.specs.Prelude.{is_some, nat_le}
 use Rattle.std.proofs.lemmas.Bool.{leb-true, lt-leb, le-leb}
 use Rattle.arrow_spec.specs.declared.error.IpcError.{IpcError}
@@ -108,9 +108,14 @@ cut_at options m end p l k f =
     ∙ on (unless (nat_le (length (file_custom m)) 1048576) (TooMany Pairs)) (λ _. near end) tt (passes (nat_le (length (file_custom m)) 1048576) (TooMany Pairs) k)
     ∙ on (unless (nat_le (up_to 8 end) 9223372036854775807) TooLarge) (λ _. Ok end) tt (passes (nat_le (up_to 8 end) 9223372036854775807) TooLarge (le-leb (up_to 8 end) 9223372036854775807 (omega (arith, f))))
 
+none_free : (es : List IpcError) (u : Unit {0}) → free_of es ≡ Ok u → es ≡ []
+none_free [] u h = refl
+none_free (e ∷ es) u h = cc
+
 -- what is known of a file that may be cut
 pub record MayCut (m : FileMetadata) (place : ℕ) : Type 0 where
   pub order : m.ipc_schema.is_little_endian ≡ true
+  pub kinds : chosen_floats None (meta_view m).schema.fields 0 ≡ []
   pub end : last_end m ≡ Ok place
   pub pairs : length (file_custom m) ≤ 1048576
   pub below : up_to 8 place ≤ 9223372036854775807
@@ -127,6 +132,7 @@ may_cut options m place h =
     let below : up_to 8 d.got ≤ 9223372036854775807 = leb-true (up_to 8 d.got) 9223372036854775807 (is_true (nat_le (up_to 8 d.got) 9223372036854775807) TooLarge f.got f.first) in
     record {
       order = is_true m.ipc_schema.is_little_endian (Unsupported BigEndianAppend) a.got a.first;
+      kinds = none_free (chosen_floats None (meta_view m).schema.fields 0) c.got c.first;
       end = d.first ∙ ap (λ n. Ok n) same;
       pairs = leb-true (length (file_custom m)) 1048576 (is_true (nat_le (length (file_custom m)) 1048576) (TooMany Pairs) e.got e.first);
       below = subst (λ n. up_to 8 n ≤ 9223372036854775807) same below;

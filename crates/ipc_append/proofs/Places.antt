@@ -1,7 +1,8 @@
 -- The farthest of blocks, and what is known of blocks that have one.
-use Rattle.std.proofs.Common.{SFits, of_z, to_z, w32, w64, ◌≡◌, inl, ℕ, ◌+◌, ◌<◌, ◌≤◌, ℤ, pos, negsuc, Bool, true, false, List, [], ◌∷◌, Ok, Err, drop, get_or, length, max, refl, sym, ap, ◌∙◌, arith, subst}
-use Rattle.std.specs.Prelude.{All, nat_eq, nat_le, nat_lt}
-use Rattle.std.proofs.lemmas.Bool.{eqb-false, eqb-true, le-leb, leb-true, lt-leb}
+use Rattle.std.proofs.Common.{SFits, of_z, to_z, w32, w64, ◌≡◌, inl, ℕ, ◌+◌, ◌<◌, ◌≤◌, ℤ, pos, negsuc, Bool, true, false, List, [], ◌∷◌, Ok, Err, drop, get_or, length, map, max, refl, sym, ap, ◌∙◌, arith, subst}
+use Rattle.std.specs.Prelude.{All, FitsSigned, nat_eq, nat_le, nat_lt}
+use Rattle.std.specs.List.{AllByRecursion}
+use Rattle.std.proofs.lemmas.Bool.{eqb-false, eqb-true, le-leb, leb-true, lt-leb, ltb-true}
 use Rattle.std.proofs.Math.Facts.{sfits_widen}
 use Rattle.std.proofs.lemmas.Int.{to_z-of_z}
 use Rattle.std.proofs.lemmas.List.{drop_all}
@@ -11,13 +12,14 @@ use Rattle.arrow_spec.specs.declared.error.IpcError.TheVariants.{OutOfSpec}
 use Rattle.arrow_spec.specs.declared.error.OutOfSpecKind.TheVariants.{BlockRange, MissingRecordBatches}
 use Rattle.arrow_spec.specs.declared.message.Block.{Block}
 use Rattle.arrow_spec.specs.Counts.{magnitude}
-use Rattle.arrow_spec.specs.Files.{block_of}
+use Rattle.arrow_spec.specs.Files.{FileBlock, block_of}
 use Rattle.arrow_spec.specs.Readings.{◌>>=◌, IsAmong, Reading, bind, natural, only_if, refusals, unless}
 use Rattle.arrow_spec.proofs.ReadPairs.{goes, is_true}
 use Rattle.ipc_fields.proofs.Steps.{drop_item}
 use Rattle.ipc_files.specs.declared.metadata.FileMetadata.{FileMetadata}
-use Rattle.ipc_schema.specs.Footers.{IsNatural, block_by}
-use Rattle.ipc_append.specs.Places.{behind_block, block_end, farthest, last_end}
+use Rattle.ipc_schema.specs.Footers.{IsNatural, block_by, file_block}
+use Rattle.written_files.specs.Files as files
+use Rattle.ipc_append.specs.Places.{HaveWidths, behind_block, block_end, farthest, last_end}
 
 -- ── steps of a reading ──
 
@@ -137,6 +139,45 @@ far_natural place (x ∷ xs) n h =
     let g = goes (block_end x) (λ end. farthest (max place end) xs) n (sym (first_then place x xs) ∙ h) in
     All-cons IsNatural x xs (block_natural x g.got g.first) (far_natural (max place g.got) xs n g.rest)
 
+-- ── widths ──
+
+-- one block more has its width
+pub one_wide : (xs : List Block) (i : ℕ) (d : Block) → i < length xs → FitsSigned w32 (get_or xs i d).meta_data_length → (HaveWidths (drop i xs) → HaveWidths xs) → HaveWidths (drop (i + 1) xs) → HaveWidths xs
+one_wide xs i d lt wide before h =
+    let x = get_or xs i d in
+    before (subst HaveWidths (sym (drop_item xs i x d lt refl)) (All-cons (λ (y : Block). FitsSigned w32 y.meta_data_length) x (drop (i + 1) xs) wide h))
+
+-- all have
+pub all_wide : (xs : List Block) (i : ℕ) → length xs ≤ i → (HaveWidths (drop i xs) → HaveWidths xs) → HaveWidths xs
+all_wide xs i le before = before (subst HaveWidths (sym (drop_all i xs le)) (All-nil (λ (y : Block). FitsSigned w32 y.meta_data_length)))
+
+-- ── where they end ──
+
+numbers_end : (o m b : ℤ) (n : ℕ) → (block_of o m b >>= λ x. Ok (behind_block x)) ≡ Ok n → magnitude o + magnitude m + magnitude b ≡ n
+unfolding bind
+numbers_end (pos o) (pos m) (pos b) n h = let e : o + (m + b) ≡ n = same_number (o + (m + b)) n h in omega (arith, e)
+numbers_end (negsuc o) m b n h = cc
+numbers_end (pos o) (negsuc m) b n h = cc
+numbers_end (pos o) (pos m) (negsuc b) n h = cc
+
+-- a block ends before a place
+abbrev pub EndsBefore : ℕ → FileBlock → Type 0
+EndsBefore place k = files.block_end k ≤ place
+
+-- each does, where there is a farthest end, and so does the place from which they are looked at
+pub far_ends : (place : ℕ) (xs : List Block) (n : ℕ) → farthest place xs ≡ Ok n → (place ≤ n) × AllByRecursion (EndsBefore n) (map file_block xs)
+far_ends place [] n h = let e : place ≡ n = same_number place n (sym (none_left place [] refl) ∙ h) in (omega (arith, e), tt)
+far_ends place (x ∷ xs) n h =
+    let g = goes (block_end x) (λ end. farthest (max place end) xs) n (sym (first_then place x xs) ∙ h) in
+    let rest = far_ends (max place g.got) xs n g.rest in
+    let here : files.block_end (file_block x) ≡ g.got = numbers_end x.offset x.meta_data_length x.body_length g.got g.first in
+    (omega (arith, rest.0), (omega (arith, here, rest.0), rest.1))
+
+-- what ends before a place ends before those behind it
+ends_further : (n p : ℕ) (ks : List FileBlock) → n ≤ p → AllByRecursion (EndsBefore n) ks → AllByRecursion (EndsBefore p) ks
+ends_further n p [] le h = tt
+ends_further n p (k ∷ ks) le h = (omega (arith, le, h.0), ends_further n p ks le h.1)
+
 -- ── a file's blocks ──
 
 last_steps : (m : FileMetadata) → last_end m ≡ (only_if (nat_lt 0 (length m.blocks.items)) MissingRecordBatches >>= λ some. farthest 0 m.dictionaries.items >>= λ dictionaries. farthest dictionaries m.blocks.items
@@ -199,6 +240,9 @@ some_there xs ys b e f g = omega (arith, eqb-false (length xs) 0 (sym f ∙ g), 
 pub record HasEnd (m : FileMetadata) (end : ℕ) : Type 0 where
   pub dictionaries : All IsNatural m.dictionaries.items
   pub records : All IsNatural m.blocks.items
+  pub some : 0 < length m.blocks.items
+  pub dictionaries_end : AllByRecursion (EndsBefore end) (map file_block m.dictionaries.items)
+  pub records_end : AllByRecursion (EndsBefore end) (map file_block m.blocks.items)
   pub inside : end ≤ m.size
 
 pub has_end : (m : FileMetadata) (end : ℕ) → last_end m ≡ Ok end → HasEnd m end
@@ -208,9 +252,13 @@ has_end m end h =
     let c = goes (farthest b.got m.blocks.items) (ranged m) end b.rest in
     let d = goes (only_if (nat_le c.got m.size) BlockRange) (λ _. Ok c.got) end c.rest in
     let same : c.got ≡ end = same_number c.got end d.rest in
+    let far = far_ends b.got m.blocks.items c.got c.first in
     let near : c.got ≤ m.size = leb-true c.got m.size (is_true (nat_le c.got m.size) (OutOfSpec BlockRange) d.got d.first) in
     record {
       dictionaries = far_natural 0 m.dictionaries.items b.got b.first;
       records = far_natural b.got m.blocks.items c.got c.first;
+      some = ltb-true 0 (length m.blocks.items) (is_true (nat_lt 0 (length m.blocks.items)) (OutOfSpec MissingRecordBatches) a.got a.first);
+      dictionaries_end = ends_further b.got end (map file_block m.dictionaries.items) (omega (arith, same, far.0)) (far_ends 0 m.dictionaries.items b.got b.first).1;
+      records_end = subst (λ n. AllByRecursion (EndsBefore n) (map file_block m.blocks.items)) same far.1;
       inside = omega (arith, same, near);
     }

@@ -1,19 +1,24 @@
 -- A file that is cut behind its last block and goes on there. (Arrow Columnar Format, "IPC File Format".)
-use Rattle.std.specs.Prelude.{◌≡◌, ◌⊎◌, ℕ, List, [], length, nat_le, false, Option, None, Ok, IfSome, option_map}
+use Rattle.std.specs.Prelude.{◌≡◌, ◌⊎◌, ◌≤◌, ℕ, List, [], length, nat_le, true, false, Option, None, Some, Ok, IfSome, option_map}
+use Rattle.std.specs.List.{AllByRecursion}
 use Rattle.arrow_spec.specs.declared.error.Counted.TheVariants.{Pairs}
 use Rattle.arrow_spec.specs.declared.error.Feature.TheVariants.{BigEndianAppend, Compression}
 use Rattle.arrow_spec.specs.declared.error.IpcError.{IpcError}
 use Rattle.arrow_spec.specs.declared.error.IpcError.TheVariants.{Memory, TooLarge, TooMany, Unsupported, WriteFault}
 use Rattle.arrow_spec.specs.Arrays.{Dictionaries}
 use Rattle.arrow_spec.specs.Features.{chosen_floats}
-use Rattle.arrow_spec.specs.Files.{dictionaries_of}
+use Rattle.arrow_spec.specs.Files.{ArrowTable, FileBlock, «all», block_message, dictionaries_of, lengths_sum}
 use Rattle.arrow_spec.specs.Layout.{up_to}
+use Rattle.arrow_spec.specs.Meaning.{file_table}
+use Rattle.arrow_spec.specs.Messages.{BatchHeader, DictionaryBatch, Message, batch_at, dictionary_at}
 use Rattle.arrow_spec.specs.Readings.{◌>>=◌, IsAmong, Reading, Refuses, free_of, is_absent, refusals, unless}
-use Rattle.ipc_fields.specs.IpcFields.{ids_of}
+use Rattle.arrow_spec.specs.Regular.{regular}
+use Rattle.ipc_fields.specs.IpcFields.{ids_of, metadata_of}
 use Rattle.ipc_file_writer.specs.Calls.{ending_of, file_ids}
+use Rattle.ipc_file_writer.specs.Written.{IsFile, cells_by, own_fields, table_by}
 use Rattle.ipc_file_writer.specs.declared.file.FileCore.{FileCore}
 use Rattle.ipc_files.specs.FileDictionaries.{HoldsUses}
-use Rattle.ipc_files.specs.FileViews.{FileCause, file_custom, meta_view}
+use Rattle.ipc_files.specs.FileViews.{FileCause, FileSays, WasRead, file_custom, meta_view}
 use Rattle.ipc_files.specs.declared.metadata.FileMetadata.{FileMetadata}
 use Rattle.ipc_disk.specs.Disks.{below}
 use Rattle.ipc_disk.specs.Tails.{cut_and_padded}
@@ -81,12 +86,42 @@ abbrev pub StopsBefore : Option (List ℕ) → IpcError → WriteOptions → Fil
 StopsBefore content e asked m faults faults' =
     (e ≡ Memory) ⊎ (IsAmong (refusals (cut_place asked m)) e ⊎ (LacksDictionaries content e asked m faults faults' ⊎ MayNotEnd content e asked m))
 
+-- ── what it means ──
+
+-- the buffers of a dictionary's message in a block are together no longer than the bytes before the cut
+abbrev pub ValuesAreShort : List ℕ → ℕ → FileBlock → Type 0
+ValuesAreShort b place k = (m : List ℕ × Message) (x : DictionaryBatch) → block_message b k 2 ≡ Ok m → dictionary_at m.0 m.1.header ≡ Ok x
+    → lengths_sum x.values.buffers ≤ place
+
+-- and so those of a batch's
+abbrev pub BatchIsShort : List ℕ → ℕ → FileBlock → Type 0
+BatchIsShort b place k = (m : List ℕ × Message) (tables : BatchHeader) → block_message b k 3 ≡ Ok m → batch_at m.0 m.1.header ≡ Ok tables
+    → lengths_sum tables.buffers ≤ place
+
+-- a file that means a table, by metadata that was read of it, and whose buffers, message by message, are no longer than what is left of it
+pub record MeansBefore (b : List ℕ) (m : FileMetadata) (place : ℕ) (t : ArrowTable) : Type 0 where
+  pub says : FileSays b (meta_view m) (file_custom m)
+  pub read : WasRead m
+  pub table : file_table b «all» ≡ Some t
+  pub dictionaries : AllByRecursion (ValuesAreShort b place) (meta_view m).dictionaries
+  pub records : AllByRecursion (BatchIsShort b place) (meta_view m).blocks
+
+-- a writer of a file of so many bytes goes on with a table: by its blocks they mean the table's batches, the table has its fields and pairs, and its schema is regular
+pub record GoesOnWith (c : FileCore) (x : List ℕ) (t : ArrowTable) : Type 0 where
+  pub file : IsFile (cells_by c) c x t.batches
+  pub table : table_by c t.batches ≡ t
+  pub is_regular : regular (own_fields c) (metadata_of c.pairs.schema) ≡ true
+
+-- ── appended ──
+
 -- the disk was cut there, with zeros up to a multiple of 8, and the file goes on behind them
 pub record IsAppending (old new : Option (List ℕ)) (end : ℕ) (asked : WriteOptions) (m : FileMetadata) (c : FileCore) : Type 0 where
   pub place : ℕ
   pub continued : IsContinued old asked m place c
   pub cut : new ≡ option_map (cut_and_padded place) old
   pub behind : end ≡ up_to 8 place
+  -- where the file means a table, what is left of it means the table's batches still
+  pub means : (b : List ℕ) (t : ArrowTable) → old ≡ Some b → MeansBefore b m place t → GoesOnWith c (cut_and_padded place b) t
 
 -- the disk failed, or wanted memory, where it was cut or padded: the bytes below the cut are as they were
 pub record CutFails (old new : Option (List ℕ)) (e : IpcError) (asked : WriteOptions) (m : FileMetadata) (faults faults' : ℕ) : Type 0 where

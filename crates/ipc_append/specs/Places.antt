@@ -1,5 +1,6 @@
 -- Where a file goes on: behind the farthest of its blocks. (File.fbs, Block.)
-use Rattle.std.specs.Prelude.{◌≡◌, ℕ, ◌+◌, List, [], ◌∷◌, length, max, nat_le, nat_lt, Result, Ok, Err}
+use Rattle.std.specs.Prelude.{◌≡◌, ℕ, ◌+◌, List, [], ◌∷◌, All, FitsSigned, length, max, nat_le, nat_lt, Result, Ok, Err}
+use Rattle.std.specs.Int.{w32}
 use Rattle.arrow_spec.specs.declared.error.IpcError.{IpcError}
 use Rattle.arrow_spec.specs.declared.error.OutOfSpecKind.TheVariants.{BlockRange, MissingRecordBatches}
 use Rattle.arrow_spec.specs.declared.message.Block.{Block}
@@ -34,3 +35,7 @@ last_end m = do
   end ← farthest dictionaries m.blocks.items
   inside ← only_if (nat_le end m.size) BlockRange
   Ok end
+
+-- the length of each block's metadata has its width (File.fbs, Block: metaDataLength)
+abbrev pub HaveWidths : List Block → Type 0
+HaveWidths xs = All (λ x. FitsSigned w32 x.meta_data_length) xs

@@ -9,6 +9,7 @@ ghost use Rattle.ipc_files.specs.FileViews.{IsReadable};
 ghost use Rattle.ipc_io.specs.Outside.{IsSize, Rose, SourceKept};
 
 use crate::checks::cut_place;
+use crate::ends::have_widths;
 use arrow_spec::IpcError;
 use ipc_disk::{Disk, DiskTail};
 use ipc_file_writer::{BegunFile, FileCore, FileWriter};
@@ -115,6 +116,8 @@ pub fn try_from_file<D: Disk>(
     ensures faults { MatchResult result (λ w. D.faults disk ≤ D.faults w.sink.disk) (λ e. D.faults disk ≤ D.faults e.object) }
     ensures same_references { MatchResult result (λ w. D.references w.sink.disk ≡ D.references disk) (λ e. D.references e.object ≡ D.references disk) }
 {
+    have_widths(metadata.dictionaries.as_slice());
+    have_widths(metadata.blocks.as_slice());
     let mut disk = disk;
     match continued(alloc, &mut disk, metadata, options) {
         Ok(file) => cut_behind(disk, file),

@@ -1,6 +1,8 @@
 //! Where the farthest of a file's blocks ends (File.fbs, Block).
+ghost use Rattle.std.specs.Int.{w32};
+ghost use Rattle.std.specs.Prelude.{FitsSigned};
 ghost use Rattle.arrow_spec.specs.Readings.{natural};
-ghost use Rattle.ipc_append.specs.Places.{Tells, block_end, farthest, last_end};
+ghost use Rattle.ipc_append.specs.Places.{HaveWidths, Tells, block_end, farthest, last_end};
 
 use arrow_spec::{Block, IpcError, OutOfSpecKind};
 use ipc_files::FileMetadata;
@@ -56,4 +58,21 @@ pub(crate) fn last_end(metadata: &FileMetadata) -> Result<u64, IpcError>
         return Err(IpcError::OutOfSpec(OutOfSpecKind::BlockRange));
     }
     Ok(end as u64)
+}
+
+/// The length of a block's metadata is a number of its type.
+fn has_width(block: &Block)
+    ensures { FitsSigned w32 block.now.meta_data_length }
+{
+    let length = block.meta_data_length;
+    let _ = length;
+}
+
+/// Those of blocks are.
+pub(crate) fn have_widths(blocks: &[Block])
+    ensures { HaveWidths blocks.now }
+{
+    for block in blocks {
+        has_width(block);
+    }
 }

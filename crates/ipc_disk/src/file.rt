@@ -1,5 +1,5 @@
 //! A file as a disk. It tells no content.
-ghost use Rattle.std.specs.Prelude.{◌≡◌, ◌<◌, ◌^◌, ◌+◌, None, IfOk, IsTrue};
+ghost use Rattle.std.specs.Prelude.{◌≡◌, ◌↔◌, ◌<◌, ◌^◌, ◌+◌, None, IfOk, IsTrue};
 
 use crate::Disk;
 use ipc_io::{Failed, Got, PutError, Source};
@@ -29,6 +29,13 @@ impl<F> FileDisk<F> {
             faults: 0,
             fetched: 0,
         }
+    }
+
+    /// Whether a call has failed.
+    pub fn has_failed(&self) -> bool
+        ensures { IsTrue result ↔ (0 < self.now.faults) }
+    {
+        self.faults > 0
     }
 }
 

@@ -1,13 +1,12 @@
 //! A disk over memory.
-ghost use Rattle.std.specs.Prelude.{◌≡◌, ◌↔◌, ◌+◌, ◌-◌, ◌^◌, ◌<◌, ◌≤◌, ◌||◌, [], Some, length, take, IfOk, IsOk, IsTrue, OnErr, OnOk, is_err, Ok};
+ghost use Rattle.std.specs.Prelude.{◌≡◌, ◌↔◌, ◌+◌, ◌-◌, ◌^◌, ◌<◌, ◌≤◌, [], Some, length, take, IfOk, IsOk, IsTrue, OnErr, OnOk, is_err, Ok};
 ghost use Rattle.ipc_io.specs.Outside.{HasCause, PutHasCause, IsSize, Reads};
-ghost use Rattle.ipc_io.specs.Memory.{SourceNeverFails, new_source, counted, is_failing, holds_place, is_read_failing, after_size, after_read};
+ghost use Rattle.ipc_io.specs.Memory.{SourceNeverFails, new_source, counted, is_failing, is_read_failing, after_size, after_read};
 ghost use Rattle.ipc_disk.specs.Disks.{WritesAt, Cuts, overwritten};
 ghost use Rattle.ipc_disk.specs.Memory.{DiskState, written_in_place, after_change};
 
 use crate::Disk;
-use crate::calls::FailingCalls;
-use ipc_io::{Failed, Got, PutError, Source};
+use ipc_io::{Failed, FailingCalls, Got, PutError, Source, has_place};
 use std::alloc::AllocError;
 use std::marker::Model;
 
@@ -51,19 +50,19 @@ impl MemoryDisk {
         &self.bytes
     }
 
+    /// Whether a call has failed.
+    pub fn has_failed(&self) -> bool
+        ensures { IsTrue result ↔ (0 < self.now.source.calls.faults) }
+    {
+        self.calls.any_failed()
+    }
+
     /// The bytes as they stand.
     pub fn into_bytes(self) -> Vec<u8>
         ensures { result.items ≡ self.source.bytes }
     {
         self.bytes
     }
-}
-
-// Whether one of the places is among `count` bytes from `at` on.
-fn has_place(places: &[u64], at: u64, count: u64) -> bool
-    ensures { result ≡ holds_place places.now at count }
-{
-    places.iter().any(|p| *p >= at && *p - at < count)
 }
 
 // Writes over what stands from a place on, up to the end.

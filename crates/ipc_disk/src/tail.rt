@@ -1,7 +1,7 @@
 //! The end of a disk as a sink.
 ghost use Rattle.std.specs.Prelude.{◌≡◌, ◌≤◌, ℕ, length, IfErr, IfOk, MatchResult, OnErr, option_map};
 ghost use Rattle.arrow_spec.specs.Layout.{up_to};
-ghost use Rattle.arrow_spec.specs.declared.error.IpcError.TheVariants.{ReadFault};
+ghost use Rattle.arrow_spec.specs.declared.error.IpcError.TheVariants.{ReadFault, WriteFault};
 ghost use Rattle.ipc_io.specs.Outside.{IsSize, Puts, PutHasCause, Rose};
 ghost use Rattle.ipc_disk.specs.Disks.{IsWithin, below, WritesAt};
 ghost use Rattle.ipc_disk.specs.Tails.{end_behind, cut_and_padded, IsOfDisk};
@@ -80,6 +80,31 @@ impl<D: Disk> DiskTail<D> {
             Err(error) => Err(RefusedDisk {
                 error: error.into(),
                 disk: tail.disk,
+            }),
+        }
+    }
+
+    /// Cuts off what stands behind the end, and gives the disk, which then has what stands below the end alone.
+    ///
+    /// # Errors
+    ///
+    /// `WriteFault`. The disk is handed back as it was.
+    pub fn cut_off(self) -> Result<D, RefusedDisk<D>>
+        ensures content { IfOk result (λ d. D.content d ≡ below self.end (D.content self.disk)) }
+        ensures kept { IfErr result (λ e. D.content e.disk ≡ D.content self.disk) }
+        ensures error { IfErr result (λ e. e.error ≡ WriteFault) }
+        ensures faults { MatchResult result (λ d. D.faults self.disk ≤ D.faults d) (λ e. D.faults self.disk ≤ D.faults e.disk) }
+        ensures rose { IfErr result (λ e. Rose (D.faults self.disk) (D.faults e.disk)) }
+        ensures wants { MatchResult result (λ d. D.wants d ≡ D.wants self.disk) (λ e. D.wants e.disk ≡ D.wants self.disk) }
+        ensures same_references { MatchResult result (λ d. D.references d ≡ D.references self.disk) (λ e. D.references e.disk ≡ D.references self.disk) }
+    {
+        let end = self.end;
+        let mut disk = self.disk;
+        match disk.cut(end) {
+            Ok(()) => Ok(disk),
+            Err(_) => Err(RefusedDisk {
+                error: IpcError::WriteFault,
+                disk,
             }),
         }
     }

@@ -14,6 +14,7 @@ use Rattle.ipc_write_messages.specs.Batches.{Suits}
 use Rattle.ipc_write_messages.specs.Puts.{StopsIn, Untouched}
 use Rattle.ipc_write_messages.specs.Schemas.{IsRefusedAs}
 use Rattle.ipc_write_messages.specs.States.{is_new, is_started, state_behind}
+use Rattle.ipc_file_writer.proofs.Meaning.{sent_file}
 use Rattle.ipc_file_writer.specs.declared.file.FileCore.{FileCore}
 use Rattle.ipc_file_writer.specs.Calls.{Finishes, HasNoMore, LeavesAll, Sends, Starts, Stays, SuitsFile, Writes, ending_of, file_schema, start_of}
 
@@ -62,10 +63,10 @@ end_stopped x stop m old new text put e n h t q k s =
 
 -- ── batches ──
 
-pub as_written : (m : Moved) (r : Result (Unit {0}) IpcError) (old new : FileCore) (b : Batch) (given : Option Ids) → is_started old.state ≡ true → SuitsFile old b given → Sends m r old new b → Writes m r old new b given
-as_written m (Ok u) old new b given n s h = record { started = n; suits = s; sends = h }
-as_written m (Err e) old new b given n s (inl h) = inl (inr (n, inr (s, h.0)), h.1)
-as_written m (Err e) old new b given n s (inr h) = inr (record { started = n; suits = s; sends = h })
+pub as_written : (m : Moved) (r : Result (Unit {0}) IpcError) (old new : FileCore) (b : Batch) (given : Option Ids) → is_started old.state ≡ true → SuitsFile old b given → old.tracker.cannot_replace ≡ true → Sends m r old new b → Writes m r old new b given
+as_written m (Ok u) old new b given n s kept h = record { started = n; suits = s; sends = h; means = sent_file m old new b h s.types kept }
+as_written m (Err e) old new b given n s kept (inl h) = inl (inr (n, inr (s, h.0)), h.1)
+as_written m (Err e) old new b given n s kept (inr h) = inr (record { started = n; suits = s; sends = h })
 
 -- a batch is a file's by the schema and the IPC fields that are lent
 pub suits_as : (c : FileCore) (s : List Keyed) (fields : List IpcField) (b : Batch) (given : Option Ids) → s ≡ file_schema c → fields ≡ c.ipc_schema.fields.items

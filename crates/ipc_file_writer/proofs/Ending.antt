@@ -22,7 +22,8 @@ use Rattle.ipc_write.specs.declared.options.WriteOptions.{WriteOptions}
 use Rattle.ipc_write_messages.specs.Schemas.{IsRefusedAs, stream_text}
 use Rattle.ipc_write_messages.proofs.Beginning.{refused_first, then_by}
 use Rattle.ipc_file_writer.specs.Blocks.{file_blocks}
-use Rattle.ipc_file_writer.specs.Ends.{file_end, file_ending, file_footer, file_front, file_start, no_pairs}
+use Rattle.written_files.specs.Files.{file_end, file_front}
+use Rattle.ipc_file_writer.specs.Ends.{file_ending, file_footer, file_start, no_pairs}
 use Rattle.ipc_file_writer.specs.Footers.{footer_table}
 use Rattle.ipc_file_writer.specs.declared.blocks.FileBlocks.{FileBlocks}
 use Rattle.ipc_file_writer.specs.declared.pairs.FilePairs.{FilePairs}

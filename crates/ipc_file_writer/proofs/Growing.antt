@@ -1,21 +1,14 @@
 -- The blocks of a file behind which those of a batch and of its dictionaries stand.
-use Rattle.std.proofs.Common.{◌≡◌, ℕ, ◌+◌, List, [], ◌∷◌, ◌++◌, length, map, get_or, drop, refl, sym, ap, ◌∙◌, arith, append-nil, length-append}
+use Rattle.std.proofs.Common.{◌≡◌, ℕ, ◌+◌, List, [], ◌∷◌, ◌++◌, length, map, get_or, drop, refl, ap, ◌∙◌, arith, length-append}
 use Rattle.std.specs.List.{flat_map}
 use Rattle.std.proofs.lemmas.List.{map-append}
-use Rattle.arrow_spec.specs.Flat.{little}
-use Rattle.arrow_spec.specs.Framing.{body_bytes, message_bytes, padded, padded_size}
-use Rattle.arrow_spec.specs.Layout.{Node}
-use Rattle.arrow_spec.specs.Sent.{body_of}
-use Rattle.arrow_spec.proofs.Bodies.{length-body}
-use Rattle.arrow_spec.proofs.NextMessages.{length-padded}
 use Rattle.arrow_arrays.specs.Batches.{Batch}
-use Rattle.ipc_write_laws.specs.Streams.{batch_bytes, body_for, written_batch}
-use Rattle.ipc_write_arrays.specs.Pieces.{pieces_in}
+use Rattle.ipc_write_laws.specs.Streams.{batch_bytes}
 use Rattle.ipc_dictionaries.specs.NewDictionaries.{ToSend}
 use Rattle.ipc_schema.specs.Footers.{file_block}
 use Rattle.ipc_write.specs.Batches.{batch_message, written_batch_of}
-use Rattle.ipc_write.proofs.Written.{same_message}
-use Rattle.ipc_write_messages.specs.Messages.{Sizes, chunk_text, message_of, sent_sizes, sizes_of, values_text}
+use Rattle.ipc_write_messages.specs.Messages.{Sizes, chunk_text, sent_sizes, sizes_of, values_text}
+use Rattle.ipc_write_messages.proofs.Lengths.{length-batch, length-values}
 use Rattle.ipc_file_writer.specs.declared.blocks.ChunkBlocks.{ChunkBlocks}
 use Rattle.ipc_file_writer.specs.declared.blocks.FileBlocks.{FileBlocks}
 use Rattle.ipc_file_writer.specs.Blocks.{HasMore, IsChunkPlaced, SameBlocks, behind_all, block_at, blocks_at, chunk_sizes}
@@ -25,22 +18,6 @@ use Rattle.ipc_file_writer.proofs.PlacedBlocks.{behind_more, blocks_more}
 
 abbrev total : Sizes → ℕ
 total x = x.front + x.body
-
-length-message : (n : Node) (body : List ℕ) → length (message_bytes n body) ≡ 8 + padded_size n + length body
-unfolding message_bytes
-length-message n body = omega (arith, length-append (padded n) body, length-padded n)
-
-length-values : (s : ToSend) → length (values_text s) ≡ total (sent_sizes s)
-length-values s =
-    let ps = pieces_in little s.part in
-    let whole : body_of 0 (map length (ps ++ [])) ≡ body_of 0 (map length ps) = ap (λ xs. body_of 0 (map length xs)) (append-nil ps) in
-    omega (arith, length-message (message_of s).node (body_bytes 0 ps), whole, length-body ps 0)
-
-length-batch : (b : Batch) → length (batch_bytes (written_batch_of b)) ≡ total (sizes_of (batch_message b))
-length-batch b =
-    let x = written_batch_of b in
-    let long : length (batch_bytes x) ≡ total (sizes_of (written_batch x)) = omega (arith, length-message (written_batch x).node (body_for x.columns)) in
-    long ∙ ap (λ m. total (sizes_of m)) (sym (same_message b))
 
 pub behind_values : (at : ℕ) (sent : List ToSend) → behind_all at (map sent_sizes sent) ≡ at + length (flat_map values_text sent)
 behind_values at [] = omega arith

@@ -6,3 +6,5 @@ pub mod FooterNodes
 pub mod Growing
 pub mod PlacedBlocks
 pub mod GivenSteps
+pub mod Meaning
+pub mod GivenMeaning

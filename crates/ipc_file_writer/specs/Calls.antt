@@ -1,12 +1,15 @@
 -- What the calls of a writer of a file do to it, and what they put. (Arrow Columnar Format, "IPC File Format".)
-use Rattle.std.specs.Prelude.{◌≡◌, ◌⊎◌, ℤ, List, [], Bool, true, false, not, ◌&&◌, ◌||◌, Option, Some, None, Result, Ok, Err, ℕ, String, length}
+use Rattle.std.specs.Prelude.{◌≡◌, ◌⊎◌, ◌++◌, ◌∷◌, ℤ, List, [], Bool, true, false, not, ◌&&◌, ◌||◌, Option, Some, None, Result, Ok, Err, ℕ, String, length}
 use Rattle.std.specs.BTreeMap.{BTreeMap}
 use Rattle.std.specs.Rc.{rc_value}
 use Rattle.std.specs.Io.KnownBytes.{Appends}
 use Rattle.std.specs.declared.alloc.Global.{Global}
 use Rattle.arrow_spec.specs.declared.error.IpcError.{IpcError}
 use Rattle.arrow_spec.specs.declared.error.IpcError.TheVariants.{Memory, SchemaMismatch, State, TooLarge}
+use Rattle.arrow_spec.specs.Files.{TableBatch}
+use Rattle.arrow_spec.specs.Kinds.{Metadata}
 use Rattle.arrow_spec.specs.Readings.{Reading}
+use Rattle.arrow_spec.specs.Regular.{regular}
 use Rattle.arrow_types.specs.Schemas.{Keyed, fields_in}
 use Rattle.arrow_arrays.specs.Batches.{Batch}
 use Rattle.arrow_arrays.specs.Parts.{forest}
@@ -24,6 +27,8 @@ use Rattle.ipc_write_messages.specs.Messages.{MayBeSent, chunk_text}
 use Rattle.ipc_write_messages.specs.Puts.{Untouched}
 use Rattle.ipc_write_messages.specs.Schemas.{IsRefusedAs}
 use Rattle.ipc_write_messages.specs.States.{is_new, is_started}
+use Rattle.chunk_laws.specs.Written.{cells_of}
+use Rattle.ipc_file_writer.specs.Written.{EndsFile, HasNothing, IsFile, cells_by, own_fields}
 use Rattle.ipc_file_writer.specs.Blocks.{HasMore, SameBlocks, are_placed, chunk_sizes}
 use Rattle.ipc_file_writer.specs.Ends.{file_ending, file_start}
 use Rattle.ipc_file_writer.specs.declared.file.FileCore.{FileCore}
@@ -117,6 +122,8 @@ pub record HasBegun (m : Moved) (old new : FileCore) : Type 0 where
   pub tracker : new.tracker ≡ old.tracker
   pub written : new.has_written ≡ old.has_written
   pub stays : Stays old new
+  -- where nothing was written before, and the schema is regular, with whatever pairs, the bytes mean no batches
+  pub means : HasNothing old → (pairs : Metadata) → regular (own_fields old) pairs ≡ true → IsFile (cells_by new) new bytes []
 
 -- why none was: it was before, or memory was wanted, or the schema is refused
 abbrev pub StartCause : IpcError → FileCore → Type 0
@@ -185,6 +192,9 @@ pub record HasWritten (m : Moved) (old new : FileCore) (b : Batch) (given : Opti
   pub started : is_started old.state ≡ true
   pub suits : SuitsFile old b given
   pub sends : HasSent m old new b
+  -- the file means the batch behind those before it
+  pub means : (x : List ℕ) (bs : List TableBatch) → IsFile (cells_by old) old x bs
+      → IsFile (cells_by new) new (x ++ chunk_text sends.sent b) (bs ++ cells_of b ∷ [])
 
 -- why none was: the file is not begun, or is ended, or a put has failed before; the batch is none of its; or it is not sent
 abbrev pub WriteCause : IpcError → FileCore → Batch → Option Ids → Type 0
@@ -216,6 +226,8 @@ pub record HasFinished (m : Moved) (old new : FileCore) : Type 0 where
   pub appended : Appends m.old m.new bytes
   pub counts : NoneFalls m
   pub same : HasNoMore old new
+  -- where the schema is regular, the bytes end a file that means the table of the batches
+  pub means : EndsFile old bytes
 
 -- why none was: it is not begun, or is ended, or a put has failed; or memory was wanted, or the footer or its place is refused
 abbrev pub FinishCause : IpcError → FileCore → Type 0

@@ -1,25 +1,20 @@
 -- What stands in a file before its first message and behind its last. (Arrow Columnar Format, "IPC File Format"; File.fbs, Footer.)
-use Rattle.std.specs.Prelude.{ℕ, ◌+◌, List, [], ◌∷◌, ◌++◌, length, min, nat_le, None, Ok}
+use Rattle.std.specs.Prelude.{ℕ, ◌+◌, List, ◌++◌, length, min, nat_le, None, Ok}
 use Rattle.arrow_spec.specs.declared.error.IpcError.TheVariants.{TooLarge}
-use Rattle.arrow_spec.specs.Files.{arrow_1}
 use Rattle.arrow_spec.specs.Flat.{little}
 use Rattle.arrow_spec.specs.Footers.{footer_node}
 use Rattle.arrow_spec.specs.Kinds.{Fields}
-use Rattle.arrow_spec.specs.Layout.{Node, layout, size, u32}
+use Rattle.arrow_spec.specs.Layout.{Node, layout, size}
 use Rattle.arrow_spec.specs.Readings.{◌>>=◌, Reading, unless}
-use Rattle.arrow_spec.specs.Streams.{end_mark}
 use Rattle.ipc_fields.specs.IpcFields.{Ids, fields_with, metadata_of}
 use Rattle.schema_writer.specs.Serialized.{serialized}
 use Rattle.ipc_write.specs.declared.options.WriteOptions.{WriteOptions}
 use Rattle.ipc_write_messages.specs.Schemas.{stream_text}
 use Rattle.ipc_write_messages.specs.declared.pairs.StreamPairs.{StreamPairs}
+use Rattle.written_files.specs.Files.{file_end, file_front}
 use Rattle.ipc_file_writer.specs.Blocks.{file_blocks}
 use Rattle.ipc_file_writer.specs.declared.blocks.FileBlocks.{FileBlocks}
 use Rattle.ipc_file_writer.specs.declared.pairs.FilePairs.{FilePairs}
-
--- ARROW1 and two zeros
-abbrev pub file_front : List ℕ
-file_front = arrow_1 ++ 0 ∷ 0 ∷ []
 
 -- no pairs stand in the message of a file's schema
 abbrev pub no_pairs : StreamPairs
@@ -35,10 +30,6 @@ file_start options fs below = do
 abbrev pub file_footer : Fields → Ids → FilePairs → FileBlocks → Node
 file_footer fs below pairs blocks =
     footer_node (fields_with fs below) (metadata_of pairs.schema) (metadata_of pairs.footer) (file_blocks blocks.dictionaries) (file_blocks blocks.records)
-
--- the end mark, the flatbuffer of a footer, how many bytes this has, and ARROW1
-abbrev pub file_end : List ℕ → List ℕ
-file_end footer = end_mark ++ footer ++ u32 (length footer) ++ arrow_1
 
 -- the end of a file whose footer is within its limit, and whose last byte stands below 2^63
 unfoldable pub file_ending : WriteOptions → Fields → Ids → FilePairs → FileBlocks → Reading (List ℕ)

@@ -1,17 +1,24 @@
 -- Messages that were encoded before and are written to a file. (Arrow Columnar Format, "IPC File Format".)
-use Rattle.std.specs.Prelude.{◌≡◌, ◌⊎◌, ◌+◌, List, [], ◌∷◌, ◌++◌, Bool, true, false, map, Result, Ok, Err}
+use Rattle.std.specs.Prelude.{◌≡◌, ◌⊎◌, ℕ, List, [], ◌∷◌, ◌++◌, Bool, true, false, map, Result, Ok, Err}
 use Rattle.std.specs.List.{flat_map}
 use Rattle.std.specs.Io.KnownBytes.{Appends}
 use Rattle.arrow_spec.specs.declared.error.IpcError.{IpcError}
 use Rattle.arrow_spec.specs.declared.error.IpcError.TheVariants.{Memory, State, TooLarge}
+use Rattle.arrow_spec.specs.Files.{TableBatch}
+use Rattle.arrow_spec.specs.Sent.{SentMessage}
+use Rattle.ipc_write_laws.specs.Streams.{WrittenBatch, batch_bytes, table_batch, written_batch}
+use Rattle.ipc_write_laws.specs.Messages.{Known, WrittenMessage, WrittenValues, batch, values, values_bytes, values_message, with_messages}
 use Rattle.ipc_bodies.specs.Puts.{Moved, NoneFalls, PutsPart}
 use Rattle.ipc_write.specs.declared.encoded.EncodedData.{EncodedData}
+use Rattle.ipc_write_messages.specs.Messages.{sizes_of}
 use Rattle.ipc_write_messages.specs.Puts.{Untouched}
 use Rattle.ipc_write_messages.specs.States.{is_started}
 use Rattle.ipc_write_messages.specs.declared.puts.Stop.{Stop}
 use Rattle.ipc_framed_messages.specs.Framed.{AreFramed, are_short, given_sizes, given_text}
 use Rattle.ipc_file_writer.specs.Blocks.{IsChunkPlaced, are_placed, behind_all, block_at, blocks_at, file_blocks}
 use Rattle.ipc_file_writer.specs.Calls.{HasFailed, LeavesAll}
+use Rattle.written_files.specs.Files.{MayBeAdded}
+use Rattle.ipc_file_writer.specs.Written.{IsFile, file_fields}
 use Rattle.ipc_file_writer.specs.Sending.{IsHeld, IsLeft, HasRoom}
 use Rattle.ipc_file_writer.specs.declared.blocks.FileBlocks.{FileBlocks}
 use Rattle.ipc_file_writer.specs.declared.file.FileCore.{FileCore}
@@ -70,12 +77,34 @@ abbrev pub PutsGiven : Moved → Result (Unit {0}) Stop → FileCore → FileCor
 PutsGiven m (Ok u) old new ds b = AreGivenPut m old new ds b
 PutsGiven m (Err s) old new ds b = GivenStops s.has_begun m s.error old ds b × IsLeft old new
 
+-- ── what they mean ──
+
+-- a message was encoded so: its bytes, and how many stand before its body and in it
+pub record IsEncoded (m : SentMessage) (bytes : List ℕ) (e : EncodedData) : Type 0 where
+  pub text : given_text e ≡ bytes
+  pub sizes : given_sizes e ≡ sizes_of m
+
+-- the messages of some values
+abbrev pub AreEncoded : List WrittenValues → List EncodedData → Type 0
+AreEncoded [] [] = Unit {0}
+AreEncoded [] (e ∷ es) = ⊥
+AreEncoded (v ∷ vs) [] = ⊥
+AreEncoded (v ∷ vs) (e ∷ es) = IsEncoded (values_message v) (values_bytes v) e × AreEncoded vs es
+
+-- values, and a batch behind them
+abbrev pub written_chunk : List WrittenValues → WrittenBatch → List WrittenMessage
+written_chunk vs y = map values vs ++ batch y ∷ []
+
 -- ── written ──
 
 -- they were written: the messages were put one behind another, and the file has their blocks; what the writer holds of dictionaries stays
 pub record HasGiven (m : Moved) (old new : FileCore) (ds : List EncodedData) (b : EncodedData) : Type 0 where
   pub started : is_started old.state ≡ true
   pub puts : AreGivenPut m old new ds b
+  -- where they are those of values and of a batch that may be put there, the file means the batch behind those before it, and the values are known
+  pub means : (k : Known) (x : List ℕ) (bs : List TableBatch) (vs : List WrittenValues) (y : WrittenBatch)
+      → AreEncoded vs ds → IsEncoded (written_batch y) (batch_bytes y) b → MayBeAdded (file_fields old) k (written_chunk vs y) → IsFile k old x bs
+      → IsFile (with_messages (written_chunk vs y) k) new (x ++ flat_map given_text (given_chunk ds b)) (bs ++ table_batch y ∷ [])
 
 -- why none was: the file is not begun, or is ended, or a put has failed before; or memory was wanted; or a message is too large, or its place
 abbrev pub GivenCause : IpcError → FileCore → List EncodedData → EncodedData → Type 0

@@ -2,6 +2,7 @@ pub mod Blocks
 pub mod Footers
 pub mod Ends
 pub mod Fields
+pub mod Written
 pub mod Calls
 pub mod Sending
 pub mod Given

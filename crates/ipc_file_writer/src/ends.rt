@@ -1,13 +1,16 @@
 //! What stands in a file before its first message and behind its last (Arrow Columnar Format, "IPC File Format").
 ghost use Rattle.std.specs.Prelude.{◌≡◌, ◌<◌, ◌^◌, IfOk, length, true};
 ghost use Rattle.arrow_types.specs.Schemas.{fields_in};
-ghost use Rattle.ipc_fields.specs.IpcFields.{ids_of};
-ghost use Rattle.ipc_write_messages.specs.Schemas.{GivesText};
+ghost use Rattle.ipc_fields.specs.IpcFields.{fields_with, ids_of};
+ghost use Rattle.ipc_write_messages.specs.Schemas.{GivesText, StartMayBeWritten};
+ghost use Rattle.written_files.specs.Files.{file_end};
 ghost use Rattle.ipc_file_writer.specs.Calls.{ending_of, start_of};
-ghost use Rattle.ipc_file_writer.specs.Ends.{file_end, file_start};
+ghost use Rattle.ipc_file_writer.specs.Ends.{file_start, no_pairs};
+ghost use Rattle.ipc_file_writer.specs.Written.{EndsFile, own_fields};
 
 use crate::file::FileCore;
 use crate::footer::footer_bytes;
+use crate::pairs::are_pairs;
 use crate::placing::LAST_PLACE;
 use arrow_spec::IpcError;
 use arrow_types::ArrowSchema;
@@ -15,6 +18,7 @@ use ipc_schema::{IpcSchema, serialize_schema};
 use ipc_write::WriteOptions;
 use ipc_write_messages::{StreamPairs, lent, schema_text};
 use std::alloc::{AllocError, Global};
+use written_files::ended_front_means_its_table;
 
 /// `ARROW1` and two zeros.
 const FRONT: [u8; 8] = [65, 82, 82, 79, 87, 49, 0, 0];
@@ -39,7 +43,8 @@ fn file_start(
     options: &WriteOptions,
 ) -> Result<Vec<u8>, IpcError>
     requires { ipc_schema.now.is_little_endian ≡ true }
-    ensures { GivesText result (file_start options.now (fields_in schema.now) (ids_of ipc_schema.now.fields.items)) }
+    ensures gives { GivesText result (file_start options.now (fields_in schema.now) (ids_of ipc_schema.now.fields.items)) }
+    ensures may { IfOk result (λ _. StartMayBeWritten (fields_with (fields_in schema.now) (ids_of ipc_schema.now.fields.items)) no_pairs) }
 {
     let pairs = StreamPairs {
         schema: None,
@@ -68,19 +73,24 @@ fn around(alloc: Global, footer: &[u8]) -> Result<Vec<u8>, AllocError>
 impl FileCore {
     /// What stands before the file's first message.
     pub(crate) fn beginning(&self) -> Result<Vec<u8>, IpcError>
-        ensures { GivesText result (start_of self.now) }
+        ensures gives { GivesText result (start_of self.now) }
+        ensures may { IfOk result (λ _. StartMayBeWritten (own_fields self.now) no_pairs) }
     {
         file_start(self.alloc, &self.schema, &self.ipc_schema, &self.options)
     }
 
     /// What stands behind the file's last message.
     pub(crate) fn ending(&self) -> Result<Vec<u8>, IpcError>
-        ensures { GivesText result (ending_of self.now) }
+        ensures gives { GivesText result (ending_of self.now) }
+        ensures means { IfOk result (λ v. EndsFile self.now v.items) }
     {
+        ended_front_means_its_table();
         let fields = self.ipc_schema.fields.as_slice();
         let own = lent(&self.pairs.schema);
         let schema = serialize_schema(self.alloc, &self.schema, fields, own)?;
         let pairs = lent(&self.pairs.footer);
+        are_pairs(own);
+        are_pairs(pairs);
         let footer = footer_bytes(self.alloc, schema, pairs, &self.blocks)?;
         if footer.len() > self.options.metadata_limit.min(MOST_FOOTER) {
             return Err(IpcError::TooLarge);

@@ -15,7 +15,7 @@ use crate::blocks::FileBlocks;
 use arrow_flat::{BuildError, Node, Slot, finish};
 use arrow_spec::{Block, IpcError};
 use arrow_types::Metadata;
-use schema_writer::message_node;
+use schema_writer::custom_pairs;
 use std::alloc::{AllocError, Global};
 
 /// With so many blocks, of 24 bytes each, the footer is too large.
@@ -56,16 +56,9 @@ fn blocks_slot(alloc: Global, blocks: &[Block]) -> Result<Slot, AllocError>
 fn pairs_slot(alloc: Global, pairs: Option<&Metadata>) -> Result<Option<Slot>, AllocError>
     ensures { IfOk result (λ o. optional_slots (option_map slot_of o) ≡ custom_slot (metadata_in pairs.entry)) }
 {
-    let message = message_node(alloc, 0, Node::Tables(Vec::new(alloc)), 0, pairs)?;
-    match message {
-        Node::Table(slots) => {
-            let mut slots = slots;
-            if slots.len() <= 4 {
-                return Ok(None);
-            }
-            Ok(slots.pop())
-        }
-        _ => unreachable!(),
+    match custom_pairs(alloc, pairs)? {
+        None => Ok(None),
+        Some(pairs) => Ok(Some(Slot::Child(pairs))),
     }
 }
 

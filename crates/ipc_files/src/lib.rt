@@ -16,8 +16,7 @@ pub use dictionaries::{read_dictionary_block, read_file_dictionaries};
 pub use ipc_read::Dictionaries;
 pub use ipc_schema::{Footer, RecordMessage, decode_footer_len, deserialize_footer};
 pub use metadata::{
-    FileMetadata, copy_if_any, custom_metadata_of, metadata_of, read_file_metadata,
-    read_file_schema,
+    FileMetadata, custom_metadata_of, metadata_of, read_file_metadata, read_file_schema,
 };
 pub use ordered::{check_columns, read_projected_batch};
 pub use row_counts::{get_row_count, get_row_count_from_blocks, read_block_rows};

@@ -16,7 +16,8 @@ ghost use Rattle.ipc_files.specs.RowCounts.{CountCause};
 
 use crate::fetch::fetch;
 use arrow_spec::{Block, IpcError, OutOfSpecKind};
-use arrow_types::{ArrowSchemaRef, Metadata, copy_metadata};
+use arrow_types::{ArrowSchemaRef, Metadata};
+use ipc_fields::copy_if_any;
 use ipc_schema::{
     Footer, IpcSchema, Source, decode_footer_len, deserialize_schema_and_blocks, footer_metadata,
 };
@@ -34,16 +35,6 @@ pub struct FileMetadata {
     pub blocks: Vec<Block>,
     pub dictionaries: Vec<Block>,
     pub size: u64,
-}
-
-/// A copy of pairs, where there are any.
-pub fn copy_if_any(alloc: Global, pairs: &Option<Metadata>) -> Result<Option<Metadata>, AllocError>
-    ensures { IfOk result (λ m. metadata_of m ≡ metadata_of pairs.now) }
-{
-    match pairs {
-        None => Ok(None),
-        Some(pairs) => Ok(Some(copy_metadata(alloc, pairs)?)),
-    }
 }
 
 impl FileMetadata {

@@ -1,5 +1,5 @@
 -- What calls one after another keep of a source and of a sink.
-use Rattle.std.proofs.Common.{◌≡◌, ℕ, ◌≤◌, List, Option, ◌∙◌, arith}
+use Rattle.std.proofs.Common.{ℕ, List, Option, ◌∙◌, arith}
 use Rattle.ipc_io.specs.Outside.{SourceKept, SinkKept}
 
 pub source_kept_on : {S : Type 0} {content_of : S → Option (List ℕ)} {faults_of : S → ℕ} {references_of : S → List ℕ} {s s' s'' : S}

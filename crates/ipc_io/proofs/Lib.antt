@@ -1,4 +1,3 @@
 pub mod Known
 pub mod Pieces
-pub mod Shelves
 pub mod Kept

@@ -1,10 +1,8 @@
 -- The objects over memory as clauses see them: what they hold, and which of their calls fail.
-use Rattle.std.specs.Prelude.{◌≡◌, ℕ, ◌+◌, ◌-◌, ◌^◌, min, max, List, [], ◌∷◌, length, Bool, false, true, ◌&&◌, ◌||◌, ◌==◌, nat_le, nat_lt, Option, Some, None, Result, Ok, Err, if◌then◌else◌, string_bytes, bytes_eq, All}
+use Rattle.std.specs.Prelude.{◌≡◌, ℕ, ◌+◌, ◌-◌, ◌^◌, min, max, List, [], length, Bool, false, true, ◌&&◌, ◌||◌, ◌==◌, nat_le, nat_lt, Option, Some, None, Result, Ok, Err, if◌then◌else◌}
 use Rattle.std.specs.List.{list_any}
 use Rattle.ipc_io.specs.declared.outside.PutError.{PutError}
 use Rattle.ipc_io.specs.declared.outside.PutError.TheVariants as put
-use Rattle.ipc_io.specs.declared.memory.shelf.Entry.{Entry}
-use Rattle.arrow_spec.specs.Words.{Held}
 
 -- the numbers of the calls that are to fail, from 0 on; the number of the next call; and how often a call has failed
 pub record Calls : Type 0 where
@@ -29,10 +27,6 @@ one_if failed = if failed then 1 else 0
 -- after a call that failed, or did not
 abbrev pub after_call : Calls → Bool → Calls
 after_call calls failed = record { failing = calls.failing; next = counted calls.next 1; faults = counted calls.faults (one_if failed) }
-
--- after a file was closed that counted so many calls: that it failed is one fault more, and no call
-abbrev pub after_close : Calls → Calls → Calls
-after_close calls file = record calls { faults = counted calls.faults (one_if (nat_lt 0 file.faults)) }
 
 -- ── sources ──
 
@@ -101,35 +95,3 @@ abbrev pub is_failed : Result (Unit {0}) PutError → Bool
 is_failed (Ok done) = false
 is_failed (Err put.Failed) = true
 is_failed (Err put.Memory) = false
-
--- ── shelves ──
-
-pub record ShelfState : Type 0 where
-  pub entries : List Entry
-  pub calls : Calls
-
--- the first entry of a name
-abbrev pub entry_of : List Entry → List ℕ → Option Entry
-entry_of [] name = None
-entry_of (entry ∷ entries) name = if bytes_eq (string_bytes entry.name) name then Some entry else entry_of entries name
-
-abbrev pub bytes_of : Option Entry → Option (List ℕ)
-bytes_of None = None
-bytes_of (Some entry) = Some entry.bytes.items
-
--- what stands under each name
-abbrev pub held_in : List Entry → Held
-held_in entries name = bytes_of (entry_of entries name)
-
--- what is opened where an entry stands
-abbrev pub opened : Entry → SourceState
-opened entry = new_source entry.bytes.items entry.failing.items entry.places.items
-
--- reading what stands under a name never fails
-pub record EntryNeverFails (entry : Entry) : Type 0 where
-  pub calls : entry.failing.items ≡ []
-  pub places : entry.places.items ≡ []
-
-pub record ShelfNeverFails (shelf : ShelfState) : Type 0 where
-  pub calls : shelf.calls.failing ≡ []
-  pub entries : All EntryNeverFails shelf.entries

@@ -5,5 +5,5 @@ mod lent;
 mod memory;
 mod outside;
 
-pub use memory::{Entry, MemoryFeed, MemoryShelf, MemorySink, MemorySource};
+pub use memory::{FailingCalls, MemoryFeed, MemorySink, MemorySource, has_place};
 pub use outside::{Failed, Feed, Got, PutError, Shelf, ShelfError, Sink, Source};

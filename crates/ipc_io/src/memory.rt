@@ -2,11 +2,10 @@
 
 mod calls;
 mod feed;
-mod shelf;
 mod sink;
 mod source;
 
+pub use calls::FailingCalls;
 pub use feed::MemoryFeed;
-pub use shelf::{Entry, MemoryShelf};
 pub use sink::MemorySink;
-pub use source::MemorySource;
+pub use source::{MemorySource, has_place};

@@ -20,8 +20,8 @@ pub use footer::{
 pub use header::{read_dictionary_message, read_message_header, read_record_message};
 pub use ipc_fields::{IpcField, IpcSchema};
 pub use ipc_io::{
-    Entry, Failed, Feed, Got, MemoryFeed, MemoryShelf, MemorySink, MemorySource, PutError, Shelf,
-    ShelfError, Sink, Source,
+    Failed, Feed, Got, MemoryFeed, MemorySink, MemorySource, PutError, Shelf, ShelfError, Sink,
+    Source,
 };
 pub use message::{BatchHeader, DictionaryMessage, Message, MessageHeader, RecordMessage};
 pub use prefix::{is_continuation, message_prefix, metadata_length};

@@ -1,2 +1,3 @@
+pub mod Meaning
 pub mod Calling
 pub mod Sending

@@ -1,5 +1,5 @@
 -- A batch that is sent with its dictionaries, or not.
-use Rattle.std.proofs.Common.{◌≡◌, ◌⊎◌, inl, inr, ℤ, List, Bool, true, false, map, Result, Ok, Err, sym, subst}
+use Rattle.std.proofs.Common.{◌≡◌, ◌⊎◌, inl, inr, ℕ, ◌+◌, ℤ, List, Bool, true, false, map, Result, Ok, Err, sym, subst, arith}
 use Rattle.std.specs.Result.{IsErrAnd}
 use Rattle.arrow_spec.specs.declared.error.IpcError.{IpcError}
 use Rattle.arrow_spec.specs.declared.error.IpcError.TheVariants.{Memory}
@@ -20,18 +20,19 @@ use Rattle.ipc_encode.proofs.ChunkSteps.{kept_again, stops_behind, stops_found}
 use Rattle.ipc_write_messages.specs.declared.puts.Stop.{Stop}
 use Rattle.ipc_stream_writer.specs.declared.stream.StreamCore.{StreamCore}
 use Rattle.ipc_stream_writer.specs.Calls.{SendCause, Sends, Stays}
-use Rattle.ipc_write_messages.specs.Puts.{SendStops, SendsChunk, Untouched}
+use Rattle.ipc_stream_writer.proofs.Meaning.{still_written}
+use Rattle.ipc_write_messages.specs.Puts.{SendStops, SendsChunk, Untouched, counted}
 use Rattle.ipc_write_messages.specs.States.{state_behind}
 
 -- what is found of a batch's dictionaries is not to be sent
 pub not_found : (r : Result (Unit {0}) IpcError) (e : IpcError) (m : Moved) (old new : StreamCore) (b : Batch) (arrays : List Parts) (fields : List IpcField) → IsErrAnd r (λ f. f ≡ e) → arrays ≡ b.arrays → fields ≡ old.fields.items
-    → Found (Err e) old.tracker new.tracker (forest arrays) (ids_of fields) → Untouched m → new.state ≡ old.state → Stays old new → Sends m r old new b
-not_found (Ok u) e m old new b arrays fields f a i h t s k = absurd f
-not_found (Err x) e m old new b arrays fields f a i h t s k =
+    → Found (Err e) old.tracker new.tracker (forest arrays) (ids_of fields) → Untouched m → new.state ≡ old.state → new.byte_count ≡ old.byte_count → Stays old new → Sends m r old new b
+not_found (Ok u) e m old new b arrays fields f a i h t s v k = absurd f
+not_found (Err x) e m old new b arrays fields f a i h t s v k =
     let own : Found (Err e) old.tracker new.tracker (forest arrays) (ids_of old.fields.items) = subst (λ xs. Found (Err e) old.tracker new.tracker (forest arrays) (ids_of xs)) i h in
     let here : Found (Err e) old.tracker new.tracker (forest b.arrays) (ids_of old.fields.items) = subst (λ ps. Found (Err e) old.tracker new.tracker (forest ps) (ids_of old.fields.items)) a own in
     let both = stops_found e old.tracker new.tracker (forest b.arrays) (ids_of old.fields.items) (λ sent. RefusesChunk e old.options sent b) here in
-    subst (λ y. Sends m (Err y) old new b) (sym f) (inl (both.0, record { untouched = t; state = s; held = both.1; stays = k }))
+    subst (λ y. Sends m (Err y) old new b) (sym f) (inl (both.0, record { untouched = t; state = s; held = both.1; count = v; stays = k; written = still_written old new both.1 v k }))
 
 why_not : (e : IpcError) (old : StreamCore) (middle : DictionaryTracker) (x : Batch) (n : NewDictionaries) → Found (Ok n) old.tracker middle (forest x.arrays) (ids_of old.fields.items)
     → (e ≡ Memory) ⊎ RefusesChunk e old.options (map to_send n.messages.items) x → SendCause e old x
@@ -39,10 +40,10 @@ why_not e old middle x n h (inl w) = inl w
 why_not e old middle x n h (inr r) = stops_behind e old.tracker middle (forest x.arrays) (ids_of old.fields.items) n (λ sent. RefusesChunk e old.options sent x) h r
 
 -- it is, and was sent
-pub was_sent : (m : Moved) (old new : StreamCore) (b : Batch) (n : NewDictionaries) (messages : List ToEncode) → Found (Ok n) old.tracker new.tracker (forest b.arrays) (ids_of old.fields.items) → messages ≡ n.messages.items
-    → SendsChunk m (Ok tt) old.options (map to_send messages) b → new.state ≡ old.state → Stays old new → Sends m (Ok tt) old new b
-was_sent m old new b n messages h e c s k =
-    let here : SendsChunk m (Ok tt) old.options (map to_send n.messages.items) b = subst (λ xs. SendsChunk m (Ok tt) old.options (map to_send xs) b) e c in
+pub was_sent : (m : Moved) (k : ℕ) (old new : StreamCore) (b : Batch) (n : NewDictionaries) (messages : List ToEncode) → Found (Ok n) old.tracker new.tracker (forest b.arrays) (ids_of old.fields.items) → messages ≡ n.messages.items
+    → SendsChunk m (Ok k) old.options (map to_send messages) b → new.state ≡ old.state → Stays old new → new.byte_count ≡ counted (old.byte_count + k) → Sends m (Ok tt) old new b
+was_sent m k old new b n messages h e c s y v =
+    let here : SendsChunk m (Ok k) old.options (map to_send n.messages.items) b = subst (λ xs. SendsChunk m (Ok k) old.options (map to_send xs) b) e c in
     record {
       used = h.0.0;
       sent = map to_send n.messages.items;
@@ -51,23 +52,25 @@ was_sent m old new b n messages h e c s k =
       appended = here.1;
       counts = here.2;
       state = s;
-      stays = k;
+      stays = y;
+      count = omega (arith, v, here.3);
     }
 
 stopped_send : (b : Bool) (e : IpcError) (m : Moved) (old new : StreamCore) (middle : DictionaryTracker) (x : Batch) (n : NewDictionaries) → Found (Ok n) old.tracker middle (forest x.arrays) (ids_of old.fields.items)
-    → SendStops b m e old.options (map to_send n.messages.items) x → new.state ≡ state_behind b old.state → ((q : ℤ) → held_by new.tracker q ≡ undone n.changes.items (held_by middle) q) → Stays old new → Sends m (Err e) old new x
-stopped_send true e m old new middle x n h c s u k = inr (record {
+    → SendStops b m e old.options (map to_send n.messages.items) x → new.state ≡ state_behind b old.state → ((q : ℤ) → held_by new.tracker q ≡ undone n.changes.items (held_by middle) q) → new.byte_count ≡ old.byte_count → Stays old new → Sends m (Err e) old new x
+stopped_send true e m old new middle x n h c s u v k = inr (record {
   sending = record { held = held_by middle; used = h.0.0; sent = map to_send n.messages.items };
   is_found = h.0.1;
   may = c.0;
-  failed = record { put = c.1; state = s; held = kept_again old.tracker middle new.tracker (forest x.arrays) (ids_of old.fields.items) n h u; stays = k };
+  failed = record { put = c.1; state = s; held = kept_again old.tracker middle new.tracker (forest x.arrays) (ids_of old.fields.items) n h u; count = v; stays = k };
 })
-stopped_send false e m old new middle x n h c s u k =
-    inl (why_not e old middle x n h c.0, record { untouched = c.1; state = s; held = kept_again old.tracker middle new.tracker (forest x.arrays) (ids_of old.fields.items) n h u; stays = k })
+stopped_send false e m old new middle x n h c s u v k =
+    let held = kept_again old.tracker middle new.tracker (forest x.arrays) (ids_of old.fields.items) n h u in
+    inl (why_not e old middle x n h c.0, record { untouched = c.1; state = s; held = held; count = v; stays = k; written = still_written old new held v k })
 
 -- it is not, and what was held is held again
 pub not_sent : (y : IpcError) (stop : Stop) (m : Moved) (old new : StreamCore) (middle : DictionaryTracker) (x : Batch) (n : NewDictionaries) (messages : List ToEncode) → y ≡ stop.error → Found (Ok n) old.tracker middle (forest x.arrays) (ids_of old.fields.items)
     → messages ≡ n.messages.items → SendStops stop.has_begun m stop.error old.options (map to_send messages) x → new.state ≡ state_behind stop.has_begun old.state
-    → ((q : ℤ) → held_by new.tracker q ≡ undone n.changes.items (held_by middle) q) → Stays old new → Sends m (Err y) old new x
-not_sent y stop m old new middle x n messages f h e c s u k =
-    subst (λ z. Sends m (Err z) old new x) (sym f) (stopped_send stop.has_begun stop.error m old new middle x n h (subst (λ xs. SendStops stop.has_begun m stop.error old.options (map to_send xs) x) e c) s u k)
+    → ((q : ℤ) → held_by new.tracker q ≡ undone n.changes.items (held_by middle) q) → new.byte_count ≡ old.byte_count → Stays old new → Sends m (Err y) old new x
+not_sent y stop m old new middle x n messages f h e c s u v k =
+    subst (λ z. Sends m (Err z) old new x) (sym f) (stopped_send stop.has_begun stop.error m old new middle x n h (subst (λ xs. SendStops stop.has_begun m stop.error old.options (map to_send xs) x) e c) s u v k)

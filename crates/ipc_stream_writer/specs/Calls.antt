@@ -1,15 +1,17 @@
 -- What the calls of a writer do to it, and what they put. (Arrow Columnar Format, "IPC Streaming Format".)
-use Rattle.std.specs.Prelude.{◌≡◌, ◌⊎◌, ℤ, List, Bool, true, false, Option, Some, None, Result, Ok, Err, ℕ, String}
+use Rattle.std.specs.Prelude.{◌≡◌, ◌⊎◌, ◌++◌, ◌∷◌, [], ◌+◌, ℤ, List, Bool, true, false, Option, Some, None, Result, Ok, Err, ℕ, String, length}
 use Rattle.std.specs.BTreeMap.{BTreeMap}
 use Rattle.std.specs.Io.KnownBytes.{Appends}
 use Rattle.std.specs.declared.alloc.Global.{Global}
 use Rattle.arrow_spec.specs.declared.error.IpcError.{IpcError}
 use Rattle.arrow_spec.specs.declared.error.IpcError.TheVariants.{Memory, SchemaMismatch, State}
+use Rattle.arrow_spec.specs.Files.{TableBatch}
+use Rattle.arrow_spec.specs.Regular.{regular}
 use Rattle.arrow_spec.specs.Streams.{end_mark}
 use Rattle.arrow_types.specs.Schemas.{Keyed, fields_in}
 use Rattle.arrow_arrays.specs.Batches.{Batch}
 use Rattle.arrow_arrays.specs.Parts.{forest}
-use Rattle.ipc_fields.specs.IpcFields.{Ids, ids_of}
+use Rattle.ipc_fields.specs.IpcFields.{Ids, fields_with, ids_of, metadata_of}
 use Rattle.ipc_bodies.specs.Puts.{Moved, NoneFalls, PutsPart}
 use Rattle.ipc_dictionaries.specs.NewDictionaries.{Sending, ToSend}
 use Rattle.ipc_dictionaries.specs.Tracker.{IsKept, held_by}
@@ -21,9 +23,12 @@ use Rattle.ipc_stream_writer.specs.declared.stream.StreamCore.{StreamCore}
 use Rattle.ipc_write_messages.specs.Batches.{Suits}
 use Rattle.ipc_write_messages.specs.Fields.{AreIdsFor}
 use Rattle.ipc_write_messages.specs.Messages.{MayBeSent, chunk_text}
-use Rattle.ipc_write_messages.specs.Puts.{Untouched}
+use Rattle.ipc_write_messages.specs.Puts.{Untouched, counted}
 use Rattle.ipc_write_messages.specs.Schemas.{IsNoStart, stream_text}
 use Rattle.ipc_write_messages.specs.States.{is_new, is_started}
+use Rattle.ipc_write_messages.specs.declared.pairs.StreamPairs.{StreamPairs}
+use Rattle.chunk_laws.specs.Written.{cells_of}
+use Rattle.ipc_stream_writer.specs.Written.{IsEnded, IsWritten}
 
 -- a writer that has written nothing, of some options
 pub record IsFresh (asked : WriteOptions) (c : StreamCore) : Type 0 where
@@ -32,6 +37,7 @@ pub record IsFresh (asked : WriteOptions) (c : StreamCore) : Type 0 where
   pub pairs : c.pairs ≡ record { schema = None; message = None }
   pub held : (id : ℤ) → held_by c.tracker id ≡ None
   pub replaces : c.tracker.cannot_replace ≡ false
+  pub count : c.byte_count ≡ 0
 
 -- the options, the schema with its IPC fields, and the pairs for it stay
 pub record Stays (old new : StreamCore) : Type 0 where
@@ -46,13 +52,17 @@ pub record LeavesAll (m : Moved) (old new : StreamCore) : Type 0 where
   pub untouched : Untouched m
   pub state : new.state ≡ old.state
   pub held : IsKept (held_by old.tracker) (held_by new.tracker)
+  pub count : new.byte_count ≡ old.byte_count
   pub stays : Stays old new
+  -- the bytes mean what they meant
+  pub written : (pairs : StreamPairs) (x : List ℕ) (bs : List TableBatch) → IsWritten pairs old x bs → IsWritten pairs new x bs
 
 -- a put failed: a part of what was to be put is there, the dictionaries of it are not held, and the writer has failed
 pub record HasFailed (m : Moved) (e : IpcError) (bytes : List ℕ) (old new : StreamCore) : Type 0 where
   pub put : PutsPart m e bytes
   pub state : new.state ≡ Failed
   pub held : IsKept (held_by old.tracker) (held_by new.tracker)
+  pub count : new.byte_count ≡ old.byte_count
   pub stays : Stays old new
 
 -- ── pairs ──
@@ -66,6 +76,7 @@ pub record HasMessagePairs (old new : StreamCore) (given : BTreeMap (String Glob
   pub schema : new.schema ≡ old.schema
   pub fields : new.fields ≡ old.fields
   pub tracker : new.tracker ≡ old.tracker
+  pub count : new.byte_count ≡ old.byte_count
 
 -- or something was put before, and the writer is left
 abbrev pub SetsMessagePairs : Result (Unit {0}) IpcError → StreamCore → StreamCore → BTreeMap (String Global) (String Global) → Type 0
@@ -87,6 +98,9 @@ pub record HasBegun (m : Moved) (old new : StreamCore) (s : List Keyed) (given :
   pub options : new.options ≡ old.options
   pub pairs : new.pairs ≡ old.pairs
   pub tracker : new.tracker ≡ old.tracker
+  pub count : new.byte_count ≡ counted (length bytes)
+  -- the bytes mean a table without batches, where the schema is regular
+  pub written : regular (fields_with (fields_in s) (ids_of new.fields.items)) (metadata_of old.pairs.schema) ≡ true → IsWritten old.pairs new bytes []
 
 -- why none was: it was before, or memory was wanted, or the schema is refused
 abbrev pub StartCause : IpcError → StreamCore → List Keyed → Option Ids → Type 0
@@ -126,6 +140,7 @@ pub record HasSent (m : Moved) (old new : StreamCore) (b : Batch) : Type 0 where
   pub counts : NoneFalls m
   pub state : new.state ≡ old.state
   pub stays : Stays old new
+  pub count : new.byte_count ≡ counted (old.byte_count + length (chunk_text sent b))
 
 -- a put of one of its messages failed
 pub record SendFailed (m : Moved) (e : IpcError) (old new : StreamCore) (b : Batch) : Type 0 where
@@ -147,6 +162,8 @@ pub record HasWritten (m : Moved) (old new : StreamCore) (b : Batch) (given : Op
   pub started : is_started old.state ≡ true
   pub suits : SuitsStream old b given
   pub sends : HasSent m old new b
+  -- the table that the bytes mean has the batch behind those before it
+  pub written : (pairs : StreamPairs) (x : List ℕ) (bs : List TableBatch) → IsWritten pairs old x bs → IsWritten pairs new (x ++ chunk_text sends.sent b) (bs ++ cells_of b ∷ [])
 
 -- why none was: the stream is not begun, or is ended, or a put has failed before; the batch is none of its; or it is not sent
 abbrev pub WriteCause : IpcError → StreamCore → Batch → Option Ids → Type 0
@@ -173,6 +190,9 @@ pub record HasFinished (m : Moved) (old new : StreamCore) : Type 0 where
   pub counts : NoneFalls m
   pub tracker : new.tracker ≡ old.tracker
   pub stays : Stays old new
+  pub count : new.byte_count ≡ counted (old.byte_count + 8)
+  -- the bytes are a closed stream, and mean the table of the batches that were written
+  pub written : (pairs : StreamPairs) (x : List ℕ) (bs : List TableBatch) → IsWritten pairs old x bs → IsEnded pairs new (x ++ end_mark) bs
 
 abbrev pub Finishes : Moved → Result (Unit {0}) IpcError → StreamCore → StreamCore → Type 0
 Finishes m (Ok u) old new = HasFinished m old new

@@ -4,6 +4,7 @@ ghost use Rattle.arrow_spec.specs.Readings.{is_absent};
 ghost use Rattle.arrow_spec.specs.declared.error.IpcError.TheVariants.{Memory};
 ghost use Rattle.ipc_bodies.specs.Puts.{moved};
 ghost use Rattle.ipc_write_messages.specs.Fields.{given_ids};
+ghost use Rattle.ipc_write_messages.specs.Puts.{counted};
 ghost use Rattle.ipc_stream_writer.specs.Calls.{Finishes, IsFresh, Sends, SetsMessagePairs, Starts, Stays, SuitsStream, Writes};
 ghost use Rattle.ipc_write_messages.specs.States.{is_started, state_behind};
 ghost use Rattle.ipc_write_messages.specs.declared.state.WriterState.TheVariants.{Started};
@@ -56,6 +57,7 @@ impl StreamCore {
                 message: None,
             },
             tracker: DictionaryTracker::new(alloc, false, options.deltas),
+            byte_count: 0,
             scratch,
             alloc,
         })
@@ -69,6 +71,7 @@ impl StreamCore {
         ensures schema { self.new.schema ≡ self.old.schema }
         ensures fields { self.new.fields ≡ self.old.fields }
         ensures tracker { self.new.tracker ≡ self.old.tracker }
+        ensures count { self.new.byte_count ≡ self.old.byte_count }
     {
         self.pairs.schema = Some(pairs);
     }
@@ -95,9 +98,18 @@ impl StreamCore {
         ensures state { self.new.state ≡ state_behind stop.has_begun self.old.state }
         ensures tracker { self.new.tracker ≡ self.old.tracker }
         ensures stays { Stays self.old self.new }
+        ensures count { self.new.byte_count ≡ self.old.byte_count }
     {
         self.state = self.state.behind(stop.has_begun);
         stop.error
+    }
+
+    /// How many bytes the stream has: those that were put since it was begun, its schema's message among them, by calls that were
+    /// Ok. 2^64 - 1 says that there are so many or more.
+    pub fn byte_count(&self) -> u64
+        ensures { result ≡ self.now.byte_count }
+    {
+        self.byte_count
     }
 
     /// Keeps what the stream is begun with.
@@ -109,12 +121,14 @@ impl StreamCore {
         ensures options { self.new.options ≡ self.old.options }
         ensures pairs { self.new.pairs ≡ self.old.pairs }
         ensures tracker { self.new.tracker ≡ self.old.tracker }
+        ensures count { self.new.byte_count ≡ counted (length start.message.items) }
     {
         let StreamStart {
             schema,
             fields,
             message,
         } = start;
+        self.byte_count = message.len() as u64;
         drop(message);
         self.schema = schema;
         self.fields = fields;
@@ -170,7 +184,10 @@ impl StreamCore {
         let messages = new.messages.as_slice();
         let scratch = self.scratch.as_mut_slice();
         match send_chunk(self.alloc, sink, messages, batch, &self.options, scratch) {
-            Ok(()) => Ok(()),
+            Ok(count) => {
+                self.byte_count = self.byte_count.saturating_add(count);
+                Ok(())
+            }
             Err(stop) => {
                 new.undo(&mut self.tracker);
                 Err(self.stop_at(stop))
@@ -221,6 +238,7 @@ impl StreamCore {
         }
         match put_whole(sink, &END_MARK) {
             Ok(()) => {
+                self.byte_count = self.byte_count.saturating_add(END_MARK.len() as u64);
                 self.state = WriterState::Finished;
                 Ok(())
             }

@@ -1,7 +1,9 @@
 //! The writer of a stream without its sink: what it keeps.
-ghost use Rattle.std.specs.Prelude.{◌≡◌, ◌≤◌, length, true};
+ghost use Rattle.std.specs.Prelude.{◌≡◌, ◌≤◌, ℤ, length, true};
+ghost use Rattle.arrow_spec.specs.Readings.{is_absent};
 ghost use Rattle.ipc_fields.specs.IpcFields.{metadata_of};
-ghost use Rattle.ipc_write_messages.specs.States.{may_be_started};
+ghost use Rattle.ipc_dictionaries.specs.Tracker.{held_by};
+ghost use Rattle.ipc_write_messages.specs.States.{is_new, may_be_started};
 
 use arrow_types::ArrowSchema;
 use ipc_dictionaries::DictionaryTracker;
@@ -11,8 +13,8 @@ use ipc_write_messages::{StreamPairs, WriterState};
 use std::alloc::Global;
 
 /// The writer of a stream without its sink, which each call that writes is lent: how batches are written, what was begun or
-/// ended, the stream's schema with its IPC fields, the pairs for it and for its message, the dictionaries that were sent, and
-/// memory that is used again.
+/// ended, the stream's schema with its IPC fields, the pairs for it and for its message, the dictionaries that were sent, how many
+/// bytes the stream has, and memory that is used again.
 #[derive(Drop)]
 pub struct StreamCore {
     pub(crate) options: WriteOptions,
@@ -21,10 +23,12 @@ pub struct StreamCore {
     pub(crate) fields: Vec<IpcField>,
     pub(crate) pairs: StreamPairs,
     pub(crate) tracker: DictionaryTracker,
+    pub(crate) byte_count: u64,
     pub(crate) scratch: Vec<u8>,
     pub(crate) alloc: Global,
     ghost pieces: { length scratch.items ≡ 65536 },
     ghost few: { length (metadata_of pairs.message) ≤ 1048576 },
     ghost deltas: { tracker.deltas ≡ options.deltas },
+    ghost none_held: { is_new state ≡ true → (id : ℤ) → is_absent (held_by tracker id) ≡ true },
     ghost plain: { may_be_started state options ≡ true },
 }

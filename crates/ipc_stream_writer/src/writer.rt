@@ -50,6 +50,7 @@ impl<W: Sink> StreamWriter<W> {
         ensures schema { self.new.core.schema ≡ self.old.core.schema }
         ensures fields { self.new.core.fields ≡ self.old.core.fields }
         ensures tracker { self.new.core.tracker ≡ self.old.core.tracker }
+        ensures count { self.new.core.byte_count ≡ self.old.core.byte_count }
         ensures sink { self.new.sink ≡ self.old.sink }
     {
         self.core.set_custom_schema_metadata(pairs);
@@ -66,6 +67,13 @@ impl<W: Sink> StreamWriter<W> {
         ensures sink { self.new.sink ≡ self.old.sink }
     {
         self.core.set_message_metadata(pairs)
+    }
+
+    /// How many bytes the stream has, as [`StreamCore::byte_count`] says.
+    pub fn byte_count(&self) -> u64
+        ensures { result ≡ self.now.core.byte_count }
+    {
+        self.core.byte_count()
     }
 
     /// Begins the stream with the message of a schema, as [`StreamCore::start`] does.

@@ -9,7 +9,7 @@ use crate::body::read_body;
 use crate::frame::{Frame, read_frame};
 use arrow_spec::{IpcError, MetadataVersion, OutOfSpecKind};
 use arrow_types::{ArrowSchemaRef, Metadata};
-use ipc_files::copy_if_any;
+use ipc_fields::copy_if_any;
 use ipc_io::Feed;
 use ipc_schema::{IpcSchema, message_metadata, read_schema};
 use schema_reader::message::{Expected, read_message, read_version};

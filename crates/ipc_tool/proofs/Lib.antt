@@ -1,3 +1,4 @@
+pub mod AppendSteps
 pub mod Adding
 pub mod Completing
 pub mod Decoding

@@ -14,7 +14,8 @@ pub record TextAsked : Type 0 where
   pub what : FileText
   pub name : Option (List ℕ)
 
--- a request: for a stream, or for a text that is said of a file
+-- a request: for a stream, for a text that is said of a file, or that the input's stream is appended to what stands under a name
 pub data Command : Type 0 where
   of_stream : StreamAsked → Command
   of_text : TextAsked → Command
+  of_append : List ℕ → Command

@@ -6,5 +6,6 @@ pub mod TextPuts
 pub mod StreamPuts
 pub mod Input
 pub mod Decoding
+pub mod Appends
 pub mod Run
 pub mod CommandLine

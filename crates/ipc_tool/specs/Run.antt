@@ -1,13 +1,15 @@
 -- What a run adds to its output, and when it is refused.
-use Rattle.std.specs.Prelude.{◌≡◌, ◌⊎◌, ℕ, Bool, List, ⊤, Option, Some, None, IfSome, IsSome, IsNone, IsSomeAnd, MatchOption, IsOk}
+use Rattle.std.specs.Prelude.{◌≡◌, ◌⊎◌, ℕ, Bool, List, ⊤, Option, Some, None, IfSome, IsSome, IsNone, IsSomeAnd, MatchOption, IsOk, length}
 use Rattle.std.specs.Io.KnownBytes.{Appends, Keeps}
 use Rattle.arrow_spec.specs.declared.error.IpcError.{IpcError}
 use Rattle.arrow_spec.specs.declared.error.IpcError.TheVariants as errors
 use Rattle.arrow_spec.specs.Meaning.{file_table, may}
 use Rattle.arrow_spec.specs.Files.{Request}
 use Rattle.arrow_spec.specs.Words.{Held, source_of}
-use Rattle.ipc_tool.specs.Asked.{Command, StreamAsked, TextAsked, of_stream, of_text}
+use Rattle.ipc_tool.specs.Asked.{Command, StreamAsked, TextAsked, of_append, of_stream, of_text}
 use Rattle.ipc_io.specs.Outside.{Rose, Stands, Lacks, AppendsPrefix}
+use Rattle.ipc_append_stream.specs.declared.whole.WholeStream.{WholeStream}
+use Rattle.ipc_tool.specs.Appends.{CountRefused, InputCause, IsReadStream, KeepsOthers, PlaceAppended, PlaceRefused, count_text}
 use Rattle.ipc_tool.specs.Refusal.{number_of, line_of}
 use Rattle.ipc_tool.specs.Request.{WordsCause, command_of}
 use Rattle.ipc_tool.specs.TextPuts.{AddsText, AddsTextFront, file_text, may_print}
@@ -75,6 +77,31 @@ SourceFailed (Some name) old new = Rose old.shelf_faults new.shelf_faults
 abbrev pub name_in : Command → Option (List ℕ)
 name_in (of_stream s) = s.name
 name_in (of_text s) = s.name
+name_in (of_append target) = None
+
+-- the name that a request opens
+abbrev pub opened_in : Command → Option (List ℕ)
+opened_in (of_stream s) = s.name
+opened_in (of_text s) = s.name
+opened_in (of_append target) = Some target
+
+-- what a request reads failed
+abbrev pub ReadFailed : Command → Outside → Outside → Type 0
+ReadFailed (of_stream s) old new = SourceFailed s.name old new
+ReadFailed (of_text s) old new = SourceFailed s.name old new
+ReadFailed (of_append target) old new = Rose old.input_faults new.input_faults ⊎ Rose old.shelf_faults new.shelf_faults
+
+-- what a request writes failed
+abbrev pub WriteFailed : Command → Outside → Outside → Type 0
+WriteFailed (of_stream s) old new = Rose old.output_faults new.output_faults
+WriteFailed (of_text s) old new = Rose old.output_faults new.output_faults
+WriteFailed (of_append target) old new = Rose old.shelf_faults new.shelf_faults ⊎ Rose old.output_faults new.output_faults
+
+-- what stands on the shelf stays, but for what is appended to
+abbrev pub KeepsHeld : Command → Option Held → Option Held → Type 0
+KeepsHeld (of_stream s) old new = new ≡ old
+KeepsHeld (of_text s) old new = new ≡ old
+KeepsHeld (of_append target) old new = KeepsOthers target old new
 
 -- what is told of the shelf lacks the name of a request's source
 abbrev pub IsMissing : Option (List ℕ) → Option Held → Type 0
@@ -152,17 +179,67 @@ TextCause NoName s old new = IsSomeAnd s.name (Lacks old.held)
 abbrev pub HasText : TextAsked → Outside → Type 0
 HasText s old = IsSomeAnd (source_in s.name old) (λ bytes. IsSomeAnd bytes (λ b. IsOk (file_text s.what b)))
 
--- ── either command ──
+-- ── an append ──
+
+-- What stood under the name has the input's batches behind its own, and their number was added to the output.
+pub record IsAppendedTo (target : List ℕ) (old new : Outside) : Type 0 where
+  pub stream : WholeStream
+  pub read : IsReadStream old.rest stream
+  pub place : PlaceAppended target old.held new.held stream
+  pub text : Appends old.written new.written (count_text (length stream.batches.items))
+
+-- the input gives no stream
+pub record StopsAtInput (e : Refusal) (old new : Outside) : Type 0 where
+  pub cause : InputCause e old.rest new.rest old.input_faults new.input_faults
+  pub held : new.held ≡ old.held
+  pub written : Keeps old.written new.written
+
+-- nothing is appended under the name
+pub record StopsAtPlace (e : Refusal) (target : List ℕ) (old new : Outside) : Type 0 where
+  pub stream : WholeStream
+  pub read : IsReadStream old.rest stream
+  pub place : PlaceRefused target e old.held new.held stream old.shelf_faults new.shelf_faults
+  pub written : Keeps old.written new.written
+
+-- the number of the batches that were appended was not put
+pub record StopsAtCount (e : Refusal) (target : List ℕ) (old new : Outside) : Type 0 where
+  pub stream : WholeStream
+  pub read : IsReadStream old.rest stream
+  pub place : PlaceAppended target old.held new.held stream
+  pub count : CountRefused e (length stream.batches.items) old.written new.written old.output_faults new.output_faults
+
+-- why an append is refused, by the first step that is
+abbrev pub AppendCause : Refusal → List ℕ → Outside → Outside → Type 0
+AppendCause e target old new = StopsAtInput e old new ⊎ (StopsAtPlace e target old new ⊎ StopsAtCount e target old new)
+
+-- what its refusal says of the devices and of the input
+abbrev pub AppendSays : Refusal → List ℕ → Outside → Outside → Type 0
+AppendSays (Ipc errors.ReadFault) target old new = Rose old.input_faults new.input_faults ⊎ Rose old.shelf_faults new.shelf_faults
+AppendSays (Ipc errors.WriteFault) target old new = Rose old.shelf_faults new.shelf_faults ⊎ Rose old.output_faults new.output_faults
+AppendSays (Ipc e) target old new = ⊤
+AppendSays Words target old new = ⊥
+AppendSays NotHex target old new = IsNoHex old.rest new.rest
+AppendSays InputTooLong target old new = TakesTooMany old.rest new.rest
+AppendSays NoName target old new = Lacks old.held target
+
+-- what an append that was refused added to the output: nothing; after a failed put a part of a number's text
+abbrev pub AddsCount : Refusal → Outside → Outside → Type 0
+AddsCount (Ipc errors.WriteFault) old new = (n : ℕ) × AppendsPrefix old.written new.written (count_text n)
+AddsCount _ old new = Keeps old.written new.written
+
+-- ── each command ──
 
 -- why a request is refused
 abbrev pub CommandCause : Refusal → Command → Outside → Outside → Type 0
 CommandCause e (of_stream s) old new = RequestCause e s old new
 CommandCause e (of_text s) old new = TextCause e s old new
+CommandCause e (of_append target) old new = AppendSays e target old new × AppendCause e target old new
 
 -- what a request that was refused added
 abbrev pub CommandAdds : Refusal → Command → Outside → Outside → Type 0
 CommandAdds e (of_stream s) old new = AddsPartOf e s old new
 CommandAdds e (of_text s) old new = AddsTextOf e s old new
+CommandAdds e (of_append target) old new = AddsCount e old new
 
 -- a status other than 0: there is a refusal of that number, with its cause, and what was added is a part
 pub record IsRefused (status : ℕ) (e : Refusal) (words : List (List ℕ)) (old new : Outside) : Type 0 where

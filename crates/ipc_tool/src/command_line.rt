@@ -12,7 +12,8 @@ use crate::note::note_refusal;
 use crate::program::run;
 use crate::refusal::Refusal;
 use arrow_spec::IpcError;
-use ipc_schema::{Feed, Shelf, Sink};
+use ipc_disk::PlaceShelf;
+use ipc_schema::{Feed, Sink};
 use ipc_words::help_text;
 use std::alloc::{AllocError, Global};
 use std::env;
@@ -52,7 +53,7 @@ fn show<W: Sink, N: Sink>(text: &str, output: &mut W, notes: &mut N) -> u8
 }
 
 // A run, with all that is said of it in one fact.
-fn run_words<H: Shelf, I: Feed, W: Sink, N: Sink>(
+fn run_words<H: PlaceShelf, I: Feed, W: Sink, N: Sink>(
     alloc: Global,
     words: &[&str],
     shelf: &mut H,
@@ -70,7 +71,7 @@ fn run_words<H: Shelf, I: Feed, W: Sink, N: Sink>(
 }
 
 /// Answers what the words ask for: puts the text of help or of the version, where that is asked for, and else runs. Then the status is that of `run`.
-pub fn answer<H: Shelf, I: Feed, W: Sink, N: Sink>(
+pub fn answer<H: PlaceShelf, I: Feed, W: Sink, N: Sink>(
     alloc: Global,
     words: &[String],
     shelf: &mut H,

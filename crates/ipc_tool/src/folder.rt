@@ -1,9 +1,11 @@
 //! The shelf over a folder of files. Files tell no content.
 ghost use Rattle.std.specs.Prelude.{◌≡◌, ◌<◌, ◌≤◌, ◌^◌, length, None, IfOk};
+ghost use Rattle.ipc_io.specs.Outside.{OpenHasCause};
 
+use ipc_disk::{FileDisk, PlaceShelf};
 use ipc_schema::{Failed, Got, Shelf, ShelfError, Source};
-use std::fs::{self, OpenFile};
-use std::io::ErrorKind;
+use std::fs::{self, OpenFile, OpenOptions};
+use std::io::{self, ErrorKind};
 use std::os::unix::fs::FileExt;
 use std::rt::Files;
 
@@ -115,6 +117,21 @@ impl<'a, R> FolderShelf<'a, R> {
     {
         FolderShelf { rt, faults: 0 }
     }
+
+    // What the system answered to an opening.
+    fn opened<T>(&mut self, answer: io::Result<T>) -> Result<T, ShelfError>
+        ensures { OpenHasCause self.old.faults self.new.faults result }
+    {
+        match answer {
+            Ok(file) => Ok(file),
+            Err(error) if error.kind() == ErrorKind::NotFound => Err(ShelfError::Unknown),
+            Err(error) if error.kind() == ErrorKind::OutOfMemory => Err(ShelfError::Memory),
+            Err(_) => {
+                self.faults = self.faults.saturating_add(1);
+                Err(ShelfError::Failed)
+            }
+        }
+    }
 }
 
 impl<'a, R: Files> Shelf for FolderShelf<'a, R>
@@ -129,19 +146,37 @@ where
 
     /// `Unknown` where the system finds no file under the path.
     fn open_file(&mut self, name: &str) -> Result<FileSource<R::File>, ShelfError> {
-        match fs::open(self.rt, name) {
-            Ok(file) => Ok(FileSource::new(file)),
-            Err(error) if error.kind() == ErrorKind::NotFound => Err(ShelfError::Unknown),
-            Err(error) if error.kind() == ErrorKind::OutOfMemory => Err(ShelfError::Memory),
-            Err(_) => {
-                self.faults = self.faults.saturating_add(1);
-                Err(ShelfError::Failed)
-            }
-        }
+        let answer = fs::open(self.rt, name);
+        let file = self.opened(answer)?;
+        Ok(FileSource::new(file))
     }
 
     fn close_file(&mut self, file: FileSource<R::File>) {
         if file.faults > 0 {
+            self.faults = self.faults.saturating_add(1);
+        }
+    }
+}
+
+impl<'a, R: Files> PlaceShelf for FolderShelf<'a, R>
+where
+    R::File: FileExt,
+{
+    type Place = FileDisk<R::File>;
+
+    /// `Unknown` where the system finds no file under the path: none is made.
+    fn open_place(&mut self, name: &str) -> Result<FileDisk<R::File>, ShelfError> {
+        let answer = OpenOptions::new()
+            .read(true)
+            .write(true)
+            .open(self.rt, name);
+        let file = self.opened(answer)?;
+        Ok(FileDisk::new(file))
+    }
+
+    /// What the place wrote stands in the file.
+    fn close_place(&mut self, _name: &str, place: FileDisk<R::File>) {
+        if place.has_failed() {
             self.faults = self.faults.saturating_add(1);
         }
     }

@@ -2,6 +2,7 @@
 #![tactic(auto)]
 
 mod adapters;
+mod appending;
 mod command_line;
 mod decoder;
 mod folder;

@@ -43,9 +43,13 @@ pub enum Command<'a> {
         what: FileText,
         name: Option<&'a str>,
     },
+    /// That the batches of the stream whose hex text is the input are appended to the file under a name.
+    Append {
+        target: &'a str,
+    },
 }
 
-/// The command that the words ask for: `stream`, `schema` or `rows`.
+/// The command that the words ask for: `stream`, `schema`, `rows` or `append`.
 pub fn read_command<'a>(alloc: Global, words: &'a [&'a str]) -> Result<Command<'a>, Refusal>
     ensures request { IfOk result (λ c. command_of (texts words.entry.now) ≡ Some (asked_command c)) }
     ensures cause { IfErr result (λ e. (e ≡ Ipc Memory) ⊎ ((command_of (texts words.entry.now) ≡ None) × WordsCause e (texts words.entry.now))) }
@@ -67,5 +71,6 @@ pub fn read_command<'a>(alloc: Global, words: &'a [&'a str]) -> Result<Command<'
             what: FileText::Rows,
             name,
         }),
+        Request::Append(target) => Ok(Command::Append { target }),
     }
 }

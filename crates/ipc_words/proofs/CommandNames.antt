@@ -7,7 +7,7 @@ use Rattle.ipc_words.specs.Views.{request_view}
 use Rattle.ipc_words.specs.declared.requests.Request.{Request as Given}
 use Rattle.ipc_words.specs.declared.words_error.WordsError.{WordsError}
 use Rattle.ipc_words.specs.declared.words_error.WordsError.TheVariants.{NoRequest}
-use Rattle.ipc_words.specs.Requests.{Request, asked_by, rows_in, schema_in, stream_in}
+use Rattle.ipc_words.specs.Requests.{Request, append_in, asked_by, rows_in, schema_in, stream_in}
 
 pub at_stream : (name : Text) (found : List Row) → bytes_eq name (codes "stream") ≡ true → asked_by name found ≡ stream_in found
 unfolding asked_by
@@ -21,9 +21,13 @@ pub at_rows : (name : Text) (found : List Row) → bytes_eq name (codes "rows") 
 unfolding asked_by
 at_rows name found h = ap (λ w. asked_by w found) ((bytes_eq-Decides name (codes "rows")).0 h)
 
-pub at_none : (name : Text) (found : List Row) → bytes_eq name (codes "stream") ≡ false → bytes_eq name (codes "schema") ≡ false → bytes_eq name (codes "rows") ≡ false → asked_by name found ≡ None
+pub at_append : (name : Text) (found : List Row) → bytes_eq name (codes "append") ≡ true → asked_by name found ≡ append_in found
 unfolding asked_by
-at_none name found e0 e1 e2 = rw (e0, e1, e2) refl
+at_append name found h = ap (λ w. asked_by w found) ((bytes_eq-Decides name (codes "append")).0 h)
+
+pub at_none : (name : Text) (found : List Row) → bytes_eq name (codes "stream") ≡ false → bytes_eq name (codes "schema") ≡ false → bytes_eq name (codes "rows") ≡ false → bytes_eq name (codes "append") ≡ false → asked_by name found ≡ None
+unfolding asked_by
+at_none name found e0 e1 e2 e3 = rw (e0, e1, e2, e3) refl
 
 -- what is asked under another name of it
 pub asked_at : (o p : Option Request) (r : Result Given WordsError) → o ≡ p → IfOk r (λ x. p ≡ Some (request_view x)) → IfOk r (λ x. o ≡ Some (request_view x))

@@ -3,11 +3,11 @@ use Rattle.std.proofs.Common.{◌≡◌, ℕ, List, [], ◌∷◌, true, false, 
 use Rattle.clap.specs.Faults.{fault_of, is_simple_and_free}
 use Rattle.clap.specs.declared.error.kind.ErrorKind.TheVariants as kind
 use Rattle.clap.proofs.OnLiterals.{clap_on_literals}
-use Rattle.ipc_words.specs.CommandLine.{command_line, stream_shape, schema_shape, rows_shape}
-use Rattle.ipc_words.specs.Requests.{asked_by, request_of, rows, schema, stream}
+use Rattle.ipc_words.specs.CommandLine.{command_line, stream_shape, schema_shape, rows_shape, append_shape}
+use Rattle.ipc_words.specs.Requests.{append, asked_by, request_of, rows, schema, stream}
 
 unfoldable pub line : List ℕ
-unfolding command_line stream_shape schema_shape rows_shape request_of asked_by
+unfolding command_line stream_shape schema_shape rows_shape append_shape request_of asked_by
 line = []
 
 simple : is_simple_and_free command_line ≡ true
@@ -78,6 +78,22 @@ rows_named = refl
 no_request_rows_with_limit : request_of (codes "rows" ∷ codes "--limit" ∷ codes "5" ∷ []) ≡ None
 unfolding clap_on_literals line
 no_request_rows_with_limit = refl
+
+append_to_a_name : request_of (codes "append" ∷ codes "F1" ∷ []) ≡ Some (append (codes "F1"))
+unfolding clap_on_literals line
+append_to_a_name = refl
+
+append_to_a_hyphen : request_of (codes "append" ∷ codes "-" ∷ []) ≡ Some (append (codes "-"))
+unfolding clap_on_literals line
+append_to_a_hyphen = refl
+
+no_request_append_alone : request_of (codes "append" ∷ []) ≡ None
+unfolding clap_on_literals line
+no_request_append_alone = refl
+
+no_request_append_to_two : request_of (codes "append" ∷ codes "F1" ∷ codes "F2" ∷ []) ≡ None
+unfolding clap_on_literals line
+no_request_append_to_two = refl
 
 no_request_of_no_words : request_of [] ≡ None
 unfolding clap_on_literals line

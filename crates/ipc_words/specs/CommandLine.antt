@@ -28,6 +28,10 @@ raw = flag (codes "raw")
 abbrev pub name : Rule
 name = word (codes "NAME")
 
+-- a word that has to stand at its place
+abbrev pub target : Rule
+target = record (new_rule (codes "TARGET")) { required = true }
+
 abbrev pub command : Text → List Rule → Shape
 command name rules = record (new_shape name) { rules = rules }
 
@@ -43,6 +47,10 @@ schema_shape = command (codes "schema") (name ∷ [])
 unfoldable pub rows_shape : Shape
 rows_shape = command (codes "rows") (name ∷ [])
 
+-- append TARGET
+unfoldable pub append_shape : Shape
+append_shape = command (codes "append") (target ∷ [])
+
 -- the program: one command of these has to stand first; `--help` and `--version` are known, the command `help` is not
 unfoldable pub command_line : App
 command_line = record {
@@ -53,5 +61,5 @@ command_line = record {
     has_version = true;
     subcommand_required = true;
   };
-  subs = stream_shape ∷ schema_shape ∷ rows_shape ∷ [];
+  subs = stream_shape ∷ schema_shape ∷ rows_shape ∷ append_shape ∷ [];
 }

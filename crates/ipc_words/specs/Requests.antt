@@ -27,6 +27,8 @@ pub data Request : Type 0 where
   schema : Option Text → Request
   -- the same
   rows : Option Text → Request
+  -- the name of the file that the input's stream is appended to
+  append : Text → Request
 
 -- ── what the options and places of a command say, by the rows that `clap` found ──
 
@@ -74,12 +76,17 @@ schema_in found = Some (schema (name_in found))
 abbrev pub rows_in : List Row → Option Request
 rows_in found = Some (rows (name_in found))
 
+-- TARGET, which may be `-` like any other name
+abbrev pub append_in : List Row → Option Request
+append_in found = option_map append (first_of (codes "TARGET") found)
+
 -- what a command asks for, by its name and what `clap` found of its own words
 unfoldable pub asked_by : Text → List Row → Option Request
 asked_by name found =
     if bytes_eq name (codes "stream") then stream_in found
     else if bytes_eq name (codes "schema") then schema_in found
     else if bytes_eq name (codes "rows") then rows_in found
+    else if bytes_eq name (codes "append") then append_in found
     else None
 
 abbrev pub asked : Option (Text × List Row) → Option Request

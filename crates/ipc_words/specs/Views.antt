@@ -3,7 +3,7 @@ use Rattle.std.specs.Prelude.{ℕ, List, Vec, map, option_map}
 use Rattle.std.specs.declared.alloc.Global.{Global}
 use Rattle.std.specs.Borrow.{Bor}
 use Rattle.clap.specs.Walk.{Text}
-use Rattle.ipc_words.specs.Requests.{Request, Stream, rows, schema, stream}
+use Rattle.ipc_words.specs.Requests.{Request, Stream, append, rows, schema, stream}
 use Rattle.ipc_words.specs.declared.requests.Stream.{Stream as GivenStream}
 use Rattle.ipc_words.specs.declared.requests.Request.{Request as Given}
 use Rattle.ipc_words.specs.declared.requests.Request.TheVariants as given
@@ -24,3 +24,4 @@ abbrev pub request_view : Given → Request
 request_view (given.Stream s) = stream (stream_view s)
 request_view (given.Schema name) = schema (option_map text name)
 request_view (given.Rows name) = rows (option_map text name)
+request_view (given.Append target) = append (text target)

@@ -1,6 +1,6 @@
 //! The commands of the program, as `clap` is told of them.
 ghost use Rattle.std.specs.Prelude.{IfOk};
-ghost use Rattle.ipc_words.specs.CommandLine.{columns, limit, raw, name, stream_shape, schema_shape, rows_shape, command_line};
+ghost use Rattle.ipc_words.specs.CommandLine.{columns, limit, raw, name, target, stream_shape, schema_shape, rows_shape, append_shape, command_line};
 ghost use Rattle.ipc_words.specs.Commands.{IsArg, Reads, leaf};
 
 use clap::{Arg, ArgAction, Command};
@@ -41,6 +41,14 @@ fn name_word<'a>(alloc: Global) -> Arg<'a>
     )
 }
 
+fn target_word<'a>(alloc: Global) -> Arg<'a>
+    ensures { IsArg target result }
+{
+    Arg::new(alloc, "TARGET")
+        .required(true)
+        .help("The file that is appended to")
+}
+
 fn stream_command<'a>(alloc: Global) -> Result<Command<'a>, AllocError>
     ensures { IfOk result (Reads (leaf stream_shape)) }
 {
@@ -68,6 +76,14 @@ fn rows_command<'a>(alloc: Global) -> Result<Command<'a>, AllocError>
         .arg(name_word(alloc))
 }
 
+fn append_command<'a>(alloc: Global) -> Result<Command<'a>, AllocError>
+    ensures { IfOk result (Reads (leaf append_shape)) }
+{
+    Command::new(alloc, "append")
+        .about("Appends the batches of a stream, which standard input has as hex text, to a file")
+        .arg(target_word(alloc))
+}
+
 /// The program's command line.
 pub(crate) fn program<'a>(alloc: Global) -> Result<Command<'a>, AllocError>
     ensures { IfOk result (Reads command_line) }
@@ -81,5 +97,6 @@ pub(crate) fn program<'a>(alloc: Global) -> Result<Command<'a>, AllocError>
         .subcommand_required(true)
         .subcommand(stream_command(alloc)?)?
         .subcommand(schema_command(alloc)?)?
-        .subcommand(rows_command(alloc)?)
+        .subcommand(rows_command(alloc)?)?
+        .subcommand(append_command(alloc)?)
 }

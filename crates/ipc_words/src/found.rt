@@ -1,5 +1,5 @@
 //! What `clap` found of a command's own words.
-ghost use Rattle.std.specs.Prelude.{◌≡◌, IfOk, IfErr, Some, None, option_map};
+ghost use Rattle.std.specs.Prelude.{◌≡◌, IfOk, IfErr, Some, None, codes, option_map};
 ghost use Rattle.clap.specs.Walk.{first_of, rows_of};
 ghost use Rattle.clap.specs.Words.{found_of};
 ghost use Rattle.ipc_words.specs.Requests.{columns_in, is_on, limit_in, name_in};
@@ -57,6 +57,13 @@ pub(crate) fn read_limit(found: &ArgMatches<'_>) -> Result<Option<usize>, WordsE
         },
         None => Ok(None),
     }
+}
+
+/// TARGET
+pub(crate) fn read_target<'a>(found: &ArgMatches<'a>) -> Option<&'a str>
+    ensures { option_map text result ≡ first_of (codes "TARGET") (rows_of (found_of found.now)) }
+{
+    text_in(found, "TARGET")
 }
 
 /// [NAME], where `-` stands for the input.

@@ -22,4 +22,6 @@ pub enum Request<'a> {
     Schema(Option<&'a str>),
     /// The number of a file's rows, likewise.
     Rows(Option<&'a str>),
+    /// The batches of the stream that the input has as hex text, at the end of the file of this name.
+    Append(&'a str),
 }

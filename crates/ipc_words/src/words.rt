@@ -2,12 +2,12 @@
 ghost use Rattle.std.specs.Prelude.{◌≡◌, ◌≢◌, IfOk, IfErr, Some, None};
 ghost use Rattle.clap.specs.Walk.{rows_of};
 ghost use Rattle.clap.specs.Words.{found_of, kind_of, subcommand_rows_of};
-ghost use Rattle.ipc_words.specs.Requests.{asked, asked_by, request_of, stream_in};
+ghost use Rattle.ipc_words.specs.Requests.{append_in, asked, asked_by, request_of, stream_in};
 ghost use Rattle.ipc_words.specs.Views.{request_view, texts};
 ghost use Rattle.ipc_words.specs.declared.words_error.WordsError.TheVariants.{NoRequest};
 
 use crate::command_line::program;
-use crate::found::{is_flag_in, read_columns, read_limit, read_name};
+use crate::found::{is_flag_in, read_columns, read_limit, read_name, read_target};
 use crate::requests::{Request, Stream};
 use crate::words_error::WordsError;
 use clap::error::ErrorKind;
@@ -28,6 +28,16 @@ fn read_stream<'a>(alloc: Global, found: &ArgMatches<'a>) -> Result<Request<'a>,
     }))
 }
 
+fn read_append<'a>(found: &ArgMatches<'a>) -> Result<Request<'a>, WordsError>
+    ensures asked { IfOk result (λ r. append_in (rows_of (found_of found.now)) ≡ Some (request_view r)) }
+    ensures refused { IfErr result (λ e. e ≡ NoRequest → append_in (rows_of (found_of found.now)) ≡ None) }
+{
+    match read_target(found) {
+        Some(target) => Ok(Request::Append(target)),
+        None => Err(WordsError::NoRequest),
+    }
+}
+
 // What a command asks for, by its name and what was found of its own words.
 fn read_command<'a>(
     alloc: Global,
@@ -45,6 +55,9 @@ fn read_command<'a>(
     }
     if name == "rows" {
         return Ok(Request::Rows(read_name(found)));
+    }
+    if name == "append" {
+        return read_append(found);
     }
     Err(WordsError::NoRequest)
 }

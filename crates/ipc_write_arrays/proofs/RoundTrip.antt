@@ -28,7 +28,7 @@ use Rattle.arrow_arrays.proofs.HeadSliced.{Sound, place_at-part, fault-part, hea
 use Rattle.arrow_arrays.proofs.Sliced.{top_sound, neither, length-cells}
 use Rattle.ipc_write_laws.specs.Columns.{WrittenColumn, Means}
 use Rattle.ipc_write_laws.specs.Streams.{AreOf}
-use Rattle.ipc_write_arrays.specs.Dictionaries.{KeyFits, dictionary_id, is_alike, first_kind, other_fields, HoldsValues, HoldsValuesAt, HoldsEachAt}
+use Rattle.ipc_write_arrays.specs.Dictionaries.{Begins, KeyFits, dictionary_id, is_alike, first_kind, other_fields, HoldsValues, HoldsValuesAt, HoldsEachAt}
 use Rattle.ipc_bodies.specs.Fitting.{offset_limit}
 use Rattle.ipc_write_arrays.specs.Pieces.{HeadFit, TagsFit, LeafFit, Fit, FitEach, column_in, with_kind, key_written, tree_nodes, tree_pieces}
 use Rattle.ipc_write_arrays.specs.Trims.{counted_from, listed_trim, head_trim, held_between, held_by, trim, trim_each, sent}
@@ -143,7 +143,7 @@ module _ (order : Order) (d : Dictionaries) (o n : ℕ) where
       subst (λ r. Means order d r (trimmed order o n h cs)) rows
       (dense_mean order d k (part o n types) (part o n offsets) cs (and_parts (is_union true k) (are_of (child_fields k) ks) s.suits).0 (long ∙ sym rows) sound.types there fit.0 fit.1 kinds good)
 
-  indexed_mean : (x : Indexed) (ks : List Kind) (ns : List ℕ) (css : List (List Cell)) → Sound (indexed x) ks ns → o + n ≤ length x.keys → AllByRecursion (λ key. KeyFits x.index key) (part o n x.keys) → length (joined css) ≡ sum ns → found d (dictionary_id x.kind) ≡ Some (joined css)
+  indexed_mean : (x : Indexed) (ks : List Kind) (ns : List ℕ) (css : List (List Cell)) → Sound (indexed x) ks ns → o + n ≤ length x.keys → AllByRecursion (λ key. KeyFits x.index key) (part o n x.keys) → length (joined css) ≡ sum ns → Begins (joined css) (found d (dictionary_id x.kind))
       → Means order d n (one_column x.kind (length (part o n x.keys)) (null_rows (option_map (part o n) x.validity)) (validity_bytes (option_map (part o n) x.validity) ∷ flat_map (key_written order x.index) (part o n x.keys) ∷ []) [] (part o n (head_cells (indexed x) css)))
   indexed_mean x ks ns css s le fit long held =
       let rows : length (part o n x.keys) ≡ n = length-part x.keys o n le in
@@ -155,7 +155,7 @@ module _ (order : Order) (d : Dictionaries) (o n : ℕ) where
       let suits = (and_parts (is_dictionary x.index x.kind) (are_under h ks) s.suits).0 in
       subst (λ xs. Means order d n (one_column x.kind (length (part o n x.keys)) (null_rows v) (validity_bytes v ∷ flat_map (key_written order x.index) (part o n x.keys) ∷ []) [] xs)) (head_cells-trim o n h ns css s.offsets le)
       (subst (λ r. Means order d r (one_column x.kind (length (part o n x.keys)) (null_rows v) (validity_bytes v ∷ flat_map (key_written order x.index) (part o n x.keys) ∷ []) [] (head_cells (indexed (indexed_part o n x)) css))) rows
-      (keys_mean order d x.kind x.index (part o n x.keys) v css suits there fit known held))
+      (keys_mean order d x.kind x.index (part o n x.keys) v css suits there fit known held.0 held.1))
 
   head_mean : (h : Head) (ks : List Kind) (ns ms : List ℕ) (cs : List WrittenColumn) → not (is_indexed h) ≡ true → Sound h ks ns → o + n ≤ head_rows h → HeadFit (head_trim o n h) ms → length cs ≡ length ms → length ms ≡ length ns → AreOf (child_fields (head_kind h)) cs
       → AreCut order d (held_by o n h) cs → CutRows (held_by o n h) ns cs → Means order d n (trimmed order o n h cs)

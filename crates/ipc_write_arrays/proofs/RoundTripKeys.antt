@@ -1,9 +1,9 @@
 -- Columns of dictionaries mean the values that their keys count into.
-use Rattle.std.proofs.Common.{◌≡◌, ℕ, ◌+◌, ◌*◌, ◌^◌, ◌<◌, List, [], ◌∷◌, length, get_or, Option, Some, Bool, true, false, ℤ, pos, negsuc, refl, sym, ap, subst, ◌∙◌, arith}
+use Rattle.std.proofs.Common.{◌≡◌, ◌++◌, ◌≤◌, length-append, zero, suc, ℕ, ◌+◌, ◌*◌, ◌^◌, ◌<◌, List, [], ◌∷◌, length, get_or, Option, Some, Bool, true, false, ℤ, pos, negsuc, refl, sym, ap, subst, ◌∙◌, arith}
 use Rattle.std.specs.Prelude.{◌&&◌}
 use Rattle.std.specs.Int.{Width, w8, w16, w32, w64, w128, byte_len}
-use Rattle.std.specs.List.{flat_map, AllByRecursion}
-use Rattle.std.proofs.lemmas.Bool.{eqb-true}
+use Rattle.std.specs.List.{flat_map, slice_get, AllByRecursion}
+use Rattle.std.proofs.lemmas.Bool.{eqb-true, leb-false, lt-leb}
 use Rattle.std.proofs.lemmas.List.Elements.{All-from_recursion}
 use Rattle.arrow_spec.specs.declared.error.IpcError.{IpcError}
 use Rattle.arrow_spec.specs.declared.types.IntegerType.{IntegerType}
@@ -14,7 +14,7 @@ use Rattle.arrow_spec.specs.Kinds as kind
 use Rattle.arrow_spec.specs.Kinds.{Kind, is_same_integer, integer_number}
 use Rattle.arrow_spec.specs.Cells.{Cell}
 use Rattle.arrow_spec.specs.Counts.{RecordBatch, Place, magnitude}
-use Rattle.arrow_spec.specs.Arrays.{Dictionaries, found, unsigned_in, integer_in, integer_width, if_valid, valid, from_on, keyed}
+use Rattle.arrow_spec.specs.Arrays.{Dictionaries, cell_or_null, found, unsigned_in, integer_in, integer_width, if_valid, valid, from_on, keyed}
 use Rattle.arrow_spec.specs.Faults.{fixed_faults, key_faults, if_sound, some_row}
 use Rattle.arrow_spec.specs.Framing.{validity_bytes}
 use Rattle.arrow_spec.specs.Bodies.{BufferHeld}
@@ -92,21 +92,44 @@ module _ (order : Order) (keys : List ℤ) (m : RecordBatch) (i : ℕ) (one : m.
   key_read UInt32 held fit row lt = natural_read w32 held fit row lt
   key_read UInt64 held fit row lt = natural_read w64 held fit row lt
 
+-- ── values that go on ──
+
+-- a key of some values is one of more
+fewer_bad : (b : Bool) (n m : ℕ) (key : ℤ) → n ≤ m → (b && is_bad_key n key) ≡ false → (b && is_bad_key m key) ≡ false
+fewer_bad false n m key le h = refl
+fewer_bad true n m (negsuc k) le h = h
+fewer_bad true n m (pos k) le h = lt-leb m k (omega (arith, le, leb-false n k h))
+
+front_row : (xs ys : List Cell) (i : ℕ) → i < length xs → slice_get (xs ++ ys) i ≡ slice_get xs i
+front_row [] ys i lt = absurd (omega (arith, lt))
+front_row (x ∷ xs) ys zero lt = refl
+front_row (x ∷ xs) ys (suc i) lt = front_row xs ys i (omega (arith, lt))
+
+-- and counts into the same
+front_key : (xs ys : List Cell) (key : ℤ) → is_bad_key (length xs) key ≡ false → keyed (Some (xs ++ ys)) key ≡ keyed (Some xs) key
+front_key xs ys (negsuc k) h = cc
+front_key xs ys (pos k) h = ap cell_or_null (front_row xs ys k (leb-false (length xs) k h))
+
 -- ── columns ──
 
 module _ (order : Order) (d : Dictionaries) (k : Kind) (t : IntegerType) (keys : List ℤ) (v : Option (List Bool)) (css : List (List Cell)) (suits : is_dictionary t k ≡ true) (bits_there : has_rows v (length keys) ≡ true) (fit : AllByRecursion (λ x. KeyFits t x) keys) (known : have_keys (length (joined css)) keys v ≡ true)
-    (values : found d (dictionary_id k) ≡ Some (joined css)) where
+    (more : List Cell) (values : found d (dictionary_id k) ≡ Some (joined css ++ more)) where
+  own_key : (row : ℕ) → row < length keys → (is_valid v row && is_bad_key (length (joined css)) (number_at keys row)) ≡ false
+  own_key row lt =
+      let size = length (joined css) in
+      none_below (λ j. is_valid v j && is_bad_key size (number_at keys j)) (length keys) (not_true (some_row (λ j. is_valid v j && is_bad_key size (number_at keys j)) (length keys)) known) row lt
+
   module _ (m : RecordBatch) (p : Place) (one : m.order ≡ order) (h : Headed m p (length keys) v) (held : BufferHeld m (p.buffer + 1) (flat_map (key_written order t) keys)) where
-    none_bad : (row : ℕ) → row < length keys → (valid m p row && is_bad_key (length (joined css)) (integer_in m t (p.buffer + 1) row)) ≡ false
+    none_bad : (row : ℕ) → row < length keys → (valid m p row && is_bad_key (length (joined css ++ more)) (integer_in m t (p.buffer + 1) row)) ≡ false
     none_bad row lt =
-        let size = length (joined css) in
+        let size = length (joined css ++ more) in
         ap (λ b. b && is_bad_key size (integer_in m t (p.buffer + 1) row)) (valid_by m p (length keys) v row h lt)
         ∙ ap (λ key. is_valid v row && is_bad_key size key) (key_read order keys m (p.buffer + 1) one t held fit row lt)
-        ∙ none_below (λ j. is_valid v j && is_bad_key size (number_at keys j)) (length keys) (not_true (some_row (λ j. is_valid v j && is_bad_key size (number_at keys j)) (length keys)) known) row lt
+        ∙ fewer_bad (is_valid v row) (length (joined css)) size (number_at keys row) (omega (arith, length-append (joined css) more)) (own_key row lt)
 
-    keys_good : key_faults m (Some (joined css)) t (dictionary_id k) p (length keys) ≡ []
+    keys_good : key_faults m (Some (joined css ++ more)) t (dictionary_id k) p (length keys) ≡ []
     unfolding key_faults
-    keys_good = rw (none_from (λ row. valid m p row && is_bad_key (length (joined css)) (integer_in m t (p.buffer + 1) row)) (length keys) none_bad) refl
+    keys_good = rw (none_from (λ row. valid m p row && is_bad_key (length (joined css ++ more)) (integer_in m t (p.buffer + 1) row)) (length keys) none_bad) refl
 
     keys_right : keys_faults d t (dictionary_id k) m p (length keys) ≡ []
     keys_right = rw (fixed_right m p (byte_len (integer_width t)) (length keys) v (flat_map (key_written order t) keys) h held (omega (arith, length-keys order t keys)), values, keys_good) refl
@@ -114,7 +137,8 @@ module _ (order : Order) (d : Dictionaries) (k : Kind) (t : IntegerType) (keys :
     keys_told : from_on (key_row d t (dictionary_id k) m p) 0 (length keys) ≡ masked v (from_on (indexed_cell keys css) 0 (length keys))
     keys_told =
         cells_told m p (length keys) v (key_row d t (dictionary_id k) m p) (key_value d t (dictionary_id k) m p) (indexed_cell keys css) h (λ row. refl)
-        (λ row lt e. ap (λ xs. keyed xs (integer_in m t (p.buffer + 1) row)) values ∙ ap (keyed (Some (joined css))) (key_read order keys m (p.buffer + 1) one t held fit row lt))
+        (λ row lt e. ap (λ xs. keyed xs (integer_in m t (p.buffer + 1) row)) values ∙ ap (keyed (Some (joined css ++ more))) (key_read order keys m (p.buffer + 1) one t held fit row lt)
+        ∙ front_key (joined css) more (number_at keys row) (subst (λ b. (b && is_bad_key (length (joined css)) (number_at keys row)) ≡ false) e (own_key row lt)))
 
   -- a column of keys means the values that they count into
   pub keys_mean : Means order d (length keys) (one_column k (length keys) (null_rows v) (validity_bytes v ∷ flat_map (key_written order t) keys ∷ []) [] (masked v (from_on (indexed_cell keys css) 0 (length keys))))

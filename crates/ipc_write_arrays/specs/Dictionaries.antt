@@ -1,10 +1,11 @@
 -- The dictionaries that the keys of an array count into, and which keys are numbers of a type. (Arrow Columnar Format, "Dictionary-encoded Layout".)
-use Rattle.std.specs.Prelude.{◌≡◌, ℕ, ◌^◌, ◌<◌, Bool, Some, ℤ, pos, negsuc, FitsSigned}
+use Rattle.std.specs.Prelude.{◌≡◌, ◌++◌, ℕ, ◌^◌, ◌<◌, List, Bool, Option, Some, ℤ, pos, negsuc, FitsSigned}
 use Rattle.std.specs.Int.{w8, w16, w32, w64, w128}
 use Rattle.arrow_spec.specs.declared.types.IntegerType.{IntegerType}
 use Rattle.arrow_spec.specs.declared.types.IntegerType.TheVariants.{Int8, Int16, Int32, Int64, Int128, UInt8, UInt16, UInt32, UInt64}
 use Rattle.arrow_spec.specs.Kinds as kind
 use Rattle.arrow_spec.specs.Kinds.{Kind, Fields, is_same_kind}
+use Rattle.arrow_spec.specs.Cells.{Cell}
 use Rattle.arrow_spec.specs.Arrays.{Dictionaries, found}
 use Rattle.arrow_arrays.specs.Heads.{indexed, joined, child_fields}
 use Rattle.arrow_arrays.specs.Parts.{Parts, Forest, leaf, nested, none, also, kind_in, cells_each}
@@ -48,11 +49,15 @@ abbrev pub other_fields : Fields → Fields
 other_fields kind.none = kind.none
 other_fields (kind.field name nullable metadata k others) = others
 
--- The values of each dictionary that stands in an array were read under the id that a kind alike to the array's states for it. Of those below values nothing is asked: they were read with these.
+-- what is known under an id begins with some values: those are all, or others go on with them
+abbrev pub Begins : List Cell → Option (List Cell) → Type 0
+Begins xs known = (more : List Cell) × (known ≡ Some (xs ++ more))
+
+-- The values of each dictionary that stands in an array were read under the id that a kind alike to the array's states for it, first of what was. Of those below values nothing is asked: they were read with these.
 abbrev mutual
   pub HoldsValuesAt : Dictionaries → Kind → Parts → Type 0
   HoldsValuesAt d k (leaf l) = Unit {0}
-  HoldsValuesAt d k (nested (indexed x) cs) = found d (dictionary_id k) ≡ Some (joined (cells_each cs))
+  HoldsValuesAt d k (nested (indexed x) cs) = Begins (joined (cells_each cs)) (found d (dictionary_id k))
   HoldsValuesAt d k (nested h cs) = HoldsEachAt d (child_fields k) cs
 
   pub HoldsEachAt : Dictionaries → Fields → Forest → Type 0

@@ -1,28 +1,37 @@
 -- The message of a schema with which a stream is begun.
-use Rattle.std.proofs.Common.{◌≡◌, ◌⊎◌, inl, inr, ℕ, ◌%◌, ◌<◌, ◌≤◌, ◌^◌, List, [], ◌∷◌, Bool, true, false, length, min, Option, None, Some, Result, Ok, Err, refl, sym, ap, ◌∙◌, subst, arith}
+use Rattle.std.proofs.Common.{◌≡◌, ◌⊎◌, inl, inr, ℕ, ◌%◌, ◌<◌, ◌≤◌, ◌^◌, List, [], ◌∷◌, Bool, true, false, length, min, Option, None, Some, Result, Ok, Err, refl, sym, ap, ◌∙◌, subst, append-nil, arith}
 use Rattle.std.specs.Prelude.{IfErr, IfOk, is_some, nat_le}
 use Rattle.std.specs.declared.alloc.Global.{Global}
 use Rattle.std.specs.declared.vec.Vec.{Vec}
-use Rattle.std.proofs.lemmas.Bool.{le-leb, lt-leb}
+use Rattle.std.proofs.lemmas.Bool.{le-leb, leb-true, lt-leb}
 use Rattle.arrow_spec.specs.declared.error.IpcError.{IpcError}
 use Rattle.arrow_spec.specs.declared.error.IpcError.TheVariants as errors
 use Rattle.arrow_spec.specs.declared.error.Feature.TheVariants.{Compression}
 use Rattle.arrow_spec.specs.Features.{floats_in}
-use Rattle.arrow_spec.specs.Flat.{little, order_by}
+use Rattle.arrow_spec.specs.Flat.{Order, little, order_by}
 use Rattle.arrow_spec.specs.Framing.{message_bytes}
 use Rattle.arrow_spec.specs.Kinds.{Fields, Metadata}
 use Rattle.arrow_spec.specs.Layout.{Node, layout, size, up_to}
 use Rattle.arrow_spec.specs.Readings.{IsAmong, Reading, Refuses, bind, free_of, is_absent, refusals, unless}
-use Rattle.arrow_spec.specs.Regular.{representable}
+use Rattle.arrow_spec.specs.Laws.{AreBytes}
+use Rattle.arrow_spec.specs.Messages.{Message}
+use Rattle.arrow_spec.specs.Regular.{regular, representable}
+use Rattle.arrow_spec.specs.Schema.{Schema}
 use Rattle.arrow_spec.specs.Sent.{schema_node}
+use Rattle.arrow_spec.specs.Streams.{schema_message_of}
+use Rattle.arrow_spec.specs.WrittenSchemas.{Ascend, IdsMayBeWritten, SchemaMayBeWritten, own_fields}
+use Rattle.arrow_spec.proofs.NextMessages.{length-layout}
+use Rattle.arrow_spec.proofs.ReadPairs.{is_true, same_read, through}
+use Rattle.arrow_spec.proofs.ReadSchemas.{read_may}
 use Rattle.arrow_types.specs.Schemas.{Keyed, fields_in}
 use Rattle.ipc_fields.specs.IpcFields.{Ids, fields_with, ids_of, metadata_of}
 use Rattle.ipc_fields.specs.declared.ipc_field.IpcField.{IpcField}
 use Rattle.schema_writer.specs.Serialized.{IsOfMessage, belong_to, serialized, written}
+use Rattle.schema_writer.specs.Texts.{PairsAscend, ReadsBackAs}
 use Rattle.ipc_write.specs.declared.options.WriteOptions.{WriteOptions}
 use Rattle.ipc_write_messages.specs.Fields.{AreIdsFor}
 use Rattle.ipc_write_messages.specs.declared.pairs.StreamPairs.{StreamPairs}
-use Rattle.ipc_write_messages.specs.Schemas.{GivesText, IsNoStart, IsRefusedAs, begun_message, begun_metadata, features_checked, stream_text}
+use Rattle.ipc_write_messages.specs.Schemas.{GivesText, IsNoStart, IsRefusedAs, SchemaIsSaid, StartMayBeWritten, begun_message, begun_metadata, features_checked, stream_text}
 use Rattle.ipc_write_messages.proofs.Planning.{only_memory}
 
 -- ── readings ──
@@ -175,3 +184,62 @@ no_start e options s given pairs items i (inr h) = inr (record {
   ids = i;
   refused = h;
 })
+
+-- ── what may be written ──
+
+-- the schema that is read of bytes
+read_said : (b : List ℕ) (x : Message × Schema) → AreBytes b → schema_message_of b ≡ Ok x → SchemaMayBeWritten x.1.fields x.1.metadata × IdsMayBeWritten x.1.fields
+unfolding schema_message_of
+read_said b x bytes h =
+    through _ _ x h λ m m_is h1. through _ _ x h1 λ v v_is h2. through _ _ x h2 λ s s_is h3.
+    subst (λ (y : Message × Schema). SchemaMayBeWritten y.1.fields y.1.metadata × IdsMayBeWritten y.1.fields) (same_read _ x h3) (read_may b m.header s bytes s_is)
+
+said : (order : Order) (fs : Fields) (pairs : Metadata) (b : List ℕ) → ReadsBackAs order fs pairs b → AreBytes b → regular fs pairs ≡ true → SchemaIsSaid fs pairs
+said order fs pairs b back bytes reg =
+    let read = back reg [] in
+    let both = read_said b (read.0, record { order = order; fields = own_fields fs; metadata = pairs }) bytes (ap schema_message_of (sym (append-nil b)) ∙ read.1) in
+    record { schema = both.0; ids = both.1 }
+
+pub start_may : (order : Order) (fs : Fields) (own custom : Metadata) (pairs : StreamPairs) (b ms : List ℕ) → own ≡ metadata_of pairs.schema → custom ≡ metadata_of pairs.message → length (metadata_of pairs.message) ≤ 1048576 → ReadsBackAs order fs own b → ms ≡ b → AreBytes ms → PairsAscend custom
+    → StartMayBeWritten fs pairs
+start_may order fs own custom pairs b ms e f few back is bytes up = record {
+  said = λ reg. subst (SchemaIsSaid fs) e (said order fs own b back (subst AreBytes is bytes) (ap (regular fs) e ∙ reg));
+  message = record { ascend = subst (Ascend []) f up.ascend; few = few };
+}
+
+-- where a call answers
+pub may_if_ok : (r : Result (Vec ℕ Global) IpcError) (fs : Fields) (pairs : StreamPairs) → StartMayBeWritten fs pairs → IfOk r (λ _. StartMayBeWritten fs pairs)
+may_if_ok (Ok v) fs pairs h = h
+may_if_ok (Err e) fs pairs h = tt
+
+-- ── what was checked of a message ──
+
+-- the message of a schema without floats, whose metadata is not too large
+pub record TextIs (options : WriteOptions) (fs : Fields) (below : Ids) (pairs : StreamPairs) (bytes : List ℕ) : Type 0 where
+  pub floats : floats_in fs ≡ []
+  pub small : up_to 8 (size (begun_message fs below pairs).node) ≤ 2147483647
+  pub bytes_are : bytes ≡ message_bytes (begun_message fs below pairs).node []
+
+none_free : (es : List IpcError) (u : Unit {0}) → free_of es ≡ Ok u → es ≡ []
+none_free [] u h = refl
+none_free (e ∷ es) u h = cc
+
+no_floats : (options : WriteOptions) (floats : List IpcError) → features_checked options floats ≡ Ok tt → floats ≡ []
+no_floats options floats h = through (unless (is_absent options.compression) (errors.Unsupported Compression)) _ tt h λ u plain k. none_free floats tt k
+
+-- no more than the limit
+short : (limit : ℕ) (n : Node) (metadata : List ℕ) → metadata ≡ layout n → nat_le (up_to 8 (length metadata)) (min limit 2147483647) ≡ true → up_to 8 (size n) ≤ 2147483647
+short limit n metadata e h =
+    let most : up_to 8 (length metadata) ≤ min limit 2147483647 = leb-true (up_to 8 (length metadata)) (min limit 2147483647) h in
+    subst (λ k. up_to 8 k ≤ 2147483647) (ap length e ∙ length-layout n) (omega (arith, most))
+
+pub text_is : (options : WriteOptions) (fs : Fields) (below : Ids) (pairs : StreamPairs) (bytes : List ℕ) → stream_text options fs below pairs ≡ Ok bytes → TextIs options fs below pairs bytes
+text_is options fs below pairs bytes h =
+    through (features_checked options (floats_in fs)) _ bytes (sym (as_steps options fs below pairs) ∙ h) λ u plain h1.
+    through (begun_metadata fs below pairs) (behind options fs below pairs) bytes h1 λ metadata metadata_is h2.
+    through (unless (nat_le (up_to 8 (length metadata)) (min options.metadata_limit 2147483647)) errors.TooLarge) _ bytes h2 λ v small h3.
+    record {
+      floats = no_floats options (floats_in fs) plain;
+      small = short options.metadata_limit (begun_message fs below pairs).node metadata (written_layout fs below pairs metadata metadata_is) (is_true _ _ v small);
+      bytes_are = sym (same_read (message_bytes (begun_message fs below pairs).node []) bytes h3);
+    }

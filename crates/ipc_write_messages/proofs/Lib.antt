@@ -3,5 +3,6 @@ pub mod Columns
 pub mod Finding
 pub mod Floats
 pub mod GivenFields
+pub mod Lengths
 pub mod Planning
 pub mod Putting

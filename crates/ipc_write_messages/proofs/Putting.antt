@@ -1,5 +1,5 @@
 -- Messages that are put one after another, and where a put stops.
-use Rattle.std.proofs.Common.{◌≡◌, inl, ℕ, ◌+◌, ◌<◌, List, [], ◌∷◌, ◌++◌, Bool, true, false, length, take, drop, get_or, Option, None, Some, Result, Ok, Err, refl, sym, ap, ◌∙◌, subst, append-nil, arith}
+use Rattle.std.proofs.Common.{◌≡◌, inl, ℕ, ◌+◌, ◌<◌, List, [], ◌∷◌, ◌++◌, Bool, true, false, length, map, take, drop, get_or, Option, None, Some, Result, Ok, Err, refl, sym, ap, ◌∙◌, subst, append-nil, arith}
 use Rattle.std.specs.List.{flat_map}
 use Rattle.std.specs.Result.{IsErrAnd}
 use Rattle.std.specs.Io.KnownBytes.{Appends, Keeps}
@@ -17,8 +17,9 @@ use Rattle.arrow_arrays.specs.Batches.{Batch}
 use Rattle.ipc_dictionaries.specs.NewDictionaries.{ToSend}
 use Rattle.ipc_write.specs.declared.options.WriteOptions.{WriteOptions}
 use Rattle.ipc_write_messages.specs.declared.messages.PlannedMessage.{PlannedMessage}
-use Rattle.ipc_write_messages.specs.Messages.{IsChunkPlanned, MayBeSent, chunk_text, planned_text}
-use Rattle.ipc_write_messages.specs.Puts.{PutsBehind, PutsOrStops, SendStops, SendsChunk, StopsIn, Untouched, stop_behind}
+use Rattle.ipc_write_messages.specs.Messages.{IsChunkPlanned, MayBeSent, chunk_text, planned_sizes, planned_text, total}
+use Rattle.ipc_write_messages.specs.Puts.{PutsBehind, PutsOrStops, SendStops, SendsChunk, StopsIn, Untouched, counted, stop_behind}
+use Rattle.ipc_write_messages.proofs.Lengths.{chunk_length}
 
 -- ── nothing is put ──
 
@@ -131,7 +132,13 @@ stops_so : (b : Bool) (m : Moved) (e : IpcError) (options : WriteOptions) (sent 
 stops_so true m e options sent x text h k q = (h, subst (PutsPart m e) k q)
 stops_so false m e options sent x text h k q = (inl q.0, q.1)
 
-pub chunk_sent : (m : Moved) (r : Result (Unit {0}) Stop) (options : WriteOptions) (sent : List ToSend) (x : Batch) (ps qs : List PlannedMessage) → ps ≡ qs → IsChunkPlanned options sent x qs → PutsOrStops m r (flat_map planned_text ps)
+pub chunk_sent : (m : Moved) (n : ℕ) (options : WriteOptions) (sent : List ToSend) (x : Batch) (ps qs : List PlannedMessage) → ps ≡ qs → IsChunkPlanned options sent x qs → PutsOrStops m (Ok tt) (flat_map planned_text ps)
+    → n ≡ counted (total (map planned_sizes ps)) → SendsChunk m (Ok n) options sent x
+chunk_sent m n options sent x ps qs e h p k =
+    (h.may, subst (Appends m.old m.new) (ap (flat_map planned_text) e ∙ h.text) p.0, p.1, k ∙ ap (λ ys. counted (total (map planned_sizes ys))) e ∙ ap (λ ys. counted (total ys)) h.sizes ∙ ap counted (chunk_length sent x))
+
+pub chunk_stops : (m : Moved) (s : Stop) (r : Result ℕ Stop) (options : WriteOptions) (sent : List ToSend) (x : Batch) (ps qs : List PlannedMessage) → IsErrAnd r (λ t. t ≡ s) → ps ≡ qs → IsChunkPlanned options sent x qs → PutsOrStops m (Err s) (flat_map planned_text ps)
     → SendsChunk m r options sent x
-chunk_sent m (Ok u) options sent x ps qs e h p = (h.may, subst (Appends m.old m.new) (ap (flat_map planned_text) e ∙ h.text) p.0, p.1)
-chunk_sent m (Err s) options sent x ps qs e h p = stops_so s.has_begun m s.error options sent x (flat_map planned_text ps) h.may (ap (flat_map planned_text) e ∙ h.text) p
+chunk_stops m s (Ok n) options sent x ps qs f e h p = absurd f
+chunk_stops m s (Err t) options sent x ps qs f e h p =
+    subst (λ (u : Stop). SendStops u.has_begun m u.error options sent x) (sym f) (stops_so s.has_begun m s.error options sent x (flat_map planned_text ps) h.may (ap (flat_map planned_text) e ∙ h.text) p)

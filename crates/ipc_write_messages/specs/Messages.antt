@@ -1,5 +1,5 @@
 -- The messages of a batch and of what of its dictionaries is sent before it, planned. (Arrow Columnar Format, "Dictionary Messages".)
-use Rattle.std.specs.Prelude.{◌≡◌, ◌⊎◌, ◌+◌, ◌++◌, ◌∷◌, [], List, ℕ, length, map, Result, Ok, Err, true}
+use Rattle.std.specs.Prelude.{◌≡◌, ◌⊎◌, ◌+◌, ◌++◌, ◌∷◌, [], List, ℕ, length, map, None, Result, Ok, Err, true}
 use Rattle.std.specs.List.{flat_map, AllByRecursion}
 use Rattle.std.specs.declared.alloc.Global.{Global}
 use Rattle.std.specs.declared.vec.Vec.{Vec}
@@ -8,8 +8,9 @@ use Rattle.arrow_spec.specs.declared.error.IpcError.TheVariants.{Memory}
 use Rattle.arrow_spec.specs.Flat.{little}
 use Rattle.arrow_spec.specs.Framing.{body_bytes, message_bytes, padded_size}
 use Rattle.arrow_spec.specs.Sent.{SentMessage}
+use Rattle.arrow_spec.specs.WrittenSchemas.{CustomMayBeWritten}
 use Rattle.arrow_arrays.specs.Batches.{Batch}
-use Rattle.arrow_arrays.specs.Parts.{Parts}
+use Rattle.arrow_arrays.specs.Parts.{Parts, fault_each, forest}
 use Rattle.ipc_write_laws.specs.Streams.{batch_bytes, written_of}
 use Rattle.ipc_write_arrays.specs.Pieces.{IsMeant, column_in, pieces_in}
 use Rattle.ipc_dictionaries.specs.NewDictionaries.{ToSend}
@@ -27,6 +28,11 @@ use Rattle.ipc_write_messages.specs.declared.messages.PlannedMessage.{PlannedMes
 pub record Sizes : Type 0 where
   pub front : ℕ
   pub body : ℕ
+
+-- how many bytes messages have
+abbrev pub total : List Sizes → ℕ
+total [] = 0
+total (x ∷ xs) = x.front + x.body + total xs
 
 -- the mark, the length and the padded metadata; the body
 abbrev pub sizes_of : SentMessage → Sizes
@@ -86,6 +92,11 @@ abbrev pub PlansEach : Result (Vec PlannedMessage Global) IpcError → WriteOpti
 PlansEach (Ok v) options sent = ArePlanned options sent v.items
 PlansEach (Err e) options sent = (e ≡ Memory) ⊎ RefusesOne e options sent
 
+-- a batch's arrays are sound, and its pairs are texts that ascend by their keys
+pub record IsWhole (b : Batch) : Type 0 where
+  pub sound : fault_each (forest b.arrays) ≡ None
+  pub custom : CustomMayBeWritten b.custom
+
 -- a batch's message is planned
 pub record IsBatchPlanned (options : WriteOptions) (b : Batch) (m : PlannedMessage) : Type 0 where
   pub within : is_within options.metadata_limit b ≡ true
@@ -93,6 +104,7 @@ pub record IsBatchPlanned (options : WriteOptions) (b : Batch) (m : PlannedMessa
   pub sizes : planned_sizes m ≡ sizes_of (batch_message b)
   pub mean : AllMean b.height b.arrays
   pub nodes : NodesFit (columns_written b.arrays)
+  pub whole : IsWhole b
 
 abbrev pub PlansBatch : Result PlannedMessage IpcError → WriteOptions → Batch → Type 0
 PlansBatch (Ok m) options b = IsBatchPlanned options b m
@@ -105,6 +117,7 @@ pub record MayBeSent (options : WriteOptions) (sent : List ToSend) (b : Batch) :
   pub values : AllMayBeValues sent
   pub batch_means : AllMean b.height b.arrays
   pub batch_nodes : NodesFit (columns_written b.arrays)
+  pub batch_whole : IsWhole b
 
 -- the messages of values, and of the batch behind them, are planned
 pub record IsChunkPlanned (options : WriteOptions) (sent : List ToSend) (b : Batch) (ms : List PlannedMessage) : Type 0 where

@@ -1,5 +1,5 @@
 -- What is put into a sink before a call stops.
-use Rattle.std.specs.Prelude.{◌≡◌, ◌⊎◌, List, ℕ, Bool, true, false, Result, Ok, Err}
+use Rattle.std.specs.Prelude.{◌≡◌, ◌⊎◌, List, ℕ, Bool, true, false, length, min, Result, Ok, Err}
 use Rattle.std.specs.Io.KnownBytes.{Appends, Keeps}
 use Rattle.arrow_spec.specs.declared.error.IpcError.{IpcError}
 use Rattle.arrow_spec.specs.declared.error.IpcError.TheVariants.{Memory}
@@ -42,6 +42,10 @@ abbrev pub SendStops : Bool → Moved → IpcError → WriteOptions → List ToS
 SendStops true m e options sent b = MayBeSent options sent b × PutsPart m e (chunk_text sent b)
 SendStops false m e options sent b = ((e ≡ Memory) ⊎ RefusesChunk e options sent b) × Untouched m
 
-abbrev pub SendsChunk : Moved → Result (Unit {0}) Stop → WriteOptions → List ToSend → Batch → Type 0
-SendsChunk m (Ok u) options sent b = MayBeSent options sent b × Appends m.old m.new (chunk_text sent b) × NoneFalls m
+-- a number of bytes in 64 bits: 2^64 - 1 says that there are so many or more
+abbrev pub counted : ℕ → ℕ
+counted n = min n 18446744073709551615
+
+abbrev pub SendsChunk : Moved → Result ℕ Stop → WriteOptions → List ToSend → Batch → Type 0
+SendsChunk m (Ok n) options sent b = MayBeSent options sent b × Appends m.old m.new (chunk_text sent b) × NoneFalls m × (n ≡ counted (length (chunk_text sent b)))
 SendsChunk m (Err s) options sent b = SendStops s.has_begun m s.error options sent b

@@ -1,5 +1,5 @@
 -- The message of a stream's schema. (Arrow Columnar Format, "Schema message".)
-use Rattle.std.specs.Prelude.{◌≡◌, ◌⊎◌, List, [], length, min, nat_le, Result, Ok, Err, Option, ℕ}
+use Rattle.std.specs.Prelude.{◌≡◌, ◌⊎◌, List, [], length, min, nat_le, true, Result, Ok, Err, Option, ℕ}
 use Rattle.std.specs.declared.alloc.Global.{Global}
 use Rattle.std.specs.declared.vec.Vec.{Vec}
 use Rattle.arrow_spec.specs.declared.error.IpcError.{IpcError}
@@ -8,10 +8,12 @@ use Rattle.arrow_spec.specs.declared.error.Feature.TheVariants.{Compression}
 use Rattle.arrow_spec.specs.Features.{floats_in}
 use Rattle.arrow_spec.specs.Flat.{little}
 use Rattle.arrow_spec.specs.Framing.{message_bytes}
-use Rattle.arrow_spec.specs.Kinds.{Fields}
+use Rattle.arrow_spec.specs.Kinds.{Fields, Metadata}
 use Rattle.arrow_spec.specs.Layout.{up_to}
 use Rattle.arrow_spec.specs.Readings.{◌>>=◌, Reading, IsAmong, free_of, is_absent, refusals, unless}
+use Rattle.arrow_spec.specs.Regular.{regular}
 use Rattle.arrow_spec.specs.Sent.{SentMessage, schema_message}
+use Rattle.arrow_spec.specs.WrittenSchemas.{CustomMayBeWritten, IdsMayBeWritten, SchemaMayBeWritten, own_fields}
 use Rattle.arrow_types.specs.Schemas.{Keyed, fields_in}
 use Rattle.ipc_fields.specs.IpcFields.{Ids, fields_with, ids_of, metadata_of}
 use Rattle.schema_writer.specs.Serialized.{written}
@@ -52,11 +54,22 @@ abbrev pub GivesText : Result (Vec ℕ Global) IpcError → Reading (List ℕ) �
 GivesText (Ok v) reading = reading ≡ Ok v.items
 GivesText (Err e) reading = IsRefusedAs e reading
 
+-- a schema may be written, with its ids and its own pairs alone: those of a field whose keys are reserved are said by its type
+pub record SchemaIsSaid (fs : Fields) (pairs : Metadata) : Type 0 where
+  pub schema : SchemaMayBeWritten (own_fields fs) pairs
+  pub ids : IdsMayBeWritten (own_fields fs)
+
+-- it may where it is regular, and so may the pairs of its message
+pub record StartMayBeWritten (fs : Fields) (pairs : StreamPairs) : Type 0 where
+  pub said : regular fs (metadata_of pairs.schema) ≡ true → SchemaIsSaid fs (metadata_of pairs.schema)
+  pub message : CustomMayBeWritten (metadata_of pairs.message)
+
 -- what a stream is begun with, under the ids that are given or under others
 pub record IsStart (options : WriteOptions) (s : List Keyed) (given : Option Ids) (pairs : StreamPairs) (start : StreamStart) : Type 0 where
   pub schema : start.schema ≡ s
   pub ids : AreIdsFor (fields_in s) given (ids_of start.fields.items)
   pub text : stream_text options (fields_in s) (ids_of start.fields.items) pairs ≡ Ok start.message.items
+  pub may : StartMayBeWritten (fields_with (fields_in s) (ids_of start.fields.items)) pairs
 
 -- a schema is refused, under the ids that are given or under others
 pub record IsNoStart (e : IpcError) (options : WriteOptions) (s : List Keyed) (given : Option Ids) (pairs : StreamPairs) : Type 0 where

@@ -1,6 +1,7 @@
 //! The pairs of the message with which a stream begins.
 ghost use Rattle.std.specs.Prelude.{◌≡◌};
 ghost use Rattle.ipc_fields.specs.IpcFields.{metadata_in, metadata_of};
+ghost use Rattle.schema_writer.specs.Texts.{PairsAscend};
 
 use arrow_types::Metadata;
 
@@ -19,5 +20,14 @@ pub fn lent(pairs: &Option<Metadata>) -> Option<&Metadata>
     match pairs {
         None => None,
         Some(pairs) => Some(pairs),
+    }
+}
+
+/// What a map holds are texts, and they ascend by their keys.
+pub(crate) fn are_pairs(pairs: Option<&Metadata>)
+    ensures { PairsAscend (metadata_in pairs.entry) }
+{
+    if let Some(pairs) = pairs {
+        let _ = pairs.len();
     }
 }

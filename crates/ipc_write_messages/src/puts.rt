@@ -4,8 +4,8 @@ ghost use Rattle.std.specs.List.{flat_map};
 ghost use Rattle.arrow_spec.specs.Framing.{body_bytes};
 ghost use Rattle.ipc_bodies.specs.Puts.{moved};
 ghost use Rattle.ipc_dictionaries.specs.Walks.{to_send};
-ghost use Rattle.ipc_write_messages.specs.Messages.{planned_text};
-ghost use Rattle.ipc_write_messages.specs.Puts.{PutsBehind, PutsOrStops, SendsChunk, stop_behind};
+ghost use Rattle.ipc_write_messages.specs.Messages.{planned_sizes, planned_text, total};
+ghost use Rattle.ipc_write_messages.specs.Puts.{counted, PutsBehind, PutsOrStops, SendsChunk, stop_behind};
 
 use crate::messages::{PlannedMessage, chunk_messages};
 use arrow_arrays::RecordBatch;
@@ -119,7 +119,20 @@ pub fn put_messages<W: Sink>(
     Ok(())
 }
 
-/// Puts the messages of values of dictionaries, and of the batch behind them, once all of them are planned.
+/// How many bytes messages have, or 2^64 - 1 where they are more.
+fn text_length(messages: &[PlannedMessage]) -> u64
+    ensures { result ≡ counted (total (map planned_sizes messages.now)) }
+{
+    let mut length = 0_u64;
+    for message in messages {
+        length = length.saturating_add(message.front.len() as u64);
+        length = length.saturating_add(message.body_length as u64);
+    }
+    length
+}
+
+/// Puts the messages of values of dictionaries, and of the batch behind them, once all of them are planned. Gives how many bytes
+/// they have, or 2^64 - 1 where they are more.
 ///
 /// # Errors
 ///
@@ -131,14 +144,18 @@ pub fn send_chunk<W: Sink>(
     batch: &RecordBatch,
     options: &WriteOptions,
     scratch: &mut [u8],
-) -> Result<(), Stop>
+) -> Result<u64, Stop>
     requires { 64 ≤ length scratch.old }
     ensures sends { SendsChunk (moved (W.written sink.old) (W.written sink.new) (W.faults sink.old) (W.faults sink.new) (W.wants sink.old) (W.wants sink.new)) result options.now (map to_send messages.now) batch.now }
     ensures same_references { W.references sink.new ≡ W.references sink.old }
     ensures scratch { length scratch.new ≡ length scratch.old }
 {
     match chunk_messages(alloc, messages, batch, options) {
-        Ok(planned) => put_messages(sink, planned.as_slice(), scratch),
+        Ok(planned) => {
+            let messages = planned.as_slice();
+            put_messages(sink, messages, scratch)?;
+            Ok(text_length(messages))
+        }
         Err(error) => Err(Stop {
             error,
             has_begun: false,

@@ -1,14 +1,15 @@
 //! The message of a stream's schema (Arrow Columnar Format, "Schema message").
-ghost use Rattle.std.specs.Prelude.{◌≡◌, ◌≤◌, length, true};
+ghost use Rattle.std.specs.Prelude.{◌≡◌, ◌≤◌, IfOk, length, true};
 ghost use Rattle.arrow_spec.specs.Features.{floats_in};
+ghost use Rattle.arrow_spec.specs.Laws.{AreBytes};
 ghost use Rattle.arrow_types.specs.Schemas.{fields_in};
-ghost use Rattle.ipc_fields.specs.IpcFields.{ids_of, metadata_of};
+ghost use Rattle.ipc_fields.specs.IpcFields.{fields_with, ids_of, metadata_of};
 ghost use Rattle.ipc_write_messages.specs.Fields.{given_ids};
-ghost use Rattle.ipc_write_messages.specs.Schemas.{Begins, ChecksFeatures, GivesText, stream_text};
+ghost use Rattle.ipc_write_messages.specs.Schemas.{Begins, ChecksFeatures, GivesText, StartMayBeWritten, stream_text};
 
 use crate::features::unsent_feature;
 use crate::fields::fields_for;
-use crate::pairs::{StreamPairs, lent};
+use crate::pairs::{StreamPairs, are_pairs, lent};
 use arrow_spec::{Feature, IpcError};
 use arrow_types::ArrowSchema;
 use ipc_fields::IpcField;
@@ -40,6 +41,13 @@ fn check_features(schema: &ArrowSchema, options: &WriteOptions) -> Result<(), Ip
     }
 }
 
+/// What a slice of bytes holds are bytes.
+fn are_bytes(bytes: &[u8])
+    ensures { AreBytes bytes.now }
+{
+    let _ = bytes;
+}
+
 /// The bytes of the message of a schema, with the pairs of both.
 ///
 /// # Errors
@@ -56,12 +64,15 @@ pub fn schema_text(
 ) -> Result<Vec<u8>, IpcError>
     requires order { ipc_schema.now.is_little_endian ≡ true }
     requires few { length (metadata_of pairs.now.message) ≤ 1048576 }
-    ensures { GivesText result (stream_text options.now (fields_in schema.now) (ids_of ipc_schema.now.fields.items) pairs.now) }
+    ensures gives { GivesText result (stream_text options.now (fields_in schema.now) (ids_of ipc_schema.now.fields.items) pairs.now) }
+    ensures may { IfOk result (λ _. StartMayBeWritten (fields_with (fields_in schema.now) (ids_of ipc_schema.now.fields.items)) pairs.now) }
 {
     check_features(schema, options)?;
     let own = lent(&pairs.schema);
     let custom = lent(&pairs.message);
+    are_pairs(custom);
     let metadata = schema_message(alloc, schema, ipc_schema, own, custom)?;
+    are_bytes(metadata.as_slice());
     if metadata.len().next_multiple_of(8) > options.metadata_limit.min(MOST_METADATA) {
         return Err(IpcError::TooLarge);
     }

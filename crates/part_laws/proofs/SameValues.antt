@@ -1,5 +1,5 @@
 -- Under kinds that are one, names, nullability and metadata aside, the same dictionaries are known and held.
-use Rattle.std.proofs.Common.{◌≡◌, ◌∙◌, ℕ, suc, ◌+◌, Some, true, pos, refl, sym, ap, subst}
+use Rattle.std.proofs.Common.{◌≡◌, ◌∙◌, ℕ, suc, ◌+◌, true, pos, refl, sym, ap, subst}
 use Rattle.arrow_spec.specs.Kinds as kind
 use Rattle.arrow_spec.specs.Kinds.{Kind, Fields, dictionary_count, dictionary_counts, is_same_kind, numbered, numbered_kind}
 use Rattle.arrow_spec.specs.Arrays.{Dictionaries, found}
@@ -7,7 +7,7 @@ use Rattle.arrow_arrays.specs.Heads.{child_fields, indexed, joined}
 use Rattle.arrow_arrays.specs.Parts.{Parts, Forest, leaf, nested, none, also, cells_each}
 use Rattle.ipc_fields.proofs.SameKinds.{form, forms, form_is_same}
 use Rattle.ipc_write_laws.specs.Messages.{Known}
-use Rattle.ipc_write_arrays.specs.Dictionaries.{HoldsEachAt, HoldsValuesAt, dictionary_id, first_kind, other_fields}
+use Rattle.ipc_write_arrays.specs.Dictionaries.{Begins, HoldsEachAt, HoldsValuesAt, dictionary_id, first_kind, other_fields}
 use Rattle.dictionary_laws.specs.Sending.{AllAreKnown, AreKnown}
 
 move : {A B : Type 0} → A ≡ B → A → B
@@ -84,7 +84,7 @@ others_form (kind.field name nullable metadata k fs) = refl
 mutual
   held_form : (d : Dictionaries) (k : Kind) (p : Parts) → HoldsValuesAt d (form k) p ≡ HoldsValuesAt d k p
   held_form d k (leaf l) = refl
-  held_form d k (nested (indexed x) cs) = ap (λ id. found d id ≡ Some (joined (cells_each cs))) (id_form k)
+  held_form d k (nested (indexed x) cs) = ap (λ id. Begins (joined (cells_each cs)) (found d id)) (id_form k)
   held_form d k (nested h cs) = ap (λ fs. HoldsEachAt d fs cs) (children_form k) ∙ each_form d (child_fields k) cs
 
   each_form : (d : Dictionaries) (fs : Fields) (cs : Forest) → HoldsEachAt d (forms fs) cs ≡ HoldsEachAt d fs cs

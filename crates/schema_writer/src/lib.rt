@@ -6,5 +6,6 @@ mod write;
 
 pub use laws::written_schema_reads_back;
 pub use write::{
-    default_ipc_fields, message_node, schema_message, schema_to_bytes, serialize_schema,
+    custom_pairs, default_ipc_fields, message_node, schema_message, schema_to_bytes,
+    serialize_schema,
 };

@@ -27,6 +27,7 @@ use arrow_spec::IpcError;
 use arrow_types::{ArrowSchema, Metadata};
 use ipc_fields::{IpcField, IpcSchema};
 pub use messages::message_node;
+pub use pairs::custom_pairs;
 use schema::{is_sayable, schema_node};
 use std::alloc::{AllocError, Global};
 

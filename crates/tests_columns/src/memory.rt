@@ -1,9 +1,10 @@
 //! Tables of calls of the objects over memory.
 ghost use Rattle.std.specs.Prelude.{◌≤◌};
 
+use ipc_disk::{Entry, MemoryShelf};
 use ipc_schema::{
-    Entry, Failed, Feed, Got, MemoryFeed, MemoryShelf, MemorySink, MemorySource, PutError, Shelf,
-    ShelfError, Sink, Source,
+    Failed, Feed, Got, MemoryFeed, MemorySink, MemorySource, PutError, Shelf, ShelfError, Sink,
+    Source,
 };
 use std::alloc::{AllocError, Global};
 use std::process::Abort;

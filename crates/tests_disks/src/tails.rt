@@ -54,6 +54,21 @@ fn a_cut_that_fails_leaves_the_front(rt: HostRuntime) -> Result<(), Fail> {
     Ok(())
 }
 
+#[test]
+fn a_tail_is_cut_off(rt: HostRuntime) -> Result<(), Fail> {
+    let disk = disk_of_ten(rt.alloc(), &[2], &[])?;
+    let mut tail = taken(DiskTail::new(disk))?;
+    tail.put(b"kl")?;
+    let Err(refused) = tail.cut_off() else {
+        return Err("cut".into());
+    };
+    assert!(rt; refused.error == IpcError::WriteFault);
+    assert!(rt; refused.disk.bytes() == b"abcdefghijkl".as_slice());
+    let disk = taken(taken(DiskTail::cut_to(refused.disk, 8))?.cut_off())?;
+    assert!(rt; disk.bytes() == b"abcdefgh".as_slice());
+    Ok(())
+}
+
 /// Puts bytes at the end of a disk.
 pub(crate) fn put_behind<D: Disk + Drop>(disk: D, bytes: &[u8]) -> Result<(), Fail> {
     let mut tail = taken(DiskTail::new(disk))?;

@@ -1,6 +1,7 @@
 //! Runs over a shelf on which one file stands, under the name `a`.
 use crate::files::{ONE_COLUMN, ONE_COLUMN_STREAM, Part, bytes_of, text_of};
-use ipc_schema::{Entry, MemoryFeed, MemoryShelf, MemorySink};
+use ipc_disk::{Entry, MemoryShelf};
+use ipc_schema::{MemoryFeed, MemorySink};
 use ipc_tool::run;
 use std::alloc::Global;
 use std::test::Fail;

@@ -2,7 +2,8 @@
 use crate::files::{ONE_COLUMN, Part, TWO_BATCHES, text_of};
 use crate::kinds::{FLOATS, NULLS, Piece, STRINGS, THREE};
 use crate::selection_parts::Selected;
-use ipc_schema::{MemoryFeed, MemoryShelf, MemorySink};
+use ipc_disk::MemoryShelf;
+use ipc_schema::{MemoryFeed, MemorySink};
 use ipc_tool::run;
 use std::alloc::Global;
 use std::process::Abort;

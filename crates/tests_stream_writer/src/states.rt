@@ -31,6 +31,7 @@ fn calls_come_in_turn(rt: HostRuntime) -> Result<(), Fail> {
     assert!(rt; is_out_of_turn(writer.start(&of_numbers(alloc)?, None)));
     writer.finish()?;
     assert!(rt; is_closed(alloc, &mut writer)?);
+    assert!(rt; writer.byte_count() == 144);
     let sink = writer.into_inner();
     assert!(rt; sink.bytes().len() == 144);
     Ok(())
@@ -44,6 +45,7 @@ fn a_put_that_fails_is_the_last(rt: HostRuntime) -> Result<(), Fail> {
     let failed = write_numbers(alloc, &mut writer, None)?;
     assert!(rt; matches!(failed, Err(IpcError::WriteFault)));
     assert!(rt; is_closed(alloc, &mut writer)?);
+    assert!(rt; writer.byte_count() == 136);
     let sink = writer.into_inner();
     assert!(rt; sink.bytes().len() == 200);
     Ok(())

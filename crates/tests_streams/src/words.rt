@@ -1,5 +1,6 @@
 //! Words as a user types them, and the texts that they ask for.
-use ipc_schema::{MemoryFeed, MemoryShelf, MemorySink};
+use ipc_disk::MemoryShelf;
+use ipc_schema::{MemoryFeed, MemorySink};
 use ipc_tool::answer;
 use ipc_words::{Request, read_words};
 use std::alloc::Global;

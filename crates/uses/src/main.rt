@@ -1,6 +1,7 @@
-//! Seven uses of `arrow_ipc`. An Arrow file comes on standard input: the first column of its first record batch and the rows of each batch are printed, a batch of numbers is written, by itself, as a stream, which is read again, and as a file, and the file is sent as a stream.
+//! Eight uses of `arrow_ipc`. An Arrow file comes on standard input: the first column of its first record batch and the rows of each batch are printed, a batch of numbers is written, by itself, as a stream, which is read again, and as a file, to which another is appended, and the file is sent as a stream.
 #![tactic(auto)]
 
+mod append_batch;
 mod each_batch;
 mod file_to_stream;
 mod read_column;
@@ -9,6 +10,7 @@ mod write_batch;
 mod write_file;
 mod write_stream;
 
+use append_batch::file_with;
 use arrow_ipc::io::MemorySource;
 use arrow_ipc::io::ipc::IpcError;
 use each_batch::heights;
@@ -52,6 +54,13 @@ fn read_again(alloc: Global) -> Result<Option<usize>, IpcError> {
     first_height(alloc, stream.bytes().to_vec(alloc)?)
 }
 
+/// How many bytes a file of two numbers has with a batch of two more.
+fn appended(alloc: Global) -> Result<usize, IpcError> {
+    let file = file_of_numbers(alloc, vec![in alloc; 1, 3]?)?;
+    let bytes = file.bytes().to_vec(alloc)?;
+    Ok(file_with(alloc, bytes, vec![in alloc; 5, 7]?)?.len())
+}
+
 /// The lengths of a message of two numbers, and of the stream of a file.
 fn lengths(alloc: Global, source: &mut MemorySource) -> Result<(usize, usize), IpcError> {
     let message = message_of(alloc, vec![in alloc; 1, 3]?)?;
@@ -89,9 +98,20 @@ fn show_read(rt: &HostRuntime) -> Result<(), &'static str> {
     match read_again(rt.alloc()) {
         Ok(Some(height)) => {
             let _ = println!(rt; "a stream with a batch of {height} rows that was read");
-            Ok(())
+            show_appended(rt)
         }
         Ok(None) => Err("a stream without a batch"),
+        Err(error) => Err(error.name()),
+    }
+}
+
+/// The length of a file that goes on.
+fn show_appended(rt: &HostRuntime) -> Result<(), &'static str> {
+    match appended(rt.alloc()) {
+        Ok(file) => {
+            let _ = println!(rt; "a file of {file} bytes that went on");
+            Ok(())
+        }
         Err(error) => Err(error.name()),
     }
 }

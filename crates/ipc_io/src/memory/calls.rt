@@ -19,6 +19,7 @@ impl Model for FailingCalls {
 }
 
 impl FailingCalls {
+    /// No call was made so far.
     pub fn new(failing: Vec<u64>) -> Self
         ensures { result ≡ no_calls failing.items }
     {

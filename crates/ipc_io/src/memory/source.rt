@@ -37,16 +37,16 @@ impl MemorySource {
         }
     }
 
-    // Whether a call has failed.
-    pub(super) fn has_failed(&self) -> bool
+    /// Whether a call has failed.
+    pub fn has_failed(&self) -> bool
         ensures { IsTrue result ↔ (0 < self.now.calls.faults) }
     {
         self.calls.any_failed()
     }
 }
 
-// Whether one of the places is among `count` bytes from `at` on.
-fn has_place(places: &[u64], at: u64, count: u64) -> bool
+/// Whether one of the places is among `count` bytes from `at` on.
+pub fn has_place(places: &[u64], at: u64, count: u64) -> bool
     ensures { result ≡ holds_place places.now at count }
 {
     places.iter().any(|p| *p >= at && *p - at < count)

@@ -4,7 +4,7 @@ use Rattle.ipc_tool.specs.Asked.{Command}
 use Rattle.ipc_transcode.proofs.SentFiles.{keeps_same}
 use Rattle.ipc_words.specs.Views.{texts}
 use Rattle.ipc_tool.specs.Request.{command_of}
-use Rattle.ipc_tool.specs.Run.{name_in}
+use Rattle.ipc_tool.specs.Run.{name_in, opened_in}
 use Rattle.ipc_tool.proofs.command_line.run_words.Goals as goal
 
 -- what was not used tells the same
@@ -19,12 +19,14 @@ returns g c =
       request = r.request;
       whole = r.whole;
       text = r.text;
+      appended = r.appended;
       at_end = r.at_end;
       quiet = λ h. subst (λ n. Keeps (g.N.Sink.written c.args.notes.now) (g.N.Sink.written n)) (sym (r.quiet h)) (keeps_same (g.N.Sink.written c.args.notes.now));
       refused = r.refused;
       complete = r.complete;
       told = r.told;
-      is = record { never = r.never; at_most = r.at_most };
+      is = record { at_most = r.at_most };
+      never = r.never;
       of_text = r.of_text;
       read_fault = r.read_fault;
       write_fault = r.write_fault;
@@ -36,6 +38,6 @@ returns g c =
       missing = r.missing;
       untouched = r.untouched;
       unread = same_told (command_of (texts c.args.words.now)) g.I.Feed.rest c.run.new.input c.args.input.now (λ q. IsSome (name_in q)) r.unread;
-      unopened = same_told (command_of (texts c.args.words.now)) g.H.Shelf.faults c.run.new.shelf c.args.shelf.now (λ q. IsNone (name_in q)) r.unopened;
+      unopened = same_told (command_of (texts c.args.words.now)) g.H.Shelf.faults c.run.new.shelf c.args.shelf.now (λ q. IsNone (opened_in q)) r.unopened;
       held = r.held;
     }

@@ -15,3 +15,6 @@ returns-in-Rows-clause-request c = is_command (texts c.args.words.now) _ (c.in_o
 
 pub returns-in-Schema-clause-request : goal.returns-in-Schema-clause-request
 returns-in-Schema-clause-request c = is_command (texts c.args.words.now) _ (c.in_ok-stream.ensures.asked ∙ ap (λ r. Some (request_view r)) c.in-Schema.is)
+
+pub returns-in-Append-clause-request : goal.returns-in-Append-clause-request
+returns-in-Append-clause-request c = is_command (texts c.args.words.now) _ (c.in_ok-stream.ensures.asked ∙ ap (λ r. Some (request_view r)) c.in-Append.is)

@@ -14,7 +14,7 @@ pub returns-in_err-message : goal.returns-in_err-message
 returns-in_err-message c =
     let e = c.in_err-message.field-0.0 in
     handed (λ r. Begins r c.args.options.now c.args.schema.now (given_ids c.args.given) c.args.pairs.now) c.from_residual-in_err-message.result e c.from_residual-in_err-message.ensures.1
-    (no_start e c.args.options.now c.args.schema.now (given_ids c.args.given) c.args.pairs.now c.in_ok-fields.fields.items c.in_ok-fields.ensures c.in_err-message.ensures)
+    (no_start e c.args.options.now c.args.schema.now (given_ids c.args.given) c.args.pairs.now c.in_ok-fields.fields.items c.in_ok-fields.ensures c.in_err-message.ensures.gives)
 
 pub returns-in_err-schema : goal.returns-in_err-schema
 returns-in_err-schema c =
@@ -24,5 +24,6 @@ pub returns : goal.returns
 returns c = record {
   schema = c.in_ok-schema.ensures;
   ids = c.in_ok-fields.ensures;
-  text = c.in_ok-message.ensures;
+  text = c.in_ok-message.ensures.gives;
+  may = c.in_ok-message.ensures.may;
 }

@@ -13,14 +13,14 @@ returns-then-not-is_started-clause-finishes g c =
 pub returns-in_err-ending-clause-finishes : goal.returns-in_err-ending-clause-finishes
 returns-in_err-ending-clause-finishes g c =
     let n : is_started c.args.self.now.state ≡ true = sym c.is_started.ensures ∙ c.if-not-is_started.false in
-    not_ended c.from_residual.result c.in_err-ending.field-0.0 _ c.args.self.now c.from_residual.ensures.1 n c.in_err-ending.ensures (untouched _ _ _)
+    not_ended c.from_residual.result c.in_err-ending.field-0.0 _ c.args.self.now c.from_residual.ensures.1 n c.in_err-ending.ensures.gives (untouched _ _ _)
 
 pub returns-in-Ok-clause-finishes : goal.returns-in-Ok-clause-finishes
 returns-in-Ok-clause-finishes g c = record {
   started = sym c.is_started.ensures ∙ c.if-not-is_started.false;
   state = refl;
   bytes = c.in_ok-ending.ending.items;
-  text = c.in_ok-ending.ensures;
+  text = c.in_ok-ending.ensures.gives;
   appended = subst (Appends _ _) c.as_slice.ensures.value c.in-Ok.ensures.puts.0;
   counts = c.in-Ok.ensures.puts.1;
   same = record {
@@ -29,4 +29,5 @@ returns-in-Ok-clause-finishes g c = record {
     written = refl;
     stays = record { options = refl; schema = refl; ipc_schema = refl; pairs = refl; tracker = refl };
   };
+  means = c.in_ok-ending.ensures.means;
 }

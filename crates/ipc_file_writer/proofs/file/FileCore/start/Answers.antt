@@ -3,6 +3,7 @@ use Rattle.std.specs.Io.KnownBytes.{Appends}
 use Rattle.ipc_write_messages.specs.States.{is_new}
 use Rattle.ipc_write_messages.proofs.Putting.{untouched}
 use Rattle.ipc_file_writer.proofs.Calling.{leaves, not_begun}
+use Rattle.ipc_file_writer.proofs.Meaning.{begun_file}
 use Rattle.ipc_file_writer.proofs.file.FileCore.start.Goals as goal
 
 pub returns-then-not-is_new-clause-starts : goal.returns-then-not-is_new-clause-starts
@@ -13,14 +14,14 @@ returns-then-not-is_new-clause-starts g c =
 pub returns-in_err-start-clause-starts : goal.returns-in_err-start-clause-starts
 returns-in_err-start-clause-starts g c =
     let n : is_new c.args.self.now.state ≡ true = sym c.is_new.ensures ∙ c.if-not-is_new.false in
-    not_begun c.from_residual.result c.in_err-start.field-0.0 _ c.args.self.now c.from_residual.ensures.1 n c.in_err-start.ensures (untouched _ _ _)
+    not_begun c.from_residual.result c.in_err-start.field-0.0 _ c.args.self.now c.from_residual.ensures.1 n c.in_err-start.ensures.gives (untouched _ _ _)
 
 pub returns-in-Ok-clause-starts : goal.returns-in-Ok-clause-starts
 returns-in-Ok-clause-starts g c = record {
   new_before = sym c.is_new.ensures ∙ c.if-not-is_new.false;
   state = refl;
   bytes = c.in_ok-start.start.items;
-  text = c.in_ok-start.ensures;
+  text = c.in_ok-start.ensures.gives;
   appended = subst (Appends _ _) c.as_slice.ensures.value c.in-Ok.ensures.puts.0;
   counts = c.in-Ok.ensures.puts.1;
   dictionaries = refl;
@@ -29,4 +30,6 @@ returns-in-Ok-clause-starts g c = record {
   tracker = refl;
   written = refl;
   stays = record { options = refl; schema = refl; ipc_schema = refl; pairs = refl; tracker = refl };
+  means = λ nothing pairs reg.
+      begun_file c.args.self.now.options _ c.in_ok-start.start.items c.in_ok-start.ensures.gives c.in_ok-start.ensures.may (record { held = nothing.held; dictionaries = nothing.dictionaries; records = nothing.records }) (omega (arith, c.len.ensures)) pairs reg;
 }

@@ -21,4 +21,4 @@ send-requires g c = sym c.is_started.ensures ∙ c.if-not-is_started.false
 pub returns-clause-writes : goal.returns-clause-writes
 returns-clause-writes g c =
     let n : is_started c.args.self.now.state ≡ true = sym c.is_started.ensures ∙ c.if-not-is_started.false in
-    as_written _ c.send.result c.args.self.now c.send.new.self c.args.batch.now (given_ids c.args.ipc_fields) n (c.takes.ensures.0 c.if-not-takes.false) c.send.ensures.sends
+    as_written _ c.send.result c.args.self.now c.send.new.self c.args.batch.now (given_ids c.args.ipc_fields) n (c.takes.ensures.0 c.if-not-takes.false) c.args.self.now.kept c.send.ensures.sends

@@ -2,6 +2,7 @@ use Rattle.std.proofs.Common.{◌≡◌, inl, refl, sym, ◌∙◌, true, false}
 use Rattle.ipc_write_messages.specs.States.{is_started}
 use Rattle.ipc_write_messages.proofs.Putting.{untouched}
 use Rattle.ipc_stream_writer.proofs.Calling.{finish_stopped, leaves}
+use Rattle.ipc_stream_writer.proofs.Meaning.{ended_written}
 use Rattle.ipc_stream_writer.proofs.stream.StreamCore.finish.Goals as goal
 
 pub returns-then-not-is_started-clause-finishes : goal.returns-then-not-is_started-clause-finishes
@@ -17,10 +18,12 @@ returns-in-Ok-clause-finishes g c = record {
   counts = c.in-Ok.ensures.puts.1;
   tracker = refl;
   stays = record { options = refl; schema = refl; fields = refl; pairs = refl; tracker = refl };
+  count = c.saturating_add-self.ensures;
+  written = ended_written c.args.self.now _ refl refl c.saturating_add-self.ensures;
 }
 
 pub returns-in-Err-clause-finishes : goal.returns-in-Err-clause-finishes
 returns-in-Err-clause-finishes g c =
     let n : is_started c.args.self.now.state ≡ true = sym c.is_started.ensures ∙ c.if-not-is_started.false in
     let k = c.stop_at.ensures in
-    finish_stopped c.stop_at.result c.in-Err.stop _ c.args.self.now c.stop_at.new.self k.error n c.in-Err.ensures.puts k.state k.tracker k.stays
+    finish_stopped c.stop_at.result c.in-Err.stop _ c.args.self.now c.stop_at.new.self k.error n c.in-Err.ensures.puts k.state k.tracker k.count k.stays

@@ -1,0 +1,5 @@
+pub mod Held
+pub mod Uses
+pub mod Chunks
+pub mod OwnFields
+pub mod Written

@@ -1,0 +1,9 @@
+pub mod Handed
+pub mod BareKinds
+pub mod StreamRefusals
+pub mod WholeSteps
+pub mod EncodeSteps
+pub mod PrepareSteps
+pub mod PutSteps
+pub mod AppendSteps
+pub mod Faults

@@ -1,0 +1,238 @@
+//! Whether two schemas have the same fields, whether or not the ids of a union are stated (Schema.fbs, Union).
+ghost use Rattle.std.specs.Prelude.{◌≡◌, ◌↔◌, IsTrue, false, map, string_bytes};
+ghost use Rattle.std.specs.Option.{option_map};
+ghost use Rattle.arrow_spec.specs.Kinds.{are_same_ids, bare, bare_kind};
+ghost use Rattle.arrow_spec.specs.Schema.{counted_ids};
+ghost use Rattle.arrow_types.specs.KindOf.{child_of, extension_kind_of, ids_of, kind_of, union_kind_of};
+ghost use Rattle.arrow_types.specs.Schemas.{entry_of, fields_in};
+ghost use Rattle.ipc_fields.specs.Leaves.{is_leaf};
+ghost use Rattle.ipc_append_stream.specs.Bare.{bare_child, bare_entry};
+
+use arrow_spec::{IntegerType, UnionMode};
+use arrow_types::{ArrowDataType, ArrowSchema, ExtensionType, Field, UnionType, is_same_metadata};
+
+/// Whether a type has neither children nor values nor a type below it.
+fn is_leaf(dtype: &ArrowDataType) -> bool
+    ensures { result ≡ is_leaf (kind_of dtype.now) }
+{
+    match dtype {
+        ArrowDataType::List(_)
+        | ArrowDataType::LargeList(_)
+        | ArrowDataType::FixedSizeList(_, _)
+        | ArrowDataType::Map(_, _)
+        | ArrowDataType::Struct(_)
+        | ArrowDataType::Union(_)
+        | ArrowDataType::Dictionary(_, _, _)
+        | ArrowDataType::Extension(_) => false,
+        _ => true,
+    }
+}
+
+fn is_same_text(a: &String, b: &String) -> bool
+    ensures { IsTrue result ↔ (string_bytes a.now ≡ string_bytes b.now) }
+{
+    a == b
+}
+
+fn is_same_option(a: &Option<String>, b: &Option<String>) -> bool
+    ensures { IsTrue result ↔ (option_map string_bytes a.now ≡ option_map string_bytes b.now) }
+{
+    match a {
+        None => b.is_none(),
+        Some(x) => match b {
+            None => false,
+            Some(y) => is_same_text(x, y),
+        },
+    }
+}
+
+fn is_same_mode(a: UnionMode, b: UnionMode) -> bool
+    ensures { IsTrue result ↔ (a ≡ b) }
+{
+    a == b
+}
+
+/// Whether the keys of two dictionaries are of one type, and their values in order or not.
+fn are_same_keys(a: IntegerType, b: IntegerType, a_ordered: bool, b_ordered: bool) -> bool
+    ensures { IsTrue result ↔ ((a ≡ b) × (a_ordered ≡ b_ordered)) }
+{
+    a == b && a_ordered == b_ordered
+}
+
+#[tactic(auto, using(ipc_fields::proofs::KindSteps::same_lists))]
+fn are_equal(a: &[i32], b: &[i32]) -> bool
+    ensures { result ≡ are_same_ids a.now b.now }
+{
+    a == b
+}
+
+/// Whether ids are 0, 1, .. for so many children.
+#[tactic(auto, using(ipc_fields::proofs::KindSteps::counted_apart))]
+fn are_counted(ids: &[i32], children: usize) -> bool
+    ensures { result ≡ are_same_ids ids.now (counted_ids 0 children) }
+{
+    if ids.len() != children {
+        return false;
+    }
+    for i in 0..children {
+        if ids[i] < 0 {
+            return false;
+        }
+        if ids[i] as usize != i {
+            return false;
+        }
+    }
+    true
+}
+
+/// Whether two unions, of so many children each, have the same ids.
+#[tactic(auto, using(ipc_fields::proofs::KindSteps::counted_both, ipc_fields::proofs::KindSteps::same_ids_turned, crate::proofs::BareKinds::ids_self))]
+fn have_same_ids(a: &Option<Vec<i32>>, b: &Option<Vec<i32>>, children: usize) -> bool
+    ensures { result ≡ are_same_ids (ids_of a.now children) (ids_of b.now children) }
+{
+    match a {
+        None => match b {
+            None => true,
+            Some(ids) => are_counted(ids, children),
+        },
+        Some(ids) => match b {
+            None => are_counted(ids, children),
+            Some(others) => are_equal(ids, others),
+        },
+    }
+}
+
+/// Whether two types, of which the first has parts, are the same.
+#[cycle(bare)]
+fn is_same_nested(a: &ArrowDataType, b: &ArrowDataType) -> bool
+    requires { is_leaf (kind_of a.now) ≡ false }
+    ensures { IsTrue result ↔ (bare_kind (kind_of a.now) ≡ bare_kind (kind_of b.now)) }
+{
+    match a {
+        ArrowDataType::List(f) => match b {
+            ArrowDataType::List(g) => is_same_field(f, g),
+            _ => false,
+        },
+        ArrowDataType::LargeList(f) => match b {
+            ArrowDataType::LargeList(g) => is_same_field(f, g),
+            _ => false,
+        },
+        ArrowDataType::FixedSizeList(f, m) => match b {
+            ArrowDataType::FixedSizeList(g, n) => *m == *n && is_same_field(f, g),
+            _ => false,
+        },
+        ArrowDataType::Map(f, s) => match b {
+            ArrowDataType::Map(g, t) => *s == *t && is_same_field(f, g),
+            _ => false,
+        },
+        ArrowDataType::Struct(fs) => match b {
+            ArrowDataType::Struct(gs) => are_same_fields(fs.as_slice(), gs.as_slice()),
+            _ => false,
+        },
+        ArrowDataType::Union(u) => match b {
+            ArrowDataType::Union(v) => is_same_union(u, v),
+            _ => false,
+        },
+        ArrowDataType::Dictionary(i, t, o) => match b {
+            ArrowDataType::Dictionary(j, u, p) => {
+                are_same_keys(*i, *j, *o, *p) && is_same_type(t, u)
+            }
+            _ => false,
+        },
+        ArrowDataType::Extension(d) => match b {
+            ArrowDataType::Extension(e) => is_same_extension(d, e),
+            _ => false,
+        },
+        _ => false,
+    }
+}
+
+/// Whether two types are the same.
+#[cycle(bare)]
+fn is_same_type(a: &ArrowDataType, b: &ArrowDataType) -> bool
+    ensures { IsTrue result ↔ (bare_kind (kind_of a.now) ≡ bare_kind (kind_of b.now)) }
+{
+    if is_leaf(a) {
+        return a == b;
+    }
+    is_same_nested(a, b)
+}
+
+/// Whether two fields are the same.
+#[cycle(bare)]
+fn is_same_field(a: &Field, b: &Field) -> bool
+    ensures { IsTrue result ↔ (bare_child (child_of a.now) ≡ bare_child (child_of b.now)) }
+{
+    is_same_text(&a.name, &b.name)
+        && is_same_type(&a.dtype, &b.dtype)
+        && a.is_nullable == b.is_nullable
+        && is_same_metadata(&a.metadata, &b.metadata)
+}
+
+/// Whether fields are the same, in order.
+#[cycle(bare)]
+fn are_same_fields(a: &[Field], b: &[Field]) -> bool
+    ensures { IsTrue result ↔ (map (λ f. bare_child (child_of f)) a.now ≡ map (λ f. bare_child (child_of f)) b.now) }
+{
+    if a.len() != b.len() {
+        return false;
+    }
+    for i in 0..a.len() {
+        if !is_same_field(&a[i], &b[i]) {
+            return false;
+        }
+    }
+    true
+}
+
+/// Whether two unions are the same.
+#[cycle(bare)]
+fn is_same_union(a: &UnionType, b: &UnionType) -> bool
+    ensures { IsTrue result ↔ (bare_kind (union_kind_of a.now) ≡ bare_kind (union_kind_of b.now)) }
+{
+    if !is_same_mode(a.mode, b.mode) {
+        return false;
+    }
+    if !are_same_fields(a.fields.as_slice(), b.fields.as_slice()) {
+        return false;
+    }
+    have_same_ids(&a.ids, &b.ids, a.fields.len())
+}
+
+/// Whether two extensions are the same.
+#[cycle(bare)]
+fn is_same_extension(a: &ExtensionType, b: &ExtensionType) -> bool
+    ensures { IsTrue result ↔ (bare_kind (extension_kind_of a.now) ≡ bare_kind (extension_kind_of b.now)) }
+{
+    is_same_text(&a.name, &b.name)
+        && is_same_option(&a.metadata, &b.metadata)
+        && is_same_type(&a.inner, &b.inner)
+}
+
+/// Whether the fields at a place are the same; their keys are not looked at.
+fn is_same_entry(a: Option<(&String, &Field)>, b: Option<(&String, &Field)>) -> bool
+    ensures { IsTrue result ↔ (option_map bare_entry (option_map entry_of a.entry) ≡ option_map bare_entry (option_map entry_of b.entry)) }
+{
+    match a {
+        None => b.is_none(),
+        Some((_, field)) => match b {
+            None => false,
+            Some((_, fellow)) => is_same_field(field, fellow),
+        },
+    }
+}
+
+/// Whether two schemas have the same fields, in order.
+pub(crate) fn have_same_fields(a: &ArrowSchema, b: &ArrowSchema) -> bool
+    ensures { IsTrue result ↔ (bare (fields_in a.now) ≡ bare (fields_in b.now)) }
+{
+    if a.len() != b.len() {
+        return false;
+    }
+    for i in 0..a.len() {
+        if !is_same_entry(a.get_at_index(i), b.get_at_index(i)) {
+            return false;
+        }
+    }
+    true
+}

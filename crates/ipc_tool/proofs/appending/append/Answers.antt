@@ -1,0 +1,16 @@
+use Rattle.ipc_transcode.proofs.SentFiles.{keeps_same}
+use Rattle.ipc_tool.proofs.Adding.{IfErr-at}
+use Rattle.ipc_tool.proofs.AppendSteps.{appended, at_count, at_place}
+use Rattle.ipc_tool.proofs.appending.append.Goals as goal
+
+pub returns-in_err-count-clause-cause : goal.returns-in_err-count-clause-cause
+returns-in_err-count-clause-cause g c =
+    IfErr-at _ _ _ c.from_residual-in_err-count.ensures.1 (at_place _ _ _ _ c.in_ok-stream.stream c.in_ok-stream.ensures.stream c.in_err-count.ensures.refused (keeps_same (g.W.Sink.written c.args.output.now)))
+
+pub returns-clause-appended : goal.returns-clause-appended
+returns-clause-appended g c =
+    appended _ _ _ _ c.in_ok-stream.stream c.in_ok-count.count c.in_ok-stream.ensures.stream c.in_ok-count.ensures.appended c.in_ok-count.ensures.count c.put_count.ensures.text
+
+pub returns-clause-cause : goal.returns-clause-cause
+returns-clause-cause g c =
+    at_count _ _ _ _ c.in_ok-stream.stream c.in_ok-count.count c.in_ok-stream.ensures.stream c.in_ok-count.ensures.appended c.in_ok-count.ensures.count c.put_count.ensures.refused

@@ -1,0 +1,63 @@
+-- How many bytes messages have.
+use Rattle.std.proofs.Common.{◌≡◌, ℕ, ◌+◌, ◌≤◌, List, [], ◌∷◌, ◌++◌, length, map, take, refl, sym, ap, ◌∙◌, arith, append-nil, length-append}
+use Rattle.std.specs.List.{flat_map}
+use Rattle.std.proofs.lemmas.List.{map-append, take_all}
+use Rattle.arrow_spec.specs.Flat.{little}
+use Rattle.arrow_spec.specs.Framing.{body_bytes, message_bytes, padded, padded_size}
+use Rattle.arrow_spec.specs.Layout.{Node}
+use Rattle.arrow_spec.specs.Sent.{body_of}
+use Rattle.arrow_spec.proofs.Bodies.{length-body}
+use Rattle.arrow_spec.proofs.NextMessages.{length-padded}
+use Rattle.arrow_arrays.specs.Batches.{Batch}
+use Rattle.ipc_write_laws.specs.Streams.{batch_bytes, body_for, written_batch}
+use Rattle.ipc_write_arrays.specs.Pieces.{pieces_in}
+use Rattle.ipc_dictionaries.specs.NewDictionaries.{ToSend}
+use Rattle.ipc_write.specs.Batches.{batch_message, written_batch_of}
+use Rattle.ipc_write.proofs.Written.{same_message}
+use Rattle.ipc_write_messages.specs.declared.messages.PlannedMessage.{PlannedMessage}
+use Rattle.ipc_write_messages.specs.Messages.{Sizes, chunk_text, message_of, planned_sizes, sent_sizes, sizes_of, total, values_text}
+use Rattle.ipc_write_messages.specs.Puts.{counted}
+
+-- ── one message ──
+
+pub length-message : (n : Node) (body : List ℕ) → length (message_bytes n body) ≡ 8 + padded_size n + length body
+unfolding message_bytes
+length-message n body = omega (arith, length-append (padded n) body, length-padded n)
+
+pub length-values : (s : ToSend) → length (values_text s) ≡ (sent_sizes s).front + (sent_sizes s).body
+length-values s =
+    let ps = pieces_in little s.part in
+    let whole : body_of 0 (map length (ps ++ [])) ≡ body_of 0 (map length ps) = ap (λ xs. body_of 0 (map length xs)) (append-nil ps) in
+    omega (arith, length-message (message_of s).node (body_bytes 0 ps), whole, length-body ps 0)
+
+pub length-batch : (b : Batch) → length (batch_bytes (written_batch_of b)) ≡ (sizes_of (batch_message b)).front + (sizes_of (batch_message b)).body
+length-batch b =
+    let x = written_batch_of b in
+    let long : length (batch_bytes x) ≡ (sizes_of (written_batch x)).front + (sizes_of (written_batch x)).body = omega (arith, length-message (written_batch x).node (body_for x.columns)) in
+    long ∙ ap (λ m. (sizes_of m).front + (sizes_of m).body) (sym (same_message b))
+
+-- ── messages ──
+
+total-more : (xs : List Sizes) (x : Sizes) → total (xs ++ x ∷ []) ≡ total xs + (x.front + x.body)
+total-more [] x = omega arith
+total-more (y ∷ xs) x = omega (arith, total-more xs x)
+
+total-values : (sent : List ToSend) → total (map sent_sizes sent) ≡ length (flat_map values_text sent)
+total-values [] = refl
+total-values (s ∷ sent) = omega (arith, total-values sent, length-append (values_text s) (flat_map values_text sent), length-values s)
+
+pub chunk_length : (sent : List ToSend) (b : Batch) → total (map sent_sizes sent ++ sizes_of (batch_message b) ∷ []) ≡ length (chunk_text sent b)
+chunk_length sent b =
+    omega (arith, total-more (map sent_sizes sent) (sizes_of (batch_message b)), total-values sent, length-append (flat_map values_text sent) (batch_bytes (written_batch_of b)), length-batch b)
+
+-- one more is counted
+pub count_more : (ms : List PlannedMessage) (i : ℕ) (m : PlannedMessage) (old middle new : ℕ) → take (i + 1) ms ≡ take i ms ++ m ∷ [] → old ≡ counted (total (map planned_sizes (take i ms)))
+    → middle ≡ counted (old + (planned_sizes m).front) → new ≡ counted (middle + (planned_sizes m).body) → new ≡ counted (total (map planned_sizes (take (i + 1) ms)))
+count_more ms i m old middle new e h k l =
+    let more : total (map planned_sizes (take (i + 1) ms)) ≡ total (map planned_sizes (take i ms)) + ((planned_sizes m).front + (planned_sizes m).body)
+    = ap (λ xs. total (map planned_sizes xs)) e ∙ ap total (map-append planned_sizes (take i ms) (m ∷ [])) ∙ total-more (map planned_sizes (take i ms)) (planned_sizes m) in
+    omega (arith, more, h, k, l)
+
+-- all of them are
+pub count_all : (ms : List PlannedMessage) (i n : ℕ) → length ms ≤ i → n ≡ counted (total (map planned_sizes (take i ms))) → n ≡ counted (total (map planned_sizes ms))
+count_all ms i n h e = e ∙ ap (λ xs. counted (total (map planned_sizes xs))) (take_all i ms h)

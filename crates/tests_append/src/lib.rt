@@ -1,0 +1,11 @@
+//! Streams that are appended to files on a disk. All of it is tests.
+#![tactic(auto)]
+
+#[cfg(test)]
+mod appends;
+#[cfg(test)]
+mod failing;
+#[cfg(test)]
+mod parts;
+#[cfg(test)]
+mod runs;

@@ -1,0 +1,143 @@
+//! Runs that append the input's stream to a file on a shelf.
+use crate::appends::{APPENDED, FILE, STREAM, THREE_FILE, bytes_of};
+use ipc_disk::{Entry, MemoryShelf};
+use ipc_io::{MemoryFeed, MemorySink};
+use ipc_tool::run;
+use std::alloc::Global;
+use std::test::Fail;
+
+/// The file that stands under the name `a`, the words, the input's text, and what the run leaves.
+struct Case {
+    title: &'static str,
+    file: &'static [&'static str],
+    words: &'static [&'static str],
+    input: &'static [&'static str],
+    room: Option<usize>,
+    status: u8,
+    output: &'static [u8],
+    notes: &'static [u8],
+    behind: &'static [&'static str],
+}
+
+const APPENDS: Case = Case {
+    title: "a batch behind another",
+    file: FILE,
+    words: &["append", "a"],
+    input: STREAM,
+    room: None,
+    status: 0,
+    output: b"1\n",
+    notes: b"",
+    behind: APPENDED,
+};
+
+const CASES: &[Case] = &[
+    APPENDS,
+    Case {
+        title: "other fields",
+        file: THREE_FILE,
+        status: 7,
+        output: b"",
+        notes: b"refused 7 SchemaMismatch\n",
+        behind: THREE_FILE,
+        ..APPENDS
+    },
+    Case {
+        title: "nothing under the name",
+        words: &["append", "b"],
+        status: 17,
+        output: b"",
+        notes: b"refused 17 NoName\n",
+        behind: FILE,
+        ..APPENDS
+    },
+    Case {
+        title: "the name -",
+        words: &["append", "-"],
+        status: 17,
+        output: b"",
+        notes: b"refused 17 NoName\n",
+        behind: FILE,
+        ..APPENDS
+    },
+    Case {
+        title: "no stream",
+        input: &[],
+        status: 1,
+        output: b"",
+        notes: b"refused 1 MissingSchema\n",
+        behind: FILE,
+        ..APPENDS
+    },
+    Case {
+        title: "no hex text",
+        input: &["4G"],
+        status: 15,
+        output: b"",
+        notes: b"refused 15 NotHex\n",
+        behind: FILE,
+        ..APPENDS
+    },
+    Case {
+        title: "no room for the number",
+        room: Some(0),
+        status: 12,
+        output: b"",
+        notes: b"refused 12 WriteFault\n",
+        ..APPENDS
+    },
+];
+
+/// A shelf with one file.
+fn shelf_with(alloc: Global, file: &[&str]) -> Result<MemoryShelf, Fail> {
+    let mut entries = Vec::new(alloc);
+    entries.push(Entry {
+        name: String::from_str(alloc, "a")?,
+        bytes: bytes_of(alloc, file)?,
+        failing: Vec::new(alloc),
+        places: Vec::new(alloc),
+    })?;
+    Ok(MemoryShelf::new(alloc, entries, Vec::new(alloc)))
+}
+
+/// The bytes of texts, one behind the other.
+fn text_of(alloc: Global, parts: &[&str]) -> Result<Vec<u8>, Fail> {
+    let mut text = Vec::new(alloc);
+    for part in parts {
+        text.extend_from_slice(part.as_bytes())?;
+    }
+    Ok(text)
+}
+
+/// Whether a run leaves what it should.
+fn has_outcome(alloc: Global, case: &Case) -> Result<bool, Fail> {
+    let mut shelf = shelf_with(alloc, case.file)?;
+    let mut input = MemoryFeed::new(text_of(alloc, case.input)?, 100, Vec::new(alloc));
+    let mut output = MemorySink::new(alloc, case.room, Vec::new(alloc));
+    let mut notes = MemorySink::new(alloc, None, Vec::new(alloc));
+    let status = run(
+        alloc,
+        case.words,
+        &mut shelf,
+        &mut input,
+        &mut output,
+        &mut notes,
+    );
+    let behind = bytes_of(alloc, case.behind)?;
+    let is_left = shelf.bytes("a").is_some_and(|b| b == behind.as_slice());
+    Ok(
+        status == case.status
+            && output.bytes() == case.output
+            && notes.bytes() == case.notes
+            && is_left,
+    )
+}
+
+#[test]
+fn a_run_appends(rt: HostRuntime) -> Result<(), Fail> {
+    let alloc = rt.alloc();
+    for case in CASES {
+        assert!(rt; has_outcome(alloc, case)?, "{}", case.title);
+    }
+    Ok(())
+}

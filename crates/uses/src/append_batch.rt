@@ -1,0 +1,26 @@
+//! A record batch that is written behind those of a file.
+use crate::write_batch::batch_of;
+use arrow_ipc::io::MemoryDisk;
+use arrow_ipc::io::ipc::IpcError;
+use arrow_ipc::io::ipc::append::try_from_file;
+use arrow_ipc::io::ipc::read::read_file_metadata;
+use arrow_ipc::io::ipc::write::WriteOptions;
+use std::alloc::Global;
+
+/// The file with a batch of numbers more, in memory.
+pub(crate) fn file_with(
+    alloc: Global,
+    file: Vec<u8>,
+    numbers: Vec<i32>,
+) -> Result<Vec<u8>, IpcError> {
+    let batch = batch_of(alloc, numbers)?;
+    let mut disk = MemoryDisk::new(file, Vec::new(alloc), Vec::new(alloc));
+    let metadata = read_file_metadata(alloc, &mut disk)?;
+    let mut writer = match try_from_file(alloc, disk, metadata, WriteOptions::default()) {
+        Ok(writer) => writer,
+        Err(refused) => return Err(refused.error),
+    };
+    writer.write(&batch, None)?;
+    writer.finish()?;
+    Ok(writer.into_inner().into_inner().into_bytes())
+}
