@@ -20,7 +20,8 @@ use Rattle.ipc_write.specs.declared.options.WriteOptions.{WriteOptions}
 use Rattle.ipc_append_stream.specs.Appended.{EndsDisk, IsAppended, IsNotAppended, IsPrepared, IsWritten, KeepsBelow, StopsOnDisk, WritesNot}
 use Rattle.ipc_append_stream.specs.Puts.{AreGiven, EndsFile, IsEnded, NotEnded, OneNotGiven, PutCause, chunk_bytes}
 use Rattle.ipc_append_stream.specs.declared.encode.EncodedChunk.{EncodedChunk}
-use Rattle.ipc_append_stream.specs.declared.whole.WholeStream.{WholeStream}
+use Rattle.ipc_append_stream.specs.declared.stream.WholeStream.{WholeStream}
+use Rattle.ipc_append_stream.proofs.AppendMeaning.{appended_means}
 use Rattle.ipc_append_stream.proofs.PutSteps.{cause_later}
 use Rattle.ipc_bodies.specs.Puts.{Moved, moved}
 
@@ -52,7 +53,7 @@ module _ (old mid : Option (List ℕ)) (end end' : ℕ) (f g u v : ℕ) (c d : F
   ends_disk (Err x) content_of w there is k same h = tt
   ends_disk (Ok x) content_of w there is k same h =
       let e : IsEnded (moved (below end old) (below end' mid) f g u v) c chunks = subst (λ y. EndsFile (moved (below end old) (below end' mid) f g u v) y c d chunks) is k in
-      record { last = e.last; given = e.given; ending = e.ending; ends = e.ends; content = put_on_disk old mid (content_of x) end end' (flat_map chunk_bytes chunks ++ e.ending) s e.appended (h ∙ same) }
+      record { last = e.last; given = e.given; ending = e.ending; ends = e.ends; means = e.means; content = put_on_disk old mid (content_of x) end end' (flat_map chunk_bytes chunks ++ e.ending) s e.appended (h ∙ same) }
 
   pub not_cut_off : {X E : Type 0} (r : Result X E) (content_of : E → Option (List ℕ)) (faults_of : E → ℕ) (error_of : E → IpcError) (w : Result (Unit {0}) IpcError) (there : Option (List ℕ)) (n : ℕ) → w ≡ Ok tt → EndsFile (moved (below end old) (below end' mid) f g u v) w c d chunks
       → there ≡ mid → n ≡ g → IfErr r (λ x. content_of x ≡ there) → IfErr r (λ x. error_of x ≡ errors.WriteFault) → IfErr r (λ x. Rose n (faults_of x)) → IfErr r (λ x. StopsOnDisk old (content_of x) (error_of x) c chunks f (faults_of x))
@@ -118,10 +119,12 @@ is_written old mid new end asked m c chunks a e = record {
   place = a.place;
   core = c;
   continued = a.continued;
+  goes_on = a.means;
   last = e.last;
   given = e.given;
   ending = e.ending;
   ends = e.ends;
+  means = e.means;
   content = written_behind old mid new a.place (flat_map chunk_bytes chunks ++ e.ending) a.cut e.content;
 }
 
@@ -156,7 +159,9 @@ cut_since e f g h less (inr k) = inr k
 
 module _ (old mid new : Option (List ℕ)) (asked : WriteOptions) (s : WholeStream) (m : FileMetadata) (chunks : List EncodedChunk) (same : mid ≡ old) (p : IsPrepared old asked s m chunks) where
   pub is_appended : IsWritten mid new asked m chunks → IsAppended old new asked s
-  is_appended w = record { file = m; chunks = chunks; prepared = p; written = subst (λ o. IsWritten o new asked m chunks) same w }
+  is_appended w =
+      let written = subst (λ o. IsWritten o new asked m chunks) same w in
+      record { file = m; chunks = chunks; prepared = p; written = written; means = λ b t is before. appended_means old new asked s m chunks p written b t is before }
 
   pub not_appended : (e : IpcError) (f g h : ℕ) → f ≤ g → WritesNot mid new e asked m chunks g h → IsNotAppended old new e asked s f h
   not_appended e f g h less w = by (subst (λ o. WritesNot o new e asked m chunks g h) same w)

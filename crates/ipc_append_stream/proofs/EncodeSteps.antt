@@ -1,29 +1,64 @@
 -- Record batches that are encoded, one after another.
-use Rattle.std.proofs.Common.{◌≡◌, ◌∙◌, inr, ℕ, suc, ◌+◌, ◌<◌, ◌≤◌, List, [], ◌∷◌, ◌++◌, length, take, drop, get_or, Ok, Err, Vec, Global, refl, sym, ap, subst, add-one}
+use Rattle.std.proofs.Common.{◌≡◌, ◌∙◌, ◌⊎◌, inl, inr, ℕ, suc, ◌+◌, ◌<◌, ◌≤◌, List, [], ◌∷◌, ◌++◌, length, map, take, drop, get_or, Ok, Err, Vec, Global, refl, sym, ap, subst, add-one}
 use Rattle.std.proofs.Math.Seq.{split_at, take-suc}
 use Rattle.std.proofs.lemmas.List.{take_all}
 use Rattle.arrow_spec.specs.declared.error.IpcError.{IpcError}
+use Rattle.arrow_spec.specs.declared.error.IpcError.TheVariants.{Memory}
 use Rattle.arrow_arrays.specs.Batches.{Batch}
 use Rattle.arrow_arrays.specs.Parts.{forest}
+use Rattle.ipc_dictionaries.specs.Batches.{Sends}
 use Rattle.ipc_dictionaries.specs.NewDictionaries.{Options}
-use Rattle.ipc_dictionaries.specs.Walks.{options_of}
+use Rattle.ipc_dictionaries.specs.Walks.{options_of, to_send}
+use Rattle.ipc_dictionaries.specs.declared.sending.NewDictionaries.{NewDictionaries}
 use Rattle.ipc_dictionaries.specs.declared.tracker.DictionaryTracker.{DictionaryTracker}
-use Rattle.ipc_encode.specs.Chunks.{EncodesChunk}
+use Rattle.ipc_encode.specs.Chunks.{RefusesChunk}
+use Rattle.ipc_encode.specs.Messages.{RefusesOne}
+use Rattle.ipc_encode.proofs.ChunkSteps.{stops_behind, stops_found}
+use Rattle.ipc_encode.proofs.MessageSteps.{encoded_fit}
 use Rattle.ipc_fields.specs.IpcFields.{Ids}
-use Rattle.ipc_write.specs.Encoding.{AllMean}
+use Rattle.ipc_write.specs.Outcomes.{Plans}
 use Rattle.ipc_write.specs.declared.encoded.EncodedData.{EncodedData}
 use Rattle.ipc_write.specs.declared.options.WriteOptions.{WriteOptions}
-use Rattle.ipc_append_stream.specs.Encoded.{AreEncoded, EncodesAll, EncodesOne, IsEncoded, none_encoded, one_encoded}
+use Rattle.ipc_append_stream.specs.Encoded.{AreEncoded, AreOfValues, EncodesAll, EncodesOne, IsEncoded, IsOfWhole, none_encoded, one_encoded}
+use Rattle.ipc_append_stream.proofs.MessageSteps.{are_messages, may_be_values}
 use Rattle.ipc_append_stream.specs.declared.encode.EncodedChunk.{EncodedChunk}
 
 -- ── one ──
 
-pub same_options : (old new : DictionaryTracker) → (new.cannot_replace ≡ old.cannot_replace) × (new.deltas ≡ old.deltas) → options_of new ≡ options_of old
-same_options old new h = rw (h.0, h.1) refl
+module _ (options : WriteOptions) (below : Ids) (old new : DictionaryTracker) (b : Batch) (n : NewDictionaries) (ds : Vec EncodedData Global) where
+  pub one_is : (m : EncodedData) → Sends (Ok n) old new (forest b.arrays) below → AreOfValues options (map to_send n.messages.items) ds.items → IsOfWhole options b m → options_of new ≡ options_of old
+      → EncodesOne (Ok (record { dictionaries = ds; batch = m })) options below old new b
+  one_is m sends values is kept =
+      let sent = map to_send n.messages.items in
+      let messages = are_messages options sent ds.items values in
+      record {
+        sent = record { used = sends.0.0; sent = sent; is_found = sends.0.1; messages = messages };
+        batch = is.message;
+        kept = kept;
+        may = record {
+          fit = encoded_fit options sent ds.items messages;
+          within = is.message.within;
+          values = may_be_values options sent ds.items values;
+          batch_means = is.means;
+          batch_nodes = is.nodes;
+          batch_whole = is.whole;
+        };
+      }
 
-pub one_is : (options : WriteOptions) (below : Ids) (old new : DictionaryTracker) (b : Batch) (ds : Vec EncodedData Global) (m : EncodedData) → EncodesChunk (Ok (ds, m)) options old new (forest b.arrays) below b → AllMean b.height b.arrays
-    → (new.cannot_replace ≡ old.cannot_replace) × (new.deltas ≡ old.deltas) → EncodesOne (Ok (record { dictionaries = ds; batch = m })) options below old new b
-one_is options below old new b ds m h means same = record { sent = h.0; batch = h.1; kept = same_options old new same; means = means }
+-- ── or it is refused ──
+
+pub sends_stop : (e : IpcError) (options : WriteOptions) (below : Ids) (old new : DictionaryTracker) (b : Batch) → Sends (Err e) old new (forest b.arrays) below → EncodesOne (Err e) options below old new b
+sends_stop e options below old new b h = (stops_found e old new (forest b.arrays) below (λ sent. RefusesChunk e options sent b) h).0
+
+module _ (e : IpcError) (options : WriteOptions) (below : Ids) (old new : DictionaryTracker) (b : Batch) (n : NewDictionaries) where
+  pub values_stop : Sends (Ok n) old new (forest b.arrays) below → (e ≡ Memory) ⊎ RefusesOne e options (map to_send n.messages.items) → EncodesOne (Err e) options below old new b
+  values_stop sends (inl m) = inl m
+  values_stop sends (inr r) = stops_behind e old new (forest b.arrays) below n (λ sent. RefusesChunk e options sent b) sends (inl r)
+
+  pub batch_stops : (ds : Vec EncodedData Global) → Sends (Ok n) old new (forest b.arrays) below → AreOfValues options (map to_send n.messages.items) ds.items → Plans (Err e) options b → EncodesOne (Err e) options below old new b
+  batch_stops ds sends values r =
+      let sent = map to_send n.messages.items in
+      stops_behind e old new (forest b.arrays) below n (λ sent. RefusesChunk e options sent b) sends (inr (encoded_fit options sent ds.items (are_messages options sent ds.items values), r))
 
 -- ── several ──
 

@@ -38,7 +38,7 @@ use Rattle.schema_writer.specs.Serialized.{serialized}
 use Rattle.ipc_append_stream.specs.Appended.{FaultsTold, IsNotAppended, NotContinued, NotPrepared}
 use Rattle.ipc_append_stream.specs.Encoded.{AreRefused}
 use Rattle.ipc_append_stream.specs.Puts.{PutCause}
-use Rattle.ipc_append_stream.specs.declared.whole.WholeStream.{WholeStream}
+use Rattle.ipc_append_stream.specs.declared.stream.WholeStream.{WholeStream}
 use Rattle.ipc_append_stream.proofs.Handed.{refused}
 
 abbrev pub IsNoFault : IpcError → Type 0

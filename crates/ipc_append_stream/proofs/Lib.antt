@@ -1,9 +1,13 @@
 pub mod Handed
 pub mod BareKinds
+pub mod StreamKinds
 pub mod StreamRefusals
 pub mod WholeSteps
+pub mod MessageSteps
 pub mod EncodeSteps
 pub mod PrepareSteps
 pub mod PutSteps
+pub mod BatchMeaning
+pub mod AppendMeaning
 pub mod AppendSteps
 pub mod Faults

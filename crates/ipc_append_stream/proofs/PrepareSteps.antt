@@ -7,7 +7,7 @@ use Rattle.arrow_spec.specs.declared.error.IpcError.{IpcError}
 use Rattle.arrow_spec.specs.declared.error.IpcError.TheVariants.{SchemaMismatch}
 use Rattle.arrow_spec.specs.Arrays.{Dictionaries}
 use Rattle.arrow_spec.specs.Files.{dictionaries_of}
-use Rattle.arrow_spec.specs.Kinds.{bare}
+use Rattle.arrow_spec.specs.Kinds.{bare, have_same_kinds}
 use Rattle.arrow_spec.specs.Readings.{Refuses, refusals}
 use Rattle.arrow_arrays.specs.Batches.{Batch}
 use Rattle.arrow_arrays.specs.declared.array.Array.{Array}
@@ -28,7 +28,7 @@ use Rattle.ipc_append_stream.specs.Appended.{IsPrepared, NotPrepared}
 use Rattle.ipc_append_stream.specs.Encoded.{EncodesAll}
 use Rattle.ipc_append_stream.specs.Targets.{DoesNotTake, HaveSameFields, HoldsDictionaries, IsMetadata, LacksDictionaries, ReadsDictionaries, Takes}
 use Rattle.ipc_append_stream.specs.declared.encode.EncodedChunk.{EncodedChunk}
-use Rattle.ipc_append_stream.specs.declared.whole.WholeStream.{WholeStream}
+use Rattle.ipc_append_stream.specs.declared.stream.WholeStream.{WholeStream}
 use Rattle.ipc_append_stream.proofs.BareKinds.{fields_with_bare}
 use Rattle.ipc_append_stream.proofs.Handed.{handed}
 
@@ -43,14 +43,16 @@ same_with_ids m s h = fields_with_bare (fields_in (rc_value m.schema)) (ids_of m
 same_without_ids : (m : FileMetadata) (s : StreamMetadata) → HaveSameFields m s → SameFields m s
 same_without_ids m s h = sym (fields_with_bare (fields_in (rc_value m.schema)) (ids_of m.ipc_schema.fields.items)) ∙ h ∙ fields_with_bare (fields_in (rc_value s.schema)) (ids_of s.ipc_schema.fields.items)
 
-pub takes_it : (content : Option (List ℕ)) (m : FileMetadata) (s : StreamMetadata) → IsMetadata content m → SameFields m s → Takes content s m
-takes_it content m s i h = record { metadata = i; fields = same_with_ids m s h }
+pub takes_it : (content : Option (List ℕ)) (m : FileMetadata) (s : StreamMetadata) → IsMetadata content m → SameFields m s → have_same_kinds (fields_in (rc_value m.schema)) (fields_in (rc_value s.schema)) ≡ true → Takes content s m
+takes_it content m s i h kinds = record { metadata = i; fields = same_with_ids m s h; kinds = kinds }
 
 pub has_others : (content : Option (List ℕ)) (m : FileMetadata) (s : StreamMetadata) (f g : ℕ) → IsMetadata content m → (SameFields m s → ⊥) → DoesNotTake content SchemaMismatch s f g
 has_others content m s f g i h = inr (record { is = refl; file = m; metadata = i; others = λ k. h (same_without_ids m s k) })
 
-pub takes_of : (content : Option (List ℕ)) (m : FileMetadata) (s : StreamMetadata) → IsMetadata content m → (a b : List Keyed) → a ≡ rc_value m.schema → b ≡ rc_value s.schema → IsTrue true ↔ (bare (fields_in a) ≡ bare (fields_in b)) → Takes content s m
-takes_of content m s i a b p q h = takes_it content m s i (ap (λ x. bare (fields_in x)) (sym p) ∙ h.0 refl ∙ ap (λ x. bare (fields_in x)) q)
+pub takes_of : (content : Option (List ℕ)) (m : FileMetadata) (s : StreamMetadata) → IsMetadata content m → (a b : List Keyed) → a ≡ rc_value m.schema → b ≡ rc_value s.schema → IsTrue true ↔ (bare (fields_in a) ≡ bare (fields_in b)) → (true ≡ true → have_same_kinds (fields_in a) (fields_in b) ≡ true) → Takes content s m
+takes_of content m s i a b p q h kinds =
+    takes_it content m s i (ap (λ x. bare (fields_in x)) (sym p) ∙ h.0 refl ∙ ap (λ x. bare (fields_in x)) q)
+    (subst (λ y. have_same_kinds (fields_in (rc_value m.schema)) (fields_in y) ≡ true) q (subst (λ x. have_same_kinds (fields_in x) (fields_in b) ≡ true) p (kinds refl)))
 
 pub has_others_of : (content : Option (List ℕ)) (m : FileMetadata) (s : StreamMetadata) (f g : ℕ) → IsMetadata content m → (a b : List Keyed) → a ≡ rc_value m.schema → b ≡ rc_value s.schema → IsTrue false ↔ (bare (fields_in a) ≡ bare (fields_in b)) → DoesNotTake content SchemaMismatch s f g
 has_others_of content m s f g i a b p q h = has_others content m s f g i (λ k. true≢false (sym (h.1 (ap (λ x. bare (fields_in x)) p ∙ k ∙ ap (λ x. bare (fields_in x)) (sym q)))))

@@ -207,6 +207,7 @@ module _ (a b c : Option (List ℕ)) (f g h u v w : ℕ) (old mid : FileCore) (c
     given = t.given;
     ending = k.bytes;
     ends = k.text;
+    means = k.means;
     appended = Appends-trans a b c (flat_map chunk_bytes cs) k.bytes t.appended k.appended;
     counts = falls a b c f g h u v w t.counts k.counts;
   }

@@ -1,5 +1,5 @@
 -- A stream that is read to its end, one batch after another.
-use Rattle.std.proofs.Common.{◌≡◌, ◌∙◌, ◌⊎◌, inl, inr, ℕ, List, [], ◌∷◌, ◌++◌, map, All, false, Option, Some, None, Result, Ok, Err, IfErr, IfOk, IfSome, refl, sym, ap, subst, append-nil, arith, Vec, Global}
+use Rattle.std.proofs.Common.{◌≡◌, ◌∙◌, ◌⊎◌, inl, inr, ℕ, List, [], ◌∷◌, ◌++◌, map, All, true, false, Option, Some, None, Result, Ok, Err, IfErr, IfOk, IfSome, refl, sym, ap, subst, append-nil, arith, Vec, Global}
 use Rattle.std.proofs.lemmas.List.Elements.{All-push}
 use Rattle.std.specs.Rc.{rc_value}
 use Rattle.std.specs.Result.{IsErrAnd}
@@ -23,7 +23,7 @@ use Rattle.ipc_read_laws.specs.Held.{HoldsCells, none_held}
 use Rattle.ipc_read_laws.proofs.Keys.{holds_none}
 use Rattle.ipc_streams.specs.Feeds.{FeedKept}
 use Rattle.ipc_streams.specs.Nexts.{GivesNext, NextState, answer_of}
-use Rattle.ipc_streams.specs.Readers.{IsReader, fields_shown}
+use Rattle.ipc_streams.specs.Readers.{HasFields, IsReader, fields_shown}
 use Rattle.ipc_streams.specs.Starts.{GivesStart, Start, start_view, stream_schema}
 use Rattle.ipc_streams.specs.Steps.{Nexts, most_dictionaries, next_in, none_left, none_yet, one_more}
 use Rattle.ipc_streams.specs.declared.columns.StreamColumns.{StreamColumns}
@@ -34,7 +34,9 @@ use Rattle.ipc_streams.specs.declared.state.StreamState.TheVariants as states
 use Rattle.ipc_streams.proofs.StreamLaws.{nexts_are_the_stream}
 use Rattle.ipc_streams.proofs.TakenCalls.{cause_since}
 use Rattle.ipc_append_stream.specs.Wholes.{AllOf, EachGiven, FailsBehind, GivesEach, GivesMore, IsWhole, NextGiven, RefusesStream, StopsBehind, all_columns, batch_found, reader_of, stops_here, stops_later}
+use Rattle.ipc_append_stream.specs.Columns.{are_of}
 use Rattle.ipc_append_stream.proofs.BareKinds.{fields_with_bare}
+use Rattle.ipc_append_stream.proofs.StreamKinds.{batches_of}
 use Rattle.ipc_append_stream.proofs.StreamRefusals.{start_refuses, stream_stops}
 
 -- ── the next batch ──
@@ -95,7 +97,7 @@ pub record IsBehind (s : Reader) (d : Dictionaries) (b : List ℕ) (rest' : Opti
 
 pub record AreFront (rest rest' : Option (List ℕ)) (c c' : StreamCursor) (xs : List Batch) : Type 0 where
   pub reached : (d : Dictionaries) → HoldsCells d (held_in c.dictionaries) → IfSome rest (λ b. IsBehind (all_columns c.columns) d b rest' c' xs)
-  pub fields : All (λ (x : Batch). x.schema ≡ fields_shown c.columns) xs
+  pub fields : All (λ (x : Batch). HasFields x (fields_shown c.columns)) xs
   pub columns : c'.columns ≡ c.columns
   pub more : c'.is_finished ≡ false
 
@@ -127,7 +129,7 @@ behind_more s d b mid c' c'' rest' xs x i next =
 pub one_read : (rest mid rest' : Option (List ℕ)) (c c' c'' : StreamCursor) (xs : List Batch) (x : Batch) → AreFront rest mid c c' xs → GivesMore mid rest' c' c'' (Ok (Some x)) → AreFront rest rest' c c'' (xs ++ x ∷ [])
 one_read rest mid rest' c c' c'' xs x a g = record {
   reached = λ d h. by rest d (a.reached d h);
-  fields = All-push (λ (y : Batch). y.schema ≡ fields_shown c.columns) xs x a.fields (g.fields ∙ ap fields_shown a.columns);
+  fields = All-push (λ (y : Batch). HasFields y (fields_shown c.columns)) xs x a.fields (subst (λ (s : StreamColumns). HasFields x (fields_shown s)) a.columns g.fields);
   columns = g.columns ∙ a.columns;
   more = g.more;
 }
@@ -186,7 +188,7 @@ pub all_of : (rest : Option (List ℕ)) (m : StreamMetadata) (c : StreamCursor) 
     → GivesEach rest c result → AllOf rest (stream_schema m) (rc_value m.schema) result
 all_of rest m c result is p none g = record {
   gives = subst (λ (x : StreamMetadata). IfSome rest (λ b. EachGiven (reader_of (stream_schema x)) [] b result)) is (g.gives [] (subst (HoldsCells []) (sym none) holds_none));
-  fields = subst (λ (s : List Keyed). IfOk result (λ v. All (λ (x : Batch). x.schema ≡ s) v.items)) (shown_is ∙ ap (λ (x : StreamMetadata). rc_value x.schema) is) g.fields;
+  fields = subst (λ (s : List Keyed). IfOk result (λ v. All (λ (x : Batch). HasFields x s) v.items)) (shown_is ∙ ap (λ (x : StreamMetadata). rc_value x.schema) is) g.fields;
 }
   where
     shown_is : fields_shown c.columns ≡ rc_value c.columns.metadata.schema
@@ -206,9 +208,14 @@ wanted_of rest schema s e is = record { gives = by rest; fields = tt }
 
 -- ── the whole stream ──
 
-pub is_whole : (rest mid : Option (List ℕ)) (m copy : StreamMetadata) (s : List Keyed) (v : Vec Batch Global) → GivesStart rest mid (Ok m) → start_view copy ≡ start_view m → AllOf mid (stream_schema copy) s (Ok v) → IfSome rest (λ b. IsWhole b (record { metadata = m; batches = v }))
-is_whole None mid m copy s v start same a = tt
-is_whole (Some b) mid m copy s v start same a =
+-- the columns of its batches are of the kinds of its fields
+pub has_kinds : (rest : Option (List ℕ)) (schema : Schema) (m copy : StreamMetadata) (v : Vec Batch Global) → rc_value copy.schema ≡ rc_value m.schema → AllOf rest schema (rc_value copy.schema) (Ok v) → are_of (fields_in (rc_value m.schema)) v.items ≡ true
+has_kinds rest schema m copy v same a = subst (λ (s : List Keyed). are_of (fields_in s) v.items ≡ true) same (batches_of (rc_value copy.schema) v.items a.fields)
+
+pub is_whole : (rest mid : Option (List ℕ)) (m copy : StreamMetadata) (s : List Keyed) (v : Vec Batch Global) (kinds : are_of (fields_in (rc_value m.schema)) v.items ≡ true) → GivesStart rest mid (Ok m) → start_view copy ≡ start_view m → AllOf mid (stream_schema copy) s (Ok v)
+    → IfSome rest (λ b. IsWhole b (record { metadata = m; batches = v; kinds = kinds }))
+is_whole None mid m copy s v kinds start same a = tt
+is_whole (Some b) mid m copy s v kinds start same a =
     let schema : stream_schema copy ≡ stream_schema m = ap (λ (x : Start). x.schema) same in
     let behind : IfSome mid (λ bytes. Nexts (reader_of (stream_schema m)) [] bytes (map table_of v.items)) = subst (λ (x : Schema). IfSome mid (λ bytes. Nexts (reader_of x) [] bytes (map table_of v.items))) schema a.gives in
     let nexts : Nexts (reader_of (stream_schema m)) [] start.0 (map table_of v.items) = subst (λ o. IfSome o (λ bytes. Nexts (reader_of (stream_schema m)) [] bytes (map table_of v.items))) start.2 behind in
@@ -216,7 +223,7 @@ is_whole (Some b) mid m copy s v start same a =
 
 pub has_fields : (m copy : StreamMetadata) (rest : Option (List ℕ)) (schema : Schema) (v : Vec Batch Global) → start_view copy ≡ start_view m → AllOf rest schema (rc_value copy.schema) (Ok v) → All (λ (x : Batch). bare (fields_in x.schema) ≡ bare (stream_schema m).fields) v.items
 has_fields m copy rest schema v same a k d h =
-    ap (λ (s : List Keyed). bare (fields_in s)) (a.fields k d h) ∙ sym (fields_with_bare (fields_in (rc_value copy.schema)) _) ∙ ap (λ (x : Start). bare x.schema.fields) same
+    ap (λ (s : List Keyed). bare (fields_in s)) (a.fields k d h).schema ∙ sym (fields_with_bare (fields_in (rc_value copy.schema)) _) ∙ ap (λ (x : Start). bare x.schema.fields) same
 
 pub start_stops : (rest mid : Option (List ℕ)) (e : IpcError) → GivesStart rest mid (Err e) → IfSome rest (λ b. RefusesStream e b)
 start_stops None mid e h = tt

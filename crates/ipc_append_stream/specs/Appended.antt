@@ -1,20 +1,25 @@
 -- A stream's record batches at the end of a file. (Arrow Columnar Format, "IPC File Format".)
-use Rattle.std.specs.Prelude.{◌≡◌, ◌⊎◌, ℕ, List, ◌++◌, length, take, ⊤, Option, Some, Ok, IfSome}
+use Rattle.std.specs.Prelude.{◌≡◌, ◌⊎◌, ℕ, List, ◌++◌, length, map, take, ⊤, Option, Some, Ok, IfSome}
 use Rattle.std.specs.List.{flat_map}
 use Rattle.arrow_spec.specs.declared.error.IpcError.{IpcError}
 use Rattle.arrow_spec.specs.declared.error.IpcError.TheVariants as errors
-use Rattle.ipc_append.specs.Appends.{CutFails, IsContinued, StopsBefore}
+use Rattle.arrow_spec.specs.Files.{ArrowTable, «all»}
+use Rattle.arrow_spec.specs.Meaning.{file_table}
+use Rattle.ipc_append.specs.Appends.{CutFails, GoesOnWith, IsContinued, MeansBefore, StopsBefore}
 use Rattle.ipc_dictionaries.specs.declared.tracker.DictionaryTracker.{DictionaryTracker}
 use Rattle.ipc_disk.specs.Disks.{below}
 use Rattle.ipc_disk.specs.Tails.{cut_and_padded}
 use Rattle.ipc_fields.specs.IpcFields.{ids_of}
 use Rattle.ipc_file_writer.specs.Calls.{ending_of}
+use Rattle.ipc_file_writer.specs.Written.{EndsFile}
 use Rattle.ipc_file_writer.specs.declared.file.FileCore.{FileCore}
 use Rattle.ipc_files.specs.declared.metadata.FileMetadata.{FileMetadata}
 use Rattle.ipc_io.specs.Outside.{Rose}
+use Rattle.ipc_read.specs.Batches.{table_of}
 use Rattle.ipc_write.specs.declared.options.WriteOptions.{WriteOptions}
+use Rattle.written_files.specs.Files.{followed_by}
 use Rattle.ipc_append_stream.specs.declared.encode.EncodedChunk.{EncodedChunk}
-use Rattle.ipc_append_stream.specs.declared.whole.WholeStream.{WholeStream}
+use Rattle.ipc_append_stream.specs.declared.stream.WholeStream.{WholeStream}
 use Rattle.ipc_append_stream.specs.Encoded.{AreEncoded, AreRefused}
 use Rattle.ipc_append_stream.specs.Puts.{AreGiven, NotEnded, OneNotGiven, PutCause, chunk_bytes}
 use Rattle.ipc_append_stream.specs.Targets.{DoesNotTake, HoldsDictionaries, LacksDictionaries, Takes}
@@ -105,10 +110,14 @@ pub record IsWritten (old new : Option (List ℕ)) (asked : WriteOptions) (m : F
   pub place : ℕ
   pub core : FileCore
   pub continued : IsContinued old asked m place core
+  -- where the file means a table, what is left of it means the table's batches still
+  pub goes_on : (b : List ℕ) (t : ArrowTable) → old ≡ Some b → MeansBefore b m place t → GoesOnWith core (cut_and_padded place b) t
   pub last : FileCore
   pub given : AreGiven core last chunks
   pub ending : List ℕ
   pub ends : ending_of last ≡ Ok ending
+  -- where its schema is regular, whatever stands before its end means a table then
+  pub means : EndsFile last ending
   pub content : IfSome old (λ b. new ≡ Some (cut_and_padded place b ++ (flat_map chunk_bytes chunks ++ ending)))
 
 -- those of a stream's batches do
@@ -117,6 +126,9 @@ pub record IsAppended (old new : Option (List ℕ)) (asked : WriteOptions) (s : 
   pub chunks : List EncodedChunk
   pub prepared : IsPrepared old asked s file chunks
   pub written : IsWritten old new asked file chunks
+  -- where the file means a table, the new file means it with the stream's batches behind its own
+  pub means : (b : List ℕ) (t : ArrowTable) → old ≡ Some b → MeansBefore b file written.place t
+      → IfSome new (λ y. file_table y «all» ≡ Some (followed_by t (map table_of s.batches.items)))
 
 -- ── one call ──
 
@@ -126,6 +138,7 @@ pub record EndsDisk (old new : Option (List ℕ)) (core : FileCore) (chunks : Li
   pub given : AreGiven core last chunks
   pub ending : List ℕ
   pub ends : ending_of last ≡ Ok ending
+  pub means : EndsFile last ending
   pub content : IfSome old (λ b. new ≡ Some (b ++ (flat_map chunk_bytes chunks ++ ending)))
 
 -- it stops, and what the disk had is as it was

@@ -1,3 +1,4 @@
+pub mod Columns
 pub mod Bare
 pub mod Wholes
 pub mod Targets

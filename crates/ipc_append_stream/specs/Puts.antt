@@ -7,6 +7,7 @@ use Rattle.arrow_spec.specs.declared.error.IpcError.TheVariants as errors
 use Rattle.ipc_bodies.specs.Puts.{Moved, NoneFalls}
 use Rattle.ipc_file_writer.specs.Calls.{Finishes, ending_of}
 use Rattle.ipc_file_writer.specs.Given.{HasGiven, WritesGiven, given_chunk}
+use Rattle.ipc_file_writer.specs.Written as written
 use Rattle.ipc_file_writer.specs.declared.file.FileCore.{FileCore}
 use Rattle.ipc_framed_messages.specs.Framed.{given_text}
 use Rattle.ipc_io.specs.Outside.{Rose}
@@ -69,6 +70,8 @@ pub record IsEnded (m : Moved) (old : FileCore) (cs : List EncodedChunk) : Type 
   pub given : AreGiven old last cs
   pub ending : List ℕ
   pub ends : ending_of last ≡ Ok ending
+  -- where the file's schema is regular, whatever it means is a table then
+  pub means : written.EndsFile last ending
   pub appended : Appends m.old m.new (flat_map chunk_bytes cs ++ ending)
   pub counts : NoneFalls m
 

@@ -1,11 +1,13 @@
 -- The file that a stream is appended to, before anything is written. (Arrow Columnar Format, "IPC File Format".)
 use Rattle.std.specs.Prelude.{◌≡◌, ◌⊎◌, ℕ, List, [], true, Option, None, Result, Ok, Err, IfSome}
+use Rattle.std.specs.Rc.{rc_value}
 use Rattle.arrow_spec.specs.declared.error.IpcError.{IpcError}
 use Rattle.arrow_spec.specs.declared.error.IpcError.TheVariants.{SchemaMismatch}
 use Rattle.arrow_spec.specs.Arrays.{Dictionaries}
 use Rattle.arrow_spec.specs.Files.{Request, dictionaries_of, file_reading, to_send}
-use Rattle.arrow_spec.specs.Kinds.{bare}
+use Rattle.arrow_spec.specs.Kinds.{bare, have_same_kinds}
 use Rattle.arrow_spec.specs.Readings.{Refuses, refusals}
+use Rattle.arrow_types.specs.Schemas.{fields_in}
 use Rattle.ipc_dictionaries.specs.declared.tracker.DictionaryTracker.{DictionaryTracker}
 use Rattle.ipc_files.specs.FileDictionaries.{HoldsUses}
 use Rattle.ipc_files.specs.FileViews.{FileCause, FileSays, WasRead, file_custom, meta_view}
@@ -29,10 +31,11 @@ pub record IsMetadata (content : Option (List ℕ)) (m : FileMetadata) : Type 0 
 abbrev pub HaveSameFields : FileMetadata → StreamMetadata → Type 0
 HaveSameFields m s = bare (meta_view m).schema.fields ≡ bare (stream_schema s).fields
 
--- a file takes a stream
+-- a file takes a stream: its fields are the same, and of the same kinds
 pub record Takes (content : Option (List ℕ)) (s : StreamMetadata) (m : FileMetadata) : Type 0 where
   pub metadata : IsMetadata content m
   pub fields : HaveSameFields m s
+  pub kinds : have_same_kinds (fields_in (rc_value m.schema)) (fields_in (rc_value s.schema)) ≡ true
 
 -- its metadata is refused
 pub record LacksMetadata (content : Option (List ℕ)) (e : IpcError) (faults faults' : ℕ) : Type 0 where

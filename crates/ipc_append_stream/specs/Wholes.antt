@@ -19,14 +19,14 @@ use Rattle.ipc_read.specs.Batches.{table_of}
 use Rattle.ipc_read.specs.Held.{held_in}
 use Rattle.ipc_read_laws.specs.Held.{HoldsCells}
 use Rattle.ipc_streams.specs.Feeds.{FeedKept}
-use Rattle.ipc_streams.specs.Readers.{fields_shown}
+use Rattle.ipc_streams.specs.Readers.{HasFields, fields_shown}
 use Rattle.ipc_streams.specs.Starts.{Start, start_in, start_view, stream_schema}
 use Rattle.ipc_streams.specs.Steps.{Nexts, a_batch, most_dictionaries, next_in}
 use Rattle.ipc_streams.specs.declared.columns.StreamColumns.{StreamColumns}
 use Rattle.ipc_streams.specs.declared.cursor.StreamCursor.{StreamCursor}
 use Rattle.ipc_streams.specs.declared.state.StreamState.{StreamState}
 use Rattle.ipc_streams.specs.declared.state.StreamState.TheVariants as states
-use Rattle.ipc_append_stream.specs.declared.whole.WholeStream.{WholeStream}
+use Rattle.ipc_append_stream.specs.declared.stream.WholeStream.{WholeStream}
 
 -- a stream that is read in all its columns
 abbrev pub reader_of : Schema → Reader
@@ -96,7 +96,7 @@ NextGiven s d b rest' c' (Err e) = Refuses e (refusals (next_in most_dictionarie
 -- the same, by what the reader holds of dictionaries; it keeps its columns
 pub record GivesMore (rest rest' : Option (List ℕ)) (c c' : StreamCursor) (result : Result (Option Batch) IpcError) : Type 0 where
   pub gives : (d : Dictionaries) → HoldsCells d (held_in c.dictionaries) → IfSome rest (λ b. NextGiven (all_columns c.columns) d b rest' c' result)
-  pub fields : IfOk result (λ o. IfSome o (λ x. x.schema ≡ fields_shown c.columns))
+  pub fields : IfOk result (λ o. IfSome o (λ x. HasFields x (fields_shown c.columns)))
   pub more : IfOk result (λ o. IfSome o (λ x. c'.is_finished ≡ false))
   pub columns : c'.columns ≡ c.columns
 
@@ -107,9 +107,9 @@ EachGiven s d b (Err e) = (xs : List TableBatch) × StopsBehind s e d b xs
 
 pub record GivesEach (rest : Option (List ℕ)) (c : StreamCursor) (result : Result (Vec Batch Global) IpcError) : Type 0 where
   pub gives : (d : Dictionaries) → HoldsCells d (held_in c.dictionaries) → IfSome rest (λ b. EachGiven (all_columns c.columns) d b result)
-  pub fields : IfOk result (λ v. All (λ x. x.schema ≡ fields_shown c.columns) v.items)
+  pub fields : IfOk result (λ v. All (λ x. HasFields x (fields_shown c.columns)) v.items)
 
 -- all batches behind a schema message
 pub record AllOf (rest : Option (List ℕ)) (schema : Schema) (shown : List Keyed) (result : Result (Vec Batch Global) IpcError) : Type 0 where
   pub gives : IfSome rest (λ b. EachGiven (reader_of schema) [] b result)
-  pub fields : IfOk result (λ v. All (λ x. x.schema ≡ shown) v.items)
+  pub fields : IfOk result (λ v. All (λ x. HasFields x shown) v.items)

@@ -11,7 +11,7 @@ ghost use Rattle.ipc_write_messages.specs.States.{is_started};
 use crate::encode::EncodedChunk;
 use crate::prepare::{Prepared, prepare};
 use crate::put::write_file;
-use crate::whole::WholeStream;
+use crate::stream::WholeStream;
 use arrow_spec::IpcError;
 use ipc_append::try_from_file;
 use ipc_disk::{Disk, DiskTail};

@@ -1,12 +1,12 @@
 //! Whether two schemas have the same fields, whether or not the ids of a union are stated (Schema.fbs, Union).
-ghost use Rattle.std.specs.Prelude.{◌≡◌, ◌↔◌, IsTrue, false, map, string_bytes};
+ghost use Rattle.std.specs.Prelude.{◌≡◌, ◌↔◌, IsTrue, false, true, map, string_bytes};
 ghost use Rattle.std.specs.Option.{option_map};
-ghost use Rattle.arrow_spec.specs.Kinds.{are_same_ids, bare, bare_kind};
+ghost use Rattle.arrow_spec.specs.Kinds.{are_same_ids, bare, bare_kind, have_same_kinds};
 ghost use Rattle.arrow_spec.specs.Schema.{counted_ids};
 ghost use Rattle.arrow_types.specs.KindOf.{child_of, extension_kind_of, ids_of, kind_of, union_kind_of};
 ghost use Rattle.arrow_types.specs.Schemas.{entry_of, fields_in};
 ghost use Rattle.ipc_fields.specs.Leaves.{is_leaf};
-ghost use Rattle.ipc_append_stream.specs.Bare.{bare_child, bare_entry};
+ghost use Rattle.ipc_append_stream.specs.Bare.{AreOfOneKind, bare_child, bare_entry};
 
 use arrow_spec::{IntegerType, UnionMode};
 use arrow_types::{ArrowDataType, ArrowSchema, ExtensionType, Field, UnionType, is_same_metadata};
@@ -211,7 +211,8 @@ fn is_same_extension(a: &ExtensionType, b: &ExtensionType) -> bool
 
 /// Whether the fields at a place are the same; their keys are not looked at.
 fn is_same_entry(a: Option<(&String, &Field)>, b: Option<(&String, &Field)>) -> bool
-    ensures { IsTrue result ↔ (option_map bare_entry (option_map entry_of a.entry) ≡ option_map bare_entry (option_map entry_of b.entry)) }
+    ensures same { IsTrue result ↔ (option_map bare_entry (option_map entry_of a.entry) ≡ option_map bare_entry (option_map entry_of b.entry)) }
+    ensures kinds { result ≡ true → AreOfOneKind (option_map entry_of a.entry) (option_map entry_of b.entry) }
 {
     match a {
         None => b.is_none(),
@@ -224,7 +225,8 @@ fn is_same_entry(a: Option<(&String, &Field)>, b: Option<(&String, &Field)>) -> 
 
 /// Whether two schemas have the same fields, in order.
 pub(crate) fn have_same_fields(a: &ArrowSchema, b: &ArrowSchema) -> bool
-    ensures { IsTrue result ↔ (bare (fields_in a.now) ≡ bare (fields_in b.now)) }
+    ensures same { IsTrue result ↔ (bare (fields_in a.now) ≡ bare (fields_in b.now)) }
+    ensures kinds { result ≡ true → have_same_kinds (fields_in a.now) (fields_in b.now) ≡ true }
 {
     if a.len() != b.len() {
         return false;

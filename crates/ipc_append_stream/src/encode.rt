@@ -5,10 +5,10 @@ ghost use Rattle.ipc_dictionaries.specs.Walks.{options_of};
 ghost use Rattle.ipc_fields.specs.IpcFields.{ids_of};
 ghost use Rattle.ipc_append_stream.specs.Encoded.{EncodesAll, EncodesOne};
 
+use crate::messages::{batch_message, values_messages};
 use arrow_arrays::RecordBatch;
 use arrow_spec::IpcError;
-use ipc_dictionaries::DictionaryTracker;
-use ipc_encode::encode_chunk;
+use ipc_dictionaries::{DictionaryTracker, new_dictionaries};
 use ipc_fields::IpcField;
 use ipc_write::{EncodedData, WriteOptions};
 use std::alloc::Global;
@@ -32,7 +32,9 @@ fn encode_batch(
     ensures encodes { EncodesOne result options.now (ids_of fields.now) tracker.old tracker.new batch.now }
     ensures options { options_of tracker.new ≡ options_of tracker.old }
 {
-    let (dictionaries, message) = encode_chunk(alloc, batch, fields, tracker, options)?;
+    let new = new_dictionaries(alloc, fields, batch.arrays(), tracker)?;
+    let dictionaries = values_messages(alloc, new.messages.as_slice(), options)?;
+    let message = batch_message(alloc, batch, options)?;
     Ok(EncodedChunk {
         dictionaries,
         batch: message,
@@ -43,7 +45,7 @@ fn encode_batch(
 ///
 /// # Errors
 ///
-/// As of `encode_chunk` of `ipc_encode`, of the first batch that is refused; `Memory`.
+/// As of `encode_chunk` of `ipc_encode`, of the first batch that is refused; `Memory`. What the tracker holds then is not told.
 pub(crate) fn encode_batches(
     alloc: Global,
     batches: &[RecordBatch],

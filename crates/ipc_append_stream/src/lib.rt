@@ -5,9 +5,12 @@
 mod append;
 mod bare;
 mod encode;
+mod messages;
 mod prepare;
 mod put;
+mod stream;
 mod whole;
 
 pub use append::append_stream;
-pub use whole::{WholeStream, read_whole};
+pub use stream::WholeStream;
+pub use whole::read_whole;

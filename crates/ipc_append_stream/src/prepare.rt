@@ -7,7 +7,7 @@ ghost use Rattle.ipc_io.specs.Outside.{IsSize, SourceKept};
 
 use crate::bare::have_same_fields;
 use crate::encode::{EncodedChunk, encode_batches};
-use crate::whole::WholeStream;
+use crate::stream::WholeStream;
 use arrow_spec::IpcError;
 use ipc_dictionaries::DictionaryTracker;
 use ipc_files::{FileMetadata, read_file_dictionaries, read_file_metadata};

@@ -1,4 +1,4 @@
-//! A stream that is read to its end (Arrow Columnar Format, "IPC Streaming Format").
+//! Streams that are read to their end (Arrow Columnar Format, "IPC Streaming Format").
 ghost use Rattle.std.specs.Prelude.{◌≡◌, All, IfErr, IfOk, IfSome, false};
 ghost use Rattle.std.specs.Rc.{rc_value};
 ghost use Rattle.arrow_spec.specs.Kinds.{bare};
@@ -9,18 +9,12 @@ ghost use Rattle.ipc_streams.specs.Readers.{IsReader};
 ghost use Rattle.ipc_streams.specs.Starts.{IsReadable, stream_schema};
 ghost use Rattle.ipc_append_stream.specs.Wholes.{AllOf, FailsBehind, GivesEach, GivesMore, IsWhole, RefusesStream, all_columns, batch_found};
 
+use crate::stream::WholeStream;
 use arrow_arrays::RecordBatch;
 use arrow_spec::IpcError;
 use ipc_io::Feed;
 use ipc_streams::{StreamMetadata, StreamReader, StreamState, read_stream_metadata};
 use std::alloc::Global;
-
-/// A stream that was read to its end: what its schema message says, and its record batches in order.
-#[derive(Drop)]
-pub struct WholeStream {
-    pub metadata: StreamMetadata,
-    pub batches: Vec<RecordBatch>,
-}
 
 /// The record batch, where there is one.
 fn batch_in(state: StreamState) -> Option<RecordBatch>

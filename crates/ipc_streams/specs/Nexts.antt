@@ -15,7 +15,7 @@ use Rattle.ipc_read.specs.Held.{held_in}
 use Rattle.ipc_files.specs.FileViews.{FileCause}
 use Rattle.ipc_streams.specs.Feeds.{FeedKept}
 use Rattle.ipc_streams.specs.Heads.{is_taken}
-use Rattle.ipc_streams.specs.Readers.{IsReader, fields_shown}
+use Rattle.ipc_streams.specs.Readers.{HasFields, IsReader, fields_shown}
 use Rattle.ipc_streams.specs.Steps.{Found, Next, a_batch, ended, most_dictionaries, next_in, step_within, waiting}
 use Rattle.ipc_streams.specs.declared.cursor.StreamCursor.{StreamCursor}
 use Rattle.ipc_streams.specs.declared.state.StreamState.{StreamState}
@@ -52,10 +52,10 @@ abbrev pub GivesNext : Option (List ℕ) → Held → Result (Option StreamState
 GivesNext rest' h (Ok o) reading = (d : Dictionaries) × (rest : List ℕ) × (reading ≡ Ok (record { found = found_of o; dictionaries = d; rest = rest })) × (rest' ≡ Some rest) × HoldsCells d h
 GivesNext rest' h (Err e) reading = Refuses e (refusals reading)
 
--- a batch has these fields
+-- a batch has these fields, and columns of their kinds
 abbrev pub HasSchema : StreamState → List Keyed → Type 0
 HasSchema states.Waiting s = ⊤
-HasSchema (states.Some x) s = x.schema ≡ s
+HasSchema (states.Some x) s = HasFields x s
 
 abbrev pub HasSchemaIfAny : Option StreamState → List Keyed → Type 0
 HasSchemaIfAny None s = ⊤
@@ -94,7 +94,7 @@ module _ {F : Type 0} (rest_of : F → Option (List ℕ)) (faults_of : F → ℕ
     pub gives : (s : Reader) (d : Dictionaries) (m : Message) → IsReader c.columns s → HoldsCells d (held_in c.dictionaries) → chosen_floats s.columns s.schema.fields 0 ≡ [] → message_of metadata is_taken ≡ Ok m → nat_eq m.tag 2 ≡ false → m.body ≡ count
         → IfSome (rest_of f) (λ b. GivesBatch (drop count b) (rest_of f') result (stream_batch s d (record { metadata = metadata; behind = b }) m))
     pub dictionaries : c'.dictionaries ≡ c.dictionaries
-    pub schema : (s : Reader) → IsReader c.columns s → IfOk result (λ x. x.schema ≡ fields_shown c.columns)
+    pub schema : (s : Reader) → IsReader c.columns s → IfOk result (λ x. HasFields x (fields_shown c.columns))
     pub cause : IfErr result (λ e. FileCause e (faults_of f) (faults_of f'))
     pub kept : KeepsColumns
 
@@ -103,7 +103,7 @@ module _ {F : Type 0} (rest_of : F → Option (List ℕ)) (faults_of : F → ℕ
     pub gives : (s : Reader) (d : Dictionaries) → IsReader c.columns s → HoldsCells d (held_in c.dictionaries)
         → IfSome (rest_of f) (λ b. GivesStep (rest_of f') (held_in c'.dictionaries) result (step_within left s d (record { metadata = metadata; behind = b })))
     pub room : result ≡ Ok None → 0 < left
-    pub schema : (s : Reader) → IsReader c.columns s → IfOk result (λ o. IfSome o (λ x. x.schema ≡ fields_shown c.columns))
+    pub schema : (s : Reader) → IsReader c.columns s → IfOk result (λ o. IfSome o (λ x. HasFields x (fields_shown c.columns)))
     pub cause : IfErr result (λ e. FileCause e (faults_of f) (faults_of f'))
     pub kept : KeepsColumns
 

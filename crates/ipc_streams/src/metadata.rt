@@ -1,5 +1,6 @@
 //! What a stream begins with (Arrow Columnar Format, "IPC Streaming Format", "Schema message").
 ghost use Rattle.std.specs.Prelude.{◌≡◌, IfOk, IfErr};
+ghost use Rattle.std.specs.Rc.{rc_value};
 ghost use Rattle.ipc_fields.specs.Causes.{Decodes};
 ghost use Rattle.ipc_files.specs.FileViews.{FileCause};
 ghost use Rattle.ipc_streams.specs.Feeds.{FeedKept};
@@ -30,6 +31,7 @@ impl StreamMetadata {
     /// A copy, which shares the schema.
     pub fn try_clone(&self, alloc: Global) -> Result<StreamMetadata, AllocError>
         ensures view { IfOk result (λ m. start_view m ≡ start_view self.now) }
+        ensures schema { IfOk result (λ m. rc_value m.schema ≡ rc_value self.now.schema) }
         ensures readable { IsReadable self.now → IfOk result IsReadable }
     {
         Ok(StreamMetadata {

@@ -1,22 +1,23 @@
 //! What is read of the columns of a stream.
-ghost use Rattle.std.specs.Prelude.{◌≡◌, [], true, length, IfOk, IfErr};
+ghost use Rattle.std.specs.Prelude.{◌≡◌, [], true, length, map, IfOk, IfErr};
 ghost use Rattle.std.specs.Rc.{rc_value};
 ghost use Rattle.arrow_spec.specs.Arrays.{Dictionaries as History};
 ghost use Rattle.arrow_spec.specs.Features.{chosen_floats};
 ghost use Rattle.arrow_spec.specs.Files.{dictionary_of};
 ghost use Rattle.arrow_spec.specs.Readings.{Gives};
 ghost use Rattle.arrow_spec.specs.Streams.{Reader};
+ghost use Rattle.arrow_arrays.specs.Parts.{kind_in};
 ghost use Rattle.ipc_fields.specs.Causes.{IsOfBytes};
 ghost use Rattle.ipc_schema.specs.Headers.{dictionary_message_of};
 ghost use Rattle.ipc_schema.specs.Views.{message_of};
 ghost use Rattle.ipc_read_laws.specs.Held.{HoldsCells};
-ghost use Rattle.ipc_read.specs.Batches.{table_of};
+ghost use Rattle.ipc_read.specs.Batches.{kinds_of, table_of};
 ghost use Rattle.ipc_read.specs.DictionaryBatches.{AddsDictionary};
 ghost use Rattle.ipc_read.specs.Held.{held_in};
 ghost use Rattle.ipc_read.specs.Projection.{chosen, columns_of};
 ghost use Rattle.ipc_read.specs.Sources.{Answers, IsRefusal};
 ghost use Rattle.ipc_files.specs.Selections.{numbers_read};
-ghost use Rattle.ipc_streams.specs.Readers.{IsReader, IsRising, ReadsRising, batch_read, fields_shown};
+ghost use Rattle.ipc_streams.specs.Readers.{HasFields, IsReader, IsRising, ReadsRising, batch_read, fields_shown};
 ghost use Rattle.ipc_streams.specs.Starts.{HoldsValues, stream_schema};
 
 use crate::body::HeldBody;
@@ -70,6 +71,7 @@ impl StreamColumns {
         requires values { HoldsValues (stream_schema self.now.metadata) (held_in dictionaries.now) }
         ensures gives { (s : Reader) (d : History) → IsRising self.now s → HoldsCells d (held_in dictionaries.now) → chosen_floats s.columns s.schema.fields 0 ≡ [] → ReadsRising s d (held_in dictionaries.now) (message_of message.now) body.bytes.items result }
         ensures schema { IfOk result (λ x. x.schema ≡ chosen (numbers_read self.now.projection) 0 (rc_value self.now.metadata.schema)) }
+        ensures kinds { IfOk result (λ x. map kind_in x.arrays ≡ chosen (numbers_read self.now.projection) 0 (kinds_of (rc_value self.now.metadata.schema))) }
         ensures plain { IfOk result (λ x. x.custom ≡ []) }
         ensures cause { IfErr result IsOfBytes }
     {
@@ -102,7 +104,7 @@ impl StreamColumns {
     ) -> Result<RecordBatch, IpcError>
         requires values { HoldsValues (stream_schema self.now.metadata) (held_in dictionaries.now) }
         ensures gives { (s : Reader) (d : History) → IsReader self.now s → HoldsCells d (held_in dictionaries.now) → chosen_floats s.columns s.schema.fields 0 ≡ [] → Gives table_of result (batch_read s d message.now.version [] (message_of message.now).tables body.bytes.items) }
-        ensures schema { (s : Reader) → IsReader self.now s → IfOk result (λ x. x.schema ≡ fields_shown self.now) }
+        ensures schema { (s : Reader) → IsReader self.now s → IfOk result (λ x. HasFields x (fields_shown self.now)) }
         ensures cause { IfErr result IsOfBytes }
     {
         let batch = self.read_rising(alloc, message, dictionaries, body, scratch)?;

@@ -6,7 +6,7 @@ use Rattle.arrow_spec.specs.declared.error.IpcError.{IpcError}
 use Rattle.arrow_spec.specs.declared.error.IpcError.TheVariants as errors
 use Rattle.arrow_spec.specs.Words.{Held}
 use Rattle.ipc_append_stream.specs.Appended.{FaultsTold, IsNotAppended}
-use Rattle.ipc_append_stream.specs.declared.whole.WholeStream.{WholeStream}
+use Rattle.ipc_append_stream.specs.declared.stream.WholeStream.{WholeStream}
 use Rattle.ipc_disk.specs.Places.{IsReplaced}
 use Rattle.ipc_io.specs.Outside.{Closes, IsHeld, Rose}
 use Rattle.ipc_tool.specs.Appends.{CountRefused, IsReadStream, PlaceAppended, PlaceNotAppended, PlaceRefused, append_options, count_text}

@@ -6,7 +6,7 @@ use Rattle.arrow_spec.specs.declared.error.IpcError.TheVariants as errors
 use Rattle.arrow_spec.specs.Words.{Held, bytes_of_hex}
 use Rattle.ipc_append_stream.specs.Appended.{FaultsTold, IsAppended, IsNotAppended}
 use Rattle.ipc_append_stream.specs.Wholes.{IsWhole, RefusesStream}
-use Rattle.ipc_append_stream.specs.declared.whole.WholeStream.{WholeStream}
+use Rattle.ipc_append_stream.specs.declared.stream.WholeStream.{WholeStream}
 use Rattle.ipc_disk.specs.Places.{IsReplaced}
 use Rattle.ipc_files.specs.FileViews.{FileCause}
 use Rattle.ipc_io.specs.declared.outside.ShelfError.{ShelfError}

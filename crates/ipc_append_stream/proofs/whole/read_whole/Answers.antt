@@ -1,6 +1,6 @@
 use Rattle.std.proofs.Common.{refl}
 use Rattle.ipc_append_stream.proofs.Handed.{refused}
-use Rattle.ipc_append_stream.proofs.WholeSteps.{batches_stop, fails_later, has_fields, is_whole, start_stops, wants_memory}
+use Rattle.ipc_append_stream.proofs.WholeSteps.{batches_stop, fails_later, has_fields, has_kinds, is_whole, start_stops, wants_memory}
 use Rattle.ipc_append_stream.proofs.whole.read_whole.Goals as goal
 
 pub returns-in_err-metadata-clause-refused : goal.returns-in_err-metadata-clause-refused
@@ -11,8 +11,11 @@ returns-in_err-batches-clause-refused g c =
     refused _ c.from_residual-in_err-batches.result c.in_err-batches.field-0.0 c.from_residual-in_err-batches.ensures.1
     (batches_stop _ _ c.in_ok-metadata.metadata c.in_ok-copy.copy _ c.in_err-batches.field-0.0 c.in_ok-metadata.ensures.gives c.in_ok-copy.ensures.view c.in_err-batches.ensures.gives)
 
+pub invariant_of-result : goal.invariant_of-result
+invariant_of-result g c = record { kinds = has_kinds _ _ c.in_ok-metadata.metadata c.in_ok-copy.copy c.in_ok-batches.batches c.in_ok-copy.ensures.schema c.in_ok-batches.ensures.gives }
+
 pub returns-clause-whole : goal.returns-clause-whole
-returns-clause-whole g c = is_whole _ _ c.in_ok-metadata.metadata c.in_ok-copy.copy _ c.in_ok-batches.batches c.in_ok-metadata.ensures.gives c.in_ok-copy.ensures.view c.in_ok-batches.ensures.gives
+returns-clause-whole g c = is_whole _ _ c.in_ok-metadata.metadata c.in_ok-copy.copy _ c.in_ok-batches.batches _ c.in_ok-metadata.ensures.gives c.in_ok-copy.ensures.view c.in_ok-batches.ensures.gives
 
 pub returns-clause-fields : goal.returns-clause-fields
 returns-clause-fields g c = has_fields c.in_ok-metadata.metadata c.in_ok-copy.copy _ _ c.in_ok-batches.batches c.in_ok-copy.ensures.view c.in_ok-batches.ensures.gives

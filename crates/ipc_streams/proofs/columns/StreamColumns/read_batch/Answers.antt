@@ -1,12 +1,12 @@
-use Rattle.std.proofs.Common.{◌≡◌, ◌∙◌, Err, IfOk, Option, ap, refl, subst, sym}
+use Rattle.std.proofs.Common.{◌≡◌, ◌∙◌, Err, ap, refl}
 use Rattle.std.specs.Rc.{rc_value}
 use Rattle.ipc_read.specs.Held.{held_in}
 use Rattle.ipc_schema.specs.Views.{message_of}
-use Rattle.ipc_projection.specs.declared.projection.ProjectionInfo.{ProjectionInfo}
-use Rattle.ipc_files.specs.Selections.{MayProject, numbers_read, schema_shown}
+use Rattle.ipc_files.specs.Selections.{numbers_read}
 use Rattle.ipc_files.proofs.Errors.{is_err}
-use Rattle.ipc_files.proofs.InOrder.{all_shown, floats_asked, may_reorder, none_shown, ordered_shown}
+use Rattle.ipc_files.proofs.InOrder.{floats_asked, may_reorder, none_shown}
 use Rattle.ipc_streams.proofs.ReadBatches.{all_asked, in_order, ordered_asked, refused_asked}
+use Rattle.ipc_streams.proofs.ShownFields.{all_fields, ordered_fields}
 use Rattle.ipc_streams.proofs.StreamSchemas.{column_count}
 use Rattle.arrow_spec.specs.Kinds.{width}
 use Rattle.arrow_spec.specs.Schema.{Schema}
@@ -33,8 +33,7 @@ returns-in-None-clause-gives c = λ s d is holds floats.
     (c.in_ok-batch.ensures.gives (in_order s p) d (record { schema = is.schema; columns = refl }) holds (floats_asked k s.schema.fields s.columns p is.columns ∙ floats))
 
 pub returns-in-None-clause-schema : goal.returns-in-None-clause-schema
-returns-in-None-clause-schema c = λ s is.
-    all_shown (rc_value c.args.self.now.metadata.schema) c.args.self.now.projection (numbers_read c.args.self.now.projection) c.in_ok-batch.batch.schema c.in-None.is refl c.in_ok-batch.ensures.schema
+returns-in-None-clause-schema c = λ s is. all_fields (rc_value c.args.self.now.metadata.schema) c.args.self.now.projection c.in_ok-batch.batch c.in-None.is c.in_ok-batch.ensures.schema c.in_ok-batch.ensures.kinds
 
 pub apply_projection-requires : goal.apply_projection-requires
 apply_projection-requires c = record {
@@ -52,6 +51,4 @@ returns-in-Some-clause-gives c = λ s d is holds floats.
 
 pub returns-in-Some-clause-schema : goal.returns-in-Some-clause-schema
 returns-in-Some-clause-schema c = λ s is.
-    let k = rc_value c.args.self.now.metadata.schema in
-    subst (λ (o : Option ProjectionInfo). IfOk c.apply_projection.result (λ y. y.schema ≡ schema_shown k o)) (sym c.in-Some.is)
-    (ordered_shown k s.columns c.in-Some.projection (numbers_read c.args.self.now.projection) c.in_ok-batch.batch c.apply_projection.result (ap numbers_read c.in-Some.is) (subst (MayProject k s.columns) c.in-Some.is is.columns) c.in_ok-batch.ensures.schema c.apply_projection.ensures.reordered)
+    ordered_fields (rc_value c.args.self.now.metadata.schema) s.columns c.args.self.now.projection c.in-Some.projection c.in_ok-batch.batch c.apply_projection.result c.in-Some.is is.columns c.in_ok-batch.ensures.schema c.in_ok-batch.ensures.kinds c.apply_projection.ensures.reordered

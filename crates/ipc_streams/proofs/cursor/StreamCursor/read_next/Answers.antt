@@ -2,7 +2,7 @@ use Rattle.std.proofs.Common.{◌≡◌, ◌<◌, ◌-◌, Err, IfSome, Ok, ap, 
 use Rattle.ipc_read.specs.Held.{held_in}
 use Rattle.ipc_files.proofs.Errors.{is_err}
 use Rattle.ipc_files.proofs.ReadFiles.{of_err}
-use Rattle.ipc_streams.specs.Readers.{IsReader, fields_shown}
+use Rattle.ipc_streams.specs.Readers.{HasFields, IsReader, fields_shown}
 use Rattle.ipc_streams.proofs.NextBatches.{next_batch, next_ends, next_not_framed, next_reached, next_refused, next_waits, none_taken}
 use Rattle.ipc_streams.proofs.TakenCalls.{cause_since, keeps_feed, keeps_on, no_value}
 use Rattle.ipc_streams.proofs.cursor.StreamCursor.read_next.Goals as goal
@@ -58,7 +58,7 @@ returns-in-Some g c =
     record {
       gives = λ s d reads holds. next_batch (g.F.Feed.rest c.args.feed.now) s d _ _ _ _ _ c.messages.left c.in_ok-frame.frame c.in-Message.bytes c.deref.result.now c.in-Some.batch (c.messages.invariant.reached s d reads holds) c.in-Message.is c.in_ok-frame.ensures.gives c.deref.ensures.value
           c.in_ok-taken-in-Message.taken c.in-Some.is (λ ds held. c.in_ok-taken-in-Message.ensures.gives s ds (subst (λ k. IsReader k s) (sym kept.columns) reads) held);
-      schema = λ s reads. subst (λ k. c.in-Some.batch.schema ≡ fields_shown k) kept.columns (subst (λ o. IfSome o (λ x. x.schema ≡ fields_shown c.messages.self.columns)) c.in-Some.is (c.in_ok-taken-in-Message.ensures.schema s (subst (λ k. IsReader k s) (sym kept.columns) reads)));
+      schema = λ s reads. subst (λ k. HasFields c.in-Some.batch (fields_shown k)) kept.columns (subst (λ o. IfSome o (λ x. HasFields x (fields_shown c.messages.self.columns))) c.in-Some.is (c.in_ok-taken-in-Message.ensures.schema s (subst (λ k. IsReader k s) (sym kept.columns) reads)));
       cause = tt;
       kept = keeps_on (keeps_feed kept c.in_ok-frame.ensures.kept) c.in_ok-taken-in-Message.ensures.kept;
     }

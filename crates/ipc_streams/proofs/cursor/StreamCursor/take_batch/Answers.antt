@@ -7,6 +7,7 @@ use Rattle.ipc_schema.specs.Views.{message_of}
 use Rattle.ipc_files.proofs.Errors.{is_err}
 use Rattle.ipc_streams.specs.Starts.{stream_schema}
 use Rattle.ipc_streams.proofs.Handed.{decoded_cause, of_bytes}
+use Rattle.ipc_streams.proofs.ShownFields.{with_pairs}
 use Rattle.ipc_streams.proofs.TakenCalls.{batch_not_taken, values_told}
 use Rattle.ipc_streams.proofs.TakenMessages.{given_ok, header_refused, pairs_refused, rows_cut, rows_given, rows_refused}
 use Rattle.ipc_streams.proofs.cursor.StreamCursor.take_batch.Goals as goal
@@ -50,7 +51,7 @@ returns g c = record {
   gives = λ s d m reads holds floats found tag body. given_ok (g.F.Feed.rest c.args.feed.now) _ (λ b told.
       rows_given s d c.args.bytes.now b m found tag (message_of c.in_ok-message.message) (metadata_of c.in_ok-pairs.pairs) c.args.count c.in_ok-body.body c.in_ok-batch.batch c.with_optional_metadata.result _ _ c.in_ok-message.ensures.gives c.in_ok-pairs.ensures.gives told body c.in_ok-body.ensures.gives (c.in_ok-batch.ensures.gives s d reads holds floats) (ap table_of c.with_optional_metadata.ensures));
   dictionaries = refl;
-  schema = λ s reads. ap (λ (b : Batch). b.schema) c.with_optional_metadata.ensures ∙ c.in_ok-batch.ensures.schema s reads;
+  schema = λ s reads. with_pairs c.in_ok-batch.batch c.with_optional_metadata.result _ (ap (λ (b : Batch). b.schema) c.with_optional_metadata.ensures) (ap (λ (b : Batch). b.arrays) c.with_optional_metadata.ensures) (c.in_ok-batch.ensures.schema s reads);
   cause = tt;
   kept = record { columns = refl; is_finished = refl; feed = c.in_ok-body.ensures.kept };
 }
