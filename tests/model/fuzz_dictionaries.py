@@ -34,17 +34,17 @@ def with_children(kind, children):
     return kind
 
 
-def with_dictionaries(r, kind, taken):
-    """Some of the kinds in a kind are those of a dictionary's values, under ids of their own or under one that is taken already."""
+def with_dictionaries(r, kind, taken, shares):
+    """Some of the kinds in a kind are those of a dictionary's values, under ids of their own or, where it may be, one that is taken already."""
     is_dictionary, index, ordered = r.random() < 0.4, r.choice(INDEXES), r.choice([False, False, True])
-    if is_dictionary and taken and r.random() < 0.2:
+    if is_dictionary and shares and taken and r.random() < 0.2:
         id = r.choice(list(taken))
         return ("dictionary", index, ordered, id, taken[id])
     below = children_of(kind)
     if kind[0] == "map":
-        below = [("struct", *[with_dictionaries(r, k, taken) for k in below[0][1:]])]
+        below = [("struct", *[with_dictionaries(r, k, taken, shares) for k in below[0][1:]])]
     else:
-        below = [with_dictionaries(r, k, taken) for k in below]
+        below = [with_dictionaries(r, k, taken, shares) for k in below]
     kind = with_children(kind, below)
     if not is_dictionary:
         return kind
@@ -159,13 +159,13 @@ def no_rows(kind):
 # ── cases ──
 
 
-def top_kind(r, taken, unions, order):
+def top_kind(r, taken, unions, order, shares):
     """No view stands at the top, where it might be laid anew, and none in big-endian order, where it is refused."""
     while True:
         kind = random_kind(r, 2, unions, order == "little")
         if "view" not in kind[0] or r.random() < 0.5:
             found = dict(taken)
-            kind = with_dictionaries(r, kind, found)
+            kind = with_dictionaries(r, kind, found, shares)
             if "view" not in kind[0]:
                 taken.update(found)
                 return kind
@@ -182,8 +182,8 @@ def stream_fields(kinds, chosen):
 def case(r, asked):
     order, version = r.choice(["little", "little", "big"]), r.choice([4, 4, 3])
     columns = None if asked.columns is None else [int(n) for n in asked.columns.split(",") if n]
-    taken = {}
-    kinds = [top_kind(r, taken, asked.unions, order) for _ in range(max(columns or [0]) + 1 + r.choice([0, 1, 2]))]
+    taken, shares = {}, getattr(asked, "shares", True)
+    kinds = [top_kind(r, taken, asked.unions, order, shares) for _ in range(max(columns or [0]) + 1 + r.choice([0, 1, 2]))]
     fields = [schemas.field(f"c{i}", schema_kind(k)) for i, k in enumerate(kinds)]
     chosen = range(len(kinds)) if columns is None else columns
     messages = random_messages(r, taken)
@@ -201,6 +201,34 @@ def case(r, asked):
     file = file_of(fields, order, batches, version, [held_message(r, m, order, version) for m in messages])
     head = arrow.message(1, schemas.schema_table(stream_fields(kinds, chosen), {}), 0)
     return file, b"".join([head, *(sending.parts if batches else []), *stream, arrow.END])
+
+
+def random_batch(r, kinds, version):
+    """A batch as a little-endian file has it."""
+    rows = r.choice([0, 1, 2, 3, 9])
+    arrays = [random_array(r, k, rows) for k in kinds]
+    return held_batch(r, rows, [c for a in arrays for c in a.held(r, "little", version)], version)
+
+
+def append_case(r):
+    """A file, a stream of its fields and dictionaries as others write it, and a file with the batches of both. Each id has values, and stands
+    once in the schema."""
+    version, taken = r.choice([4, 4, 3]), {}
+    kinds = [top_kind(r, taken, True, "little", False) for _ in range(r.choice([1, 2, 3]))]
+    fields = [schemas.field(f"c{i}", schema_kind(k)) for i, k in enumerate(kinds)]
+    messages = random_messages(r, taken)
+    while {m.id for m in messages} != set(taken):
+        messages = random_messages(r, taken)
+    first = [random_batch(r, kinds, version) for _ in range(r.choice([1, 1, 2]))]
+    more = [random_batch(r, kinds, version) for _ in range(r.choice([0, 1, 2]))]
+
+    def file_with(batches):
+        return file_of(fields, "little", batches, version, [held_message(r, m, "little", version) for m in messages])
+
+    head = arrow.message(1, schemas.schema_table(fields, {}), 0, version)
+    before = [held_message(r, m, "little", version) for m in messages] if more else []
+    stream = b"".join([head, *(p for m in [*before, *more] for p in m), arrow.END])
+    return file_with(first), stream, file_with(first + more)
 
 
 if __name__ == "__main__":

@@ -1,6 +1,6 @@
 """Writes crates/tests_streams/src/dictionary_parts.rt, which `rt fmt` in that crate then lays out: files of a column of dictionaries
 whose values are structs of a dictionary of texts, with their blocks in several orders, and the stream of the one in order. Prints the
-numbers for the table of sent_dictionaries.rt."""
+numbers for the table of sent_values.rt."""
 import struct
 from pathlib import Path
 

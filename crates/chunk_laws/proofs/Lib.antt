@@ -3,3 +3,4 @@ pub mod Uses
 pub mod Chunks
 pub mod OwnFields
 pub mod Written
+pub mod Causes

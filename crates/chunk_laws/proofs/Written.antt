@@ -42,9 +42,8 @@ unfolding schema_message
 no_body fs pairs custom = refl
 
 pub schema_is_put : SchemaIsPut
-schema_is_put options fs below pairs held bytes h may reg none =
+schema_is_put options fs below pairs held bytes h said message none =
     let is = text_is options fs below pairs bytes h in
-    let said = may.said reg in
     let own = metadata_of pairs.schema in
     let custom = metadata_of pairs.message in
     let all = fields_with fs below in
@@ -54,7 +53,7 @@ schema_is_put options fs below pairs held bytes h may reg none =
       record {
         may = record {
           schema = said.schema;
-          message = may.message;
+          message = message;
           ids = said.ids;
           readable = free;
           size = ap may_be_sent same ∙ fits_so (begun_message fs below pairs) is.small (no_body all own custom);

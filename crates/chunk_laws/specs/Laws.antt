@@ -4,8 +4,7 @@ use Rattle.std.specs.List.{flat_map}
 use Rattle.arrow_spec.specs.Features.{chosen_floats}
 use Rattle.arrow_spec.specs.Files.{TableBatch}
 use Rattle.arrow_spec.specs.Kinds.{Fields, Metadata, have_same_kinds}
-use Rattle.arrow_spec.specs.Regular.{regular}
-use Rattle.arrow_spec.specs.WrittenSchemas.{IdsMayBeWritten}
+use Rattle.arrow_spec.specs.WrittenSchemas.{CustomMayBeWritten, IdsMayBeWritten}
 use Rattle.arrow_arrays.specs.Batches.{Batch}
 use Rattle.arrow_arrays.specs.Parts.{forest}
 use Rattle.ipc_fields.specs.IpcFields.{Ids, fields_with, metadata_of}
@@ -15,7 +14,7 @@ use Rattle.ipc_dictionaries.specs.Tracker.{Held}
 use Rattle.ipc_write_laws.specs.Messages.{Known, WrittenMessage, bytes_of, stream_so_far}
 use Rattle.ipc_write.specs.declared.options.WriteOptions.{WriteOptions}
 use Rattle.ipc_write_messages.specs.Messages.{MayBeSent, chunk_text}
-use Rattle.ipc_write_messages.specs.Schemas.{StartMayBeWritten, stream_text}
+use Rattle.ipc_write_messages.specs.Schemas.{SchemaIsSaid, stream_text}
 use Rattle.ipc_write_messages.specs.declared.pairs.StreamPairs.{StreamPairs}
 use Rattle.stream_laws.specs.Heard.{cells_held}
 use Rattle.chunk_laws.specs.Chunks.{MayFollow, chunk_of}
@@ -29,10 +28,10 @@ ChunkMayBeWritten = (options : WriteOptions) (o : Options) (fs : Fields) (below 
     → IdsMayBeWritten (fields_with fs below) → chosen_floats None (fields_with fs below) 0 ≡ []
     → MayFollow (fields_with fs below) c (λ q. cells_held (t.held q)) (chunk_of (fields_with fs below) sent b) (chunk_text sent b)
 
--- The message of a regular schema may be written, and no batch stands behind it. Nothing is known where nothing is held.
+-- The message of a schema that can be said may be written, and no batch stands behind it. Nothing is known where nothing is held.
 abbrev pub SchemaIsPut : Type 0
 SchemaIsPut = (options : WriteOptions) (fs : Fields) (below : Ids) (pairs : StreamPairs) (held : Held) (bytes : List ℕ)
-    → stream_text options fs below pairs ≡ Ok bytes → StartMayBeWritten (fields_with fs below) pairs → regular (fields_with fs below) (metadata_of pairs.schema) ≡ true
+    → stream_text options fs below pairs ≡ Ok bytes → SchemaIsSaid (fields_with fs below) (metadata_of pairs.schema) → CustomMayBeWritten (metadata_of pairs.message)
     → ((id : ℤ) → held id ≡ None)
     → ArePut (said_fields fs below) (metadata_of pairs.schema) (metadata_of pairs.message) held [] []
     × (bytes ≡ stream_so_far (said_fields fs below) (metadata_of pairs.schema) (metadata_of pairs.message) [])

@@ -1,14 +1,3 @@
-//! The dictionaries of a file as they are sent in a stream. Each function's contract is a law, proved in `proofs/`.
+//! The dictionaries of a file as they are sent in a stream: the messages of their values, and what is known of them behind each (Arrow Columnar
+//! Format, "Dictionary Messages").
 #![tactic(auto)]
-
-ghost use Rattle.dictionary_laws.specs.Laws.{ValuesAreRead, ValuesAreSent};
-
-/// The messages of the values that are sent are those that are to be sent, each inner dictionary before the part that it stands in (Arrow Columnar Format, "Dictionary Messages").
-pub fn values_are_sent()
-    ensures { ValuesAreSent }
-{}
-
-/// Each of them may be written behind those before it, and behind all of them each dictionary is known as it was read.
-pub fn values_are_read()
-    ensures { ValuesAreRead }
-{}

@@ -39,6 +39,7 @@ use Rattle.ipc_append_stream.specs.Appended.{FaultsTold, IsNotAppended, NotConti
 use Rattle.ipc_append_stream.specs.Encoded.{AreRefused}
 use Rattle.ipc_append_stream.specs.Puts.{PutCause}
 use Rattle.ipc_append_stream.specs.declared.stream.WholeStream.{WholeStream}
+use Rattle.chunk_laws.proofs.Causes.{IsOfChunk, batch_refused}
 use Rattle.ipc_append_stream.proofs.Handed.{refused}
 
 abbrev pub IsNoFault : IpcError → Type 0
@@ -179,85 +180,24 @@ stops_told content e asked m f g (inr (inr (inr h))) = told e f g (ends h.core e
 
 -- ── a batch ──
 
-refused_by : (r : Result Sending IpcError) (k : Sending → Result Sending IpcError) (e : IpcError) → ((x : IpcError) → r ≡ Err x → IsNoFault x) → ((s : Sending) → k s ≡ Err e → IsNoFault e) → then_by r k ≡ Err e → IsNoFault e
-refused_by (Ok s) k e h g is = g s is
-refused_by (Err x) k e h g is = let same : x ≡ e = cc in h e (ap (λ y. Err y) same)
-
-dictionary_refused : (o : Options) (allowed : Option Bool) (start : Option ℕ) (id : ℤ) (parts : Forest) (s : Sending) (walked : Result Sending IpcError) (e : IpcError) → ((x : IpcError) → walked ≡ Err x → IsNoFault x) → dictionary_sent o allowed start id parts s walked ≡ Err e → IsNoFault e
-dictionary_refused o None start id parts s walked e h is = let same : errors.DictionaryReplaced id ≡ e = cc in subst IsNoFault same tt
-dictionary_refused o (Some false) start id parts s walked e h is = cc
-dictionary_refused o (Some true) start id parts s walked e h is = by (not (is_some start) && not o.deltas && has_several parts) is
-  where
-    by : (t : Bool) → (if t then Err errors.NotRepresentable else then_by walked (λ t. Ok (holding id parts t))) ≡ Err e → IsNoFault e
-    by true k = let same : errors.NotRepresentable ≡ e = cc in subst IsNoFault same tt
-    by false k = refused_by walked _ e h (λ t j. cc) k
-
-either_refused : (t : Bool) (a b : Result Sending IpcError) (e : IpcError) → (a ≡ Err e → IsNoFault e) → (b ≡ Err e → IsNoFault e) → (if t then a else b) ≡ Err e → IsNoFault e
-either_refused true a b e h k is = h is
-either_refused false a b e h k is = k is
-
-mutual
-  array_refused : (o : Options) (p : Parts) (id : Option ℤ) (below : Ids) (s : Sending) (e : IpcError) → array_sent o p id below s ≡ Err e → IsNoFault e
-  array_refused o (leaf l) id below s e is = cc
-  array_refused o (nested (indexed d) parts) id below s e is = dictionary_refused o _ _ _ parts s _ e (λ x k. parts_refused o _ _ below _ _ parts s x k) is
-  array_refused o (nested h children) id below s e is = arrays_refused o children below s e is
-
-  arrays_refused : (o : Options) (ps : Forest) (below : Ids) (s : Sending) (e : IpcError) → arrays_sent o ps below s ≡ Err e → IsNoFault e
-  arrays_refused o none below s e is = cc
-  arrays_refused o (also p ps) below s e is = refused_by (array_sent o p (first_id below) (first_ids below) s) (arrays_sent o ps (other_ids below)) e (λ x k. array_refused o p _ _ s x k) (λ t k. arrays_refused o ps _ t e k) is
-
-  parts_refused : (o : Options) (used : ℤ → Bool) (id : ℤ) (below : Ids) (is_delta : Bool) (n : ℕ) (ps : Forest) (s : Sending) (e : IpcError) → parts_sent o used id below is_delta n ps s ≡ Err e → IsNoFault e
-  parts_refused o used id below is_delta n none s e is = cc
-  parts_refused o used id below is_delta n (also p ps) s e is =
-      either_refused (is_delta && nat_le (rows_in p) n) _ _ e (λ k. parts_refused o used id below true _ ps s e k) (λ k. refused_by (array_sent o p None below (scoped used s)) _ e (λ x j. array_refused o p None below _ x j) (λ x j. parts_refused o used id below true 0 ps _ e j) k) is
-
-no_fault : (e : IpcError) → (e ≡ errors.ReadFault → ⊥) → (e ≡ errors.WriteFault → ⊥) → IsNoFault e
-no_fault errors.ReadFault h k = h refl
-no_fault errors.WriteFault h k = k refl
-no_fault errors.TooLarge h k = tt
-no_fault errors.Memory h k = tt
-no_fault (errors.OutOfSpec x) h k = tt
-no_fault (errors.Unsupported x) h k = tt
-no_fault errors.TooDeep h k = tt
-no_fault (errors.TooMany x) h k = tt
-no_fault (errors.Projection x) h k = tt
-no_fault errors.SchemaMismatch h k = tt
-no_fault (errors.DictionaryReplaced x) h k = tt
-no_fault errors.NotRepresentable h k = tt
-no_fault errors.State h k = tt
-
-values_refused : (e : IpcError) (options : WriteOptions) (ss : List ToSend) → RefusesOne e options ss → IsNoFault e
-values_refused e options [] h = absurd h
-values_refused e options (s ∷ ss) (inl h) = no_fault e (λ is. subst (λ x. PlansValues (Err x) options s.id s.is_delta s.part) is h) (λ is. subst (λ x. PlansValues (Err x) options s.id s.is_delta s.part) is h)
-values_refused e options (s ∷ ss) (inr h) = values_refused e options ss h.1
-
-chunk_refused : (e : IpcError) (options : WriteOptions) (sent : List ToSend) (b : Batch) → RefusesChunk e options sent b → IsNoFault e
-chunk_refused e options sent b (inl h) = values_refused e options sent h
-chunk_refused e options sent b (inr h) = no_fault e (λ is. subst (λ x. Plans (Err x) options b) is h.1) (λ is. subst (λ x. Plans (Err x) options b) is h.1)
-
-fault_of : (fs : Fields) (below : Ids) (x : IpcError) → columns_fault fs below ≡ Some x → IsNoFault x
-fault_of fs below x is = by (not (have_shapes fs below && agree (uses_in (fields_with fs below)))) (not (are_apart fs)) is
-  where
-    by : (t q : Bool) → (if t then Some errors.SchemaMismatch else (if q then Some errors.NotRepresentable else None)) ≡ Some x → IsNoFault x
-    by true q k = let same : errors.SchemaMismatch ≡ x = cc in subst IsNoFault same tt
-    by false true k = let same : errors.NotRepresentable ≡ x = cc in subst IsNoFault same tt
-    by false false k = cc
-
-columns_refused : (o : Options) (columns : Forest) (below : Ids) (s : Sending) (e : IpcError) → columns_sent o columns below s ≡ Err e → IsNoFault e
-columns_refused o columns below s e is = by (columns_fault (columns_of columns) below) refl is
-  where
-    by : (f : Option IpcError) → columns_fault (columns_of columns) below ≡ f → unless_fault f (arrays_sent o columns below s) ≡ Err e → IsNoFault e
-    by None h k = arrays_refused o columns below s e k
-    by (Some x) h k = let same : x ≡ e = cc in fault_of (columns_of columns) below e (h ∙ ap (λ y. Some y) same)
-
-batch_refused : (e : IpcError) (options : WriteOptions) (t : DictionaryTracker) (b : Batch) (below : Ids) → Stops e (found t (forest b.arrays) below) (λ sent. RefusesChunk e options sent b) → IsNoFault e
-batch_refused e options t b below (inl is) = subst IsNoFault (sym is) tt
-batch_refused e options t b below (inr (inl is)) = columns_refused _ (forest b.arrays) below _ e is
-batch_refused e options t b below (inr (inr h)) = chunk_refused e options h.0.sent b h.2
+chunk_told : (e : IpcError) (f g : ℕ) → IsOfChunk e → FaultsTold e f g
+chunk_told errors.ReadFault f g h = absurd h
+chunk_told errors.WriteFault f g h = absurd h
+chunk_told errors.State f g h = absurd h
+chunk_told errors.TooLarge f g h = tt
+chunk_told errors.Memory f g h = tt
+chunk_told (errors.OutOfSpec x) f g h = tt
+chunk_told (errors.Unsupported x) f g h = tt
+chunk_told errors.TooDeep f g h = tt
+chunk_told (errors.TooMany x) f g h = tt
+chunk_told (errors.Projection x) f g h = tt
+chunk_told errors.SchemaMismatch f g h = tt
+chunk_told (errors.DictionaryReplaced x) f g h = tt
+chunk_told errors.NotRepresentable f g h = tt
 
 batches_told : (e : IpcError) (asked : WriteOptions) (below : Ids) (t : DictionaryTracker) (bs : List Batch) (f g : ℕ) → AreRefused e asked below t bs → FaultsTold e f g
 batches_told e asked below t bs f g (inl is) = told_as e errors.Memory f g is tt
-batches_told e asked below t bs f g (inr h) = told e f g (batch_refused e asked h.held h.batch below h.refused)
+batches_told e asked below t bs f g (inr h) = chunk_told e f g (batch_refused e asked h.held h.batch below h.refused)
 
 -- ── a stream ──
 

@@ -80,7 +80,7 @@ begun_file options c bytes text may nothing end pairs reg =
     through _ _ bytes text λ message message_is rest.
     let fs = fields_in (rc_value c.schema) in
     let below = ids_of c.ipc_schema.fields.items in
-    let put = schema_is_put options fs below no_pairs (held_by c.tracker) message message_is may (regular_without (own_fields c) pairs reg) nothing.held in
+    let put = schema_is_put options fs below no_pairs (held_by c.tracker) message message_is (may.said (regular_without (own_fields c) pairs reg)) may.message nothing.held in
     let is : bytes ≡ files.file_start (file_fields c) = started options fs below bytes message message_is (same_read _ bytes rest) put.1 in
     let ds : file_blocks c.blocks.dictionaries ≡ [] = ap (map file_block) nothing.dictionaries in
     let rs : file_blocks c.blocks.records ≡ [] = ap (map file_block) nothing.records in

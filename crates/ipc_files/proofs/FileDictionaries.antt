@@ -1,6 +1,7 @@
 -- Dictionary blocks: one is its message and then its values, and all stand one after another.
 use Rattle.std.proofs.Common.{◌≡◌, ℕ, List, [], ◌∷◌, length, Bool, true, false, Option, Some, None, Result, Ok, Err, IfOk, IfSome, Global, Vec, ℤ, refl, sym, ap, ◌∙◌, subst}
 use Rattle.std.specs.BTreeMap.{BTreeMap}
+use Rattle.std.specs.Option.{option_map}
 use Rattle.arrow_spec.specs.declared.error.IpcError.{IpcError}
 use Rattle.arrow_spec.specs.Readings.{Refuses, bind, refusals}
 use Rattle.arrow_spec.specs.Arrays.{Dictionaries}
@@ -12,6 +13,8 @@ use Rattle.arrow_spec.specs.Kinds.{Fields, Kind, Metadata, same}
 use Rattle.arrow_spec.proofs.Projection.{on}
 use Rattle.arrow_types.specs.Schemas.{Keyed, fields_in}
 use Rattle.arrow_arrays.specs.declared.array.Array.{Array}
+use Rattle.arrow_arrays.specs.Heads.{joined}
+use Rattle.arrow_arrays.specs.Parts.{cells_each}
 use Rattle.ipc_fields.specs.Causes.{Decodes}
 use Rattle.ipc_fields.specs.IpcFields.{Ids, fields_with, schema_with}
 use Rattle.ipc_fields.proofs.SameKinds.{id_true}
@@ -20,7 +23,6 @@ use Rattle.ipc_schema.specs.Headers.{dictionary_message, dictionary_message_of}
 use Rattle.ipc_schema.specs.Views.{header_of}
 use Rattle.ipc_schema.specs.declared.message.DictionaryMessage.{DictionaryMessage}
 use Rattle.ipc_read_laws.specs.Held.{Held, HasKind, HoldsCells, none_held}
-use Rattle.ipc_read_laws.proofs.Keys.{holds_none}
 use Rattle.transcode_laws.specs.Files.{HeaderFits}
 use Rattle.ipc_read.specs.DictionaryBatches.{AddsDictionary, HasKindOf, HoldsPart, dictionary_reading, message_of, values_of_id}
 use Rattle.ipc_read.specs.Held.{held_in}
@@ -28,7 +30,7 @@ use Rattle.ipc_read.specs.Sources.{bytes_in}
 use Rattle.ipc_read.specs.declared.body.Body.{Body}
 use Rattle.ipc_files.specs.Blocks.{body_place}
 use Rattle.ipc_files.specs.FileBlocks.{GivesIn, message_metadata}
-use Rattle.ipc_files.specs.FileDictionaries.{DictionaryIn, HoldsBlock, HoldsUses, ReadsDictionaries, block_dictionary, block_values}
+use Rattle.ipc_files.specs.FileDictionaries.{AreHeld, DictionaryIn, HoldsBlock, HoldsUses, ReadsDictionaries, block_dictionary, block_values, no_block, one_block}
 use Rattle.ipc_files.proofs.ReadFiles.{order_as}
 use Rattle.ipc_files.proofs.BlockMessages.{bind_ok, bind_twice, read_of, refused_first}
 
@@ -142,18 +144,33 @@ values_first b meta d block blocks = simp (bind_twice, bind_ok)
 abbrev pub ReadSoFar : Option (List ℕ) → Meta → List FileBlock → Held → Type 0
 ReadSoFar content meta rest h = IfSome content (λ b. (d : Dictionaries) × (dictionaries_of b meta [] meta.dictionaries ≡ dictionaries_of b meta d rest) × HoldsCells d h)
 
--- none of them was
-pub none_read : (content : Option (List ℕ)) (meta : Meta) (h : Held) → h ≡ none_held → ReadSoFar content meta meta.dictionaries h
-none_read None meta h nothing = tt
-none_read (Some b) meta h nothing = ([], refl, subst (HoldsCells []) (sym nothing) holds_none)
+-- the same, and what is held came of these blocks
+abbrev pub HeldSoFar : Option (List ℕ) → Meta → List FileBlock → Held → Type 0
+HeldSoFar content meta rest h = IfSome content (λ b. (d : Dictionaries) × (dictionaries_of b meta [] meta.dictionaries ≡ dictionaries_of b meta d rest) × AreHeld b meta d h)
 
-pub one_read : (content after : Option (List ℕ)) (meta : Meta) (block : FileBlock) (rest : List FileBlock) (h h' : Held) (u : Unit {0}) → after ≡ content → ReadSoFar content meta (block ∷ rest) h
-    → IfSome after (λ b. (d : Dictionaries) → HoldsCells d h → AddsDictionary d h' (Ok u) (block_values b meta d block)) → ReadSoFar content meta rest h'
-one_read None after meta block rest h h' u same read adds = tt
-one_read (Some b) after meta block rest h h' u same read adds =
+steps_cells : (b : List ℕ) (meta : Meta) (d : Dictionaries) (h : Held) → AreHeld b meta d h → HoldsCells d h
+steps_cells b meta [] h (no_block none) = λ id. ap (option_map (λ parts. joined (cells_each parts))) (sym (none id))
+steps_cells b meta (x ∷ d) h' (one_block before uses said held cells) = cells
+
+pub read_so_far : (content : Option (List ℕ)) (meta : Meta) (rest : List FileBlock) (h : Held) → HeldSoFar content meta rest h → ReadSoFar content meta rest h
+read_so_far None meta rest h held = tt
+read_so_far (Some b) meta rest h held = (held.0, held.1, steps_cells b meta held.0 h held.2)
+
+-- none of them was
+pub none_read : (content : Option (List ℕ)) (meta : Meta) (h : Held) → h ≡ none_held → HeldSoFar content meta meta.dictionaries h
+none_read None meta h nothing = tt
+none_read (Some b) meta h nothing = ([], refl, no_block (λ id. ap (λ (g : Held). g id) nothing))
+
+-- one more is
+pub one_read : (content after : Option (List ℕ)) (meta : Meta) (block : FileBlock) (rest : List FileBlock) (h h' : Held) (id : ℤ) (u : Unit {0}) → after ≡ content → HeldSoFar content meta (block ∷ rest) h → HoldsUses meta h
+    → IfSome after (λ b. (d : Dictionaries) → HoldsCells d h → AddsDictionary d h' (Ok u) (block_values b meta d block)) → IfSome after (λ b. (d : Dictionaries) → HoldsCells d h → HoldsBlock b meta block h h' id) → HeldSoFar content meta rest h'
+one_read None after meta block rest h h' id u same held uses adds part = tt
+one_read (Some b) after meta block rest h h' id u same held uses adds part =
     let here = subst (λ o. IfSome o (λ b. (d : Dictionaries) → HoldsCells d h → AddsDictionary d h' (Ok u) (block_values b meta d block))) same adds in
-    let added = (here read.0 read.2).ok in
-    (added.0 ∷ read.0, read.1 ∙ values_first b meta read.0 block rest ∙ on (block_values b meta read.0 block) (λ x. dictionaries_of b meta (x ∷ read.0) rest) added.0 added.1, added.2)
+    let there = subst (λ o. IfSome o (λ b. (d : Dictionaries) → HoldsCells d h → HoldsBlock b meta block h h' id)) same part in
+    let cells = steps_cells b meta held.0 h held.2 in
+    let added = (here held.0 cells).ok in
+    (added.0 ∷ held.0, held.1 ∙ values_first b meta held.0 block rest ∙ on (block_values b meta held.0 block) (λ x. dictionaries_of b meta (x ∷ held.0) rest) added.0 added.1, one_block held.2 uses added.1 (there held.0 cells) added.2)
 
 -- what one refuses, all refuse
 pub one_refused : (content after : Option (List ℕ)) (meta : Meta) (block : FileBlock) (rest : List FileBlock) (h h' : Held) (result : Result (BTreeMap ℤ (Vec Array Global)) IpcError) (e : IpcError) → after ≡ content → result ≡ Err e → ReadSoFar content meta (block ∷ rest) h
@@ -163,9 +180,15 @@ one_refused (Some b) after meta block rest h h' result e same is read adds =
     let here = subst (λ o. IfSome o (λ b. (d : Dictionaries) → HoldsCells d h → AddsDictionary d h' (Err e) (block_values b meta d block))) same adds in
     let refused : Refuses e (refusals (dictionaries_of b meta [] meta.dictionaries)) =
     subst (λ r. Refuses e (refusals r)) (sym (read.1 ∙ values_first b meta read.0 block rest)) (refused_first e (block_values b meta read.0 block) (λ x. dictionaries_of b meta (x ∷ read.0) rest) (here read.0 read.2).err) in
-    subst (λ r. ReadsDictionaries b meta meta.dictionaries r) (sym is) (record { ok = tt; err = refused })
+    subst (λ r. ReadsDictionaries b meta meta.dictionaries r) (sym is) (record { ok = tt; steps = tt; err = refused })
 
-pub all_read : (content : Option (List ℕ)) (meta : Meta) (rest : List FileBlock) (m : BTreeMap ℤ (Vec Array Global)) → rest ≡ [] → ReadSoFar content meta rest (held_in m) → IfSome content (λ b. ReadsDictionaries b meta meta.dictionaries (Ok m))
+pub all_read : (content : Option (List ℕ)) (meta : Meta) (rest : List FileBlock) (m : BTreeMap ℤ (Vec Array Global)) → rest ≡ [] → HeldSoFar content meta rest (held_in m) → IfSome content (λ b. ReadsDictionaries b meta meta.dictionaries (Ok m))
 unfolding dictionaries_of
-all_read None meta rest m none read = tt
-all_read (Some b) meta rest m none read = record { ok = (read.0, read.1 ∙ ap (dictionaries_of b meta read.0) none, read.2); err = tt }
+all_read None meta rest m none held = tt
+all_read (Some b) meta rest m none held =
+    let all : dictionaries_of b meta [] meta.dictionaries ≡ Ok held.0 = held.1 ∙ ap (dictionaries_of b meta held.0) none in
+    record {
+      ok = (held.0, all, steps_cells b meta held.0 (held_in m) held.2);
+      steps = λ d is. let same : held.0 ≡ d = let both = sym all ∙ is in cc in subst (λ e. AreHeld b meta e (held_in m)) same held.2;
+      err = tt;
+    }

@@ -28,7 +28,7 @@ use Rattle.ipc_projection.specs.declared.projection.ProjectionInfo.{ProjectionIn
 use Rattle.ipc_projection.proofs.Numbers.{below_each, stands_once}
 use Rattle.ipc_projection.proofs.Projected.{applied_schema, chosen_stand}
 use Rattle.ipc_read_laws.specs.Held.{Held, HoldsCells}
-use Rattle.ipc_files.specs.Blocks.{BlockRead, ReadsBlock, asked_under, batch_in}
+use Rattle.ipc_files.specs.Blocks.{BatchRead, BlockRead, ReadsBlock, asked_under, batch_in}
 use Rattle.ipc_files.specs.Fetching.{BlockFetched}
 use Rattle.ipc_files.specs.FileViews.{meta_view}
 use Rattle.ipc_files.specs.Selections.{IsMade, MayProject, numbers_read, schema_shown}
@@ -208,6 +208,24 @@ ordered_given (Some b) held file columns p numbers left block x result is may or
     let block_read : ReadsBlock b held (asked_under b meta d (asked (Some p.columns.items) left)) block left (Ok x) = record { read = subst (λ ds. BlockRead b held (asked_under b meta d (asked ds left)) block left x) is (read d holds); refused = tt } in
     gives_block b held (asked columns left) meta d block result (in_place b (asked columns left) meta d block here)
     (selected_answer (Some b) held file d columns p p.columns.items left block x result refl h (right_of_file file columns (rc_value file.schema) refl (right_of_projection (rc_value file.schema) columns p may)) order memory block_read)
+
+-- and what is read of it
+pub ordered_read : (content : Option (List ℕ)) (held : Held) (file : FileMetadata) (columns : Option (List ℕ)) (p : ProjectionInfo) (numbers : Option (List ℕ)) (left : Option ℕ) (block : FileBlock) (x : Batch) (result : Result Batch IpcError) → numbers ≡ Some p.columns.items
+    → MayProject (rc_value file.schema) columns (Some p) → IfOk result (IsReordered p.map x) → IfErr result (λ e. e ≡ errors.Memory) → IfSome content (λ b. BatchRead b held (meta_view file) (asked numbers left) block x)
+    → IfOk result (λ y. IfSome content (λ b. BatchRead b held (meta_view file) (asked columns left) block y))
+ordered_read None held file columns p numbers left block x (Ok y) is may order memory read = tt
+ordered_read (Some b) held file columns p numbers left block x (Ok y) is may order memory read = λ d holds.
+    let meta = meta_view file in
+    let block_read : ReadsBlock b held (asked_under b meta d (asked (Some p.columns.items) left)) block left (Ok x) = record { read = subst (λ ds. BlockRead b held (asked_under b meta d (asked ds left)) block left x) is (read d holds); refused = tt } in
+    let answer : ReadsBlock b held (asked_under b meta d (asked columns left)) block left (Ok y) =
+    selected_answer (Some b) held file d columns p p.columns.items left block x (Ok y) refl (selected_by (rc_value file.schema) columns p may) (right_of_file file columns (rc_value file.schema) refl (right_of_projection (rc_value file.schema) columns p may)) order memory block_read in
+    answer.read
+ordered_read content held file columns p numbers left block x (Err e) is may order memory read = tt
+
+pub all_read : (content : Option (List ℕ)) (held : Held) (file : FileMetadata) (columns : Option (List ℕ)) (p : Option ProjectionInfo) (numbers : Option (List ℕ)) (left : Option ℕ) (block : FileBlock) (x : Batch) → p ≡ None → numbers ≡ numbers_read p → MayProject (rc_value file.schema) columns p
+    → IfSome content (λ b. BatchRead b held (meta_view file) (asked numbers left) block x) → IfSome content (λ b. BatchRead b held (meta_view file) (asked columns left) block x)
+all_read content held file columns p numbers left block x is same may read =
+    subst (λ ds. IfSome content (λ b. BatchRead b held (meta_view file) (asked ds left) block x)) (all_numbers (rc_value file.schema) columns p numbers is same may) read
 
 pub ordered_fetched : (content : Option (List ℕ)) (file : FileMetadata) (columns : Option (List ℕ)) (p : Option ProjectionInfo) (numbers : Option (List ℕ)) (block : FileBlock) (left : Option ℕ) (f f' : ℕ) → numbers ≡ numbers_read p → MayProject (rc_value file.schema) columns p
     → BlockFetched content (meta_view file) (asked numbers left) block left f f' → BlockFetched content (meta_view file) (asked columns left) block left f f'

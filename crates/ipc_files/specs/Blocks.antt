@@ -9,7 +9,7 @@ use Rattle.arrow_spec.specs.WrittenSchemas.{CustomMayBeWritten}
 use Rattle.arrow_spec.specs.Files.{Asked, FileBlock, Meta, Request, TableBatch, batch_of, batch_of_tables, block_body, record_batch_of, to_read}
 use Rattle.arrow_arrays.specs.Batches.{Batch}
 use Rattle.ipc_read_laws.specs.Batches.{columns_read}
-use Rattle.ipc_read_laws.specs.Held.{Held}
+use Rattle.ipc_read_laws.specs.Held.{Held, HoldsCells}
 use Rattle.transcode_laws.specs.Files.{AreAsked, HeaderFits}
 use Rattle.ipc_read.specs.Batches.{table_of}
 use Rattle.ipc_read.specs.declared.body.Body.{Body}
@@ -32,6 +32,10 @@ pub record BlockRead (b : List ℕ) (h : Held) (a : Asked) (block : FileBlock) (
   pub custom : x.custom ≡ message.custom
   pub read : batch_of_tables to_read a message.version message.custom message.tables (block_body b block) left ≡ Ok (table_of x)
   pub columns : AreAsked (columns_read (record_batch_of a.order message.version message.tables (block_body b block)) h a.fields first_place x.height) a.columns x.arrays
+
+-- a batch that was read of a block by a request, under the parts that are held
+abbrev pub BatchRead : List ℕ → Held → Meta → Request → FileBlock → Batch → Type 0
+BatchRead b h meta r block x = (d : Dictionaries) → HoldsCells d h → BlockRead b h (asked_under b meta d r) block r.limit x
 
 -- a block that was read, or a refusal of the block
 pub record ReadsBlock (b : List ℕ) (h : Held) (a : Asked) (block : FileBlock) (left : Option ℕ) (result : Result Batch IpcError) : Type 0 where

@@ -1,5 +1,5 @@
 -- What is read of a file's dictionary blocks. (Arrow Columnar Format, "IPC File Format", "Dictionary Messages".)
-use Rattle.std.specs.Prelude.{◌≡◌, ℕ, ◌+◌, ◌≤◌, List, [], length, sum_by, false, ⊤, Option, Some, None, Ok, Err, Result, IfOk, IfErr, ℤ}
+use Rattle.std.specs.Prelude.{◌≡◌, ℕ, ◌+◌, ◌≤◌, List, [], ◌∷◌, length, sum_by, false, ⊤, Option, Some, None, Ok, Err, Result, IfOk, IfErr, ℤ}
 use Rattle.std.specs.BTreeMap.{BTreeMap}
 use Rattle.std.specs.declared.alloc.Global.{Global}
 use Rattle.std.specs.declared.vec.Vec.{Vec}
@@ -48,6 +48,11 @@ pub record HoldsBlock (b : List ℕ) (meta : Meta) (block : FileBlock) (old new 
       (record_batch_of meta.schema.order message.version message.dictionary.values (block_body b block)) (magnitude message.dictionary.values.length)
   pub others : (q : ℤ) → same id q ≡ false → new q ≡ old q
 
+-- Dictionary blocks that were read one after another: what they said, the last one first, and what is held behind them.
+pub data AreHeld (b : List ℕ) (meta : Meta) : Dictionaries → Held → Type 0 where
+  no_block : {h : Held} → ((id : ℤ) → h id ≡ None) → AreHeld b meta [] h
+  one_block : {d : Dictionaries} {h h' : Held} {x : HeldDictionary} {block : FileBlock} {id : ℤ} → AreHeld b meta d h → HoldsUses meta h → block_values b meta d block ≡ Ok x → HoldsBlock b meta block h h' id → HoldsCells (x ∷ d) h' → AreHeld b meta (x ∷ d) h'
+
 -- that something was done, or why not
 abbrev pub done : {A : Type 0} → Result A IpcError → Result (Unit {0}) IpcError
 done (Ok x) = Ok tt
@@ -56,6 +61,7 @@ done (Err e) = Err e
 -- a map holds what these blocks say behind those that were read before, or they are refused
 pub record ReadsDictionaries (b : List ℕ) (meta : Meta) (blocks : List FileBlock) (result : Result (BTreeMap ℤ (Vec Array Global)) IpcError) : Type 0 where
   pub ok : IfOk result (λ m. (d : Dictionaries) × (dictionaries_of b meta [] blocks ≡ Ok d) × HoldsCells d (held_in m))
+  pub steps : IfOk result (λ m. (d : Dictionaries) → dictionaries_of b meta [] blocks ≡ Ok d → AreHeld b meta d (held_in m))
   pub err : IfErr result (λ e. Refuses e (refusals (dictionaries_of b meta [] blocks)))
 
 -- ── what is fetched ──

@@ -10,7 +10,7 @@ ghost use Rattle.ipc_read.specs.Batches.{table_of};
 ghost use Rattle.ipc_read.specs.Held.{held_in};
 ghost use Rattle.ipc_read.specs.Projection.{are_columns, are_rising, chosen, columns_of};
 ghost use Rattle.ipc_read_laws.specs.Held.{HoldsCells};
-ghost use Rattle.ipc_files.specs.Blocks.{asked_under, batch_in, body_place, BlockRead, ReadsBlock};
+ghost use Rattle.ipc_files.specs.Blocks.{asked_under, batch_in, BatchRead, body_place, ReadsBlock};
 ghost use Rattle.ipc_files.specs.FileBlocks.{file_block};
 ghost use Rattle.ipc_files.specs.FileDictionaries.{HoldsUses};
 ghost use Rattle.ipc_files.specs.FileViews.{meta_view, FileCause, IsReadable};
@@ -110,7 +110,7 @@ pub fn read_batch<S: Source>(
 
     // The batch is what the block means under the dictionaries whose cells are held, the columns and the limit, or a refusal of its.
     ensures gives { (block : FileBlock) → slice_get (meta_view metadata.now).blocks index ≡ Some block → IfSome (S.content source.old) (λ b. (d : History) → HoldsCells d (held_in dictionaries.now) → Gives table_of result (batch_in (asked (columns_of projection.entry) limit) b (meta_view metadata.now) d block)) }
-    ensures read { (block : FileBlock) → slice_get (meta_view metadata.now).blocks index ≡ Some block → IfOk result (λ x. IfSome (S.content source.old) (λ b. (d : History) → HoldsCells d (held_in dictionaries.now) → BlockRead b (held_in dictionaries.now) (asked_under b (meta_view metadata.now) d (asked (columns_of projection.entry) limit)) block limit x)) }
+    ensures read { (block : FileBlock) → slice_get (meta_view metadata.now).blocks index ≡ Some block → IfOk result (λ x. IfSome (S.content source.old) (λ b. BatchRead b (held_in dictionaries.now) (meta_view metadata.now) (asked (columns_of projection.entry) limit) block x)) }
     ensures schema { IfOk result (λ x. x.schema ≡ chosen (columns_of projection.entry) 0 (rc_value metadata.now.schema)) }
     ensures cause { IfErr result (λ e. FileCause e (S.faults source.old) (S.faults source.new)) }
 

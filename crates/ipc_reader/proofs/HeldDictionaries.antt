@@ -16,14 +16,14 @@ use Rattle.ipc_read_laws.specs.Held.{Held, HasKind, HoldsCells}
 use Rattle.ipc_read.specs.Batches.{table_of}
 use Rattle.ipc_read.specs.DictionaryBatches.{HasKindOf, values_of_id}
 use Rattle.ipc_read.specs.Held.{held_in}
-use Rattle.ipc_files.specs.Blocks.{batch_in}
+use Rattle.ipc_files.specs.Blocks.{BatchRead, batch_in}
 use Rattle.ipc_files.specs.Fetching.{BlockFetched}
 use Rattle.ipc_files.specs.FileDictionaries.{DictionariesFetched, HoldsUses, ReadsDictionaries}
 use Rattle.ipc_files.specs.FileViews.{FileCause}
 use Rattle.ipc_files.proofs.BlockMessages.{refused_first}
 use Rattle.ipc_files.proofs.FetchedDictionaries.{first_fetched, first_stopped}
 use Rattle.ipc_files.proofs.ReadBatches.{refused_place}
-use Rattle.ipc_reader.specs.Kept.{FetchedBy, GivesBy, GivesHeld, HeldParts, IsRefusedBy, KeepsUses, KeptAfter, dictionaries_in, first_in, is_refused}
+use Rattle.ipc_reader.specs.Kept.{FetchedBy, GivesBy, GivesHeld, HeldParts, HoldsFile, IsRefusedBy, KeepsFile, KeepsUses, KeptAfter, ReadUnderKept, dictionaries_in, first_in, is_refused}
 use Rattle.ipc_reader.specs.declared.kept.KeptDictionaries.{KeptDictionaries}
 use Rattle.ipc_reader.specs.declared.kept.KeptDictionaries.TheVariants as kept
 
@@ -124,7 +124,23 @@ batch_goes (Some b) after kept.NotRead r meta block m result live same held firs
     let read = first refl in
     subst (Gives table_of result) (first_read b r meta block read.0 read.1) (here read.0 read.2)
 
+pub read_goes : (content after : Option (List ℕ)) (r : Request) (meta : Meta) (block : FileBlock) (m : HeldParts) (result : Result Batch IpcError) → after ≡ content → IfOk result (λ x. IfSome after (λ b. BatchRead b (held_in m) meta r block x))
+    → IfOk result (ReadUnderKept content meta r block (kept.Held m))
+read_goes content after r meta block m (Ok x) same read = (m, refl, subst (λ o. IfSome o (λ b. BatchRead b (held_in m) meta r block x)) same read)
+read_goes content after r meta block m (Err e) same read = tt
+
 -- ── what is kept behind it ──
+
+pub file_held : (content : Option (List ℕ)) (meta : Meta) (m : HeldParts) → IfSome content (λ b. ReadsDictionaries b meta meta.dictionaries (Ok m)) → IfSome content (λ b. HoldsFile b meta m)
+file_held None meta m read = tt
+file_held (Some b) meta m read = (read.ok.0, read.ok.1, read.ok.2, read.steps read.ok.0 read.ok.1)
+
+pub file_kept : (content : Option (List ℕ)) (meta : Meta) (m : HeldParts) → IfSome content (λ b. HoldsFile b meta m) → KeepsFile content meta (kept.Held m)
+file_kept content meta m held = λ n is. let one : m ≡ n = cc in subst (λ q. IfSome content (λ b. HoldsFile b meta q)) one held
+
+-- what was not read, or is refused, is not held
+pub not_read_left : (k : KeptDictionaries) (m : HeldParts) → k ≡ kept.NotRead → k ≡ kept.Held m → ⊥
+not_read_left k m is held = cc
 
 refused_by : (result : Result Batch IpcError) (e : IpcError) (P : IpcError → Type 0) → result ≡ Err e → P e → IsRefusedBy result P
 refused_by result e P is h = subst (λ z. IsRefusedBy z P) (sym is) h

@@ -16,8 +16,8 @@ use Rattle.ipc_read_laws.specs.Held.{HoldsCells}
 use Rattle.ipc_read.specs.Batches.{table_of}
 use Rattle.ipc_read.specs.Held.{held_in}
 use Rattle.ipc_projection.specs.declared.projection.ProjectionInfo.{ProjectionInfo}
-use Rattle.ipc_files.specs.Blocks.{batch_in}
-use Rattle.ipc_files.specs.FileDictionaries.{DictionariesFetched, FirstFetched, HoldsUses}
+use Rattle.ipc_files.specs.Blocks.{BatchRead, batch_in}
+use Rattle.ipc_files.specs.FileDictionaries.{AreHeld, DictionariesFetched, FirstFetched, HoldsUses}
 use Rattle.ipc_files.specs.Fetching.{BlockFetched}
 use Rattle.ipc_files.specs.FileViews.{meta_view, FileCause}
 use Rattle.ipc_files.specs.Selections.{MayProject}
@@ -59,6 +59,18 @@ abbrev pub GivesHeld : Result HeldParts IpcError → Reading Dictionaries → Ty
 GivesHeld (Ok m) reading = (d : Dictionaries) × (reading ≡ Ok d) × HoldsCells d (held_in m)
 GivesHeld (Err e) reading = Refuses e (refusals reading)
 
+-- a map holds the dictionaries of a file, as they came of its blocks
+abbrev pub HoldsFile : List ℕ → Meta → HeldParts → Type 0
+HoldsFile b meta m = (d : Dictionaries) × (dictionaries_of b meta [] meta.dictionaries ≡ Ok d) × HoldsCells d (held_in m) × AreHeld b meta d (held_in m)
+
+-- the same where bytes are told, of what is kept behind a call that read them
+abbrev pub KeepsFile : Option (List ℕ) → Meta → KeptDictionaries → Type 0
+KeepsFile content meta kept = (m : HeldParts) → kept ≡ Held m → IfSome content (λ b. HoldsFile b meta m)
+
+-- a batch was read of a block under the dictionaries that are kept
+abbrev pub ReadUnderKept : Option (List ℕ) → Meta → Request → FileBlock → KeptDictionaries → Batch → Type 0
+ReadUnderKept content meta r block kept x = (m : HeldParts) × (kept ≡ Held m) × IfSome content (λ b. BatchRead b (held_in m) meta r block x)
+
 -- what a call gives of a block by what was kept before it: the first batch reads the dictionaries, and the others are read under those that are held
 abbrev pub GivesBy : KeptDictionaries → Request → List ℕ → Meta → FileBlock → Result Batch IpcError → Type 0
 GivesBy NotRead r b meta block result = Gives table_of result (first_in r b meta block)
@@ -95,6 +107,8 @@ module _ {S : Type 0} (content_of : S → Option (List ℕ)) (faults_of fetched_
   -- those of the file are read, which were not before
   pub record ReadsHeld (k' : KeptDictionaries) (result : Result HeldParts IpcError) : Type 0 where
     pub gives : (columns : Option (List ℕ)) → MayProject (rc_value file.schema) columns projection → IfSome (content_of s) (λ b. GivesHeld result (dictionaries_in columns b (meta_view file)))
+    pub held : IfOk result (λ m. IfSome (content_of s) (λ b. HoldsFile b (meta_view file) m))
+    pub left : (m : HeldParts) → k' ≡ Held m → ⊥
     pub behind : (columns : Option (List ℕ)) → MayProject (rc_value file.schema) columns projection → IfErr result (λ e. KeptAfter (content_of s) (meta_view file) columns NotRead k' result)
     pub uses : IfOk result (λ m. HoldsUses (meta_view file) (held_in m))
     pub keeps : KeepsUses (meta_view file) k'
@@ -106,6 +120,8 @@ module _ {S : Type 0} (content_of : S → Option (List ℕ)) (faults_of fetched_
   pub record TakesHeld (k k' : KeptDictionaries) (result : Result HeldParts IpcError) : Type 0 where
     pub held : (m : HeldParts) → k ≡ Held m → result ≡ Ok m
     pub gives : (columns : Option (List ℕ)) → k ≡ NotRead → MayProject (rc_value file.schema) columns projection → IfSome (content_of s) (λ b. GivesHeld result (dictionaries_in columns b (meta_view file)))
+    pub first : k ≡ NotRead → IfOk result (λ m. IfSome (content_of s) (λ b. HoldsFile b (meta_view file) m))
+    pub left : (m : HeldParts) → k' ≡ Held m → ⊥
     pub behind : (columns : Option (List ℕ)) → k ≡ NotRead → MayProject (rc_value file.schema) columns projection → IfErr result (λ e. KeptAfter (content_of s) (meta_view file) columns NotRead k' result)
     pub uses : IfOk result (λ m. HoldsUses (meta_view file) (held_in m))
     pub keeps : KeepsUses (meta_view file) k'

@@ -15,8 +15,9 @@ use Rattle.ipc_files.specs.RowCounts.{MessagesFetched, blocks_passed}
 use Rattle.ipc_files.specs.Selections.{MayProject, schema_shown}
 use Rattle.ipc_files.specs.Requests.{asked}
 use Rattle.ipc_reader.specs.Cursors.{block_after, left_after}
-use Rattle.ipc_reader.specs.Kept.{FetchedBy, GivesBy, KeptAfter, KeptBehind, is_refused}
+use Rattle.ipc_reader.specs.Kept.{FetchedBy, GivesBy, KeepsFile, KeptAfter, KeptBehind, ReadUnderKept, is_refused}
 use Rattle.ipc_reader.specs.declared.cursor.FileCursor.{FileCursor}
+use Rattle.ipc_reader.specs.declared.kept.KeptDictionaries.TheVariants.{NotRead}
 
 -- ── calls of a cursor c, which is c' behind them, over a source s, which is s' ──
 
@@ -25,6 +26,9 @@ module _ {S : Type 0} (content_of : S → Option (List ℕ)) (faults_of fetched_
   pub record ReadsCurrent (result : Result Batch IpcError) : Type 0 where
     pub gives : (columns : Option (List ℕ)) (block : FileBlock) → MayProject (rc_value c.metadata.schema) columns c.projection → slice_get (meta_view c.metadata).blocks c.block ≡ Some block
         → IfSome (content_of s) (λ b. GivesBy c.dictionaries (asked columns c.left) b (meta_view c.metadata) block result)
+    pub read : (columns : Option (List ℕ)) (block : FileBlock) → MayProject (rc_value c.metadata.schema) columns c.projection → slice_get (meta_view c.metadata).blocks c.block ≡ Some block
+        → IfOk result (ReadUnderKept (content_of s) (meta_view c.metadata) (asked columns c.left) block c'.dictionaries)
+    pub first : c.dictionaries ≡ NotRead → KeepsFile (content_of s) (meta_view c.metadata) c'.dictionaries
     pub dictionaries : (columns : Option (List ℕ)) → MayProject (rc_value c.metadata.schema) columns c.projection → KeptAfter (content_of s) (meta_view c.metadata) columns c.dictionaries c'.dictionaries result
     pub schema : (columns : Option (List ℕ)) → MayProject (rc_value c.metadata.schema) columns c.projection → IfOk result (λ x. x.schema ≡ schema_shown (rc_value c.metadata.schema) c.projection)
     pub left : c'.left ≡ c.left
@@ -43,6 +47,11 @@ module _ {S : Type 0} (content_of : S → Option (List ℕ)) (faults_of fetched_
     -- it is what the block means under the dictionaries, the columns that were asked for and what was left of the limit, or a refusal of its
     pub gives : (columns : Option (List ℕ)) (block : FileBlock) → MayProject (rc_value c.metadata.schema) columns c.projection → slice_get (meta_view c.metadata).blocks c.block ≡ Some block
         → IfSome result (λ r. IfSome (content_of s) (λ b. GivesBy c.dictionaries (asked columns c.left) b (meta_view c.metadata) block r))
+    -- its columns stand in the block's body, under the dictionaries that are kept behind the call
+    pub read : (columns : Option (List ℕ)) (block : FileBlock) → MayProject (rc_value c.metadata.schema) columns c.projection → slice_get (meta_view c.metadata).blocks c.block ≡ Some block
+        → IfSome result (λ r. IfOk r (ReadUnderKept (content_of s) (meta_view c.metadata) (asked columns c.left) block c'.dictionaries))
+    -- those that a call reads are the file's, as they came of its blocks
+    pub first : c.dictionaries ≡ NotRead → KeepsFile (content_of s) (meta_view c.metadata) c'.dictionaries
     pub dictionaries : (columns : Option (List ℕ)) → MayProject (rc_value c.metadata.schema) columns c.projection → KeptBehind (content_of s) (meta_view c.metadata) columns c.dictionaries c'.dictionaries result
     pub schema : (columns : Option (List ℕ)) → MayProject (rc_value c.metadata.schema) columns c.projection → IfSome result (λ r. IfOk r (λ x. x.schema ≡ schema_shown (rc_value c.metadata.schema) c.projection))
     pub left : c'.left ≡ left_after c.left result

@@ -9,7 +9,7 @@ use Rattle.arrow_spec.specs.Files.{ArrowTable, TableBatch}
 use Rattle.arrow_spec.specs.Flat.{little}
 use Rattle.arrow_spec.specs.Framing.{message_bytes}
 use Rattle.arrow_spec.specs.Kinds.{Fields, bare, have_same_kinds}
-use Rattle.arrow_spec.specs.Regular.{regular}
+use Rattle.arrow_spec.specs.WrittenSchemas.{CustomMayBeWritten}
 use Rattle.arrow_spec.specs.Sent.{schema_message}
 use Rattle.arrow_spec.specs.Streams.{closed, end_mark, stream_table, unended}
 use Rattle.arrow_types.specs.Schemas.{Keyed, fields_in}
@@ -27,7 +27,7 @@ use Rattle.ipc_write_laws.specs.Messages.{WrittenMessage, bytes_of, ended_stream
 use Rattle.ipc_write_laws.proofs.Messages.{messages_front_means, messages_stream_means}
 use Rattle.ipc_write_messages.specs.Messages.{chunk_text}
 use Rattle.ipc_write_messages.specs.Puts.{counted}
-use Rattle.ipc_write_messages.specs.Schemas.{StartMayBeWritten, stream_text}
+use Rattle.ipc_write_messages.specs.Schemas.{SchemaIsSaid, stream_text}
 use Rattle.ipc_write_messages.specs.declared.pairs.StreamPairs.{StreamPairs}
 use Rattle.ipc_write.specs.declared.options.WriteOptions.{WriteOptions}
 use Rattle.stream_laws.specs.Heard.{cells_held}
@@ -67,15 +67,15 @@ written_by pairs c x bs ms n put e =
 
 -- those with which a stream is begun
 pub begun_written : (options : WriteOptions) (pairs : StreamPairs) (c : StreamCore) (x : List ℕ) → stream_text options (fields_in c.schema) (ids_of c.fields.items) pairs ≡ Ok x
-    → StartMayBeWritten (fields_with (fields_in c.schema) (ids_of c.fields.items)) pairs → ((id : ℤ) → held_by c.tracker id ≡ None) → c.byte_count ≡ counted (length x)
-    → regular (fields_with (fields_in c.schema) (ids_of c.fields.items)) (metadata_of pairs.schema) ≡ true → IsWritten pairs c x []
-begun_written options pairs c x text may none n reg =
-    let put = schema_is_put options (fields_in c.schema) (ids_of c.fields.items) pairs (held_by c.tracker) x text may reg none in
+    → CustomMayBeWritten (metadata_of pairs.message) → ((id : ℤ) → held_by c.tracker id ≡ None) → c.byte_count ≡ counted (length x)
+    → SchemaIsSaid (fields_with (fields_in c.schema) (ids_of c.fields.items)) (metadata_of pairs.schema) → IsWritten pairs c x []
+begun_written options pairs c x text message none n said =
+    let put = schema_is_put options (fields_in c.schema) (ids_of c.fields.items) pairs (held_by c.tracker) x text said message none in
     written_by pairs c x [] [] n put.0 put.1
 
 -- ── batches ──
 
-found_so : (f : Option IpcError) (r : Result Sending IpcError) (t : Sending) → unless_fault f r ≡ Ok t → r ≡ Ok t
+pub found_so : (f : Option IpcError) (r : Result Sending IpcError) (t : Sending) → unless_fault f r ≡ Ok t → r ≡ Ok t
 found_so None r t h = h
 found_so (Some e) r t h = cc
 
@@ -83,16 +83,16 @@ fields_stay : (s t : List Keyed) (v w : Vec IpcField Global) → t ≡ s → w �
 fields_stay s t v w e f = rw (e, f) refl
 
 -- the bytes of messages, and of others behind them
-joined : (fs : Fields) (pairs : StreamPairs) (x y : List ℕ) (ms ns : List WrittenMessage) → x ≡ stream_so_far fs (metadata_of pairs.schema) (metadata_of pairs.message) ms → flat_map bytes_of ns ≡ y
+pub joined : (fs : Fields) (pairs : StreamPairs) (x y : List ℕ) (ms ns : List WrittenMessage) → x ≡ stream_so_far fs (metadata_of pairs.schema) (metadata_of pairs.message) ms → flat_map bytes_of ns ≡ y
     → x ++ y ≡ stream_so_far fs (metadata_of pairs.schema) (metadata_of pairs.message) (ms ++ ns)
 joined fs pairs x y ms ns e f =
     let start = message_bytes (schema_message little fs (metadata_of pairs.schema) (metadata_of pairs.message)).node [] in
     ap (λ z. z ++ y) e ∙ ap (λ z. (start ++ flat_map bytes_of ms) ++ z) (sym f) ∙ append_assoc start (flat_map bytes_of ms) (flat_map bytes_of ns) ∙ ap (λ z. start ++ z) (sym (flat_map-append bytes_of ms ns))
 
 -- those of a batch behind them
-pub sent_written : (m : Moved) (old new : StreamCore) (b : Batch) (h : HasSent m old new b) → have_same_kinds (fields_in old.schema) (columns_of (forest b.arrays)) ≡ true
+pub sent_written : (encode : List ℕ → List ℕ) (m : Moved) (old new : StreamCore) (b : Batch) (h : HasSent encode m old new b) → have_same_kinds (fields_in old.schema) (columns_of (forest b.arrays)) ≡ true
     → (pairs : StreamPairs) (x : List ℕ) (bs : List TableBatch) → IsWritten pairs old x bs → IsWritten pairs new (x ++ chunk_text h.sent b) (bs ++ cells_of b ∷ [])
-sent_written m old new b h types pairs x bs w =
+sent_written encode m old new b h types pairs x bs w =
     let fs = fields_in old.schema in
     let below = ids_of old.fields.items in
     let own = metadata_of pairs.schema in

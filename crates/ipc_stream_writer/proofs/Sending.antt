@@ -25,14 +25,14 @@ use Rattle.ipc_write_messages.specs.Puts.{SendStops, SendsChunk, Untouched, coun
 use Rattle.ipc_write_messages.specs.States.{state_behind}
 
 -- what is found of a batch's dictionaries is not to be sent
-pub not_found : (r : Result (Unit {0}) IpcError) (e : IpcError) (m : Moved) (old new : StreamCore) (b : Batch) (arrays : List Parts) (fields : List IpcField) → IsErrAnd r (λ f. f ≡ e) → arrays ≡ b.arrays → fields ≡ old.fields.items
-    → Found (Err e) old.tracker new.tracker (forest arrays) (ids_of fields) → Untouched m → new.state ≡ old.state → new.byte_count ≡ old.byte_count → Stays old new → Sends m r old new b
-not_found (Ok u) e m old new b arrays fields f a i h t s v k = absurd f
-not_found (Err x) e m old new b arrays fields f a i h t s v k =
+pub not_found : (encode : List ℕ → List ℕ) (r : Result (Unit {0}) IpcError) (e : IpcError) (m : Moved) (old new : StreamCore) (b : Batch) (arrays : List Parts) (fields : List IpcField) → IsErrAnd r (λ f. f ≡ e) → arrays ≡ b.arrays → fields ≡ old.fields.items
+    → Found (Err e) old.tracker new.tracker (forest arrays) (ids_of fields) → Untouched m → new.state ≡ old.state → new.byte_count ≡ old.byte_count → Stays old new → Sends encode m r old new b
+not_found encode (Ok u) e m old new b arrays fields f a i h t s v k = absurd f
+not_found encode (Err x) e m old new b arrays fields f a i h t s v k =
     let own : Found (Err e) old.tracker new.tracker (forest arrays) (ids_of old.fields.items) = subst (λ xs. Found (Err e) old.tracker new.tracker (forest arrays) (ids_of xs)) i h in
     let here : Found (Err e) old.tracker new.tracker (forest b.arrays) (ids_of old.fields.items) = subst (λ ps. Found (Err e) old.tracker new.tracker (forest ps) (ids_of old.fields.items)) a own in
     let both = stops_found e old.tracker new.tracker (forest b.arrays) (ids_of old.fields.items) (λ sent. RefusesChunk e old.options sent b) here in
-    subst (λ y. Sends m (Err y) old new b) (sym f) (inl (both.0, record { untouched = t; state = s; held = both.1; count = v; stays = k; written = still_written old new both.1 v k }))
+    subst (λ y. Sends encode m (Err y) old new b) (sym f) (inl (both.0, record { untouched = t; state = s; held = both.1; count = v; stays = k; written = still_written old new both.1 v k }))
 
 why_not : (e : IpcError) (old : StreamCore) (middle : DictionaryTracker) (x : Batch) (n : NewDictionaries) → Found (Ok n) old.tracker middle (forest x.arrays) (ids_of old.fields.items)
     → (e ≡ Memory) ⊎ RefusesChunk e old.options (map to_send n.messages.items) x → SendCause e old x
@@ -40,10 +40,10 @@ why_not e old middle x n h (inl w) = inl w
 why_not e old middle x n h (inr r) = stops_behind e old.tracker middle (forest x.arrays) (ids_of old.fields.items) n (λ sent. RefusesChunk e old.options sent x) h r
 
 -- it is, and was sent
-pub was_sent : (m : Moved) (k : ℕ) (old new : StreamCore) (b : Batch) (n : NewDictionaries) (messages : List ToEncode) → Found (Ok n) old.tracker new.tracker (forest b.arrays) (ids_of old.fields.items) → messages ≡ n.messages.items
-    → SendsChunk m (Ok k) old.options (map to_send messages) b → new.state ≡ old.state → Stays old new → new.byte_count ≡ counted (old.byte_count + k) → Sends m (Ok tt) old new b
-was_sent m k old new b n messages h e c s y v =
-    let here : SendsChunk m (Ok k) old.options (map to_send n.messages.items) b = subst (λ xs. SendsChunk m (Ok k) old.options (map to_send xs) b) e c in
+pub was_sent : (encode : List ℕ → List ℕ) (m : Moved) (k : ℕ) (old new : StreamCore) (b : Batch) (n : NewDictionaries) (messages : List ToEncode) → Found (Ok n) old.tracker new.tracker (forest b.arrays) (ids_of old.fields.items) → messages ≡ n.messages.items
+    → SendsChunk encode m (Ok k) old.options (map to_send messages) b → new.state ≡ old.state → Stays old new → new.byte_count ≡ counted (old.byte_count + k) → Sends encode m (Ok tt) old new b
+was_sent encode m k old new b n messages h e c s y v =
+    let here : SendsChunk encode m (Ok k) old.options (map to_send n.messages.items) b = subst (λ xs. SendsChunk encode m (Ok k) old.options (map to_send xs) b) e c in
     record {
       used = h.0.0;
       sent = map to_send n.messages.items;
@@ -54,23 +54,24 @@ was_sent m k old new b n messages h e c s y v =
       state = s;
       stays = y;
       count = omega (arith, v, here.3);
+      few = omega (arith, here.3, here.4);
     }
 
-stopped_send : (b : Bool) (e : IpcError) (m : Moved) (old new : StreamCore) (middle : DictionaryTracker) (x : Batch) (n : NewDictionaries) → Found (Ok n) old.tracker middle (forest x.arrays) (ids_of old.fields.items)
-    → SendStops b m e old.options (map to_send n.messages.items) x → new.state ≡ state_behind b old.state → ((q : ℤ) → held_by new.tracker q ≡ undone n.changes.items (held_by middle) q) → new.byte_count ≡ old.byte_count → Stays old new → Sends m (Err e) old new x
-stopped_send true e m old new middle x n h c s u v k = inr (record {
+stopped_send : (encode : List ℕ → List ℕ) (b : Bool) (e : IpcError) (m : Moved) (old new : StreamCore) (middle : DictionaryTracker) (x : Batch) (n : NewDictionaries) → Found (Ok n) old.tracker middle (forest x.arrays) (ids_of old.fields.items)
+    → SendStops encode b m e old.options (map to_send n.messages.items) x → new.state ≡ state_behind b old.state → ((q : ℤ) → held_by new.tracker q ≡ undone n.changes.items (held_by middle) q) → new.byte_count ≡ old.byte_count → Stays old new → Sends encode m (Err e) old new x
+stopped_send encode true e m old new middle x n h c s u v k = inr (record {
   sending = record { held = held_by middle; used = h.0.0; sent = map to_send n.messages.items };
   is_found = h.0.1;
   may = c.0;
   failed = record { put = c.1; state = s; held = kept_again old.tracker middle new.tracker (forest x.arrays) (ids_of old.fields.items) n h u; count = v; stays = k };
 })
-stopped_send false e m old new middle x n h c s u v k =
+stopped_send encode false e m old new middle x n h c s u v k =
     let held = kept_again old.tracker middle new.tracker (forest x.arrays) (ids_of old.fields.items) n h u in
     inl (why_not e old middle x n h c.0, record { untouched = c.1; state = s; held = held; count = v; stays = k; written = still_written old new held v k })
 
 -- it is not, and what was held is held again
-pub not_sent : (y : IpcError) (stop : Stop) (m : Moved) (old new : StreamCore) (middle : DictionaryTracker) (x : Batch) (n : NewDictionaries) (messages : List ToEncode) → y ≡ stop.error → Found (Ok n) old.tracker middle (forest x.arrays) (ids_of old.fields.items)
-    → messages ≡ n.messages.items → SendStops stop.has_begun m stop.error old.options (map to_send messages) x → new.state ≡ state_behind stop.has_begun old.state
-    → ((q : ℤ) → held_by new.tracker q ≡ undone n.changes.items (held_by middle) q) → new.byte_count ≡ old.byte_count → Stays old new → Sends m (Err y) old new x
-not_sent y stop m old new middle x n messages f h e c s u v k =
-    subst (λ z. Sends m (Err z) old new x) (sym f) (stopped_send stop.has_begun stop.error m old new middle x n h (subst (λ xs. SendStops stop.has_begun m stop.error old.options (map to_send xs) x) e c) s u v k)
+pub not_sent : (encode : List ℕ → List ℕ) (y : IpcError) (stop : Stop) (m : Moved) (old new : StreamCore) (middle : DictionaryTracker) (x : Batch) (n : NewDictionaries) (messages : List ToEncode) → y ≡ stop.error → Found (Ok n) old.tracker middle (forest x.arrays) (ids_of old.fields.items)
+    → messages ≡ n.messages.items → SendStops encode stop.has_begun m stop.error old.options (map to_send messages) x → new.state ≡ state_behind stop.has_begun old.state
+    → ((q : ℤ) → held_by new.tracker q ≡ undone n.changes.items (held_by middle) q) → new.byte_count ≡ old.byte_count → Stays old new → Sends encode m (Err y) old new x
+not_sent encode y stop m old new middle x n messages f h e c s u v k =
+    subst (λ z. Sends encode m (Err z) old new x) (sym f) (stopped_send encode stop.has_begun stop.error m old new middle x n h (subst (λ xs. SendStops encode stop.has_begun m stop.error old.options (map to_send xs) x) e c) s u v k)

@@ -1,5 +1,5 @@
--- What the calls of a writer do to it, and what they put. (Arrow Columnar Format, "IPC Streaming Format".)
-use Rattle.std.specs.Prelude.{◌≡◌, ◌⊎◌, ◌++◌, ◌∷◌, [], ◌+◌, ℤ, List, Bool, true, false, Option, Some, None, Result, Ok, Err, ℕ, String, length}
+-- What the calls of a writer do to it, and what they put: the bytes of a stream, as they are encoded. (Arrow Columnar Format, "IPC Streaming Format".)
+use Rattle.std.specs.Prelude.{◌≡◌, ◌⊎◌, ◌^◌, ◌<◌, ◌++◌, ◌∷◌, [], ◌+◌, ℤ, List, Bool, true, false, Option, Some, None, Result, Ok, Err, ℕ, String, length}
 use Rattle.std.specs.BTreeMap.{BTreeMap}
 use Rattle.std.specs.Io.KnownBytes.{Appends}
 use Rattle.std.specs.declared.alloc.Global.{Global}
@@ -13,6 +13,7 @@ use Rattle.arrow_arrays.specs.Batches.{Batch}
 use Rattle.arrow_arrays.specs.Parts.{forest}
 use Rattle.ipc_fields.specs.IpcFields.{Ids, fields_with, ids_of, metadata_of}
 use Rattle.ipc_bodies.specs.Puts.{Moved, NoneFalls, PutsPart}
+use Rattle.ipc_bodies.specs.declared.encoding.Encoding.{Encoding}
 use Rattle.ipc_dictionaries.specs.NewDictionaries.{Sending, ToSend}
 use Rattle.ipc_dictionaries.specs.Tracker.{IsKept, held_by}
 use Rattle.ipc_dictionaries.specs.Walks.{options_of}
@@ -24,24 +25,26 @@ use Rattle.ipc_write_messages.specs.Batches.{Suits}
 use Rattle.ipc_write_messages.specs.Fields.{AreIdsFor}
 use Rattle.ipc_write_messages.specs.Messages.{MayBeSent, chunk_text}
 use Rattle.ipc_write_messages.specs.Puts.{Untouched, counted}
-use Rattle.ipc_write_messages.specs.Schemas.{IsNoStart, stream_text}
+use Rattle.ipc_write_messages.specs.Schemas.{IsNoStart, SchemaIsSaid, stream_text}
 use Rattle.ipc_write_messages.specs.States.{is_new, is_started}
 use Rattle.ipc_write_messages.specs.declared.pairs.StreamPairs.{StreamPairs}
 use Rattle.chunk_laws.specs.Written.{cells_of}
 use Rattle.ipc_stream_writer.specs.Written.{IsEnded, IsWritten}
 
--- a writer that has written nothing, of some options
-pub record IsFresh (asked : WriteOptions) (c : StreamCore) : Type 0 where
+-- a writer that has written nothing, of some options and an encoding
+pub record IsFresh (asked : WriteOptions) (chosen : Encoding) (c : StreamCore) : Type 0 where
   pub options : c.options ≡ asked
+  pub encoding : c.encoding ≡ chosen
   pub state : c.state ≡ New
   pub pairs : c.pairs ≡ record { schema = None; message = None }
   pub held : (id : ℤ) → held_by c.tracker id ≡ None
   pub replaces : c.tracker.cannot_replace ≡ false
   pub count : c.byte_count ≡ 0
 
--- the options, the schema with its IPC fields, and the pairs for it stay
+-- the options, the encoding, the schema with its IPC fields, and the pairs for it stay
 pub record Stays (old new : StreamCore) : Type 0 where
   pub options : new.options ≡ old.options
+  pub encoding : new.encoding ≡ old.encoding
   pub schema : new.schema ≡ old.schema
   pub fields : new.fields ≡ old.fields
   pub pairs : new.pairs ≡ old.pairs
@@ -58,8 +61,8 @@ pub record LeavesAll (m : Moved) (old new : StreamCore) : Type 0 where
   pub written : (pairs : StreamPairs) (x : List ℕ) (bs : List TableBatch) → IsWritten pairs old x bs → IsWritten pairs new x bs
 
 -- a put failed: a part of what was to be put is there, the dictionaries of it are not held, and the writer has failed
-pub record HasFailed (m : Moved) (e : IpcError) (bytes : List ℕ) (old new : StreamCore) : Type 0 where
-  pub put : PutsPart m e bytes
+pub record HasFailed (encode : List ℕ → List ℕ) (m : Moved) (e : IpcError) (bytes : List ℕ) (old new : StreamCore) : Type 0 where
+  pub put : PutsPart m e (encode bytes)
   pub state : new.state ≡ Failed
   pub held : IsKept (held_by old.tracker) (held_by new.tracker)
   pub count : new.byte_count ≡ old.byte_count
@@ -73,6 +76,7 @@ pub record HasMessagePairs (old new : StreamCore) (given : BTreeMap (String Glob
   pub pairs : new.pairs ≡ record { schema = old.pairs.schema; message = Some given }
   pub state : new.state ≡ old.state
   pub options : new.options ≡ old.options
+  pub encoding : new.encoding ≡ old.encoding
   pub schema : new.schema ≡ old.schema
   pub fields : new.fields ≡ old.fields
   pub tracker : new.tracker ≡ old.tracker
@@ -86,20 +90,22 @@ SetsMessagePairs (Err e) old new given = (e ≡ State) × (is_new old.state ≡ 
 -- ── begin ──
 
 -- a stream was begun: the message of its schema was put
-pub record HasBegun (m : Moved) (old new : StreamCore) (s : List Keyed) (given : Option Ids) : Type 0 where
+pub record HasBegun (encode : List ℕ → List ℕ) (m : Moved) (old new : StreamCore) (s : List Keyed) (given : Option Ids) : Type 0 where
   pub new_before : is_new old.state ≡ true
   pub state : new.state ≡ Started
   pub schema : new.schema ≡ s
   pub ids : AreIdsFor (fields_in s) given (ids_of new.fields.items)
   pub bytes : List ℕ
   pub text : stream_text old.options (fields_in s) (ids_of new.fields.items) old.pairs ≡ Ok bytes
-  pub appended : Appends m.old m.new bytes
+  pub appended : Appends m.old m.new (encode bytes)
   pub counts : NoneFalls m
   pub options : new.options ≡ old.options
+  pub encoding : new.encoding ≡ old.encoding
   pub pairs : new.pairs ≡ old.pairs
   pub tracker : new.tracker ≡ old.tracker
   pub count : new.byte_count ≡ counted (length bytes)
-  -- the bytes mean a table without batches, where the schema is regular
+  -- the bytes mean a table without batches, where the schema may be said, which it may where it is regular
+  pub said : SchemaIsSaid (fields_with (fields_in s) (ids_of new.fields.items)) (metadata_of old.pairs.schema) → IsWritten old.pairs new bytes []
   pub written : regular (fields_with (fields_in s) (ids_of new.fields.items)) (metadata_of old.pairs.schema) ≡ true → IsWritten old.pairs new bytes []
 
 -- why none was: it was before, or memory was wanted, or the schema is refused
@@ -108,17 +114,17 @@ StartCause e c s given =
     ((e ≡ State) × (is_new c.state ≡ false)) ⊎ ((is_new c.state ≡ true) × ((e ≡ Memory) ⊎ IsNoStart e c.options s given c.pairs))
 
 -- a put of the schema's message failed
-pub record StartFailed (m : Moved) (e : IpcError) (old new : StreamCore) (s : List Keyed) (given : Option Ids) : Type 0 where
+pub record StartFailed (encode : List ℕ → List ℕ) (m : Moved) (e : IpcError) (old new : StreamCore) (s : List Keyed) (given : Option Ids) : Type 0 where
   pub new_before : is_new old.state ≡ true
   pub below : Ids
   pub ids : AreIdsFor (fields_in s) given below
   pub bytes : List ℕ
   pub text : stream_text old.options (fields_in s) below old.pairs ≡ Ok bytes
-  pub failed : HasFailed m e bytes old new
+  pub failed : HasFailed encode m e bytes old new
 
-abbrev pub Starts : Moved → Result (Unit {0}) IpcError → StreamCore → StreamCore → List Keyed → Option Ids → Type 0
-Starts m (Ok u) old new s given = HasBegun m old new s given
-Starts m (Err e) old new s given = (StartCause e old s given × LeavesAll m old new) ⊎ StartFailed m e old new s given
+abbrev pub Starts : (List ℕ → List ℕ) → Moved → Result (Unit {0}) IpcError → StreamCore → StreamCore → List Keyed → Option Ids → Type 0
+Starts encode m (Ok u) old new s given = HasBegun encode m old new s given
+Starts encode m (Err e) old new s given = (StartCause e old s given × LeavesAll m old new) ⊎ StartFailed encode m e old new s given
 
 -- ── batches ──
 
@@ -131,37 +137,38 @@ abbrev pub found_before : StreamCore → Batch → Result Sending IpcError
 found_before c b = found c.tracker (forest b.arrays) (ids_of c.fields.items)
 
 -- it was sent: what of its dictionaries was not sent yet, and the batch behind it
-pub record HasSent (m : Moved) (old new : StreamCore) (b : Batch) : Type 0 where
+pub record HasSent (encode : List ℕ → List ℕ) (m : Moved) (old new : StreamCore) (b : Batch) : Type 0 where
   pub used : ℤ → Bool
   pub sent : List ToSend
   pub is_found : found_before old b ≡ Ok (record { held = held_by new.tracker; used = used; sent = sent })
   pub may : MayBeSent old.options sent b
-  pub appended : Appends m.old m.new (chunk_text sent b)
+  pub appended : Appends m.old m.new (encode (chunk_text sent b))
   pub counts : NoneFalls m
   pub state : new.state ≡ old.state
   pub stays : Stays old new
   pub count : new.byte_count ≡ counted (old.byte_count + length (chunk_text sent b))
+  pub few : length (chunk_text sent b) < 2 ^ 127 + 2 ^ 96
 
 -- a put of one of its messages failed
-pub record SendFailed (m : Moved) (e : IpcError) (old new : StreamCore) (b : Batch) : Type 0 where
+pub record SendFailed (encode : List ℕ → List ℕ) (m : Moved) (e : IpcError) (old new : StreamCore) (b : Batch) : Type 0 where
   pub sending : Sending
   pub is_found : found_before old b ≡ Ok sending
   pub may : MayBeSent old.options sending.sent b
-  pub failed : HasFailed m e (chunk_text sending.sent b) old new
+  pub failed : HasFailed encode m e (chunk_text sending.sent b) old new
 
 -- why it is not sent: memory was wanted, the dictionaries are refused, or one of the messages
 abbrev pub SendCause : IpcError → StreamCore → Batch → Type 0
 SendCause e c b = Stops e (found_before c b) (λ sent. RefusesChunk e c.options sent b)
 
-abbrev pub Sends : Moved → Result (Unit {0}) IpcError → StreamCore → StreamCore → Batch → Type 0
-Sends m (Ok u) old new b = HasSent m old new b
-Sends m (Err e) old new b = (SendCause e old b × LeavesAll m old new) ⊎ SendFailed m e old new b
+abbrev pub Sends : (List ℕ → List ℕ) → Moved → Result (Unit {0}) IpcError → StreamCore → StreamCore → Batch → Type 0
+Sends encode m (Ok u) old new b = HasSent encode m old new b
+Sends encode m (Err e) old new b = (SendCause e old b × LeavesAll m old new) ⊎ SendFailed encode m e old new b
 
 -- a batch was written
-pub record HasWritten (m : Moved) (old new : StreamCore) (b : Batch) (given : Option Ids) : Type 0 where
+pub record HasWritten (encode : List ℕ → List ℕ) (m : Moved) (old new : StreamCore) (b : Batch) (given : Option Ids) : Type 0 where
   pub started : is_started old.state ≡ true
   pub suits : SuitsStream old b given
-  pub sends : HasSent m old new b
+  pub sends : HasSent encode m old new b
   -- the table that the bytes mean has the batch behind those before it
   pub written : (pairs : StreamPairs) (x : List ℕ) (bs : List TableBatch) → IsWritten pairs old x bs → IsWritten pairs new (x ++ chunk_text sends.sent b) (bs ++ cells_of b ∷ [])
 
@@ -171,22 +178,22 @@ WriteCause e c b given = ((e ≡ State) × (is_started c.state ≡ false))
     ⊎ ((is_started c.state ≡ true) × (((e ≡ SchemaMismatch) × (SuitsStream c b given → ⊥)) ⊎ (SuitsStream c b given × SendCause e c b)))
 
 -- a put failed
-pub record WriteFailed (m : Moved) (e : IpcError) (old new : StreamCore) (b : Batch) (given : Option Ids) : Type 0 where
+pub record WriteFailed (encode : List ℕ → List ℕ) (m : Moved) (e : IpcError) (old new : StreamCore) (b : Batch) (given : Option Ids) : Type 0 where
   pub started : is_started old.state ≡ true
   pub suits : SuitsStream old b given
-  pub sends : SendFailed m e old new b
+  pub sends : SendFailed encode m e old new b
 
-abbrev pub Writes : Moved → Result (Unit {0}) IpcError → StreamCore → StreamCore → Batch → Option Ids → Type 0
-Writes m (Ok u) old new b given = HasWritten m old new b given
-Writes m (Err e) old new b given = (WriteCause e old b given × LeavesAll m old new) ⊎ WriteFailed m e old new b given
+abbrev pub Writes : (List ℕ → List ℕ) → Moved → Result (Unit {0}) IpcError → StreamCore → StreamCore → Batch → Option Ids → Type 0
+Writes encode m (Ok u) old new b given = HasWritten encode m old new b given
+Writes encode m (Err e) old new b given = (WriteCause e old b given × LeavesAll m old new) ⊎ WriteFailed encode m e old new b given
 
 -- ── end ──
 
 -- a stream was ended: the end mark was put
-pub record HasFinished (m : Moved) (old new : StreamCore) : Type 0 where
+pub record HasFinished (encode : List ℕ → List ℕ) (m : Moved) (old new : StreamCore) : Type 0 where
   pub started : is_started old.state ≡ true
   pub state : new.state ≡ Finished
-  pub appended : Appends m.old m.new end_mark
+  pub appended : Appends m.old m.new (encode end_mark)
   pub counts : NoneFalls m
   pub tracker : new.tracker ≡ old.tracker
   pub stays : Stays old new
@@ -194,8 +201,8 @@ pub record HasFinished (m : Moved) (old new : StreamCore) : Type 0 where
   -- the bytes are a closed stream, and mean the table of the batches that were written
   pub written : (pairs : StreamPairs) (x : List ℕ) (bs : List TableBatch) → IsWritten pairs old x bs → IsEnded pairs new (x ++ end_mark) bs
 
-abbrev pub Finishes : Moved → Result (Unit {0}) IpcError → StreamCore → StreamCore → Type 0
-Finishes m (Ok u) old new = HasFinished m old new
-Finishes m (Err e) old new =
+abbrev pub Finishes : (List ℕ → List ℕ) → Moved → Result (Unit {0}) IpcError → StreamCore → StreamCore → Type 0
+Finishes encode m (Ok u) old new = HasFinished encode m old new
+Finishes encode m (Err e) old new =
     ((((e ≡ State) × (is_started old.state ≡ false)) ⊎ ((is_started old.state ≡ true) × (e ≡ Memory))) × LeavesAll m old new)
-    ⊎ ((is_started old.state ≡ true) × HasFailed m e end_mark old new)
+    ⊎ ((is_started old.state ≡ true) × HasFailed encode m e end_mark old new)

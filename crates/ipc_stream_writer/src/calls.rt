@@ -2,7 +2,9 @@
 ghost use Rattle.std.specs.Prelude.{◌≡◌, ◌↔◌, ◌≤◌, IfOk, IfErr, IsTrue, Some, length, true};
 ghost use Rattle.arrow_spec.specs.Readings.{is_absent};
 ghost use Rattle.arrow_spec.specs.declared.error.IpcError.TheVariants.{Memory};
+ghost use Rattle.ipc_bodies.specs.Encodings.{text_of};
 ghost use Rattle.ipc_bodies.specs.Puts.{moved};
+ghost use Rattle.ipc_bodies.specs.declared.encoding.Encoding.TheVariants.{Bytes};
 ghost use Rattle.ipc_write_messages.specs.Fields.{given_ids};
 ghost use Rattle.ipc_write_messages.specs.Puts.{counted};
 ghost use Rattle.ipc_stream_writer.specs.Calls.{Finishes, IsFresh, Sends, SetsMessagePairs, Starts, Stays, SuitsStream, Writes};
@@ -13,12 +15,14 @@ use crate::stream::StreamCore;
 use arrow_arrays::RecordBatch;
 use arrow_spec::IpcError;
 use arrow_types::{ArrowSchema, Metadata};
+use ipc_bodies::Encoding;
 use ipc_dictionaries::{DictionaryTracker, new_dictionaries};
 use ipc_fields::IpcField;
 use ipc_io::Sink;
 use ipc_write::WriteOptions;
 use ipc_write_messages::{
-    Stop, StreamPairs, StreamStart, WriterState, is_of_schema, put_whole, send_chunk, stream_start,
+    Stop, StreamPairs, StreamStart, WriterState, is_of_schema, put_whole_as, send_chunk_as,
+    stream_start,
 };
 use std::alloc::Global;
 
@@ -37,18 +41,36 @@ fn zeros(alloc: Global, count: usize) -> Result<Vec<u8>, IpcError>
 }
 
 impl StreamCore {
-    /// A writer that has written nothing. It takes 65,536 bytes.
+    /// A writer that has written nothing, of a stream whose bytes are put. It takes 65,536 bytes.
     ///
     /// # Errors
     ///
     /// `Memory`.
     pub fn new(alloc: Global, options: WriteOptions) -> Result<StreamCore, IpcError>
-        ensures fresh { IfOk result (λ c. IsFresh options c) }
+        ensures fresh { IfOk result (λ c. IsFresh options Bytes c) }
+        ensures err { IfErr result (λ e. e ≡ Memory) }
+    {
+        StreamCore::new_as(alloc, options, Encoding::Bytes)
+    }
+
+    /// A writer that has written nothing, of a stream whose bytes are put, or their lower-case hex text: two bytes of text for each
+    /// byte of the stream. It takes 65,536 bytes.
+    ///
+    /// # Errors
+    ///
+    /// `Memory`.
+    pub fn new_as(
+        alloc: Global,
+        options: WriteOptions,
+        encoding: Encoding,
+    ) -> Result<StreamCore, IpcError>
+        ensures fresh { IfOk result (λ c. IsFresh options encoding c) }
         ensures err { IfErr result (λ e. e ≡ Memory) }
     {
         let scratch = zeros(alloc, PIECE_BYTES)?;
         Ok(StreamCore {
             options,
+            encoding,
             state: WriterState::New,
             schema: ArrowSchema::new(alloc),
             fields: Vec::new(alloc),
@@ -68,6 +90,7 @@ impl StreamCore {
         ensures pairs { self.new.pairs ≡ record { schema = Some pairs; message = self.old.pairs.message } }
         ensures state { self.new.state ≡ self.old.state }
         ensures options { self.new.options ≡ self.old.options }
+        ensures encoding { self.new.encoding ≡ self.old.encoding }
         ensures schema { self.new.schema ≡ self.old.schema }
         ensures fields { self.new.fields ≡ self.old.fields }
         ensures tracker { self.new.tracker ≡ self.old.tracker }
@@ -105,8 +128,8 @@ impl StreamCore {
     }
 
     /// How many bytes the stream has: those that were put since it was begun, its schema's message among them, by calls that were
-    /// Ok. 2^64 - 1 says that there are so many or more.
-    pub fn byte_count(&self) -> u64
+    /// Ok. Hex text has twice as many. 2^128 - 1 says that there are so many or more.
+    pub fn byte_count(&self) -> u128
         ensures { result ≡ self.now.byte_count }
     {
         self.byte_count
@@ -119,6 +142,7 @@ impl StreamCore {
         ensures fields { self.new.fields ≡ start.fields }
         ensures state { self.new.state ≡ Started }
         ensures options { self.new.options ≡ self.old.options }
+        ensures encoding { self.new.encoding ≡ self.old.encoding }
         ensures pairs { self.new.pairs ≡ self.old.pairs }
         ensures tracker { self.new.tracker ≡ self.old.tracker }
         ensures count { self.new.byte_count ≡ counted (length start.message.items) }
@@ -128,7 +152,7 @@ impl StreamCore {
             fields,
             message,
         } = start;
-        self.byte_count = message.len() as u64;
+        self.byte_count = message.len() as u128;
         drop(message);
         self.schema = schema;
         self.fields = fields;
@@ -143,21 +167,22 @@ impl StreamCore {
     /// `State` where it is not; `Unsupported(Compression)` where compression is asked for; `Unsupported(Float)` and
     /// `Unsupported(Decimal256)` for fields of such types, at any depth; `SchemaMismatch` and `NotRepresentable` as of
     /// `schema_to_bytes`; `TooLarge` where the padded metadata passes its limit; `Memory`. Each leaves writer and sink. Behind
-    /// `WriteFault` a part of the message is put, and the writer has failed.
+    /// `WriteFault`, and `Memory` of a later put of hex text, a part of the message is put, and the writer has failed.
     pub fn start<W: Sink>(
         &mut self,
         sink: &mut W,
         schema: &ArrowSchema,
         ipc_fields: Option<&[IpcField]>,
     ) -> Result<(), IpcError>
-        ensures starts { Starts (moved (W.written sink.old) (W.written sink.new) (W.faults sink.old) (W.faults sink.new) (W.wants sink.old) (W.wants sink.new)) result self.old self.new schema.now (given_ids ipc_fields.entry) }
+        ensures starts { Starts (text_of self.old.encoding) (moved (W.written sink.old) (W.written sink.new) (W.faults sink.old) (W.faults sink.new) (W.wants sink.old) (W.wants sink.new)) result self.old self.new schema.now (given_ids ipc_fields.entry) }
         ensures same_references { W.references sink.new ≡ W.references sink.old }
     {
         if !self.state.is_new() {
             return Err(IpcError::State);
         }
         let start = stream_start(self.alloc, schema, ipc_fields, &self.pairs, &self.options)?;
-        match put_whole(sink, start.message.as_slice()) {
+        let scratch = self.scratch.as_mut_slice();
+        match put_whole_as(sink, start.message.as_slice(), self.encoding, scratch) {
             Ok(()) => {
                 self.keep(start);
                 Ok(())
@@ -176,14 +201,23 @@ impl StreamCore {
     /// Puts what of a batch's dictionaries was not sent yet, and the batch behind it.
     fn send<W: Sink>(&mut self, sink: &mut W, batch: &RecordBatch) -> Result<(), IpcError>
         requires { is_started self.old.state ≡ true }
-        ensures sends { Sends (moved (W.written sink.old) (W.written sink.new) (W.faults sink.old) (W.faults sink.new) (W.wants sink.old) (W.wants sink.new)) result self.old self.new batch.now }
+        ensures sends { Sends (text_of self.old.encoding) (moved (W.written sink.old) (W.written sink.new) (W.faults sink.old) (W.faults sink.new) (W.wants sink.old) (W.wants sink.new)) result self.old self.new batch.now }
         ensures same_references { W.references sink.new ≡ W.references sink.old }
     {
         let fields = self.fields.as_slice();
         let new = new_dictionaries(self.alloc, fields, batch.arrays(), &mut self.tracker)?;
         let messages = new.messages.as_slice();
         let scratch = self.scratch.as_mut_slice();
-        match send_chunk(self.alloc, sink, messages, batch, &self.options, scratch) {
+        let encoding = self.encoding;
+        match send_chunk_as(
+            self.alloc,
+            sink,
+            messages,
+            batch,
+            &self.options,
+            encoding,
+            scratch,
+        ) {
             Ok(count) => {
                 self.byte_count = self.byte_count.saturating_add(count);
                 Ok(())
@@ -196,8 +230,9 @@ impl StreamCore {
     }
 
     /// Puts the messages of what of a batch's dictionaries was not sent yet, of dictionaries that stand in one another the inner
-    /// first, and behind them the batch's own, with their bodies in pieces of at most 65,536 bytes. Nothing is put before all of
-    /// them are planned. The stream has to be begun and not ended. The IPC fields, where they are given, are those of the stream.
+    /// first, and behind them the batch's own, with their bodies, and all hex text, in pieces of at most 65,536 bytes. Nothing is put
+    /// before all of them are planned. The stream has to be begun and not ended. The IPC fields, where they are given, are those of
+    /// the stream.
     ///
     /// # Errors
     ///
@@ -211,7 +246,7 @@ impl StreamCore {
         batch: &RecordBatch,
         ipc_fields: Option<&[IpcField]>,
     ) -> Result<(), IpcError>
-        ensures writes { Writes (moved (W.written sink.old) (W.written sink.new) (W.faults sink.old) (W.faults sink.new) (W.wants sink.old) (W.wants sink.new)) result self.old self.new batch.now (given_ids ipc_fields.entry) }
+        ensures writes { Writes (text_of self.old.encoding) (moved (W.written sink.old) (W.written sink.new) (W.faults sink.old) (W.faults sink.new) (W.wants sink.old) (W.wants sink.new)) result self.old self.new batch.now (given_ids ipc_fields.entry) }
         ensures same_references { W.references sink.new ≡ W.references sink.old }
     {
         if !self.state.is_started() {
@@ -230,15 +265,15 @@ impl StreamCore {
     /// `State` where the stream is not begun, or is ended, or a put has failed; `Memory` of the sink, which leaves all. Behind
     /// `WriteFault` a part of the mark is put, and the writer has failed.
     pub fn finish<W: Sink>(&mut self, sink: &mut W) -> Result<(), IpcError>
-        ensures finishes { Finishes (moved (W.written sink.old) (W.written sink.new) (W.faults sink.old) (W.faults sink.new) (W.wants sink.old) (W.wants sink.new)) result self.old self.new }
+        ensures finishes { Finishes (text_of self.old.encoding) (moved (W.written sink.old) (W.written sink.new) (W.faults sink.old) (W.faults sink.new) (W.wants sink.old) (W.wants sink.new)) result self.old self.new }
         ensures same_references { W.references sink.new ≡ W.references sink.old }
     {
         if !self.state.is_started() {
             return Err(IpcError::State);
         }
-        match put_whole(sink, &END_MARK) {
+        match put_whole_as(sink, &END_MARK, self.encoding, self.scratch.as_mut_slice()) {
             Ok(()) => {
-                self.byte_count = self.byte_count.saturating_add(END_MARK.len() as u64);
+                self.byte_count = self.byte_count.saturating_add(END_MARK.len() as u128);
                 self.state = WriterState::Finished;
                 Ok(())
             }

@@ -5,5 +5,6 @@ mod calls;
 mod stream;
 mod writer;
 
+pub use ipc_bodies::Encoding;
 pub use stream::StreamCore;
 pub use writer::StreamWriter;

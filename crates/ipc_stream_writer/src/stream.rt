@@ -6,24 +6,26 @@ ghost use Rattle.ipc_dictionaries.specs.Tracker.{held_by};
 ghost use Rattle.ipc_write_messages.specs.States.{is_new, may_be_started};
 
 use arrow_types::ArrowSchema;
+use ipc_bodies::Encoding;
 use ipc_dictionaries::DictionaryTracker;
 use ipc_fields::IpcField;
 use ipc_write::WriteOptions;
 use ipc_write_messages::{StreamPairs, WriterState};
 use std::alloc::Global;
 
-/// The writer of a stream without its sink, which each call that writes is lent: how batches are written, what was begun or
-/// ended, the stream's schema with its IPC fields, the pairs for it and for its message, the dictionaries that were sent, how many
-/// bytes the stream has, and memory that is used again.
+/// The writer of a stream without its sink, which each call that writes is lent: how batches are written, whether the bytes of the
+/// stream are put or their hex text, what was begun or ended, the stream's schema with its IPC fields, the pairs for it and for its
+/// message, the dictionaries that were sent, how many bytes the stream has, and memory that is used again.
 #[derive(Drop)]
 pub struct StreamCore {
     pub(crate) options: WriteOptions,
+    pub(crate) encoding: Encoding,
     pub(crate) state: WriterState,
     pub(crate) schema: ArrowSchema,
     pub(crate) fields: Vec<IpcField>,
     pub(crate) pairs: StreamPairs,
     pub(crate) tracker: DictionaryTracker,
-    pub(crate) byte_count: u64,
+    pub(crate) byte_count: u128,
     pub(crate) scratch: Vec<u8>,
     pub(crate) alloc: Global,
     ghost pieces: { length scratch.items ≡ 65536 },

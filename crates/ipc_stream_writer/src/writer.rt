@@ -2,6 +2,7 @@
 ghost use Rattle.std.specs.Prelude.{◌≡◌, ◌≤◌, IfErr, IfOk, MatchResult, Some, length};
 ghost use Rattle.arrow_spec.specs.declared.error.IpcError.TheVariants.{Memory};
 ghost use Rattle.ipc_bodies.specs.Puts.{moved};
+ghost use Rattle.ipc_bodies.specs.declared.encoding.Encoding.TheVariants.{Bytes};
 ghost use Rattle.ipc_stream_writer.specs.Calls.{Finishes, IsFresh, SetsMessagePairs, Starts, Writes};
 ghost use Rattle.ipc_write_messages.specs.Fields.{given_ids};
 
@@ -15,11 +16,12 @@ use ipc_reader::Refused;
 use ipc_write::WriteOptions;
 use std::alloc::Global;
 
-/// A writer of record batches to a stream, with the sink that the stream goes into.
+/// A writer of record batches to a stream, with the sink that the bytes of the stream go into.
 #[derive(Drop)]
 pub struct StreamWriter<W: Sink> {
     sink: W,
     core: StreamCore,
+    ghost as_bytes: { core.encoding ≡ Bytes },
 }
 
 impl<W: Sink> StreamWriter<W> {
@@ -29,7 +31,7 @@ impl<W: Sink> StreamWriter<W> {
     ///
     /// `Memory`, with the sink.
     pub fn new(alloc: Global, sink: W, options: WriteOptions) -> Result<StreamWriter<W>, Refused<W>>
-        ensures fresh { IfOk result (λ w. IsFresh options w.core) }
+        ensures fresh { IfOk result (λ w. IsFresh options Bytes w.core) }
         ensures sink { MatchResult result (λ w. w.sink ≡ sink) (λ e. e.object ≡ sink) }
         ensures err { IfErr result (λ e. e.error ≡ Memory) }
     {
@@ -70,7 +72,7 @@ impl<W: Sink> StreamWriter<W> {
     }
 
     /// How many bytes the stream has, as [`StreamCore::byte_count`] says.
-    pub fn byte_count(&self) -> u64
+    pub fn byte_count(&self) -> u128
         ensures { result ≡ self.now.core.byte_count }
     {
         self.core.byte_count()
@@ -86,7 +88,7 @@ impl<W: Sink> StreamWriter<W> {
         schema: &ArrowSchema,
         ipc_fields: Option<&[IpcField]>,
     ) -> Result<(), IpcError>
-        ensures starts { Starts (moved (W.written self.old.sink) (W.written self.new.sink) (W.faults self.old.sink) (W.faults self.new.sink) (W.wants self.old.sink) (W.wants self.new.sink)) result self.old.core self.new.core schema.now (given_ids ipc_fields.entry) }
+        ensures starts { Starts (λ bytes. bytes) (moved (W.written self.old.sink) (W.written self.new.sink) (W.faults self.old.sink) (W.faults self.new.sink) (W.wants self.old.sink) (W.wants self.new.sink)) result self.old.core self.new.core schema.now (given_ids ipc_fields.entry) }
         ensures same_references { W.references self.new.sink ≡ W.references self.old.sink }
     {
         self.core.start(&mut self.sink, schema, ipc_fields)
@@ -102,7 +104,7 @@ impl<W: Sink> StreamWriter<W> {
         batch: &RecordBatch,
         ipc_fields: Option<&[IpcField]>,
     ) -> Result<(), IpcError>
-        ensures writes { Writes (moved (W.written self.old.sink) (W.written self.new.sink) (W.faults self.old.sink) (W.faults self.new.sink) (W.wants self.old.sink) (W.wants self.new.sink)) result self.old.core self.new.core batch.now (given_ids ipc_fields.entry) }
+        ensures writes { Writes (λ bytes. bytes) (moved (W.written self.old.sink) (W.written self.new.sink) (W.faults self.old.sink) (W.faults self.new.sink) (W.wants self.old.sink) (W.wants self.new.sink)) result self.old.core self.new.core batch.now (given_ids ipc_fields.entry) }
         ensures same_references { W.references self.new.sink ≡ W.references self.old.sink }
     {
         self.core.write(&mut self.sink, batch, ipc_fields)
@@ -114,7 +116,7 @@ impl<W: Sink> StreamWriter<W> {
     ///
     /// As of [`StreamCore::finish`].
     pub fn finish(&mut self) -> Result<(), IpcError>
-        ensures finishes { Finishes (moved (W.written self.old.sink) (W.written self.new.sink) (W.faults self.old.sink) (W.faults self.new.sink) (W.wants self.old.sink) (W.wants self.new.sink)) result self.old.core self.new.core }
+        ensures finishes { Finishes (λ bytes. bytes) (moved (W.written self.old.sink) (W.written self.new.sink) (W.faults self.old.sink) (W.faults self.new.sink) (W.wants self.old.sink) (W.wants self.new.sink)) result self.old.core self.new.core }
         ensures same_references { W.references self.new.sink ≡ W.references self.old.sink }
     {
         self.core.finish(&mut self.sink)

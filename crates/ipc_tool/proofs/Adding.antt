@@ -14,7 +14,7 @@ use Rattle.ipc_io.proofs.Known.{AppendsPrefix-within, AppendsPrefix-after, Appen
 use Rattle.ipc_transcode.specs.declared.conversion.Summary.{Summary}
 use Rattle.ipc_bodies.specs.declared.encoding.Encoding.TheVariants.{Bytes, HexText}
 use Rattle.ipc_files.proofs.ReadFiles.{told}
-use Rattle.ipc_transcode.proofs.SentFiles.{keeps_same}
+use Rattle.std.proofs.KnownBytes.{Keeps-refl}
 use Rattle.ipc_tool.specs.Refusal.{shelf_refusal}
 use Rattle.ipc_tool.specs.StreamPuts.{AddsStreamPart, shown_as}
 use Rattle.transcode_laws.specs.Files.{IsFrontOf, IsStreamOf}
@@ -40,9 +40,9 @@ of_shelf P K name (Some held) None h p = cc
 
 -- nothing was added where nothing was opened
 pub not_opened : (e : ShelfError) (wants wants' : ℕ) (b : List ℕ) (r : Request) (raw : Bool) (w : Option (List ℕ)) → AddsBefore (shelf_refusal e) wants wants' b r raw w w
-not_opened shelf.Failed wants wants' b r raw w = inl (keeps_same w)
-not_opened shelf.Memory wants wants' b r raw w = inl (inl (keeps_same w))
-not_opened shelf.Unknown wants wants' b r raw w = keeps_same w
+not_opened shelf.Failed wants wants' b r raw w = inl (Keeps-refl w)
+not_opened shelf.Memory wants wants' b r raw w = inl (inl (Keeps-refl w))
+not_opened shelf.Unknown wants wants' b r raw w = Keeps-refl w
 
 -- of any bytes that are told
 pub of_any : (P : List ℕ → Type 0) (K : Type 0) (told : Option (Option (List ℕ))) → K → ((b : List ℕ) → P b) → IfSome told (λ bytes. MatchOption bytes K P)

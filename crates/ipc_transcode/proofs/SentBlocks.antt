@@ -1,31 +1,20 @@
 -- A block that is read, and sent.
-use Rattle.std.proofs.Common.{◌≡◌, inl, ℕ, List, [], ◌∷◌, ◌++◌, map, Option, Ok, refl, sym, ap, subst, ◌∙◌, true, false}
-use Rattle.std.proofs.lemmas.List.Concat.{flat_map-cons}
+use Rattle.std.proofs.Common.{◌≡◌, inl, ℕ, List, Option, Ok, refl, sym, ap, subst, ◌∙◌, true, false}
 use Rattle.arrow_spec.specs.declared.error.IpcError.{IpcError}
 use Rattle.arrow_spec.specs.declared.error.IpcError.TheVariants as errors
 use Rattle.arrow_spec.specs.Readings.{Refuses, bind, ◌>>=◌, refusals}
-use Rattle.arrow_spec.specs.Framing.{body_bytes, message_bytes}
-use Rattle.arrow_spec.specs.Kinds.{Fields, width}
+use Rattle.arrow_spec.specs.Kinds.{width}
 use Rattle.arrow_spec.specs.Files.{Asked, FileBlock, Purpose, batch_of, batch_of_tables, block_body, columns_right, if_sent, to_read, to_send}
-use Rattle.arrow_spec.specs.Sent.{SentMessage, may_be_sent}
-use Rattle.arrow_spec.specs.WrittenSchemas.{CustomMayBeWritten}
+use Rattle.arrow_spec.specs.Sent.{may_be_sent}
 use Rattle.arrow_spec.proofs.Projection.{on}
 use Rattle.arrow_arrays.specs.Batches.{Batch}
-use Rattle.arrow_arrays.specs.Parts.{Parts}
 use Rattle.ipc_read_laws.specs.Held.{Held, HoldsCells, HoldsFields}
-use Rattle.ipc_write_laws.specs.Columns.{WrittenColumn}
-use Rattle.ipc_write_laws.specs.Messages.{Known}
-use Rattle.ipc_write_laws.specs.Streams.{batch_bytes, body_for, pieces_of, table_batch, written_batch}
-use Rattle.dictionary_laws.specs.Sending.{AllAreKnown}
+use Rattle.ipc_write_laws.specs.Streams.{written_batch}
 use Rattle.arrow_arrays.specs.Carried.{are_carried}
-use Rattle.transcode_laws.specs.Files.{IsSentBatch, asked_fields, stream_fields}
-use Rattle.transcode_laws.proofs.Batches.{block_is_sent, tables_refused}
-use Rattle.column_laws.specs.Laws.{batch_under}
-use Rattle.column_laws.proofs.ReadBatches.{read_batch_sendable, read_batch_sent}
-use Rattle.ipc_write_arrays.specs.Dictionaries.{first_kind, other_fields}
-use Rattle.ipc_write_arrays.specs.Pieces.{with_kind}
-use Rattle.ipc_write.specs.Batches.{top_column, written_batch_of}
-use Rattle.ipc_write.specs.Encoding.{AllMean, columns_under}
+use Rattle.transcode_laws.specs.Files.{asked_fields}
+use Rattle.transcode_laws.proofs.Batches.{tables_refused}
+use Rattle.column_laws.proofs.ReadBatches.{read_batch_sent}
+use Rattle.ipc_write.specs.Batches.{written_batch_of}
 use Rattle.ipc_read.specs.Batches.{table_of}
 use Rattle.ipc_files.specs.FileBlocks.{block_record}
 use Rattle.ipc_files.specs.Blocks.{BlockRead}
@@ -74,23 +63,3 @@ block_may b a h block left x are r size = block_sent b a h block left x are r �
 pub block_too_large : (b : List ℕ) (a : Asked) (h : Held) (block : FileBlock) (left : Option ℕ) (x : Batch) → AreSent a h → BlockRead b h a block left x → may_be_sent (written_batch (written_batch_of x)) ≡ false → Refuses errors.TooLarge (refusals (batch_of to_send b a block left))
 unfolding bind
 block_too_large b a h block left x are r size = rw (block_sent b a h block left x are r, size) (inl refl)
-
--- behind the values of its dictionaries it may be written, under the kinds of the stream's fields
-pub sent_batch : (b : List ℕ) (a : Asked) (h : Held) (c : Known) (block : FileBlock) (left : Option ℕ) (x : Batch) → AreSent a h → AllAreKnown a.dictionaries (asked_fields a) 0 c → BlockRead b h a block left x → may_be_sent (written_batch (written_batch_of x)) ≡ true → AllMean x.height x.arrays
-    → IsSentBatch b a c block left (batch_under (stream_fields a) x) × (written_batch (batch_under (stream_fields a) x) ≡ written_batch (written_batch_of x))
-sent_batch b a h c block left x are known r size good =
-    let all = read_batch_sendable a c r.message.version r.message.tables (block_body b block) left h x r.fits are.holds are.kinds are.carried are.right known (read_paired b a h block left x r) r.columns good (subst CustomMayBeWritten (sym r.custom) r.ordered) in
-    let y = batch_under (stream_fields a) x in
-    let read : batch_of to_read b a block left ≡ Ok (table_batch y) = by_tables to_read b a h block left x r ∙ all.1 in
-    let sent : batch_of to_send b a block left ≡ (if_sent to_send (may_be_sent (written_batch y)) >>= λ size. Ok (table_batch y)) =
-    by_tables to_send b a h block left x r ∙ all.4 ∙ ap (λ (m : SentMessage). if_sent to_send (may_be_sent m) >>= λ size. Ok (table_batch y)) (sym all.2) in
-    (block_is_sent b a c block left y read sent (all.3 size), all.2)
-
--- its bytes are those of the arrays alone
-pieces_under : (gs : Fields) (ps : List Parts) → pieces_of (columns_under gs ps) ≡ pieces_of (map top_column ps)
-pieces_under gs [] = refl
-pieces_under gs (p ∷ ps) =
-    flat_map-cons (λ (c : WrittenColumn). c.pieces) (with_kind (first_kind gs) (top_column p)) (columns_under (other_fields gs) ps) ∙ ap (λ xs. (top_column p).pieces ++ xs) (pieces_under (other_fields gs) ps) ∙ sym (flat_map-cons (λ (c : WrittenColumn). c.pieces) (top_column p) (map top_column ps))
-
-pub same_bytes : (gs : Fields) (x : Batch) → written_batch (batch_under gs x) ≡ written_batch (written_batch_of x) → batch_bytes (batch_under gs x) ≡ batch_bytes (written_batch_of x)
-same_bytes gs x same = ap (λ (m : SentMessage). message_bytes m.node (body_for (columns_under gs x.arrays))) same ∙ ap (λ ps. message_bytes (written_batch (written_batch_of x)).node (body_bytes 0 ps)) (pieces_under gs x.arrays)

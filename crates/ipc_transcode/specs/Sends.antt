@@ -1,155 +1,211 @@
--- What reading and sending the dictionaries, a block, and the blocks of a file, does.
-use Rattle.std.specs.Prelude.{◌≡◌, ℕ, List, [], ◌∷◌, ◌++◌, length, sum_by, Bool, true, false, Option, Ok, Err, None, ⊤}
-use Rattle.std.specs.List.{flat_map}
-use Rattle.std.specs.Io.KnownBytes.{Appends, Keeps}
+-- What reading a file's record batches one after another, and writing each to a stream, comes to. (Arrow Columnar Format, "IPC File Format", "IPC Streaming Format".)
+use Rattle.std.specs.Prelude.{◌≡◌, ℕ, ◌+◌, ◌*◌, ◌^◌, ◌<◌, ◌≤◌, ℤ, List, [], ◌∷◌, ◌++◌, length, take, true, false, Option, None, Some, Result, Ok, Err, sum_by, ⊤}
+use Rattle.std.specs.Io.KnownBytes.{Appends}
+use Rattle.std.specs.Rc.{rc_value}
 use Rattle.arrow_spec.specs.declared.error.IpcError.{IpcError}
 use Rattle.arrow_spec.specs.declared.error.IpcError.TheVariants as errors
-use Rattle.arrow_spec.specs.Readings.{Reading, Refuses, refusals}
-use Rattle.arrow_spec.specs.Kinds.{Fields, Metadata, numbered}
+use Rattle.arrow_spec.specs.declared.error.OutOfSpecKind.TheVariants as kinds
 use Rattle.arrow_spec.specs.Arrays.{Dictionaries}
-use Rattle.arrow_spec.specs.Sent.{all_may_be_sent, dictionary_messages}
-use Rattle.arrow_spec.specs.Files.{Asked, FileBlock, Meta, Request, TableBatch, batch_of, custom_of, dictionaries_of, fields_as_asked, file_reading, to_send}
-use Rattle.ipc_write_laws.specs.Streams.{WrittenBatch, batch_bytes}
-use Rattle.ipc_write_laws.specs.Messages.{WrittenMessage, WrittenValues, stream_so_far, values_bytes}
-use Rattle.dictionary_laws.specs.Sending.{AllHaveColumns, Columns, dictionary_values}
-use Rattle.transcode_laws.specs.Files.{HasRead, IsSentBatch, IsSentFile, SentSoFar, asked_fields, asked_of, known_of, messages_sent}
-use Rattle.ipc_read_laws.specs.Held.{Held}
-use Rattle.file_dictionaries.specs.Parts.{PartTree}
-use Rattle.part_laws.specs.Laws.{ArePartsRead}
-use Rattle.ipc_io.specs.Outside.{Rose}
+use Rattle.arrow_spec.specs.Files.{Asked, Meta, Request, TableBatch, columns_right, fields_as_asked, file_reading, to_send}
+use Rattle.arrow_spec.specs.Kinds.{Fields, width}
+use Rattle.arrow_spec.specs.Readings.{Refuses, refusals}
+use Rattle.arrow_types.specs.Schemas.{Keyed, fields_in}
+use Rattle.transcode_laws.specs.Files.{BatchesSent, HasRead, IsSentFile, asked_of, left_of}
+use Rattle.ipc_fields.specs.IpcFields.{ids_of, metadata_of}
 use Rattle.ipc_bodies.specs.Encodings.{text_of}
-use Rattle.ipc_transcode.specs.Transcode.{AddsPart, PutsSome, PutTextCause}
-use Rattle.ipc_transcode.specs.declared.conversion.Summary.{Summary}
 use Rattle.ipc_bodies.specs.declared.encoding.Encoding.{Encoding}
+use Rattle.ipc_dictionaries.specs.Tracker.{held_by}
+use Rattle.ipc_dictionaries.specs.Walks.{options_of}
+use Rattle.ipc_io.specs.Outside.{Rose}
+use Rattle.ipc_read.specs.Held.{held_in}
+use Rattle.ipc_read_laws.specs.PlainKinds.{plain_fields}
+use Rattle.ipc_files.specs.FileDictionaries.{HoldsUses}
+use Rattle.ipc_files.specs.FileViews.{FileSays, WasRead, file_custom, meta_view}
+use Rattle.ipc_files.specs.declared.metadata.FileMetadata.{FileMetadata}
+use Rattle.ipc_files.specs.Selections.{MayProject, schema_shown}
+use Rattle.ipc_reader.specs.Kept.{HeldParts}
+use Rattle.ipc_reader.specs.declared.cursor.FileCursor.{FileCursor}
+use Rattle.ipc_reader.specs.declared.kept.KeptDictionaries.TheVariants.{Held, NotRead}
+use Rattle.ipc_write.specs.declared.options.WriteOptions.{WriteOptions}
+use Rattle.ipc_write_messages.specs.declared.pairs.StreamPairs.{StreamPairs}
+use Rattle.ipc_write_messages.specs.declared.state.WriterState.TheVariants.{New, Started}
+use Rattle.schema_writer.specs.Defaults.{IsNumbered}
+use Rattle.ipc_stream_writer.specs.Written.{IsWritten}
+use Rattle.ipc_stream_writer.specs.declared.stream.StreamCore.{StreamCore}
+use Rattle.part_laws.specs.Parts.{PartTree}
+use Rattle.part_laws.specs.Laws.{AreReadParts}
+use Rattle.sent_dictionaries.specs.Laws.{SendsNoMore}
+use Rattle.ipc_transcode.specs.Transcode.{AddsPart, Transcodes}
+use Rattle.ipc_transcode.specs.declared.conversion.Summary.{Summary}
 
--- ── dictionaries ──
+-- how a stream is written: what goes on of a dictionary is sent as a delta
+abbrev pub send_options : WriteOptions
+send_options = record { compression = None; metadata_limit = 2147483647; deltas = true }
 
--- the dictionaries of a file were read: the parts that are held, and those in the file's order
-pub record DictionariesRead (b : List ℕ) (meta : Meta) (h : Held) (ps : List PartTree) (d : Dictionaries) : Type 0 where
-  pub read : dictionaries_of b meta [] meta.dictionaries ≡ Ok d
-  pub parts : ArePartsRead meta.schema.fields d h ps
+-- a writer of a stream of a schema in an encoding, which was begun
+pub record IsWriter (s : List Keyed) (encoded : Encoding) (w : StreamCore) : Type 0 where
+  pub state : w.state ≡ Started
+  pub encoding : w.encoding ≡ encoded
+  pub options : w.options ≡ send_options
+  pub schema : w.schema ≡ s
+  pub ids : IsNumbered (fields_in s) (ids_of w.fields.items)
+  pub plain : plain_fields (fields_in s) ≡ fields_in s
+  pub tracker : options_of w.tracker ≡ record { cannot_replace = false; deltas = true }
 
--- the bytes of some values, one message after another
-abbrev pub all_values : List WrittenValues → List ℕ
-all_values vs = flat_map values_bytes vs
+-- a writer that has written nothing, with the pairs of a file's schema and of its footer
+pub record IsNewWriter (file : FileMetadata) (encoded : Encoding) (w : StreamCore) : Type 0 where
+  pub state : w.state ≡ New
+  pub encoding : w.encoding ≡ encoded
+  pub options : w.options ≡ send_options
+  pub own : metadata_of w.pairs.schema ≡ (meta_view file).schema.metadata
+  pub custom : metadata_of w.pairs.message ≡ file_custom file
+  pub held : (id : ℤ) → held_by w.tracker id ≡ None
+  pub tracker : options_of w.tracker ≡ record { cannot_replace = false; deltas = true }
 
--- none of the messages is too large, and each part that may be sent has its column
-pub record MayBePut (columns : Columns) (d : Dictionaries) (fs : Fields) : Type 0 where
-  pub may : all_may_be_sent (dictionary_messages d fs) ≡ true
-  pub columns_are : AllHaveColumns columns d fs 0
+-- the schema of a reader's columns
+abbrev pub schema_of_reader : FileCursor → List Keyed
+schema_of_reader c = schema_shown (rc_value c.metadata.schema) c.projection
 
--- some values were put, and how many bytes they have
-pub record ValuesPut (vs : List WrittenValues) (encoding : Encoding) (old new : Option (List ℕ)) (bytes : ℕ) : Type 0 where
-  pub added : Appends old new (text_of encoding (all_values vs))
-  pub bytes_are : bytes ≡ length (all_values vs)
+-- ── what is sent ──
 
--- the first of some values were put, and those behind them could not be
-pub record ValuesNotPut (vs : List WrittenValues) (encoding : Encoding) (old new : Option (List ℕ)) (e : IpcError) (faults faults' wants wants' : ℕ) : Type 0 where
-  pub first : List WrittenValues
-  pub next : WrittenValues
-  pub rest : List WrittenValues
-  pub mid : Option (List ℕ)
-  pub whole : vs ≡ first ++ next ∷ rest
-  pub added : Appends old mid (text_of encoding (all_values first))
-  pub stopped : PutsSome mid new wants wants' e (text_of encoding (values_bytes next))
-  pub cause : PutTextCause e faults faults'
+-- a file under a request, and where the text of its stream begins
+pub record Sending : Type 0 where
+  pub bytes : List ℕ
+  pub file : FileMetadata
+  pub request : Request
+  pub encoding : Encoding
+  pub start : Option (List ℕ)
 
--- a message of the dictionaries is too large, and nothing was put; or one could not be put, or memory was wanted
-pub data DictionariesNotPut (columns : Columns) (d : Dictionaries) (fs : Fields) (encoding : Encoding) (old new : Option (List ℕ)) (e : IpcError) (faults faults' wants wants' : ℕ) : Type 0 where
-  too_large : Keeps old new → e ≡ errors.TooLarge → all_may_be_sent (dictionary_messages d fs) ≡ false → DictionariesNotPut columns d fs encoding old new e faults faults' wants wants'
-  no_memory : Keeps old new → e ≡ errors.Memory → DictionariesNotPut columns d fs encoding old new e faults faults' wants wants'
-  stopped : MayBePut columns d fs → ValuesNotPut (dictionary_values columns d fs) encoding old new e faults faults' wants wants' → DictionariesNotPut columns d fs encoding old new e faults faults' wants wants'
+-- what its metadata says, and the fields that are asked for
+abbrev pub meta_in : Sending → Meta
+meta_in x = meta_view x.file
 
--- ── blocks ──
+abbrev pub fields_in_request : Sending → Fields
+fields_in_request x = fields_as_asked x.request.columns (meta_in x).schema.fields
 
--- the values that stand before the batch of a block: those of the dictionaries before the first
-abbrev pub values_before : Bool → Columns → Dictionaries → Fields → List WrittenValues
-values_before true columns d fs = dictionary_values columns d fs
-values_before false columns d fs = []
+-- what is asked of its blocks, under dictionaries
+abbrev pub asked_in : Sending → Dictionaries → Asked
+asked_in x d = asked_of x.bytes (meta_in x) x.request d
 
--- they were put, or nothing where it is not the first: then those of the dictionaries may have been before
-pub record BeforePut (is_first : Bool) (columns : Columns) (d : Dictionaries) (fs : Fields) (encoding : Encoding) (old new : Option (List ℕ)) (bytes : ℕ) : Type 0 where
-  pub may : MayBePut columns d fs
-  pub put : ValuesPut (values_before is_first columns d fs) encoding old new bytes
+-- a reader reads it, whose schema may be sent
+pub record IsReadBy (c : FileCursor) (x : Sending) : Type 0 where
+  pub metadata : c.metadata ≡ x.file
+  pub columns : MayProject (rc_value x.file.schema) x.request.columns c.projection
+  pub file : IsSentFile x.bytes x.request (meta_in x) (file_custom x.file)
+  pub read : WasRead x.file
 
--- or could not be
-pub record BeforeNotPut (is_first : Bool) (columns : Columns) (d : Dictionaries) (fs : Fields) (encoding : Encoding) (old new : Option (List ℕ)) (e : IpcError) (faults faults' wants wants' : ℕ) : Type 0 where
-  pub first : is_first ≡ true
-  pub stopped : DictionariesNotPut columns d fs encoding old new e faults faults' wants wants'
+-- the dictionaries of the file were read: the reader holds them, and the writer knows all that is to be sent of them
+pub record DictionariesSent (x : Sending) (c : FileCursor) (w : StreamCore) (d : Dictionaries) : Type 0 where
+  pub held : HeldParts
+  pub kept : c.dictionaries ≡ Held held
+  pub has : HasRead x.bytes (meta_in x) d
+  pub parts : List PartTree
+  pub read : AreReadParts (meta_in x).schema.fields d (held_in held) parts
+  pub uses : HoldsUses (meta_in x) (held_in held)
+  pub no_more : SendsNoMore (fields_in_request x) d parts (ids_of w.fields.items) (held_by w.tracker)
 
--- a block that was sent: its message behind those of the dictionaries where it is the first, and how many rows and bytes it has
-pub record BlockSent (b : List ℕ) (a : Asked) (columns : Columns) (is_first : Bool) (block : FileBlock) (left : Option ℕ) (encoding : Encoding) (old new : Option (List ℕ))
-    (rows bytes : ℕ) : Type 0 where
-  pub batch : WrittenBatch
-  pub may : MayBePut columns a.dictionaries (asked_fields a)
-  pub is_sent : IsSentBatch b a (known_of columns a) block left batch
-  pub added : Appends old new (text_of encoding (all_values (values_before is_first columns a.dictionaries (asked_fields a)) ++ batch_bytes batch))
-  pub rows_are : rows ≡ batch.rows
-  pub bytes_are : bytes ≡ length (all_values (values_before is_first columns a.dictionaries (asked_fields a)) ++ batch_bytes batch)
+-- Before the first block nothing is read of the dictionaries, and nothing known of them; behind it they were sent, and the blocks so far were read and sent as batches.
+pub data BatchesSoFar (x : Sending) (c : FileCursor) (w : StreamCore) : List TableBatch → Type 0 where
+  none_yet : c.block ≡ 0 → c.dictionaries ≡ NotRead → ((id : ℤ) → held_by w.tracker id ≡ None) → BatchesSoFar x c w []
+  some_sent : {d : Dictionaries} {bs : List TableBatch} → DictionariesSent x c w d → BatchesSent x.bytes (asked_in x d) (take c.block (meta_in x).blocks) x.request.limit bs → 0 < c.block → BatchesSoFar x c w bs
 
--- A block that was not sent: it is refused and nothing was put; or the messages before it are too large, or could not be put; or its own could not.
-pub data BlockRefused (b : List ℕ) (a : Asked) (columns : Columns) (is_first : Bool) (block : FileBlock) (left : Option ℕ) (encoding : Encoding) (old new : Option (List ℕ)) (e : IpcError)
-    (faults faults' wants wants' : ℕ) : Type 0 where
-  refused : Keeps old new → Refuses e (refusals (batch_of to_send b a block left))
-      → BlockRefused b a columns is_first block left encoding old new e faults faults' wants wants'
-  before : (x : TableBatch) → batch_of to_send b a block left ≡ Ok x
-      → BeforeNotPut is_first columns a.dictionaries (asked_fields a) encoding old new e faults faults' wants wants' → BlockRefused b a columns is_first block left encoding old new e faults faults' wants wants'
-  not_put : (x : WrittenBatch) (mid : Option (List ℕ)) → MayBePut columns a.dictionaries (asked_fields a) → IsSentBatch b a (known_of columns a) block left x
-      → Appends old mid (text_of encoding (all_values (values_before is_first columns a.dictionaries (asked_fields a)))) → PutsSome mid new wants wants' e (text_of encoding (batch_bytes x)) → PutTextCause e faults faults'
-      → BlockRefused b a columns is_first block left encoding old new e faults faults' wants wants'
+-- so many bytes of the stream were put, which mean the batches so far
+pub record SentSoFar (x : Sending) (c : FileCursor) (w : StreamCore) (now : Option (List ℕ)) (bytes : List ℕ) (bs : List TableBatch) : Type 0 where
+  pub pairs : StreamPairs
+  pub own : metadata_of pairs.schema ≡ (meta_in x).schema.metadata
+  pub custom : metadata_of pairs.message ≡ file_custom x.file
+  pub written : IsWritten pairs w bytes bs
+  pub added : Appends x.start now (text_of x.encoding bytes)
+  pub batches : BatchesSoFar x c w bs
+  pub count : length bs ≡ c.block
+  pub within : c.block ≤ length (meta_in x).blocks
+  pub left : c.left ≡ left_of x.request.limit bs
+  pub first : c.block ≡ 0 → length bytes ≤ 2 ^ 32
+  pub few : length bytes ≤ 2 ^ 127 + 2 ^ 98 + c.block * (2 ^ 63 + 2 ^ 33)
+
+-- a file is never refused so
+abbrev pub IsNamed : IpcError → Type 0
+IsNamed errors.SchemaMismatch = ⊥
+IsNamed (errors.DictionaryReplaced id) = ⊥
+IsNamed errors.NotRepresentable = ⊥
+IsNamed errors.State = ⊥
+IsNamed e = ⊤
+
+-- what a writer refuses of a file that is read is damage of the file: one whose content is not told may answer other bytes at another call
+abbrev pub as_damage : IpcError → IpcError
+as_damage errors.SchemaMismatch = errors.OutOfSpec kinds.InvalidDataType
+as_damage (errors.DictionaryReplaced id) = errors.OutOfSpec kinds.InvalidDataType
+as_damage errors.NotRepresentable = errors.OutOfSpec kinds.InvalidDataType
+as_damage e = e
+
+-- what a refusal says of the bytes of a file, and what was added then
+pub record FileRefused (e : IpcError) (b : List ℕ) (r : Request) (encoding : Encoding) (old new : Option (List ℕ)) (wants wants' : ℕ) : Type 0 where
+  pub named : IsNamed e
+  pub refused : Refuses e (refusals (file_reading to_send b r None))
+  pub part : AddsPart e wants wants' b r (text_of encoding) old new
+
+abbrev pub Refused : IpcError → Sending → Option (List ℕ) → ℕ → ℕ → Type 0
+Refused e x new wants wants' = FileRefused e x.bytes x.request x.encoding x.start new wants wants'
+
+-- ── one batch ──
+
+-- the next batch was read and written
+pub record SendsOne (x : Sending) (c' : FileCursor) (w' : StreamCore) (now' : Option (List ℕ)) (bytes : List ℕ) (bs : List TableBatch) (rows : ℕ) : Type 0 where
+  pub batch : TableBatch
+  pub height : rows ≡ batch.rows
+  pub more : List ℕ
+  pub so_far : SentSoFar x c' w' now' (bytes ++ more) (bs ++ batch ∷ [])
+
+-- it was, or there is none, or it is refused
+abbrev pub SendsNext : Result (Option ℕ) IpcError → Sending → FileCursor → StreamCore → Option (List ℕ) → List ℕ → List TableBatch → ℕ → ℕ → Type 0
+SendsNext (Ok None) x c' w' now' bytes bs wants wants' = SentSoFar x c' w' now' bytes bs × (length (meta_in x).blocks ≤ c'.block)
+SendsNext (Ok (Some rows)) x c' w' now' bytes bs wants wants' = SendsOne x c' w' now' bytes bs rows
+SendsNext (Err e) x c' w' now' bytes bs wants wants' = Refused e x now' wants wants'
 
 -- why sending is refused, whatever the source tells
 abbrev pub SendCause : IpcError → ℕ → ℕ → ℕ → ℕ → Type 0
-SendCause (errors.OutOfSpec kind) reads reads' writes writes' = ⊤
-SendCause (errors.Unsupported feature) reads reads' writes writes' = ⊤
-SendCause (errors.TooMany counted) reads reads' writes writes' = ⊤
-SendCause errors.TooDeep reads reads' writes writes' = ⊤
-SendCause (errors.Projection index) reads reads' writes writes' = ⊤
-SendCause errors.TooLarge reads reads' writes writes' = ⊤
 SendCause errors.ReadFault reads reads' writes writes' = Rose reads reads'
 SendCause errors.WriteFault reads reads' writes writes' = Rose writes writes'
-SendCause errors.Memory reads reads' writes writes' = ⊤
-SendCause e reads reads' writes writes' = ⊥
+SendCause errors.State reads reads' writes writes' = ⊥
+SendCause errors.SchemaMismatch reads reads' writes writes' = ⊥
+SendCause (errors.DictionaryReplaced id) reads reads' writes writes' = ⊥
+SendCause errors.NotRepresentable reads reads' writes writes' = ⊥
+SendCause e reads reads' writes writes' = ⊤
 
--- ── the stream ──
+-- ── all batches ──
 
--- what a stream under a request is before its end mark, with these pairs of its schema's message and these messages behind it
-abbrev pub front_bytes : Metadata → Meta → Request → List WrittenMessage → List ℕ
-front_bytes custom meta r messages = stream_so_far (numbered (fields_as_asked r.columns meta.schema.fields) 0) meta.schema.metadata custom messages
+-- so many batches of so many rows were sent
+pub record SentRows (x : Sending) (c : FileCursor) (w : StreamCore) (now : Option (List ℕ)) (batches rows : ℕ) : Type 0 where
+  pub bytes : List ℕ
+  pub sent : List TableBatch
+  pub so_far : SentSoFar x c w now bytes sent
+  pub batches_are : batches ≡ length sent
+  pub rows_are : rows ≡ sum_by (λ (b : TableBatch). b.rows) sent
 
--- the pairs of a file's footer, none where they are damaged
-abbrev pub pairs_or_none : Reading Metadata → Metadata
-pairs_or_none (Ok custom) = custom
-pairs_or_none (Err es) = []
+-- all were, or one is refused
+abbrev pub SendsAll : Result Summary IpcError → Sending → FileCursor → StreamCore → Option (List ℕ) → ℕ → ℕ → Type 0
+SendsAll (Ok s) x c' w' now' wants wants' = SentRows x c' w' now' s.batches s.rows × (length (meta_in x).blocks ≤ c'.block)
+SendsAll (Err e) x c' w' now' wants wants' = Refused e x now' wants wants'
 
-abbrev pub custom_in : List ℕ → Metadata
-custom_in b = pairs_or_none (custom_of b)
+-- ── a stream ──
 
--- the stream is begun: its schema's message was put
-pub record Begun (b : List ℕ) (meta : Meta) (r : Request) (encoding : Encoding) (start new : Option (List ℕ)) (bytes : ℕ) : Type 0 where
-  pub file : IsSentFile b r meta (custom_in b)
-  pub added : Appends start new (text_of encoding (front_bytes (custom_in b) meta r []))
-  pub bytes_are : bytes ≡ length (front_bytes (custom_in b) meta r [])
+-- a reader of a file at its first block, of which nothing was sent yet
+pub record IsUnsent (c : FileCursor) (x : Sending) : Type 0 where
+  pub metadata : c.metadata ≡ x.file
+  pub columns : MayProject (rc_value x.file.schema) x.request.columns c.projection
+  pub right : columns_right x.request.columns (width (meta_in x).schema.fields) ≡ Ok tt
+  pub says : FileSays x.bytes (meta_in x) (file_custom x.file)
+  pub read : WasRead x.file
+  pub block : c.block ≡ 0
+  pub dictionaries : c.dictionaries ≡ NotRead
+  pub left : c.left ≡ x.request.limit
 
--- the blocks so far were sent, each as a batch, behind the schema's message and those of the dictionaries
-pub record SentBlocks (b : List ℕ) (meta : Meta) (r : Request) (d : Dictionaries) (columns : Columns) (blocks : List FileBlock) (encoding : Encoding) (start new : Option (List ℕ)) (s : Summary) : Type 0 where
-  pub batches : List WrittenBatch
-  pub may : (batches ≡ [] → ⊥) → MayBePut columns d (fields_as_asked r.columns meta.schema.fields)
-  pub sent : SentSoFar b columns (asked_of b meta r d) blocks r.limit batches
-  pub same : length batches ≡ length blocks
-  pub added : Appends start new (text_of encoding (front_bytes (custom_in b) meta r (messages_sent columns (asked_of b meta r d) batches)))
-  pub batches_are : s.batches ≡ length batches
-  pub rows_are : s.rows ≡ sum_by (λ x. x.rows) batches
-  pub bytes_are : s.bytes ≡ length (front_bytes (custom_in b) meta r (messages_sent columns (asked_of b meta r d) batches))
+-- a stream was begun, of a file that may be sent, or not
+abbrev pub BeginsStream : Result StreamCore IpcError → Sending → FileCursor → Option (List ℕ) → ℕ → ℕ → Type 0
+BeginsStream (Ok w) x c now' wants wants' = IsReadBy c x × SentRows x c w now' 0 0
+BeginsStream (Err e) x c now' wants wants' = Refused e x now' wants wants'
 
--- all blocks were sent, under the dictionaries that are read of the file
-pub record AllSent (b : List ℕ) (meta : Meta) (r : Request) (encoding : Encoding) (start new : Option (List ℕ)) (s : Summary) : Type 0 where
-  pub dictionaries : Dictionaries
-  pub columns : Columns
-  pub has : HasRead b meta dictionaries
-  pub blocks : SentBlocks b meta r dictionaries columns meta.blocks encoding start new s
-
--- what a refusal says of the file's bytes, and what was added
-pub record Refused (e : IpcError) (b : List ℕ) (r : Request) (encoding : Encoding) (start new : Option (List ℕ)) (wants wants' : ℕ) : Type 0 where
-  pub refused : Refuses e (refusals (file_reading to_send b r None))
-  pub part : AddsPart e wants wants' b r (text_of encoding) start new
+-- a file was sent, or a part of its stream
+abbrev pub SendsFile : Result Summary IpcError → List ℕ → Request → Encoding → Option (List ℕ) → Option (List ℕ) → ℕ → ℕ → Type 0
+SendsFile (Ok s) b r encoding old new wants wants' = Transcodes s b r (text_of encoding) old new
+SendsFile (Err e) b r encoding old new wants wants' = FileRefused e b r encoding old new wants wants'

@@ -1,5 +1,5 @@
 -- What a transcoding adds to a sink, and when it is refused.
-use Rattle.std.specs.Prelude.{◌≡◌, ◌⊎◌, ℕ, List, length, sum_by, ⊤, Option, Some, IfSome, Result, Ok, Err}
+use Rattle.std.specs.Prelude.{◌≡◌, ◌⊎◌, ℕ, List, length, sum_by, ⊤, Option, Some, IfSome}
 use Rattle.std.specs.Io.KnownBytes.{Appends, Keeps}
 use Rattle.arrow_spec.specs.declared.error.IpcError.{IpcError}
 use Rattle.arrow_spec.specs.declared.error.IpcError.TheVariants as errors
@@ -67,19 +67,3 @@ TranscodeCause e content r reads reads' writes writes' = IfSome content (λ b. m
 -- the only refusals of a file that means a table, where no device failed
 abbrev pub IsSmallRefusal : List ℕ → Request → IpcError → Type 0
 IsSmallRefusal b r e = (e ≡ errors.Memory) ⊎ ((e ≡ errors.TooLarge) × may b r errors.TooLarge)
-
--- what several puts of one text did that were refused: a part from the front, and nothing where memory was wanted by no put
-abbrev pub PutsSome : Option (List ℕ) → Option (List ℕ) → ℕ → ℕ → IpcError → List ℕ → Type 0
-PutsSome old new wants wants' errors.WriteFault text = AppendsPrefix old new text
-PutsSome old new wants wants' errors.Memory text = Keeps old new ⊎ (Rose wants wants' × AppendsPrefix old new text)
-PutsSome old new wants wants' e text = Keeps old new
-
--- all of the text, or a part
-abbrev pub PutsPieces : {T : Type 0} → Option (List ℕ) → Option (List ℕ) → ℕ → ℕ → Result T IpcError → List ℕ → Type 0
-PutsPieces old new wants wants' (Ok done) text = Appends old new text
-PutsPieces old new wants wants' (Err e) text = PutsSome old new wants wants' e text
-
-abbrev pub PutTextCause : IpcError → ℕ → ℕ → Type 0
-PutTextCause errors.WriteFault faults faults' = Rose faults faults'
-PutTextCause errors.Memory faults faults' = ⊤
-PutTextCause e faults faults' = ⊥

@@ -2,10 +2,6 @@
 #![tactic(auto)]
 
 mod conversion;
-mod dictionaries;
-mod encoding;
-mod messages;
-mod selection;
 mod send;
 
 pub use conversion::{Summary, transcode, transcode_as};

@@ -1,307 +1,204 @@
-//! A file's table, sent batch by batch.
-ghost use Rattle.std.specs.Prelude.{◌≡◌, ◌+◌, ◌*◌, ◌^◌, ◌<◌, ◌≤◌, List, Option, false, length, true, IfOk, IfErr, IfSome, Ok, ℕ};
-ghost use Rattle.arrow_spec.specs.Arrays.{Dictionaries as History};
-ghost use Rattle.arrow_spec.specs.Files.{TableBatch, batch_of, columns_right, fields_as_asked, to_read, what_is_left};
+//! A file's record batches, read one after another and written to a stream.
+ghost use Rattle.std.specs.Prelude.{◌≡◌, ◌≤◌, ◌<◌, ◌^◌, List, ℕ, Option, Some, Ok, IfErr, IfOk, IfSome, length};
+ghost use Rattle.std.specs.Rc.{rc_value};
+ghost use Rattle.arrow_spec.specs.declared.error.IpcError.TheVariants.{Memory};
+ghost use Rattle.arrow_spec.specs.Files.{TableBatch, columns_right};
 ghost use Rattle.arrow_spec.specs.Kinds.{width};
-ghost use Rattle.transcode_laws.specs.Files.{asked_of};
-ghost use Rattle.ipc_io.specs.Outside.{IsSize, SourceKept, SinkKept};
-ghost use Rattle.ipc_read_laws.specs.Held.{HoldsCells};
-ghost use Rattle.ipc_read.specs.Held.{held_in};
-ghost use Rattle.ipc_read.specs.Projection.{columns_of};
-ghost use Rattle.file_dictionaries.specs.Parts.{columns_in};
-ghost use Rattle.file_dictionaries.specs.PartsOf.{part_trees};
-ghost use Rattle.ipc_files.specs.FileBlocks.{file_block};
-ghost use Rattle.ipc_files.specs.FileDictionaries.{HoldsUses};
-ghost use Rattle.ipc_files.specs.FileViews.{file_custom, meta_view, FileSays, WasRead};
-ghost use Rattle.ipc_files.specs.Fetching.{BlockFetched};
-ghost use Rattle.ipc_files.specs.Requests.{asked};
-ghost use Rattle.ipc_transcode.specs.FileViews.{AreReadable};
-ghost use Rattle.ipc_transcode.specs.Fetching.{BlocksFetched, FileFetched, TableFetched};
-ghost use Rattle.ipc_transcode.specs.Selections.{IsSelection};
-ghost use Rattle.ipc_transcode.specs.Sends.{AllSent, Begun, BlockRefused, BlockSent, DictionariesRead, MayBePut, Refused, SendCause, SentBlocks};
+ghost use Rattle.ipc_fields.specs.IpcFields.{metadata_of};
+ghost use Rattle.ipc_io.specs.Outside.{IsSize, SinkKept, SourceKept};
 ghost use Rattle.ipc_bodies.specs.Encodings.{text_of};
-ghost use Rattle.ipc_transcode.specs.Transcode.{Transcodes};
+ghost use Rattle.ipc_read.specs.Projection.{columns_of};
+ghost use Rattle.ipc_files.specs.FileViews.{WasRead, file_custom, meta_view};
+ghost use Rattle.ipc_files.specs.Requests.{asked};
+ghost use Rattle.ipc_reader.specs.Cursors.{numbers_in};
+ghost use Rattle.ipc_stream_writer.specs.Calls.{IsFresh};
+ghost use Rattle.ipc_transcode.specs.Fetching.{FetchesSome, FetchesTo, FileFetched};
+ghost use Rattle.ipc_transcode.specs.Sends.{BeginsStream, IsNewWriter, IsReadBy, IsUnsent, IsWriter, SendCause, Sending, SendsAll, SendsFile, SendsNext, SentRows, SentSoFar, as_damage, schema_of_reader, send_options};
 
 use crate::conversion::Summary;
-use crate::dictionaries::{FileDictionaries, put_before, read_parts};
-use crate::encoding::{put_plan, put_text};
-use crate::messages::{END_MARK, batch_plan, schema_message};
-use crate::selection::{Selection, project, read_selected};
-use arrow_spec::{Block, IpcError};
+use arrow_spec::{IpcError, OutOfSpecKind};
 use ipc_bodies::Encoding;
-use ipc_files::{FileMetadata, check_columns, read_file_metadata};
-use ipc_schema::{Sink, Source};
-use std::alloc::{AllocError, Global};
+use ipc_fields::copy_if_any;
+use ipc_files::{FileMetadata, read_file_metadata};
+use ipc_io::{Sink, Source};
+use ipc_reader::FileCursor;
+use ipc_stream_writer::StreamCore;
+use ipc_write::WriteOptions;
+use sent_schemas::types_have_no_ids;
+use std::alloc::Global;
 
-/// The most bytes that are put at once.
-const PIECE_BYTES: usize = 65_536;
-
-/// What was sent of a block: its rows, and the bytes of its message and of those before it.
-#[derive(Clone, Copy, Debug, PartialEq, Eq)]
-struct SentBlock {
-    rows: usize,
-    bytes: u128,
-}
-
-/// Reads a block as far as rows are left, and puts its message, behind those of the dictionaries where it is the first.
-fn send_block<S: Source, W: Sink>(
-    alloc: Global,
-    source: &mut S,
-    sink: &mut W,
-    block: &Block,
-    selection: &Selection<'_>,
-    dictionaries: &FileDictionaries,
-    is_first: bool,
-    left: Option<usize>,
-    scratch: &mut Vec<u8>,
-    pieces: &mut [u8],
-    encoding: Encoding,
-) -> Result<SentBlock, IpcError>
-    requires selected { IsSelection selection.now }
-    requires right { columns_right (columns_of selection.now.columns) (width (meta_view selection.now.file.now).schema.fields) ≡ Ok tt }
-    requires readable { AreReadable (meta_view selection.now.file.now) (columns_of selection.now.columns) }
-    requires read { WasRead selection.now.file.now }
-    requires uses { HoldsUses (meta_view selection.now.file.now) (held_in dictionaries.now.held) }
-    requires whole { IsSize (S.content source.old) selection.now.file.now.size }
-    requires pieces { length pieces.old ≡ 65536 }
-    ensures sent { IfOk result (λ s. IfSome (S.content source.old) (λ b. (d : History) → DictionariesRead b (meta_view selection.now.file.now) (held_in dictionaries.now.held) (part_trees dictionaries.now.parts.items) d → (is_first ≡ false → MayBePut (columns_in (part_trees dictionaries.now.parts.items)) d (fields_as_asked (columns_of selection.now.columns) (meta_view selection.now.file.now).schema.fields)) → BlockSent b (asked_of b (meta_view selection.now.file.now) (asked (columns_of selection.now.columns) left) d) (columns_in (part_trees dictionaries.now.parts.items)) is_first (file_block block.now) left encoding (W.written sink.old) (W.written sink.new) s.rows s.bytes)) }
-    ensures refused { IfErr result (λ e. IfSome (S.content source.old) (λ b. (d : History) → DictionariesRead b (meta_view selection.now.file.now) (held_in dictionaries.now.held) (part_trees dictionaries.now.parts.items) d → (is_first ≡ false → MayBePut (columns_in (part_trees dictionaries.now.parts.items)) d (fields_as_asked (columns_of selection.now.columns) (meta_view selection.now.file.now).schema.fields)) → BlockRefused b (asked_of b (meta_view selection.now.file.now) (asked (columns_of selection.now.columns) left) d) (columns_in (part_trees dictionaries.now.parts.items)) is_first (file_block block.now) left encoding (W.written sink.old) (W.written sink.new) e (W.faults sink.old) (W.faults sink.new) (W.wants sink.old) (W.wants sink.new))) }
-    ensures rows { IfOk result (λ s. IfSome (S.content source.old) (λ b. (d : History) (x : TableBatch) → HoldsCells d (held_in dictionaries.now.held) → batch_of to_read b (asked_of b (meta_view selection.now.file.now) (asked (columns_of selection.now.columns) left) d) (file_block block.now) left ≡ Ok x → s.rows ≡ x.rows)) }
-    ensures first { is_first ≡ true → IfOk result (λ s. s.bytes < 2 ^ 127 + 2 ^ 97) }
-    ensures small { is_first ≡ false → IfOk result (λ s. s.bytes < 2 ^ 63 + 2 ^ 32) }
-    ensures few { IfOk result (λ s. s.rows < 2 ^ 63) }
-    ensures cause { IfErr result (λ e. SendCause e (S.faults source.old) (S.faults source.new) (W.faults sink.old) (W.faults sink.new)) }
-    ensures fetched { BlockFetched (S.content source.old) (meta_view selection.now.file.now) (asked (columns_of selection.now.columns) left) (file_block block.now) left (S.fetched source.old) (S.fetched source.new) }
-    ensures kept { SourceKept S.content S.faults S.references source.old source.new }
-    ensures sink { SinkKept W.faults W.wants W.references sink.old sink.new }
-    ensures pieces { length pieces.new ≡ length pieces.old }
+/// How the stream is written: what goes on of a dictionary is sent as a delta.
+fn stream_options() -> WriteOptions
+    ensures { result ≡ send_options }
 {
-    let held = &dictionaries.held;
-    let batch = read_selected(alloc, source, block, selection, held, left, scratch)?;
-    let rows = batch.height();
-    let plan = batch_plan(alloc, &batch)?;
-    drop(batch);
-    let parts = dictionaries.parts.as_slice();
-    let before = put_before(alloc, sink, selection, parts, is_first, pieces, encoding)?;
-    let length = put_plan(sink, &plan, pieces, encoding)?;
-    Ok(SentBlock {
-        rows,
-        bytes: before + length,
-    })
-}
-
-/// How many rows are left of a limit behind some rows.
-fn rows_left(limit: Option<usize>, rows: u128) -> Option<usize>
-    ensures { result ≡ what_is_left limit rows }
-{
-    match limit {
-        None => None,
-        Some(limit) => Some((limit as u128).saturating_sub(rows) as usize),
+    WriteOptions {
+        deltas: true,
+        ..WriteOptions::default()
     }
 }
 
-/// Sends the blocks of a file, in their order, behind the schema's message of so many bytes, under the dictionaries that were
-/// read.
-fn send_blocks<S: Source, W: Sink>(
+/// A writer of a stream with the pairs of a file.
+fn writer_of(alloc: Global, file: &FileMetadata, encoding: Encoding) -> Result<StreamCore, IpcError>
+    requires few { length (file_custom file.now) ≤ 1048576 }
+    ensures new { IfOk result (λ w. IsNewWriter file.now encoding w) }
+    ensures err { IfErr result (λ e. e ≡ Memory) }
+{
+    let mut writer = StreamCore::new_as(alloc, stream_options(), encoding)?;
+    if let Some(pairs) = copy_if_any(alloc, &file.custom_schema_metadata)? {
+        writer.set_custom_schema_metadata(pairs);
+    }
+    if let Some(pairs) = copy_if_any(alloc, &file.custom_metadata)? {
+        writer.set_message_metadata(pairs)?;
+    }
+    Ok(writer)
+}
+
+/// What the writer refuses of a file that is read, as damage of the file: one whose content is not told may answer other bytes at
+/// another call.
+fn as_damage(error: IpcError) -> IpcError
+    ensures { result ≡ as_damage error }
+{
+    match error {
+        IpcError::SchemaMismatch => IpcError::OutOfSpec(OutOfSpecKind::InvalidDataType),
+        IpcError::DictionaryReplaced { .. } => IpcError::OutOfSpec(OutOfSpecKind::InvalidDataType),
+        IpcError::NotRepresentable => IpcError::OutOfSpec(OutOfSpecKind::InvalidDataType),
+        error => error,
+    }
+}
+
+/// Puts the message of the schema of a file's columns.
+fn begin_stream<W: Sink>(
+    alloc: Global,
+    sink: &mut W,
+    reader: &FileCursor,
+    encoding: Encoding,
+) -> Result<StreamCore, IpcError>
+    requires few { length (file_custom reader.now.metadata) ≤ 1048576 }
+    ensures begins { (x : Sending) → x.encoding ≡ encoding → x.start ≡ W.written sink.old → IsUnsent reader.now x → BeginsStream result x reader.now (W.written sink.new) (W.wants sink.old) (W.wants sink.new) }
+    ensures writer { IfOk result (λ w. IsWriter (schema_of_reader reader.now) encoding w) }
+    ensures cause { IfErr result (λ e. (reads reads' : ℕ) → SendCause e reads reads' (W.faults sink.old) (W.faults sink.new)) }
+    ensures sink { SinkKept W.faults W.wants W.references sink.old sink.new }
+{
+    let mut writer = writer_of(alloc, reader.metadata(), encoding)?;
+    types_have_no_ids(reader.schema());
+    match writer.start(sink, reader.schema(), None) {
+        Ok(()) => Ok(writer),
+        Err(error) => Err(as_damage(error)),
+    }
+}
+
+/// How many record batches a file has.
+fn batch_count(file: &FileMetadata) -> usize
+    ensures count { result ≡ length file.now.blocks.items }
+    ensures few { result < 2 ^ 63 }
+{
+    file.blocks.len()
+}
+
+/// Reads the next record batch, if there is one, and writes it. It answers how many rows the batch has.
+fn send_next<S: Source, W: Sink>(
     alloc: Global,
     source: &mut S,
     sink: &mut W,
-    selection: &Selection<'_>,
-    dictionaries: &FileDictionaries,
-    limit: Option<usize>,
-    schema_length: usize,
-    scratch: &mut Vec<u8>,
-    pieces: &mut [u8],
-    encoding: Encoding,
-) -> Result<Summary, IpcError>
-    requires selected { IsSelection selection.now }
-    requires right { columns_right (columns_of selection.now.columns) (width (meta_view selection.now.file.now).schema.fields) ≡ Ok tt }
-    requires readable { AreReadable (meta_view selection.now.file.now) (columns_of selection.now.columns) }
-    requires read { WasRead selection.now.file.now }
-    requires uses { HoldsUses (meta_view selection.now.file.now) (held_in dictionaries.now.held) }
-    requires whole { IsSize (S.content source.old) selection.now.file.now.size }
-    requires pieces { length pieces.old ≡ 65536 }
-    ensures sent { IfOk result (λ s. IfSome (S.content source.old) (λ b. (d : History) (start : Option (List ℕ)) → DictionariesRead b (meta_view selection.now.file.now) (held_in dictionaries.now.held) (part_trees dictionaries.now.parts.items) d → Begun b (meta_view selection.now.file.now) (asked (columns_of selection.now.columns) limit) encoding start (W.written sink.old) schema_length → SentBlocks b (meta_view selection.now.file.now) (asked (columns_of selection.now.columns) limit) d (columns_in (part_trees dictionaries.now.parts.items)) (meta_view selection.now.file.now).blocks encoding start (W.written sink.new) s)) }
-    ensures refused { IfErr result (λ e. IfSome (S.content source.old) (λ b. (d : History) (start : Option (List ℕ)) → DictionariesRead b (meta_view selection.now.file.now) (held_in dictionaries.now.held) (part_trees dictionaries.now.parts.items) d → Begun b (meta_view selection.now.file.now) (asked (columns_of selection.now.columns) limit) encoding start (W.written sink.old) schema_length → Refused e b (asked (columns_of selection.now.columns) limit) encoding start (W.written sink.new) (W.wants sink.old) (W.wants sink.new))) }
-    ensures small { IfOk result (λ s. s.bytes ≤ 2 ^ 127 + 2 ^ 98 + (length selection.now.file.now.blocks.items + 1) * (2 ^ 63 + 2 ^ 32)) }
+    reader: &mut FileCursor,
+    writer: &mut StreamCore,
+) -> Result<Option<usize>, IpcError>
+    requires whole { IsSize (S.content source.old) reader.old.metadata.size }
+    requires writer { IsWriter (schema_of_reader reader.old) writer.old.encoding writer.old }
+    ensures sends { IfSome (S.content source.old) (λ b. (x : Sending) (bytes : List ℕ) (bs : List TableBatch) → x.bytes ≡ b → x.encoding ≡ writer.old.encoding → IsReadBy reader.old x → SentSoFar x reader.old writer.old (W.written sink.old) bytes bs → SendsNext result x reader.new writer.new (W.written sink.new) bytes bs (W.wants sink.old) (W.wants sink.new)) }
+    ensures writer { IfOk result (λ _. IsWriter (schema_of_reader reader.new) writer.old.encoding writer.new) }
+    ensures metadata { reader.new.metadata ≡ reader.old.metadata }
+    ensures projection { reader.new.projection ≡ reader.old.projection }
+    ensures few { IfOk result (λ o. IfSome o (λ rows. rows < 2 ^ 64)) }
     ensures cause { IfErr result (λ e. SendCause e (S.faults source.old) (S.faults source.new) (W.faults sink.old) (W.faults sink.new)) }
-    ensures fetched { BlocksFetched (S.content source.old) (meta_view selection.now.file.now) (asked (columns_of selection.now.columns) limit) (held_in dictionaries.now.held) (meta_view selection.now.file.now).blocks (S.fetched source.old) (S.fetched source.new) }
+    ensures fetched { IfSome (S.content source.old) (λ b. (x : Sending) (bytes : List ℕ) (bs : List TableBatch) → x.bytes ≡ b → IsReadBy reader.old x → SentSoFar x reader.old writer.old (W.written sink.old) bytes bs → FetchesTo x reader.old.block reader.new.block (S.fetched source.old) (S.fetched source.new)) }
     ensures kept { SourceKept S.content S.faults S.references source.old source.new }
     ensures sink { SinkKept W.faults W.wants W.references sink.old sink.new }
-    ensures pieces { length pieces.new ≡ length pieces.old }
 {
-    let mut summary = Summary {
-        batches: 0,
-        rows: 0,
-        bytes: schema_length as u128,
-    };
-    for block in &selection.file.blocks {
-        let is_first = summary.batches == 0;
-        let left = rows_left(limit, summary.rows);
-        let sent = send_block(
-            alloc,
-            source,
-            sink,
-            block,
-            selection,
-            dictionaries,
-            is_first,
-            left,
-            scratch,
-            pieces,
-            encoding,
-        )?;
-        summary.batches += 1;
-        summary.rows += sent.rows as u128;
-        summary.bytes += sent.bytes;
+    match reader.next(alloc, source) {
+        None => Ok(None),
+        Some(read) => {
+            let batch = read?;
+            let rows = batch.height();
+            match writer.write(sink, &batch, None) {
+                Ok(()) => Ok(Some(rows)),
+                Err(error) => Err(as_damage(error)),
+            }
+        }
     }
-    Ok(summary)
 }
 
-/// Sends the dictionaries and the blocks of a file. Of a file without a block nothing is read.
+/// Reads the record batches of a file, and writes each.
 fn send_batches<S: Source, W: Sink>(
     alloc: Global,
     source: &mut S,
     sink: &mut W,
-    selection: &Selection<'_>,
-    limit: Option<usize>,
-    schema_length: usize,
-    pieces: &mut [u8],
-    encoding: Encoding,
+    reader: &mut FileCursor,
+    writer: &mut StreamCore,
 ) -> Result<Summary, IpcError>
-    requires selected { IsSelection selection.now }
-    requires right { columns_right (columns_of selection.now.columns) (width (meta_view selection.now.file.now).schema.fields) ≡ Ok tt }
-    requires readable { AreReadable (meta_view selection.now.file.now) (columns_of selection.now.columns) }
-    requires read { WasRead selection.now.file.now }
-    requires whole { IsSize (S.content source.old) selection.now.file.now.size }
-    requires pieces { length pieces.old ≡ 65536 }
-    ensures sent { IfOk result (λ s. IfSome (S.content source.old) (λ b. (start : Option (List ℕ)) → Begun b (meta_view selection.now.file.now) (asked (columns_of selection.now.columns) limit) encoding start (W.written sink.old) schema_length → AllSent b (meta_view selection.now.file.now) (asked (columns_of selection.now.columns) limit) encoding start (W.written sink.new) s)) }
-    ensures refused { IfErr result (λ e. IfSome (S.content source.old) (λ b. (start : Option (List ℕ)) → Begun b (meta_view selection.now.file.now) (asked (columns_of selection.now.columns) limit) encoding start (W.written sink.old) schema_length → Refused e b (asked (columns_of selection.now.columns) limit) encoding start (W.written sink.new) (W.wants sink.old) (W.wants sink.new))) }
-    ensures small { IfOk result (λ s. s.bytes ≤ 2 ^ 127 + 2 ^ 98 + (length selection.now.file.now.blocks.items + 1) * (2 ^ 63 + 2 ^ 32)) }
+    requires whole { IsSize (S.content source.old) reader.old.metadata.size }
+    requires writer { IsWriter (schema_of_reader reader.old) writer.old.encoding writer.old }
+    ensures sends { IfSome (S.content source.old) (λ b. (x : Sending) → x.bytes ≡ b → x.encoding ≡ writer.old.encoding → IsReadBy reader.old x → SentRows x reader.old writer.old (W.written sink.old) 0 0 → SendsAll result x reader.new writer.new (W.written sink.new) (W.wants sink.old) (W.wants sink.new)) }
+    ensures writer { IfOk result (λ _. IsWriter (schema_of_reader reader.new) writer.old.encoding writer.new) }
+    ensures metadata { reader.new.metadata ≡ reader.old.metadata }
+    ensures projection { reader.new.projection ≡ reader.old.projection }
+    ensures few { length reader.old.metadata.blocks.items < 2 ^ 63 }
     ensures cause { IfErr result (λ e. SendCause e (S.faults source.old) (S.faults source.new) (W.faults sink.old) (W.faults sink.new)) }
-    ensures fetched { TableFetched (S.content source.old) (meta_view selection.now.file.now) (asked (columns_of selection.now.columns) limit) (S.fetched source.old) (S.fetched source.new) }
+    ensures fetched { IfSome (S.content source.old) (λ b. (x : Sending) → x.bytes ≡ b → x.encoding ≡ writer.old.encoding → IsReadBy reader.old x → SentRows x reader.old writer.old (W.written sink.old) 0 0 → FetchesTo x reader.old.block reader.new.block (S.fetched source.old) (S.fetched source.new)) }
     ensures kept { SourceKept S.content S.faults S.references source.old source.new }
     ensures sink { SinkKept W.faults W.wants W.references sink.old sink.new }
-    ensures pieces { length pieces.new ≡ length pieces.old }
 {
-    if selection.file.blocks.is_empty() {
-        return Ok(Summary {
-            batches: 0,
-            rows: 0,
-            bytes: schema_length as u128,
-        });
+    let mut summary = Summary {
+        batches: 0,
+        rows: 0,
+        bytes: 0,
+    };
+    for _ in 0..batch_count(reader.metadata()) {
+        if let Some(rows) = send_next(alloc, source, sink, reader, writer)? {
+            summary.batches += 1;
+            summary.rows += rows as u128;
+        }
     }
-    let mut scratch = Vec::new(alloc);
-    let dictionaries = read_parts(alloc, source, selection.file, &mut scratch)?;
-    send_blocks(
-        alloc,
-        source,
-        sink,
-        selection,
-        &dictionaries,
-        limit,
-        schema_length,
-        &mut scratch,
-        pieces,
-        encoding,
-    )
-}
-
-/// Puts the schema's message, and answers how many bytes it has.
-fn begin_stream<W: Sink>(
-    alloc: Global,
-    sink: &mut W,
-    selection: &Selection<'_>,
-    pieces: &mut [u8],
-    encoding: Encoding,
-) -> Result<usize, IpcError>
-    requires selected { IsSelection selection.now }
-    requires right { columns_right (columns_of selection.now.columns) (width (meta_view selection.now.file.now).schema.fields) ≡ Ok tt }
-    requires readable { AreReadable (meta_view selection.now.file.now) (columns_of selection.now.columns) }
-    requires read { WasRead selection.now.file.now }
-    requires pieces { length pieces.old ≡ 65536 }
-    ensures begun { IfOk result (λ n. (b : List ℕ) (limit : Option ℕ) → FileSays b (meta_view selection.now.file.now) (file_custom selection.now.file.now) → Begun b (meta_view selection.now.file.now) (asked (columns_of selection.now.columns) limit) encoding (W.written sink.old) (W.written sink.new) n) }
-    ensures refused { IfErr result (λ e. (b : List ℕ) (limit : Option ℕ) → FileSays b (meta_view selection.now.file.now) (file_custom selection.now.file.now) → Refused e b (asked (columns_of selection.now.columns) limit) encoding (W.written sink.old) (W.written sink.new) (W.wants sink.old) (W.wants sink.new)) }
-    ensures small { IfOk result (λ n. n < 2 ^ 63) }
-    ensures cause { IfErr result (λ e. SendCause e 0 0 (W.faults sink.old) (W.faults sink.new)) }
-    ensures sink { SinkKept W.faults W.wants W.references sink.old sink.new }
-    ensures pieces { length pieces.new ≡ length pieces.old }
-{
-    let message = schema_message(alloc, selection)?;
-    put_text(sink, &message, pieces, encoding)?;
-    Ok(message.len())
-}
-
-/// So many zeros, through which a stream is put.
-fn zeros(alloc: Global, count: usize) -> Result<Vec<u8>, AllocError>
-    ensures { IfOk result (λ v. length v.items ≡ count) }
-{
-    vec![in alloc; 0; count]
-}
-
-/// Sends the table of a file whose metadata was read.
-fn send_table<S: Source, W: Sink>(
-    alloc: Global,
-    source: &mut S,
-    sink: &mut W,
-    selection: &Selection<'_>,
-    limit: Option<usize>,
-    encoding: Encoding,
-) -> Result<Summary, IpcError>
-    requires selected { IsSelection selection.now }
-    requires right { columns_right (columns_of selection.now.columns) (width (meta_view selection.now.file.now).schema.fields) ≡ Ok tt }
-    requires readable { AreReadable (meta_view selection.now.file.now) (columns_of selection.now.columns) }
-    requires read { WasRead selection.now.file.now }
-    requires whole { IsSize (S.content source.old) selection.now.file.now.size }
-    ensures whole { IfOk result (λ s. IfSome (S.content source.old) (λ b. FileSays b (meta_view selection.now.file.now) (file_custom selection.now.file.now) → Transcodes s b (asked (columns_of selection.now.columns) limit) (text_of encoding) (W.written sink.old) (W.written sink.new))) }
-    ensures refused { IfErr result (λ e. IfSome (S.content source.old) (λ b. FileSays b (meta_view selection.now.file.now) (file_custom selection.now.file.now) → Refused e b (asked (columns_of selection.now.columns) limit) encoding (W.written sink.old) (W.written sink.new) (W.wants sink.old) (W.wants sink.new))) }
-    ensures cause { IfErr result (λ e. SendCause e (S.faults source.old) (S.faults source.new) (W.faults sink.old) (W.faults sink.new)) }
-    ensures fetched { TableFetched (S.content source.old) (meta_view selection.now.file.now) (asked (columns_of selection.now.columns) limit) (S.fetched source.old) (S.fetched source.new) }
-    ensures kept { SourceKept S.content S.faults S.references source.old source.new }
-    ensures sink { SinkKept W.faults W.wants W.references sink.old sink.new }
-{
-    let mut zeros = zeros(alloc, PIECE_BYTES)?;
-    let pieces = zeros.as_mut_slice();
-    let begun = begin_stream(alloc, sink, selection, pieces, encoding)?;
-    let mut summary = send_batches(
-        alloc, source, sink, selection, limit, begun, pieces, encoding,
-    )?;
-    put_text(sink, &END_MARK, pieces, encoding)?;
-    summary.bytes += 8;
     Ok(summary)
 }
 
-/// Sends the columns of a file that are asked for, once its metadata was read.
-fn send_columns<'x, S: Source, W: Sink>(
+/// Writes a stream of the record batches of a file, from its schema to its end mark.
+fn send_stream<S: Source, W: Sink>(
     alloc: Global,
     source: &mut S,
     sink: &mut W,
-    file: &'x FileMetadata,
-    columns: Option<&'x [usize]>,
-    limit: Option<usize>,
+    reader: &mut FileCursor,
     encoding: Encoding,
 ) -> Result<Summary, IpcError>
-    requires read { WasRead file.now }
-    requires whole { IsSize (S.content source.old) file.now.size }
-    ensures whole { IfOk result (λ s. IfSome (S.content source.old) (λ b. FileSays b (meta_view file.now) (file_custom file.now) → Transcodes s b (asked (columns_of columns.entry) limit) (text_of encoding) (W.written sink.old) (W.written sink.new))) }
-    ensures refused { IfErr result (λ e. IfSome (S.content source.old) (λ b. FileSays b (meta_view file.now) (file_custom file.now) → Refused e b (asked (columns_of columns.entry) limit) encoding (W.written sink.old) (W.written sink.new) (W.wants sink.old) (W.wants sink.new))) }
+    requires whole { IsSize (S.content source.old) reader.old.metadata.size }
+    requires few { length (file_custom reader.old.metadata) ≤ 1048576 }
+    ensures sends { IfSome (S.content source.old) (λ b. (x : Sending) → x.bytes ≡ b → x.encoding ≡ encoding → x.start ≡ W.written sink.old → IsUnsent reader.old x → SendsFile result b x.request encoding (W.written sink.old) (W.written sink.new) (W.wants sink.old) (W.wants sink.new)) }
     ensures cause { IfErr result (λ e. SendCause e (S.faults source.old) (S.faults source.new) (W.faults sink.old) (W.faults sink.new)) }
-    ensures fetched { TableFetched (S.content source.old) (meta_view file.now) (asked (columns_of columns.entry) limit) (S.fetched source.old) (S.fetched source.new) }
+    ensures fetched { IfSome (S.content source.old) (λ b. (x : Sending) → x.bytes ≡ b → x.encoding ≡ encoding → x.start ≡ W.written sink.old → IsUnsent reader.old x → FetchesSome x (S.fetched source.old) (S.fetched source.new)) }
     ensures kept { SourceKept S.content S.faults S.references source.old source.new }
     ensures sink { SinkKept W.faults W.wants W.references sink.old sink.new }
 {
-    let projection = project(alloc, &file.schema, columns)?;
-    let projection = projection.as_ref();
-    check_columns(file, projection)?;
-    let selection = Selection {
-        file,
-        columns,
-        projection,
-    };
-    send_table(alloc, source, sink, &selection, limit, encoding)
+    let mut writer = begin_stream(alloc, sink, reader, encoding)?;
+    let summary = send_batches(alloc, source, sink, reader, &mut writer)?;
+    writer.finish(sink)?;
+    Ok(Summary {
+        bytes: writer.byte_count(),
+        ..summary
+    })
 }
 
-/// Reads a file and sends its table, in the columns and the rows that are asked for, as one stream.
+/// The numbers of the columns that are asked for.
+fn numbers(alloc: Global, columns: Option<&[usize]>) -> Result<Option<Vec<usize>>, IpcError>
+    ensures same { IfOk result (λ n. numbers_in n ≡ columns_of columns.entry) }
+    ensures err { IfErr result (λ e. e ≡ Memory) }
+{
+    match columns {
+        None => Ok(None),
+        Some(columns) => Ok(Some(columns.to_vec(alloc)?)),
+    }
+}
+
+/// Reads a file, and writes its table, in the columns and the rows that are asked for, as one stream.
 pub(crate) fn send_file<S: Source, W: Sink>(
     alloc: Global,
     source: &mut S,
@@ -310,13 +207,14 @@ pub(crate) fn send_file<S: Source, W: Sink>(
     limit: Option<usize>,
     encoding: Encoding,
 ) -> Result<Summary, IpcError>
-    ensures whole { IfOk result (λ s. IfSome (S.content source.old) (λ b. Transcodes s b (asked (columns_of columns.entry) limit) (text_of encoding) (W.written sink.old) (W.written sink.new))) }
-    ensures refused { IfErr result (λ e. IfSome (S.content source.old) (λ b. Refused e b (asked (columns_of columns.entry) limit) encoding (W.written sink.old) (W.written sink.new) (W.wants sink.old) (W.wants sink.new))) }
+    ensures sends { IfSome (S.content source.old) (λ b. SendsFile result b (asked (columns_of columns.entry) limit) encoding (W.written sink.old) (W.written sink.new) (W.wants sink.old) (W.wants sink.new)) }
     ensures cause { IfErr result (λ e. SendCause e (S.faults source.old) (S.faults source.new) (W.faults sink.old) (W.faults sink.new)) }
     ensures fetched { FileFetched (S.content source.old) (asked (columns_of columns.entry) limit) (S.fetched source.old) (S.fetched source.new) }
     ensures kept { SourceKept S.content S.faults S.references source.old source.new }
     ensures sink { SinkKept W.faults W.wants W.references sink.old sink.new }
 {
     let file = read_file_metadata(alloc, source)?;
-    send_columns(alloc, source, sink, &file, columns, limit, encoding)
+    let columns = numbers(alloc, columns)?;
+    let mut reader = FileCursor::new(alloc, file, columns, limit)?;
+    send_stream(alloc, source, sink, &mut reader, encoding)
 }

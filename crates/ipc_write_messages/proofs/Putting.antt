@@ -1,5 +1,5 @@
 -- Messages that are put one after another, and where a put stops.
-use Rattle.std.proofs.Common.{◌≡◌, inl, ℕ, ◌+◌, ◌<◌, List, [], ◌∷◌, ◌++◌, Bool, true, false, length, map, take, drop, get_or, Option, None, Some, Result, Ok, Err, refl, sym, ap, ◌∙◌, subst, append-nil, arith}
+use Rattle.std.proofs.Common.{◌≡◌, inl, ℕ, ◌+◌, ◌<◌, List, [], ◌∷◌, ◌++◌, Bool, true, false, length, map, take, drop, get_or, Option, None, Some, Result, Ok, Err, refl, sym, ap, ◌∙◌, subst, append-nil, arith, ◌^◌}
 use Rattle.std.specs.List.{flat_map}
 use Rattle.std.specs.Result.{IsErrAnd}
 use Rattle.std.specs.Io.KnownBytes.{Appends, Keeps}
@@ -7,10 +7,15 @@ use Rattle.std.proofs.KnownBytes.{Appends-kept, Keeps-refl}
 use Rattle.std.proofs.Math.Seq.{take-length}
 use Rattle.std.proofs.lemmas.Grind.{flat_map-append}
 use Rattle.std.proofs.lemmas.List.{take_more, take-append-drop}
+use Rattle.hex.specs.Hex.{encode_with}
 use Rattle.arrow_spec.specs.declared.error.IpcError.{IpcError}
 use Rattle.arrow_spec.specs.declared.error.IpcError.TheVariants.{Memory}
+use Rattle.ipc_bodies.specs.Encodings.{text_of}
 use Rattle.ipc_bodies.specs.Puts.{Moved, moved, NoneFalls, PutsPart}
+use Rattle.ipc_bodies.specs.declared.encoding.Encoding.{Encoding}
+use Rattle.ipc_bodies.specs.declared.encoding.Encoding.TheVariants.{Bytes, HexText}
 use Rattle.ipc_io.specs.Outside.{Rose}
+use Rattle.ipc_bodies.proofs.Encoded.{text_of-append}
 use Rattle.ipc_bodies.proofs.Puts.{more_part, then_all, then_part}
 use Rattle.ipc_write_messages.specs.declared.puts.Stop.{Stop}
 use Rattle.arrow_arrays.specs.Batches.{Batch}
@@ -18,8 +23,8 @@ use Rattle.ipc_dictionaries.specs.NewDictionaries.{ToSend}
 use Rattle.ipc_write.specs.declared.options.WriteOptions.{WriteOptions}
 use Rattle.ipc_write_messages.specs.declared.messages.PlannedMessage.{PlannedMessage}
 use Rattle.ipc_write_messages.specs.Messages.{IsChunkPlanned, MayBeSent, chunk_text, planned_sizes, planned_text, total}
-use Rattle.ipc_write_messages.specs.Puts.{PutsBehind, PutsOrStops, SendStops, SendsChunk, StopsIn, Untouched, counted, stop_behind}
-use Rattle.ipc_write_messages.proofs.Lengths.{chunk_length}
+use Rattle.ipc_write_messages.specs.Puts.{PutsBehind, PutsOrStops, SendStops, SendsChunk, StopsIn, Untouched, stop_behind}
+use Rattle.ipc_write_messages.proofs.Lengths.{chunk_length, few_bytes}
 
 -- ── nothing is put ──
 
@@ -110,6 +115,30 @@ pub message_put : (old mid new : Option (List ℕ)) (f g h w x y : ℕ) (r : Res
     → PutsOrStops (moved old new f h w y) r (front ++ body)
 message_put old mid new f g h w x y r xs front body e p q = subst (λ ys. PutsOrStops (moved old new f h w y) r (ys ++ body)) e (behind_front old mid new f g h w x y r xs body p q)
 
+-- the same of texts: what is at the front of all stops
+pub text_stops : (encoding : Encoding) (m : Moved) (s : Stop) (r : Result (Unit {0}) Stop) (xs front body all : List ℕ) → xs ≡ front → front ++ body ≡ all → IsErrAnd r (λ t. t ≡ s) → StopsIn s.has_begun m s.error (text_of encoding xs)
+    → PutsOrStops m r (text_of encoding all)
+text_stops encoding m s r xs front body all e k h p =
+    let text = text_of encoding in
+    subst (PutsOrStops m r) (sym (text_of-append encoding front body) ∙ ap text k) (message_stops m s r (text xs) (text front) (text body) (ap text e) h p)
+
+-- it is put, and the rest behind it
+pub text_put : (encoding : Encoding) (old mid new : Option (List ℕ)) (f g h w x y : ℕ) (r : Result (Unit {0}) Stop) (xs front body all : List ℕ) → xs ≡ front → front ++ body ≡ all → Appends old mid (text_of encoding xs) × NoneFalls (moved old mid f g w x)
+    → PutsBehind (moved mid new g h x y) r (text_of encoding body) → PutsOrStops (moved old new f h w y) r (text_of encoding all)
+text_put encoding old mid new f g h w x y r xs front body all e k p q =
+    let text = text_of encoding in
+    subst (PutsOrStops (moved old new f h w y) r) (sym (text_of-append encoding front body) ∙ ap text k) (message_put old mid new f g h w x y r (text xs) (text front) (text body) (ap text e) p q)
+
+text_of_none : (encoding : Encoding) → text_of encoding [] ≡ []
+unfolding encode_with
+text_of_none Bytes = refl
+text_of_none HexText = refl
+
+-- the text of items is that of each
+pub text_of_each : {A : Type 0} (encoding : Encoding) (f : A → List ℕ) (xs : List A) → flat_map (λ x. text_of encoding (f x)) xs ≡ text_of encoding (flat_map f xs)
+text_of_each encoding f [] = sym (text_of_none encoding)
+text_of_each encoding f (x ∷ xs) = ap (λ l. text_of encoding (f x) ++ l) (text_of_each encoding f xs) ∙ sym (text_of-append encoding (f x) (flat_map f xs))
+
 -- a message of a list stops behind those before it
 pub item_stops : {A : Type 0} (begun : Bool) (old mid new : Option (List ℕ)) (f g h w y z : ℕ) (s t : Stop) (text : A → List ℕ) (xs : List A) (i : ℕ) (x : A) → t ≡ stop_behind begun s → i < length xs → x ≡ get_or xs i x
     → (begun ≡ false → flat_map text (take i xs) ≡ []) → Appends old mid (flat_map text (take i xs)) × NoneFalls (moved old mid f g w y) → StopsIn s.has_begun (moved mid new g h y z) s.error (text x)
@@ -128,17 +157,20 @@ item_behind old mid new f g h w y z text xs i x lt is p q =
 
 -- ── a batch and its dictionaries ──
 
-stops_so : (b : Bool) (m : Moved) (e : IpcError) (options : WriteOptions) (sent : List ToSend) (x : Batch) (text : List ℕ) → MayBeSent options sent x → text ≡ chunk_text sent x → StopsIn b m e text → SendStops b m e options sent x
-stops_so true m e options sent x text h k q = (h, subst (PutsPart m e) k q)
-stops_so false m e options sent x text h k q = (inl q.0, q.1)
+stops_so : (encode : List ℕ → List ℕ) (b : Bool) (m : Moved) (e : IpcError) (options : WriteOptions) (sent : List ToSend) (x : Batch) (bytes : List ℕ) → MayBeSent options sent x → bytes ≡ chunk_text sent x → StopsIn b m e (encode bytes)
+    → SendStops encode b m e options sent x
+stops_so encode true m e options sent x bytes h k q = (h, subst (λ ys. PutsPart m e (encode ys)) k q)
+stops_so encode false m e options sent x bytes h k q = (inl q.0, q.1)
 
-pub chunk_sent : (m : Moved) (n : ℕ) (options : WriteOptions) (sent : List ToSend) (x : Batch) (ps qs : List PlannedMessage) → ps ≡ qs → IsChunkPlanned options sent x qs → PutsOrStops m (Ok tt) (flat_map planned_text ps)
-    → n ≡ counted (total (map planned_sizes ps)) → SendsChunk m (Ok n) options sent x
-chunk_sent m n options sent x ps qs e h p k =
-    (h.may, subst (Appends m.old m.new) (ap (flat_map planned_text) e ∙ h.text) p.0, p.1, k ∙ ap (λ ys. counted (total (map planned_sizes ys))) e ∙ ap (λ ys. counted (total ys)) h.sizes ∙ ap counted (chunk_length sent x))
+pub chunk_sent : (encode : List ℕ → List ℕ) (m : Moved) (n : ℕ) (options : WriteOptions) (sent : List ToSend) (x : Batch) (ps qs : List PlannedMessage) → ps ≡ qs → IsChunkPlanned options sent x qs → PutsOrStops m (Ok tt) (encode (flat_map planned_text ps))
+    → n ≡ total (map planned_sizes ps) → length sent < 2 ^ 63 → SendsChunk encode m (Ok n) options sent x
+chunk_sent encode m n options sent x ps qs e h p k few =
+    let count : n ≡ length (chunk_text sent x) = k ∙ ap (λ ys. total (map planned_sizes ys)) e ∙ ap total h.sizes ∙ chunk_length sent x in
+    let short : n < 2 ^ 127 + 2 ^ 96 = omega (arith, count, few_bytes options sent x few h.may) in
+    (h.may, subst (λ ys. Appends m.old m.new (encode ys)) (ap (flat_map planned_text) e ∙ h.text) p.0, p.1, count, short)
 
-pub chunk_stops : (m : Moved) (s : Stop) (r : Result ℕ Stop) (options : WriteOptions) (sent : List ToSend) (x : Batch) (ps qs : List PlannedMessage) → IsErrAnd r (λ t. t ≡ s) → ps ≡ qs → IsChunkPlanned options sent x qs → PutsOrStops m (Err s) (flat_map planned_text ps)
-    → SendsChunk m r options sent x
-chunk_stops m s (Ok n) options sent x ps qs f e h p = absurd f
-chunk_stops m s (Err t) options sent x ps qs f e h p =
-    subst (λ (u : Stop). SendStops u.has_begun m u.error options sent x) (sym f) (stops_so s.has_begun m s.error options sent x (flat_map planned_text ps) h.may (ap (flat_map planned_text) e ∙ h.text) p)
+pub chunk_stops : (encode : List ℕ → List ℕ) (m : Moved) (s : Stop) (r : Result ℕ Stop) (options : WriteOptions) (sent : List ToSend) (x : Batch) (ps qs : List PlannedMessage) → IsErrAnd r (λ t. t ≡ s) → ps ≡ qs → IsChunkPlanned options sent x qs
+    → PutsOrStops m (Err s) (encode (flat_map planned_text ps)) → SendsChunk encode m r options sent x
+chunk_stops encode m s (Ok n) options sent x ps qs f e h p = absurd f
+chunk_stops encode m s (Err t) options sent x ps qs f e h p =
+    subst (λ (u : Stop). SendStops encode u.has_begun m u.error options sent x) (sym f) (stops_so encode s.has_begun m s.error options sent x (flat_map planned_text ps) h.may (ap (flat_map planned_text) e ∙ h.text) p)

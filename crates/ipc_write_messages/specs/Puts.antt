@@ -1,5 +1,5 @@
 -- What is put into a sink before a call stops.
-use Rattle.std.specs.Prelude.{◌≡◌, ◌⊎◌, List, ℕ, Bool, true, false, length, min, Result, Ok, Err}
+use Rattle.std.specs.Prelude.{◌≡◌, ◌⊎◌, ◌+◌, ◌^◌, ◌<◌, List, ℕ, Bool, true, false, length, min, Result, Ok, Err}
 use Rattle.std.specs.Io.KnownBytes.{Appends, Keeps}
 use Rattle.arrow_spec.specs.declared.error.IpcError.{IpcError}
 use Rattle.arrow_spec.specs.declared.error.IpcError.TheVariants.{Memory}
@@ -37,15 +37,17 @@ abbrev pub stop_behind : Bool → Stop → Stop
 stop_behind true s = record { error = s.error; has_begun = true }
 stop_behind false s = s
 
--- values and the batch behind them were sent, or not before a byte was put
-abbrev pub SendStops : Bool → Moved → IpcError → WriteOptions → List ToSend → Batch → Type 0
-SendStops true m e options sent b = MayBeSent options sent b × PutsPart m e (chunk_text sent b)
-SendStops false m e options sent b = ((e ≡ Memory) ⊎ RefusesChunk e options sent b) × Untouched m
+-- values and the batch behind them were sent as they are encoded, or not before a byte was put
+abbrev pub SendStops : (List ℕ → List ℕ) → Bool → Moved → IpcError → WriteOptions → List ToSend → Batch → Type 0
+SendStops encode true m e options sent b = MayBeSent options sent b × PutsPart m e (encode (chunk_text sent b))
+SendStops encode false m e options sent b = ((e ≡ Memory) ⊎ RefusesChunk e options sent b) × Untouched m
 
--- a number of bytes in 64 bits: 2^64 - 1 says that there are so many or more
+-- a number of bytes in 128 bits: 2^128 - 1 says that there are so many or more
 abbrev pub counted : ℕ → ℕ
-counted n = min n 18446744073709551615
+counted n = min n 340282366920938463463374607431768211455
 
-abbrev pub SendsChunk : Moved → Result ℕ Stop → WriteOptions → List ToSend → Batch → Type 0
-SendsChunk m (Ok n) options sent b = MayBeSent options sent b × Appends m.old m.new (chunk_text sent b) × NoneFalls m × (n ≡ counted (length (chunk_text sent b)))
-SendsChunk m (Err s) options sent b = SendStops s.has_begun m s.error options sent b
+-- the number is that of the bytes before they are encoded
+abbrev pub SendsChunk : (List ℕ → List ℕ) → Moved → Result ℕ Stop → WriteOptions → List ToSend → Batch → Type 0
+SendsChunk encode m (Ok n) options sent b =
+    MayBeSent options sent b × Appends m.old m.new (encode (chunk_text sent b)) × NoneFalls m × (n ≡ length (chunk_text sent b)) × (n < 2 ^ 127 + 2 ^ 96)
+SendsChunk encode m (Err s) options sent b = SendStops encode s.has_begun m s.error options sent b

@@ -33,8 +33,8 @@ use Rattle.column_laws.proofs.TreeLengths.{column_written}
 use Rattle.ipc_read.specs.Batches.{is_column_kind}
 use Rattle.ipc_read.specs.DictionaryBatches.{HoldsPart, parts_before, values_of_id}
 use Rattle.ipc_read.proofs.ColumnKinds.{column_carried}
-use Rattle.file_dictionaries.specs.Parts.{EachFilePart, IsFilePart, IsOfValues, PartTree, part_behind}
-use Rattle.file_dictionaries.proofs.Empty.{plain_twice}
+use Rattle.part_laws.specs.Parts.{EachFilePart, IsFilePart, IsOfValues, PartTree, part_behind}
+use Rattle.part_laws.proofs.Empty.{plain_twice}
 use Rattle.ipc_files.specs.FileDictionaries.{HoldsBlock, HoldsUses, block_dictionary, block_values}
 use Rattle.ipc_files.proofs.HeldUses.{Agrees, each_use, each_value, join, plain_same, split, uses_one}
 use Rattle.ipc_files.proofs.ReadColumns.{values_read}
@@ -127,7 +127,7 @@ each_more fs [] ps q few each = tt
 each_more fs (x ∷ e) ps q few each = (subst (IsFilePart fs x e) (sym (behind_more ps q (length e) (omega arith))) each.0, each_more fs e ps q (omega arith) each.1)
 
 -- the message that a block says
-block_said : (b : List ℕ) (meta : Meta) (block : FileBlock) (d : Dictionaries) (h h' : Held) (x : HeldDictionary) (id : ℤ) → block_values b meta d block ≡ Ok x → (held : HoldsBlock b meta block h h' id)
+pub block_said : (b : List ℕ) (meta : Meta) (block : FileBlock) (d : Dictionaries) (h h' : Held) (x : HeldDictionary) (id : ℤ) → block_values b meta d block ≡ Ok x → (held : HoldsBlock b meta block h h' id)
     → dictionary_of meta.schema d (length b) held.message.dictionary held.message.version (block_body b block) false ≡ Ok x
 unfolding block_values
 block_said b meta block d h h' x id is held =
@@ -170,7 +170,7 @@ uses_with P kind.none c others h g = g
 uses_with P (kind.field name nullable metadata k fs) zero others h g = join P (uses_of k) (uses_in others) (split P (uses_of k) (uses_in fs) h).0 g
 uses_with P (kind.field name nullable metadata k fs) (suc c) others h g = uses_with P fs c others (split P (uses_of k) (uses_in fs) h).1 g
 
-uses_asked : (P : Use → Type 0) (fs : Fields) (cs : List ℕ) → AllByRecursion P (uses_in fs) → AllByRecursion P (uses_in (fields_asked fs cs))
+pub uses_asked : (P : Use → Type 0) (fs : Fields) (cs : List ℕ) → AllByRecursion P (uses_in fs) → AllByRecursion P (uses_in (fields_asked fs cs))
 uses_asked P fs [] h = tt
 uses_asked P fs (c ∷ cs) h = uses_with P fs c (fields_asked fs cs) h (uses_asked P fs cs h)
 

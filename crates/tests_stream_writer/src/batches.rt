@@ -5,7 +5,7 @@ use arrow_spec::IpcError;
 use arrow_types::{ArrowDataType, ArrowSchema, Field, IntegerType, NativeType};
 use ipc_fields::IpcField;
 use ipc_io::{MemorySink, Sink};
-use ipc_stream_writer::StreamWriter;
+use ipc_stream_writer::{StreamCore, StreamWriter};
 use ipc_write::WriteOptions;
 use std::alloc::{AllocError, Global};
 use std::rc::Rc;
@@ -125,6 +125,18 @@ pub fn write_numbers<W: Sink>(
 ) -> Result<Result<(), IpcError>, Fail> {
     let batch = numbers(alloc)?;
     let written = writer.write(&batch, fields);
+    drop(batch);
+    Ok(written)
+}
+
+/// Writes a batch of the numbers into a sink.
+pub fn put_numbers<W: Sink>(
+    alloc: Global,
+    core: &mut StreamCore,
+    sink: &mut W,
+) -> Result<Result<(), IpcError>, Fail> {
+    let batch = numbers(alloc)?;
+    let written = core.write(sink, &batch, None);
     drop(batch);
     Ok(written)
 }

@@ -1,6 +1,8 @@
 //! The bytes of a stream, as the worked example has them.
-use crate::batches::{of_numbers, with_limit, write_numbers, writer};
+use crate::batches::{of_numbers, put_numbers, with_limit, write_numbers, writer};
 use arrow_spec::IpcError;
+use ipc_io::MemorySink;
+use ipc_stream_writer::{Encoding, StreamCore};
 use ipc_write::WriteOptions;
 use std::test::Fail;
 
@@ -34,6 +36,19 @@ fn a_stream_is_its_messages_and_the_mark(rt: HostRuntime) -> Result<(), Fail> {
     let sink = writer.into_inner();
     let expected = hex::decode(alloc, STREAM)?;
     assert!(rt; sink.bytes() == expected.as_slice());
+    Ok(())
+}
+
+#[test]
+fn hex_text_is_that_of_the_bytes(rt: HostRuntime) -> Result<(), Fail> {
+    let alloc = rt.alloc();
+    let mut sink = MemorySink::new(alloc, None, Vec::new(alloc));
+    let mut core = StreamCore::new_as(alloc, WriteOptions::default(), Encoding::HexText)?;
+    core.start(&mut sink, &of_numbers(alloc)?, None)?;
+    put_numbers(alloc, &mut core, &mut sink)??;
+    core.finish(&mut sink)?;
+    assert!(rt; sink.bytes() == STREAM.as_bytes());
+    assert!(rt; core.byte_count() == 424);
     Ok(())
 }
 

@@ -16,6 +16,6 @@ mod large_parts;
 #[cfg(test)]
 mod refusal_texts;
 #[cfg(test)]
-mod sent_dictionaries;
+mod sent_values;
 #[cfg(test)]
 mod words;

@@ -13,7 +13,7 @@ use Rattle.ipc_write_laws.specs.Streams.{WrittenBatch, table_batch, written_batc
 use Rattle.ipc_write_laws.specs.Messages.{BatchMayBeWritten, Known}
 use Rattle.ipc_write_laws.proofs.SentBatches.{batch_same}
 use Rattle.dictionary_laws.specs.Sending.{AllAreKnown}
-use Rattle.transcode_laws.specs.Files.{HeaderFits, IsReadBatch, IsSentBatch, asked_fields, stream_fields}
+use Rattle.transcode_laws.specs.Files.{HeaderFits, IsReadBatch, asked_fields, stream_fields}
 use Rattle.transcode_laws.specs.Laws.{BatchIsSendable}
 use Rattle.transcode_laws.proofs.Numbers.{WrittenFits, batch_fits}
 pub use Rattle.transcode_laws.proofs.ReadTables.{tables_refused, tables_sent}
@@ -40,17 +40,3 @@ read_sent a v tables body left x is h =
 -- both
 pub batch_sendable : BatchIsSendable
 batch_sendable a c v tables body left x fit custom is known h = (read_may_be_written a c v tables body left x fit custom is known h, read_sent a v tables body left x is h)
-
--- ── a block ──
-
--- a block that is read as a batch, and sent where its message may be, is sent where the batch may be written
-pub block_is_sent : (b : List ℕ) (a : Asked) (c : Known) (block : FileBlock) (left : Option ℕ) (x : WrittenBatch) → batch_of to_read b a block left ≡ Ok (table_batch x) → batch_of to_send b a block left ≡ (if_sent to_send (may_be_sent (written_batch x)) >>= λ size. Ok (table_batch x)) → BatchMayBeWritten (stream_fields a) c x
-    → IsSentBatch b a c block left x
-unfolding bind
-block_is_sent b a c block left x read sent fit = record { read = read; sent = sent ∙ ap (λ k. if_sent to_send k >>= λ u. Ok (table_batch x)) fit.size; fit = fit }
-
--- and is refused where its message is too large
-pub block_too_large : (b : List ℕ) (a : Asked) (block : FileBlock) (left : Option ℕ) (x : WrittenBatch) → batch_of to_send b a block left ≡ (if_sent to_send (may_be_sent (written_batch x)) >>= λ size. Ok (table_batch x)) → may_be_sent (written_batch x) ≡ false
-    → batch_of to_send b a block left ≡ Err (TooLarge ∷ [])
-unfolding bind
-block_too_large b a block left x sent large = sent ∙ ap (λ k. if_sent to_send k >>= λ u. Ok (table_batch x)) large

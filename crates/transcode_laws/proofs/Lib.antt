@@ -1,11 +1,6 @@
-pub mod StreamFields
-pub mod Schemas
 pub mod Readings
 pub mod Dictionaries
-pub mod Blocks
 pub mod Batches
-pub mod Files
-pub mod Streams
 pub mod Refusals
 pub mod Numbers
 pub mod Headers
@@ -14,3 +9,5 @@ pub mod ReadTables
 pub mod ChosenColumns
 pub mod AskedFloats
 pub mod AskedSchemas
+pub mod SentBatches
+pub mod Files

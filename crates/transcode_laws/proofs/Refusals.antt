@@ -1,15 +1,11 @@
 -- What refuses a part of a file refuses the file where it is to be sent.
-use Rattle.std.proofs.Common.{◌≡◌, ℕ, List, [], ◌∷◌, ◌++◌, length, None, Ok, Err, refl, ◌∙◌, subst, append-nil}
+use Rattle.std.proofs.Common.{◌≡◌, ℕ, List, [], ◌∷◌, ◌++◌, None, Ok, Err, refl, ◌∙◌, subst, append-nil}
 use Rattle.arrow_spec.specs.declared.error.IpcError.{IpcError}
 use Rattle.arrow_spec.specs.Kinds.{Metadata}
 use Rattle.arrow_spec.specs.Readings.{Reading, Refuses, free_of, refusals}
-use Rattle.arrow_spec.specs.Arrays.{Dictionaries}
-use Rattle.arrow_spec.specs.Files.{FileBlock, Meta, Request, batch_of, custom_of, dictionaries_of, dictionaries_read, file_reading, meta_of, to_send}
+use Rattle.arrow_spec.specs.Files.{Meta, Request, custom_of, dictionaries_of, dictionaries_read, file_reading, meta_of, to_send}
 use Rattle.arrow_spec.proofs.Causes.{refuses_second}
-use Rattle.ipc_write_laws.specs.Streams.{WrittenBatch}
-use Rattle.dictionary_laws.specs.Sending.{Columns}
-use Rattle.transcode_laws.specs.Files.{HasRead, IsSentFile, SentSoFar, StopsBehind, asked_of, left_behind}
-use Rattle.transcode_laws.proofs.Files.{file_refused}
+use Rattle.transcode_laws.specs.Files.{IsSentFile, StopsBehind}
 use Rattle.transcode_laws.proofs.Readings.{custom_refused, dictionaries_refuse, meta_refused}
 
 place_refusals : (es : List IpcError) → refusals (free_of es) ≡ es
@@ -21,7 +17,7 @@ pub none_refuses : (e : IpcError) (es : List IpcError) → Refuses e [] → Refu
 none_refuses e es h = subst (λ l. Refuses e l) (place_refusals (es ++ []) ∙ append-nil es) (refuses_second es [] e h)
 
 -- what refuses a part of a reading refuses the whole that its refusals refuse
-refuses_whole : {A B : Type 0} (e : IpcError) (part : Reading A) (whole : Reading B) → ((es : List IpcError) → part ≡ Err es → whole ≡ Err es) → Refuses e (refusals part) → Refuses e (refusals whole)
+pub refuses_whole : {A B : Type 0} (e : IpcError) (part : Reading A) (whole : Reading B) → ((es : List IpcError) → part ≡ Err es → whole ≡ Err es) → Refuses e (refusals part) → Refuses e (refusals whole)
 refuses_whole e (Err es) whole is h = rw (is es refl) h
 refuses_whole e (Ok x) whole is h = none_refuses e (refusals whole) h
 
@@ -39,10 +35,3 @@ pub dictionaries_refuse_so : (e : IpcError) (b : List ℕ) (r : Request) (meta :
 dictionaries_refuse_so e b r meta custom file h =
     let part = dictionaries_of b meta [] (dictionaries_read meta.blocks meta.dictionaries) in
     (refuses_whole e part _ (λ es is. (dictionaries_refuse b r meta custom es file is).0) h, refuses_whole e part _ (λ es is. (dictionaries_refuse b r meta custom es file is).1) h)
-
--- what refuses a block behind those that were sent refuses the file, and the file up to it
-pub block_refuses : (e : IpcError) (b : List ℕ) (r : Request) (meta : Meta) (custom : Metadata) (d : Dictionaries) (columns : Columns) (blocks : List FileBlock) (block : FileBlock) (rest : List FileBlock) (xs : List WrittenBatch) → IsSentFile b r meta custom → HasRead b meta d
-    → meta.blocks ≡ blocks ++ block ∷ rest → SentSoFar b columns (asked_of b meta r d) blocks r.limit xs → Refuses e (refusals (batch_of to_send b (asked_of b meta r d) block (left_behind r.limit xs))) → Refuses e (refusals (file_reading to_send b r None)) × StopsBehind b r (length blocks) e
-block_refuses e b r meta custom d columns blocks block rest xs file has parts s h =
-    let part = batch_of to_send b (asked_of b meta r d) block (left_behind r.limit xs) in
-    (refuses_whole e part _ (λ es is. (file_refused b r meta custom d columns blocks block rest xs es file has parts s is).0) h, refuses_whole e part _ (λ es is. (file_refused b r meta custom d columns blocks block rest xs es file has parts s is).1) h)

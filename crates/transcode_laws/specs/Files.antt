@@ -5,7 +5,7 @@ use Rattle.std.specs.List.{AllByRecursion}
 use Rattle.arrow_spec.specs.declared.error.IpcError.{IpcError}
 use Rattle.arrow_spec.specs.Readings.{Refuses, meaning, refusals}
 use Rattle.arrow_spec.specs.Flat.{little}
-use Rattle.arrow_spec.specs.Kinds.{Fields, Metadata, numbered, width}
+use Rattle.arrow_spec.specs.Kinds.{Fields, Metadata, bare, numbered, width}
 use Rattle.arrow_spec.specs.Schema.{Schema}
 use Rattle.arrow_spec.specs.Counts.{RecordBatch, first_place}
 use Rattle.arrow_spec.specs.Arrays.{Dictionaries}
@@ -55,11 +55,6 @@ asked_of b meta r d = record { order = meta.schema.order; fields = meta.schema.f
 abbrev pub stream_fields : Asked → Fields
 stream_fields a = numbered (asked_fields a) 0
 
--- what batches leave of a limit
-abbrev pub left_behind : Option ℕ → List WrittenBatch → Option ℕ
-left_behind left [] = left
-left_behind left (x ∷ xs) = left_behind (what_is_left left x.rows) xs
-
 -- ── the schema ──
 
 -- a schema that a stream takes, in whatever byte order: of kinds that can be read, which may be written
@@ -100,26 +95,26 @@ pub record IsReadBatch (a : Asked) (m : RecordBatch) (x : WrittenBatch) : Type 0
   pub good : (c : Known) (e : Dictionaries) → AllAreKnown a.dictionaries (asked_fields a) 0 c → IsKnown c e → AllByRecursion (λ k. Means little e x.rows k) x.columns
   pub written : written_as_asked a.columns (columns_written m a.columns a.fields 0 first_place x.rows) ≡ written_of x.columns
 
--- what the stream knows behind the dictionaries' values
-abbrev pub known_of : Columns → Asked → Known
-known_of columns a = with_messages (map values (dictionary_values columns a.dictionaries (asked_fields a))) none_known
+-- ── batches, as a table has them ──
 
--- a block that is read, where rows are left to be read, and sent as a batch that may be written where so much is known
-pub record IsSentBatch (b : List ℕ) (a : Asked) (c : Known) (block : FileBlock) (left : Option ℕ) (x : WrittenBatch) : Type 0 where
-  pub read : batch_of to_read b a block left ≡ Ok (table_batch x)
-  pub sent : batch_of to_send b a block left ≡ Ok (table_batch x)
-  pub fit : BatchMayBeWritten (stream_fields a) c x
+-- what they leave of a limit
+abbrev pub left_of : Option ℕ → List TableBatch → Option ℕ
+left_of left [] = left
+left_of left (x ∷ xs) = left_of (what_is_left left x.rows) xs
 
--- some blocks were read and sent as such batches, behind the values of the dictionaries
-pub record SentSoFar (b : List ℕ) (columns : Columns) (a : Asked) (blocks : List FileBlock) (left : Option ℕ) (xs : List WrittenBatch) : Type 0 where
-  pub read : batches_of to_read b a true blocks left ≡ Ok (map table_batch xs)
-  pub sent : batches_of to_send b a true blocks left ≡ Ok (map table_batch xs)
-  pub fit : AllByRecursion (λ x. BatchMayBeWritten (stream_fields a) (known_of columns a) x) xs
+-- a block that is read, where rows are left to be read, and sent
+pub record BatchSent (b : List ℕ) (a : Asked) (block : FileBlock) (left : Option ℕ) (x : TableBatch) : Type 0 where
+  pub read : batch_of to_read b a block left ≡ Ok x
+  pub sent : batch_of to_send b a block left ≡ Ok x
 
--- the messages behind the schema's: the dictionaries' values stand before the first batch, and nowhere where there is none
-abbrev pub messages_sent : Columns → Asked → List WrittenBatch → List WrittenMessage
-messages_sent columns a [] = []
-messages_sent columns a (x ∷ xs) = map values (dictionary_values columns a.dictionaries (asked_fields a)) ++ map batch (x ∷ xs)
+-- some blocks were read and sent
+pub record BatchesSent (b : List ℕ) (a : Asked) (blocks : List FileBlock) (left : Option ℕ) (xs : List TableBatch) : Type 0 where
+  pub read : batches_of to_read b a true blocks left ≡ Ok xs
+  pub sent : batches_of to_send b a true blocks left ≡ Ok xs
+
+-- the table of some batches under a request
+abbrev pub table_asked : Metadata → Meta → Request → List TableBatch → ArrowTable
+table_asked custom meta r xs = table_of (bare (fields_as_asked r.columns meta.schema.fields)) meta.schema.metadata custom xs
 
 -- ── streams ──
 

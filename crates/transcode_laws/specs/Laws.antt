@@ -17,12 +17,7 @@ use Rattle.ipc_write_laws.specs.Streams.{WrittenBatch, bare_table, table_batch, 
 use Rattle.ipc_write_laws.specs.Messages.{BatchMayBeWritten, Known, WrittenValues, ended_stream, stream_so_far, values}
 use Rattle.dictionary_laws.specs.Sending.{AllAreKnown, AllHaveColumns, Columns, NoneReplaced, dictionary_values}
 use Rattle.arrow_spec.specs.Meaning.{file_table}
-use Rattle.transcode_laws.specs.Files.{HasRead, HeaderFits, IsFrontOf, IsReadBatch, IsSendable, IsSentFile, IsStreamOf, SentSoFar, asked_fields, asked_of, asked_schema, left_behind, messages_sent, stream_fields}
-
--- A schema that was read, of kinds that can be read, is one that a stream takes.
-abbrev pub ReadSchemaIsSendable : Type 0
-ReadSchemaIsSendable = (b : List ℕ) (t : Table) (s : Schema) → schema_of b t ≡ Ok s
-    → chosen_floats None s.fields 0 ≡ [] → AreSizes (sizes_in s.fields) → IsSendable s
+use Rattle.transcode_laws.specs.Files.{BatchesSent, HasRead, HeaderFits, IsReadBatch, IsSendable, IsSentFile, asked_fields, asked_of, asked_schema, left_of, stream_fields, table_asked}
 
 -- A batch that was read may be written where its message may be sent, behind the values of its dictionaries, and there it is sent.
 abbrev pub BatchIsSendable : Type 0
@@ -36,24 +31,21 @@ BatchIsSendable = (a : Asked) (c : Known) (v : MetadataVersion) (tables : BatchH
 abbrev pub FileReplacesNone : Type 0
 FileReplacesNone = (b : List ℕ) (meta : Meta) (blocks : List FileBlock) (d : Dictionaries) → dictionaries_of b meta [] blocks ≡ Ok d → NoneReplaced d
 
--- A file of which all blocks were sent means the table that is written: in it unions state their ids.
+-- A file of which all blocks were sent means the table of the batches: in it unions state their ids.
 abbrev pub WholeFileMeansItsTable : Type 0
-WholeFileMeansItsTable = (b : List ℕ) (r : Request) (meta : Meta) (custom : Metadata) (d : Dictionaries) (columns : Columns) (xs : List WrittenBatch)
-    → IsSentFile b r meta custom → HasRead b meta d → SentSoFar b columns (asked_of b meta r d) meta.blocks r.limit xs
-    → meaning (file_reading to_read b r None) ≡ Some (bare_table (fields_as_asked r.columns meta.schema.fields) meta.schema.metadata custom xs)
+WholeFileMeansItsTable = (b : List ℕ) (r : Request) (meta : Meta) (custom : Metadata) (d : Dictionaries) (xs : List TableBatch) → IsSentFile b r meta custom → HasRead b meta d
+    → BatchesSent b (asked_of b meta r d) meta.blocks r.limit xs → meaning (file_reading to_read b r None) ≡ Some (table_asked custom meta r xs)
 
--- Where its first blocks were sent, they mean the table that is written.
+-- Where its first blocks were sent, they mean the table of their batches.
 abbrev pub PartOfFileMeansItsTable : Type 0
-PartOfFileMeansItsTable = (b : List ℕ) (r : Request) (meta : Meta) (custom : Metadata) (d : Dictionaries) (columns : Columns) (n : ℕ) (xs : List WrittenBatch)
-    → IsSentFile b r meta custom → HasRead b meta d → SentSoFar b columns (asked_of b meta r d) (take n meta.blocks) r.limit xs
-    → meaning (file_reading to_read b r (Some n)) ≡ Some (bare_table (fields_as_asked r.columns meta.schema.fields) meta.schema.metadata custom xs)
+PartOfFileMeansItsTable = (b : List ℕ) (r : Request) (meta : Meta) (custom : Metadata) (d : Dictionaries) (n : ℕ) (xs : List TableBatch) → IsSentFile b r meta custom → HasRead b meta d
+    → BatchesSent b (asked_of b meta r d) (take n meta.blocks) r.limit xs → meaning (file_reading to_read b r (Some n)) ≡ Some (table_asked custom meta r xs)
 
 -- A block behind those that were sent is refused, and so are the file, and the file up to that block, where they are to be sent.
 abbrev pub BlockRefusesItsFile : Type 0
-BlockRefusesItsFile = (b : List ℕ) (r : Request) (meta : Meta) (custom : Metadata) (d : Dictionaries) (columns : Columns) (blocks : List FileBlock)
-    (block : FileBlock) (rest : List FileBlock) (xs : List WrittenBatch) (es : List IpcError) → IsSentFile b r meta custom → HasRead b meta d
-    → meta.blocks ≡ blocks ++ block ∷ rest → SentSoFar b columns (asked_of b meta r d) blocks r.limit xs
-    → batch_of to_send b (asked_of b meta r d) block (left_behind r.limit xs) ≡ Err es
+BlockRefusesItsFile = (b : List ℕ) (r : Request) (meta : Meta) (custom : Metadata) (d : Dictionaries) (blocks : List FileBlock) (block : FileBlock) (rest : List FileBlock) (xs : List TableBatch) (es : List IpcError)
+    → IsSentFile b r meta custom → HasRead b meta d → meta.blocks ≡ blocks ++ block ∷ rest → BatchesSent b (asked_of b meta r d) blocks r.limit xs
+    → batch_of to_send b (asked_of b meta r d) block (left_of r.limit xs) ≡ Err es
     → (file_reading to_send b r None ≡ Err es) × (file_reading to_send b r (Some (suc (length blocks))) ≡ Err es)
 
 -- Dictionaries that are refused refuse the file, and the file up to its first block.
@@ -69,37 +61,6 @@ LargeDictionariesRefuseTheirFile = (b : List ℕ) (r : Request) (meta : Meta) (c
     → batch_of to_send b (asked_of b meta r d) block r.limit ≡ Ok x
     → all_may_be_sent (dictionary_messages d (fields_as_asked r.columns meta.schema.fields)) ≡ false
     → (file_reading to_send b r None ≡ Err (TooLarge ∷ [])) × (file_reading to_send b r (Some 1) ≡ Err (TooLarge ∷ []))
-
--- What is written of all blocks, and ended, is one stream that means what the file means. The dictionaries' columns are asked for where there is a batch.
-abbrev pub SentFileIsItsStream : Type 0
-SentFileIsItsStream = (b : List ℕ) (r : Request) (meta : Meta) (custom : Metadata) (d : Dictionaries) (columns : Columns) (xs : List WrittenBatch)
-    → IsSentFile b r meta custom → HasRead b meta d → ((xs ≡ [] → ⊥) → AllHaveColumns columns d (fields_as_asked r.columns meta.schema.fields) 0)
-    → SentSoFar b columns (asked_of b meta r d) meta.blocks r.limit xs
-    → IsStreamOf b r (ended_stream (numbered (fields_as_asked r.columns meta.schema.fields) 0) meta.schema.metadata custom (messages_sent columns (asked_of b meta r d) xs))
-    (bare_table (fields_as_asked r.columns meta.schema.fields) meta.schema.metadata custom xs)
-
--- What is written of the first n blocks is a front that means what they mean.
-abbrev pub SentBlocksAreAFront : Type 0
-SentBlocksAreAFront = (b : List ℕ) (r : Request) (meta : Meta) (custom : Metadata) (d : Dictionaries) (columns : Columns) (n : ℕ) (xs : List WrittenBatch)
-    → IsSentFile b r meta custom → HasRead b meta d → ((xs ≡ [] → ⊥) → AllHaveColumns columns d (fields_as_asked r.columns meta.schema.fields) 0)
-    → SentSoFar b columns (asked_of b meta r d) (take n meta.blocks) r.limit xs → length xs ≡ n
-    → IsFrontOf b r (stream_so_far (numbered (fields_as_asked r.columns meta.schema.fields) 0) meta.schema.metadata custom (messages_sent columns (asked_of b meta r d) xs))
-    (bare_table (fields_as_asked r.columns meta.schema.fields) meta.schema.metadata custom xs)
-
--- What is written of the first messages of the dictionaries is a front that means the file's schema, where none of their messages is too large.
-abbrev pub SentValuesAreAFront : Type 0
-SentValuesAreAFront = (b : List ℕ) (r : Request) (meta : Meta) (custom : Metadata) (d : Dictionaries) (columns : Columns) (first rest : List WrittenValues)
-    → IsSentFile b r meta custom → HasRead b meta d → AllHaveColumns columns d (fields_as_asked r.columns meta.schema.fields) 0
-    → all_may_be_sent (dictionary_messages d (fields_as_asked r.columns meta.schema.fields)) ≡ true
-    → dictionary_values columns d (fields_as_asked r.columns meta.schema.fields) ≡ first ++ rest
-    → IsFrontOf b r (stream_so_far (numbered (fields_as_asked r.columns meta.schema.fields) 0) meta.schema.metadata custom (map values first))
-    (bare_table (fields_as_asked r.columns meta.schema.fields) meta.schema.metadata custom [])
-
--- The schema's message alone is a front, whatever stands in the file's dictionaries and blocks.
-abbrev pub SchemaIsAFront : Type 0
-SchemaIsAFront = (b : List ℕ) (r : Request) (meta : Meta) (custom : Metadata) → IsSentFile b r meta custom
-    → IsFrontOf b r (stream_so_far (numbered (fields_as_asked r.columns meta.schema.fields) 0) meta.schema.metadata custom [])
-    (bare_table (fields_as_asked r.columns meta.schema.fields) meta.schema.metadata custom [])
 
 -- A schema that may be written is sendable also in some of its fields, each once, in any order, where these can be read.
 abbrev pub AskedSchemaIsSendable : Type 0

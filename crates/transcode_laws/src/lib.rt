@@ -1,12 +1,7 @@
 //! Files that are sent as streams: what is read of their dictionaries and blocks, and what is written of it. Each function's contract is a law, proved in `proofs/`.
 #![tactic(auto)]
 
-ghost use Rattle.transcode_laws.specs.Laws.{AskedSchemaIsSendable, BatchIsSendable, BlockRefusesItsFile, DictionariesRefuseTheirFile, FileReplacesNone, LargeDictionariesRefuseTheirFile, PartOfFileMeansItsTable, ReadSchemaIsSendable, SchemaIsAFront, SentBlocksAreAFront, SentFileIsItsStream, SentMeans, SentOrTooLarge, SentValuesAreAFront, WholeFileMeansItsTable};
-
-/// A schema that was read, in either byte order, is one that a stream takes (Arrow Columnar Format, "Schema message").
-pub fn read_schema_is_sendable()
-    ensures { ReadSchemaIsSendable }
-{}
+ghost use Rattle.transcode_laws.specs.Laws.{AskedSchemaIsSendable, BatchIsSendable, BlockRefusesItsFile, DictionariesRefuseTheirFile, FileReplacesNone, LargeDictionariesRefuseTheirFile, PartOfFileMeansItsTable, SentMeans, SentOrTooLarge, WholeFileMeansItsTable};
 
 /// Some fields of a schema that may be written, each once and in any order, are a schema that a stream takes.
 pub fn asked_schema_is_sendable()
@@ -46,26 +41,6 @@ pub fn dictionaries_refuse_their_file()
 /// A file is refused where a message of its dictionaries is too large and its first block is not refused.
 pub fn large_dictionaries_refuse_their_file()
     ensures { LargeDictionariesRefuseTheirFile }
-{}
-
-/// What is written of all blocks, and ended, is one stream that means what the file means (Arrow Columnar Format, "IPC Streaming Format").
-pub fn sent_file_is_its_stream()
-    ensures { SentFileIsItsStream }
-{}
-
-/// What is written of the first blocks is a front of a stream that means what they mean.
-pub fn sent_blocks_are_a_front()
-    ensures { SentBlocksAreAFront }
-{}
-
-/// What is written of the first messages of the dictionaries is a front of a stream that means the file's schema without batches (Arrow Columnar Format, "Dictionary Messages").
-pub fn sent_values_are_a_front()
-    ensures { SentValuesAreAFront }
-{}
-
-/// The schema's message alone is a front of a stream that means the file's schema without batches.
-pub fn schema_is_a_front()
-    ensures { SchemaIsAFront }
 {}
 
 /// A file that means a table is read to be sent as that table, or a message of it is too large.

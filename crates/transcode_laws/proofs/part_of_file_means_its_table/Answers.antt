@@ -1,5 +1,5 @@
-use Rattle.transcode_laws.proofs.Files.{part_of_file}
+use Rattle.transcode_laws.proofs.SentBatches.{part_table}
 use Rattle.transcode_laws.proofs.part_of_file_means_its_table.Goals as goal
 
 pub returns : goal.returns
-returns c = part_of_file
+returns c = part_table

@@ -6,7 +6,7 @@ use Rattle.ipc_files.specs.FileViews.{meta_view}
 use Rattle.ipc_files.proofs.BlockRows.{all_dropped, from_block}
 use Rattle.ipc_files.proofs.Errors.{is_err}
 use Rattle.ipc_files.proofs.FetchedDictionaries.{CostSoFar, at_most_all, none_fetched, one_fetched}
-use Rattle.ipc_files.proofs.FileDictionaries.{ReadSoFar, all_read, none_read, none_used, one_read, one_refused}
+use Rattle.ipc_files.proofs.FileDictionaries.{HeldSoFar, all_read, none_read, none_used, one_read, one_refused, read_so_far}
 use Rattle.ipc_files.proofs.dictionaries.read_file_dictionaries.Goals as goal
 
 pub loop-block-init : goal.loop-block-init
@@ -24,12 +24,12 @@ loop-block-preserved g c =
     let file = c.args.metadata.now in
     let items = c.deref-block-items.result.now in
     let within : c.loop-block.block-index < length items = omega (arith, c.loop-block-test.true, c.loop-block.auto.block-index-end) in
-    let here = subst (λ l. ReadSoFar (g.S.Source.content c.args.source.now) (meta_view file) l (held_in c.loop-block.dictionaries)) (from_block file.dictionaries.items items c.loop-block.block-index _ c.deref-block-items.ensures.value within) c.loop-block.invariant.read in
+    let here = subst (λ l. HeldSoFar (g.S.Source.content c.args.source.now) (meta_view file) l (held_in c.loop-block.dictionaries)) (from_block file.dictionaries.items items c.loop-block.block-index _ c.deref-block-items.ensures.value within) c.loop-block.invariant.read in
     let cost = subst (λ l. CostSoFar (g.S.Source.content c.args.source.now) (meta_view file) l (g.S.Source.fetched c.args.source.now) (g.S.Source.fetched c.loop-block.source)) (from_block file.dictionaries.items items c.loop-block.block-index _ c.deref-block-items.ensures.value within) c.loop-block.invariant.cost in
     record {
-      read = one_read (g.S.Source.content c.args.source.now) _ (meta_view file) _ _ _ _ _ c.loop-block.invariant.kept.content here c.in_ok-read_dictionary_block.ensures.adds;
+      read = one_read (g.S.Source.content c.args.source.now) _ (meta_view file) _ _ _ _ _ _ c.loop-block.invariant.kept.content here c.loop-block.invariant.uses c.in_ok-read_dictionary_block.ensures.adds c.in_ok-read_dictionary_block.ensures.part;
       uses = c.in_ok-read_dictionary_block.ensures.uses;
-      cost = one_fetched (g.S.Source.content c.args.source.now) _ (meta_view file) _ _ _ _ _ _ c.loop-block.invariant.kept.content here cost c.in_ok-read_dictionary_block.ensures.fetched;
+      cost = one_fetched (g.S.Source.content c.args.source.now) _ (meta_view file) _ _ _ _ _ _ c.loop-block.invariant.kept.content (read_so_far (g.S.Source.content c.args.source.now) (meta_view file) _ _ here) cost c.in_ok-read_dictionary_block.ensures.fetched;
       kept = source_kept_on c.loop-block.invariant.kept c.in_ok-read_dictionary_block.ensures.kept;
     }
 
@@ -39,8 +39,8 @@ returns-in_err-read_dictionary_block-clause-reads g c =
     let items = c.deref-block-items.result.now in
     let e : c.from_residual.result ≡ Err c.in_err-read_dictionary_block.field-0.0 = is_err _ _ _ c.from_residual.ensures.0 c.from_residual.ensures.1 (λ f h. h) in
     let within : c.loop-block.block-index < length items = omega (arith, c.loop-block-test.true, c.loop-block.auto.block-index-end) in
-    let here = subst (λ l. ReadSoFar (g.S.Source.content c.args.source.now) (meta_view file) l (held_in c.loop-block.dictionaries)) (from_block file.dictionaries.items items c.loop-block.block-index _ c.deref-block-items.ensures.value within) c.loop-block.invariant.read in
-    one_refused (g.S.Source.content c.args.source.now) _ (meta_view file) _ _ _ _ c.from_residual.result c.in_err-read_dictionary_block.field-0.0 c.loop-block.invariant.kept.content e here c.in_err-read_dictionary_block.ensures.adds
+    let here = subst (λ l. HeldSoFar (g.S.Source.content c.args.source.now) (meta_view file) l (held_in c.loop-block.dictionaries)) (from_block file.dictionaries.items items c.loop-block.block-index _ c.deref-block-items.ensures.value within) c.loop-block.invariant.read in
+    one_refused (g.S.Source.content c.args.source.now) _ (meta_view file) _ _ _ _ c.from_residual.result c.in_err-read_dictionary_block.field-0.0 c.loop-block.invariant.kept.content e (read_so_far (g.S.Source.content c.args.source.now) (meta_view file) _ _ here) c.in_err-read_dictionary_block.ensures.adds
 
 pub returns-in_err-read_dictionary_block-clause-fetched : goal.returns-in_err-read_dictionary_block-clause-fetched
 returns-in_err-read_dictionary_block-clause-fetched g c =
@@ -48,9 +48,9 @@ returns-in_err-read_dictionary_block-clause-fetched g c =
     let items = c.deref-block-items.result.now in
     let within : c.loop-block.block-index < length items = omega (arith, c.loop-block-test.true, c.loop-block.auto.block-index-end) in
     let at = from_block file.dictionaries.items items c.loop-block.block-index _ c.deref-block-items.ensures.value within in
-    let here = subst (λ l. ReadSoFar (g.S.Source.content c.args.source.now) (meta_view file) l (held_in c.loop-block.dictionaries)) at c.loop-block.invariant.read in
+    let here = subst (λ l. HeldSoFar (g.S.Source.content c.args.source.now) (meta_view file) l (held_in c.loop-block.dictionaries)) at c.loop-block.invariant.read in
     let cost = subst (λ l. CostSoFar (g.S.Source.content c.args.source.now) (meta_view file) l (g.S.Source.fetched c.args.source.now) (g.S.Source.fetched c.loop-block.source)) at c.loop-block.invariant.cost in
-    at_most_all (g.S.Source.content c.args.source.now) (meta_view file) _ _ _ (one_fetched (g.S.Source.content c.args.source.now) _ (meta_view file) _ _ _ _ _ _ c.loop-block.invariant.kept.content here cost c.in_err-read_dictionary_block.ensures.fetched)
+    at_most_all (g.S.Source.content c.args.source.now) (meta_view file) _ _ _ (one_fetched (g.S.Source.content c.args.source.now) _ (meta_view file) _ _ _ _ _ _ c.loop-block.invariant.kept.content (read_so_far (g.S.Source.content c.args.source.now) (meta_view file) _ _ here) cost c.in_err-read_dictionary_block.ensures.fetched)
 
 pub returns-clause-fetched : goal.returns-clause-fetched
 returns-clause-fetched g c = at_most_all (g.S.Source.content c.args.source.now) (meta_view c.args.metadata.now) _ _ _ c.loop-block.invariant.cost

@@ -6,7 +6,7 @@ use Rattle.ipc_read.specs.Projection.{are_columns, are_rising, columns_of}
 use Rattle.ipc_files.specs.Selections.{MayProject, numbers_read, schema_shown}
 use Rattle.ipc_projection.specs.declared.projection.ProjectionInfo.{ProjectionInfo}
 use Rattle.ipc_files.proofs.Errors.{is_err}
-use Rattle.ipc_files.proofs.InOrder.{all_shown, made_range, made_rising, may_reorder, none_shown, ordered_fetched, ordered_given, ordered_shown, refused_given}
+use Rattle.ipc_files.proofs.InOrder.{all_read, all_shown, made_range, made_rising, may_reorder, none_shown, ordered_fetched, ordered_given, ordered_read, ordered_shown, refused_given}
 use Rattle.ipc_files.proofs.ordered.read_projected_batch.Goals as goal
 
 pub read_batch-requires-clause-rising : goal.read_batch-requires-clause-rising
@@ -23,6 +23,11 @@ returns-in_err-batch-clause-gives g c = λ columns block may at.
     refused_given (g.S.Source.content c.args.source.now) (held_in c.args.dictionaries.now) c.args.metadata.now columns (option_copied c.args.projection) (columns_of c.rising_numbers-numbers.result) c.args.limit block c.from_residual.result c.in_err-batch.field-0.0
     c.rising_numbers-numbers.ensures e may (c.in_err-batch.ensures.gives block at)
 
+pub returns-in_err-batch-clause-read : goal.returns-in_err-batch-clause-read
+returns-in_err-batch-clause-read g c = λ columns block may at.
+    let e : c.from_residual.result ≡ Err c.in_err-batch.field-0.0 = is_err _ _ _ c.from_residual.ensures.0 c.from_residual.ensures.1 (λ f h. h) in
+    none_shown c.from_residual.result c.in_err-batch.field-0.0 _ e
+
 pub returns-in_err-batch-clause-schema : goal.returns-in_err-batch-clause-schema
 returns-in_err-batch-clause-schema g c = λ columns may.
     let e : c.from_residual.result ≡ Err c.in_err-batch.field-0.0 = is_err _ _ _ c.from_residual.ensures.0 c.from_residual.ensures.1 (λ f h. h) in
@@ -31,6 +36,11 @@ returns-in_err-batch-clause-schema g c = λ columns may.
 pub returns-in_err-batch-clause-fetched : goal.returns-in_err-batch-clause-fetched
 returns-in_err-batch-clause-fetched g c = λ columns block may at.
     ordered_fetched (g.S.Source.content c.args.source.now) c.args.metadata.now columns (option_copied c.args.projection) (columns_of c.rising_numbers-numbers.result) block c.args.limit _ _ c.rising_numbers-numbers.ensures may (c.in_err-batch.ensures.fetched block at)
+
+pub returns-in-None-clause-read : goal.returns-in-None-clause-read
+returns-in-None-clause-read g c = λ columns block may at.
+    all_read (g.S.Source.content c.args.source.now) (held_in c.args.dictionaries.now) c.args.metadata.now columns (option_copied c.args.projection) (columns_of c.rising_numbers-numbers.result) c.args.limit block c.in_ok-batch.batch
+    (ap option_copied c.in-None.is) c.rising_numbers-numbers.ensures may (c.in_ok-batch.ensures.read block at)
 
 pub returns-in-None-clause-schema : goal.returns-in-None-clause-schema
 returns-in-None-clause-schema g c = λ columns may.
@@ -46,6 +56,12 @@ returns-in-Some-clause-gives g c = λ columns block may at.
     ordered_given (g.S.Source.content c.args.source.now) (held_in c.args.dictionaries.now) c.args.metadata.now columns c.in-Some.projection.now (columns_of c.rising_numbers-numbers.result) c.args.limit block c.in_ok-batch.batch c.apply_projection.result
     (c.rising_numbers-numbers.ensures ∙ ap numbers_read (ap option_copied c.in-Some.is)) (subst (MayProject (rc_value c.args.metadata.now.schema) columns) (ap option_copied c.in-Some.is) may)
     c.apply_projection.ensures.reordered c.apply_projection.ensures.memory (c.in_ok-batch.ensures.gives block at) (c.in_ok-batch.ensures.read block at)
+
+pub returns-in-Some-clause-read : goal.returns-in-Some-clause-read
+returns-in-Some-clause-read g c = λ columns block may at.
+    ordered_read (g.S.Source.content c.args.source.now) (held_in c.args.dictionaries.now) c.args.metadata.now columns c.in-Some.projection.now (columns_of c.rising_numbers-numbers.result) c.args.limit block c.in_ok-batch.batch c.apply_projection.result
+    (c.rising_numbers-numbers.ensures ∙ ap numbers_read (ap option_copied c.in-Some.is)) (subst (MayProject (rc_value c.args.metadata.now.schema) columns) (ap option_copied c.in-Some.is) may)
+    c.apply_projection.ensures.reordered c.apply_projection.ensures.memory (c.in_ok-batch.ensures.read block at)
 
 pub returns-in-Some-clause-schema : goal.returns-in-Some-clause-schema
 returns-in-Some-clause-schema g c = λ columns may.

@@ -1,11 +1,11 @@
-use Rattle.ipc_transcode.proofs.SentFiles.{keeps_same}
+use Rattle.std.proofs.KnownBytes.{Keeps-refl}
 use Rattle.ipc_tool.proofs.Adding.{IfErr-at}
 use Rattle.ipc_tool.proofs.AppendSteps.{appended, at_count, at_place}
 use Rattle.ipc_tool.proofs.appending.append.Goals as goal
 
 pub returns-in_err-count-clause-cause : goal.returns-in_err-count-clause-cause
 returns-in_err-count-clause-cause g c =
-    IfErr-at _ _ _ c.from_residual-in_err-count.ensures.1 (at_place _ _ _ _ c.in_ok-stream.stream c.in_ok-stream.ensures.stream c.in_err-count.ensures.refused (keeps_same (g.W.Sink.written c.args.output.now)))
+    IfErr-at _ _ _ c.from_residual-in_err-count.ensures.1 (at_place _ _ _ _ c.in_ok-stream.stream c.in_ok-stream.ensures.stream c.in_err-count.ensures.refused (Keeps-refl (g.W.Sink.written c.args.output.now)))
 
 pub returns-clause-appended : goal.returns-clause-appended
 returns-clause-appended g c =

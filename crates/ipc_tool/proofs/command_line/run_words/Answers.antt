@@ -1,7 +1,7 @@
 use Rattle.std.proofs.Common.{◌≡◌, Option, Some, None, IsNone, IsSome, MatchOption, ap, subst, sym}
 use Rattle.std.specs.Io.KnownBytes.{Keeps}
 use Rattle.ipc_tool.specs.Asked.{Command}
-use Rattle.ipc_transcode.proofs.SentFiles.{keeps_same}
+use Rattle.std.proofs.KnownBytes.{Keeps-refl}
 use Rattle.ipc_words.specs.Views.{texts}
 use Rattle.ipc_tool.specs.Request.{command_of}
 use Rattle.ipc_tool.specs.Run.{name_in, opened_in}
@@ -21,7 +21,7 @@ returns g c =
       text = r.text;
       appended = r.appended;
       at_end = r.at_end;
-      quiet = λ h. subst (λ n. Keeps (g.N.Sink.written c.args.notes.now) (g.N.Sink.written n)) (sym (r.quiet h)) (keeps_same (g.N.Sink.written c.args.notes.now));
+      quiet = λ h. subst (λ n. Keeps (g.N.Sink.written c.args.notes.now) (g.N.Sink.written n)) (sym (r.quiet h)) (Keeps-refl (g.N.Sink.written c.args.notes.now));
       refused = r.refused;
       complete = r.complete;
       told = r.told;

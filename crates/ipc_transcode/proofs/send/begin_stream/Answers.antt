@@ -1,38 +1,23 @@
-use Rattle.std.proofs.Common.{◌≡◌, Err, ℕ, Option, ◌∙◌, ap, length, sym}
-use Rattle.ipc_read.specs.Projection.{columns_of}
-use Rattle.ipc_files.specs.FileViews.{file_custom, meta_view}
-use Rattle.ipc_files.specs.Requests.{asked}
-use Rattle.ipc_files.proofs.Errors.{is_err}
-use Rattle.ipc_transcode.proofs.SentFields.{sendable}
-use Rattle.ipc_files.proofs.ReadFiles.{of_err}
-use Rattle.ipc_transcode.proofs.StreamSteps.{CanSend, IsSchemaWritten, schema_not_put, schema_not_written, schema_put}
+use Rattle.std.proofs.Common.{None, Ok, Err, sym, ap, ◌∙◌, subst}
+use Rattle.ipc_bodies.specs.Encodings.{text_of}
+use Rattle.ipc_bodies.specs.Puts.{moved}
+use Rattle.ipc_stream_writer.specs.Calls.{Starts}
+use Rattle.ipc_write_messages.specs.States.{is_new}
+use Rattle.ipc_transcode.proofs.Begins.{begins, begun, new_of, start_cause}
 use Rattle.ipc_transcode.proofs.send.begin_stream.Goals as goal
 
-pub returns-in_err-message-clause-refused : goal.returns-in_err-message-clause-refused
-returns-in_err-message-clause-refused g c =
-    let e : c.from_residual.result ≡ Err c.in_err-message.field-0.0 = is_err _ _ _ c.from_residual.ensures.0 c.from_residual.ensures.1 (λ f h. h) in
-    let is = sendable c.args.selection.now.file.now (columns_of c.args.selection.now.columns) c.requires.right c.requires.readable c.requires.read in
-    let can : (limit : Option ℕ) → CanSend (meta_view c.args.selection.now.file.now) (asked (columns_of c.args.selection.now.columns) limit) = λ limit. record { right = c.requires.right; readable = c.requires.readable; schema = is } in
-    of_err c.from_residual.result c.in_err-message.field-0.0 _ e (λ b limit h. schema_not_written c.in_err-message.field-0.0 b (meta_view c.args.selection.now.file.now) (file_custom c.args.selection.now.file.now) (asked (columns_of c.args.selection.now.columns) limit) c.args.encoding (g.W.Sink.written c.args.sink.now) _ _ h (can limit) c.in_err-message.ensures)
+pub returns-in-Err-clause-begins : goal.returns-in-Err-clause-begins
+returns-in-Err-clause-begins g c = λ x encoding start is.
+    let m = moved (g.W.Sink.written c.args.sink.now) (g.W.Sink.written c.start.new.sink) (g.W.Sink.faults c.args.sink.now) (g.W.Sink.faults c.start.new.sink) (g.W.Sink.wants c.args.sink.now) (g.W.Sink.wants c.start.new.sink) in
+    begins x c.args.reader.now c.in_ok-writer.writer c.start.new.self m is (new_of x c.metadata.result.now c.args.encoding c.in_ok-writer.writer (c.metadata.ensures ∙ is.metadata) encoding c.in_ok-writer.ensures.new) (sym start) _ c.in-Err.error (ap Err c.as_damage.ensures)
+    (subst (λ s. Starts (text_of c.in_ok-writer.writer.encoding) m (Err c.in-Err.error) c.in_ok-writer.writer c.start.new.self s None) (c.deref-2.ensures ∙ c.schema-2.ensures) c.in-Err.ensures.starts)
 
-pub returns-in_err-put_text-clause-refused : goal.returns-in_err-put_text-clause-refused
-returns-in_err-put_text-clause-refused g c =
-    let e : c.from_residual-in_err-put_text.result ≡ Err c.in_err-put_text.field-0.0 = is_err _ _ _ c.from_residual-in_err-put_text.ensures.0 c.from_residual-in_err-put_text.ensures.1 (λ f h. h) in
-    let is = sendable c.args.selection.now.file.now (columns_of c.args.selection.now.columns) c.requires.right c.requires.readable c.requires.read in
-    let w : (limit : Option ℕ) → IsSchemaWritten (meta_view c.args.selection.now.file.now) (file_custom c.args.selection.now.file.now) (asked (columns_of c.args.selection.now.columns) limit) c.deref.result.now = λ limit. record {
-      can = record { right = c.requires.right; readable = c.requires.readable; schema = is };
-      small = c.in_ok-message.ensures.0;
-      is = c.deref.ensures.value ∙ c.in_ok-message.ensures.1;
-    } in
-    of_err c.from_residual-in_err-put_text.result c.in_err-put_text.field-0.0 _ e
-    (λ b limit h. schema_not_put c.in_err-put_text.field-0.0 b (meta_view c.args.selection.now.file.now) (file_custom c.args.selection.now.file.now) (asked (columns_of c.args.selection.now.columns) limit) c.args.encoding (g.W.Sink.written c.args.sink.now) _ _ _ _ _ _ h (w limit) c.in_err-put_text.ensures.bytes c.in_err-put_text.ensures.cause)
+pub returns-in-Err-clause-cause : goal.returns-in-Err-clause-cause
+returns-in-Err-clause-cause g c =
+    start_cause _ c.in-Err.error c.in_ok-writer.writer _ _ _ (ap Err c.as_damage.ensures) (ap is_new c.in_ok-writer.ensures.new.state) c.in-Err.ensures.starts
 
-pub returns-clause-begun : goal.returns-clause-begun
-returns-clause-begun g c =
-    let is = sendable c.args.selection.now.file.now (columns_of c.args.selection.now.columns) c.requires.right c.requires.readable c.requires.read in
-    let w : (limit : Option ℕ) → IsSchemaWritten (meta_view c.args.selection.now.file.now) (file_custom c.args.selection.now.file.now) (asked (columns_of c.args.selection.now.columns) limit) c.deref.result.now = λ limit. record {
-      can = record { right = c.requires.right; readable = c.requires.readable; schema = is };
-      small = c.in_ok-message.ensures.0;
-      is = c.deref.ensures.value ∙ c.in_ok-message.ensures.1;
-    } in
-    λ b limit h. schema_put b (meta_view c.args.selection.now.file.now) (file_custom c.args.selection.now.file.now) (asked (columns_of c.args.selection.now.columns) limit) c.args.encoding (g.W.Sink.written c.args.sink.now) _ _ _ h (w limit) (c.len.ensures ∙ c.in_ok-message.message.ok.0 ∙ ap length (sym c.deref.ensures.value)) c.in_ok-put_text.ensures.bytes
+pub returns-in-Ok-clause-begins : goal.returns-in-Ok-clause-begins
+returns-in-Ok-clause-begins g c = λ x encoding start is.
+    let m = moved (g.W.Sink.written c.args.sink.now) (g.W.Sink.written c.start.new.sink) (g.W.Sink.faults c.args.sink.now) (g.W.Sink.faults c.start.new.sink) (g.W.Sink.wants c.args.sink.now) (g.W.Sink.wants c.start.new.sink) in
+    begun x c.args.reader.now c.in_ok-writer.writer c.start.new.self m is (new_of x c.metadata.result.now c.args.encoding c.in_ok-writer.writer (c.metadata.ensures ∙ is.metadata) encoding c.in_ok-writer.ensures.new) (sym start)
+    (subst (λ s. Starts (text_of c.in_ok-writer.writer.encoding) m (Ok tt) c.in_ok-writer.writer c.start.new.self s None) (c.deref-2.ensures ∙ c.schema-2.ensures) c.in-Ok.ensures.starts)

@@ -1,79 +1,36 @@
-use Rattle.std.proofs.Common.{◌≡◌, ◌∙◌, Err, arith, sym}
-use Rattle.ipc_read.specs.Held.{held_in}
-use Rattle.ipc_read.specs.Projection.{columns_of}
-use Rattle.file_dictionaries.specs.PartsOf.{part_trees}
-use Rattle.ipc_files.specs.FileViews.{meta_view}
-use Rattle.ipc_files.specs.Requests.{asked}
+use Rattle.std.proofs.Common.{◌<◌, IfSome, ◌≡◌, ℕ, Option, Ok, Err, ◌+◌, ◌^◌, ◌∙◌, sym, ap, subst, arith}
+use Rattle.ipc_io.proofs.Kept.{sink_kept_on, source_kept_on}
 use Rattle.ipc_files.proofs.Errors.{is_err}
-use Rattle.ipc_files.proofs.ReadFiles.{of_err}
-use Rattle.ipc_transcode.proofs.FetchedFiles.{blocks_behind, dictionaries_alone, none_fetched}
-use Rattle.ipc_transcode.proofs.StreamSteps.{all_sent_of, blocks_stopped_of, dictionaries_stopped, empty_blocks, nothing_sent, some_blocks}
+use Rattle.ipc_transcode.specs.Sends.{IsWriter, schema_of_reader}
+use Rattle.ipc_transcode.specs.declared.conversion.Summary.{Summary}
+use Rattle.ipc_transcode.proofs.AllBatches.{NextOf, SentSome, no_more, one_more, refused}
+use Rattle.ipc_transcode.proofs.FetchedCalls.{more_fetched}
 use Rattle.ipc_transcode.proofs.send.send_batches.Goals as goal
+use Rattle.ipc_transcode.proofs.send.send_batches.Goals.{in-Some, in_default}
 
-pub returns-then-is_empty-clause-sent : goal.returns-then-is_empty-clause-sent
-returns-then-is_empty-clause-sent g c =
-    let file = c.args.selection.now.file.now in
-    let meta = meta_view file in
-    let r = asked (columns_of c.args.selection.now.columns) c.args.limit in
-    let content = g.S.Source.content c.args.source.now in
-    nothing_sent content meta r c.args.encoding (g.W.Sink.written c.args.sink.now) c.args.schema_length (empty_blocks file.blocks.items file.blocks.len file.blocks.ok.0 (sym c.is_empty.ensures ∙ c.if-is_empty.true))
+pub returns-in_err-rows-clause-sends : goal.returns-in_err-rows-clause-sends
+returns-in_err-rows-clause-sends g c =
+    let e : c.from_residual.result ≡ Err c.in_err-rows.field-0.0 = is_err _ _ _ c.from_residual.ensures.0 c.from_residual.ensures.1 (λ f h. h) in
+    refused _ _ _ _ (g.S.Source.content c.args.source.now) (g.S.Source.content c.loop.source) c.loop.reader c.send_next.new.reader c.loop.writer c.send_next.new.writer _ _ c.loop.summary.batches c.loop.summary.rows c.loop.counter (g.W.Sink.wants c.loop.sink) _
+    c.loop.invariant.kept.content c.loop.invariant.writer.encoding c.loop.invariant.metadata c.loop.invariant.projection c.loop.invariant.sends c.in_err-rows.field-0.0 c.from_residual.result (g.W.Sink.wants c.args.sink.now) c.loop.invariant.sink.wants e c.in_err-rows.ensures.sends
 
-pub returns-then-is_empty-clause-fetched : goal.returns-then-is_empty-clause-fetched
-returns-then-is_empty-clause-fetched g c =
-    let file = c.args.selection.now.file.now in
-    let meta = meta_view file in
-    let r = asked (columns_of c.args.selection.now.columns) c.args.limit in
-    let content = g.S.Source.content c.args.source.now in
-    none_fetched content meta r _ _ (omega arith)
+pub loop-preserved : goal.loop-preserved
+loop-preserved g c = record {
+  sends = elim c.match-branch-2.branch [
+    | in-Some w ↦ subst (λ (s : Summary). SentSome c.args.writer.now.encoding c.args.reader.now c.args.writer.now (g.W.Sink.written c.args.sink.now) (g.S.Source.content c.args.source.now) c.send_next.new.reader c.send_next.new.writer (g.W.Sink.written c.send_next.new.sink) s.batches s.rows (c.loop.counter + 1)) (sym w.summary-is)
+        (one_more _ _ _ _ (g.S.Source.content c.args.source.now) (g.S.Source.content c.loop.source) c.loop.reader c.send_next.new.reader c.loop.writer c.send_next.new.writer _ _ c.loop.summary.batches c.loop.summary.rows c.loop.counter (g.W.Sink.wants c.loop.sink) (g.W.Sink.wants c.send_next.new.sink) c.loop.invariant.kept.content c.loop.invariant.writer.encoding c.loop.invariant.metadata c.loop.invariant.projection c.loop.invariant.sends w.in-Some.rows (subst (λ o. NextOf c.args.writer.now.encoding c.args.reader.now c.args.writer.now (g.W.Sink.written c.args.sink.now) (g.S.Source.content c.loop.source) c.loop.reader c.loop.writer (g.W.Sink.written c.loop.sink) (Ok o) c.send_next.new.reader c.send_next.new.writer (g.W.Sink.written c.send_next.new.sink) (g.W.Sink.wants c.loop.sink) (g.W.Sink.wants c.send_next.new.sink)) w.in-Some.is c.in_ok-rows.ensures.sends))
+    | in_default w ↦ subst (λ (s : Summary). SentSome c.args.writer.now.encoding c.args.reader.now c.args.writer.now (g.W.Sink.written c.args.sink.now) (g.S.Source.content c.args.source.now) c.send_next.new.reader c.send_next.new.writer (g.W.Sink.written c.send_next.new.sink) s.batches s.rows (c.loop.counter + 1)) (sym w.summary-is)
+        (no_more _ _ _ _ (g.S.Source.content c.args.source.now) (g.S.Source.content c.loop.source) c.loop.reader c.send_next.new.reader c.loop.writer c.send_next.new.writer _ _ c.loop.summary.batches c.loop.summary.rows c.loop.counter (g.W.Sink.wants c.loop.sink) (g.W.Sink.wants c.send_next.new.sink) c.loop.invariant.kept.content c.loop.invariant.writer.encoding c.loop.invariant.metadata c.loop.invariant.projection c.loop.invariant.sends (subst (λ o. NextOf c.args.writer.now.encoding c.args.reader.now c.args.writer.now (g.W.Sink.written c.args.sink.now) (g.S.Source.content c.loop.source) c.loop.reader c.loop.writer (g.W.Sink.written c.loop.sink) (Ok o) c.send_next.new.reader c.send_next.new.writer (g.W.Sink.written c.send_next.new.sink) (g.W.Sink.wants c.loop.sink) (g.W.Sink.wants c.send_next.new.sink)) w.in_default.is c.in_ok-rows.ensures.sends))
+  ];
+  writer = subst (λ e. IsWriter (schema_of_reader c.send_next.new.reader) e c.send_next.new.writer) c.loop.invariant.writer.encoding c.in_ok-rows.ensures.writer;
+  metadata = c.send_next.ensures.metadata ∙ c.loop.invariant.metadata;
+  projection = c.send_next.ensures.projection ∙ c.loop.invariant.projection;
+  fetched = more_fetched c.args.writer.now.encoding c.args.reader.now c.args.writer.now (g.W.Sink.written c.args.sink.now) (g.S.Source.content c.args.source.now) (g.S.Source.content c.loop.source) c.loop.reader c.loop.writer (g.W.Sink.written c.loop.sink) c.loop.summary.batches c.loop.summary.rows c.loop.counter c.send_next.new.reader.block (g.S.Source.fetched c.args.source.now) (g.S.Source.fetched c.loop.source) (g.S.Source.fetched c.send_next.new.source) c.loop.invariant.kept.content c.loop.invariant.metadata c.loop.invariant.projection c.loop.invariant.sends c.loop.invariant.fetched c.send_next.ensures.fetched;
+  batches = elim c.match-branch-2.branch [ in-Some w ↦ omega (arith, c.loop.invariant.batches, ap (λ (s : Summary). s.batches) w.summary-is) | in_default w ↦ omega (arith, c.loop.invariant.batches, ap (λ (s : Summary). s.batches) w.summary-is) ];
+  rows = elim c.match-branch-2.branch [ in-Some w ↦ omega (arith, c.loop.invariant.rows, ap (λ (s : Summary). s.rows) w.summary-is, subst (λ (o : Option ℕ). IfSome o (λ k. k < 2 ^ 64)) w.in-Some.is c.in_ok-rows.ensures.few) | in_default w ↦ omega (arith, c.loop.invariant.rows, ap (λ (s : Summary). s.rows) w.summary-is) ];
+  kept = source_kept_on c.loop.invariant.kept c.send_next.ensures.kept;
+  sink = sink_kept_on c.loop.invariant.sink c.send_next.ensures.sink;
+}
 
-pub returns-in_err-dictionaries-clause-refused : goal.returns-in_err-dictionaries-clause-refused
-returns-in_err-dictionaries-clause-refused g c =
-    let file = c.args.selection.now.file.now in
-    let meta = meta_view file in
-    let r = asked (columns_of c.args.selection.now.columns) c.args.limit in
-    let content = g.S.Source.content c.args.source.now in
-    let same = some_blocks file.blocks.items file.blocks.len meta.dictionaries file.blocks.ok.0 (sym c.is_empty.ensures ∙ c.if-is_empty.false) in
-    let e : c.from_residual.result ≡ Err c.in_err-dictionaries.field-0.0 = is_err _ _ _ c.from_residual.ensures.0 c.from_residual.ensures.1 (λ f h. h) in
-    of_err c.from_residual.result c.in_err-dictionaries.field-0.0 _ e
-    (dictionaries_stopped c.in_err-dictionaries.field-0.0 _ _ content meta r c.args.encoding (g.W.Sink.written c.args.sink.now) c.args.schema_length same c.in_err-dictionaries.ensures.refused)
-
-pub returns-in_err-dictionaries-clause-fetched : goal.returns-in_err-dictionaries-clause-fetched
-returns-in_err-dictionaries-clause-fetched g c =
-    let file = c.args.selection.now.file.now in
-    let meta = meta_view file in
-    let r = asked (columns_of c.args.selection.now.columns) c.args.limit in
-    let content = g.S.Source.content c.args.source.now in
-    let same = some_blocks file.blocks.items file.blocks.len meta.dictionaries file.blocks.ok.0 (sym c.is_empty.ensures ∙ c.if-is_empty.false) in
-    dictionaries_alone content meta r _ _ same c.in_err-dictionaries.ensures.fetched
-
-pub returns-clause-sent : goal.returns-clause-sent
-returns-clause-sent g c =
-    let file = c.args.selection.now.file.now in
-    let meta = meta_view file in
-    let r = asked (columns_of c.args.selection.now.columns) c.args.limit in
-    let content = g.S.Source.content c.args.source.now in
-    let same = some_blocks file.blocks.items file.blocks.len meta.dictionaries file.blocks.ok.0 (sym c.is_empty.ensures ∙ c.if-is_empty.false) in
-    let h = held_in c.in_ok-dictionaries.dictionaries.held in
-    let ps = part_trees c.in_ok-dictionaries.dictionaries.parts.items in
-    all_sent_of c.send_blocks.result content _ meta r h ps c.args.encoding (g.W.Sink.written c.args.sink.now) _ c.args.schema_length same c.in_ok-dictionaries.ensures.kept.content c.in_ok-dictionaries.ensures.reads c.send_blocks.ensures.sent
-
-pub returns-clause-refused : goal.returns-clause-refused
-returns-clause-refused g c =
-    let file = c.args.selection.now.file.now in
-    let meta = meta_view file in
-    let r = asked (columns_of c.args.selection.now.columns) c.args.limit in
-    let content = g.S.Source.content c.args.source.now in
-    let h = held_in c.in_ok-dictionaries.dictionaries.held in
-    let ps = part_trees c.in_ok-dictionaries.dictionaries.parts.items in
-    blocks_stopped_of c.send_blocks.result _ _ content _ meta r h ps c.args.encoding (g.W.Sink.written c.args.sink.now) _ c.args.schema_length c.in_ok-dictionaries.ensures.kept.content c.in_ok-dictionaries.ensures.reads c.send_blocks.ensures.refused
-
-pub returns-clause-fetched : goal.returns-clause-fetched
-returns-clause-fetched g c =
-    let file = c.args.selection.now.file.now in
-    let meta = meta_view file in
-    let r = asked (columns_of c.args.selection.now.columns) c.args.limit in
-    let content = g.S.Source.content c.args.source.now in
-    let same = some_blocks file.blocks.items file.blocks.len meta.dictionaries file.blocks.ok.0 (sym c.is_empty.ensures ∙ c.if-is_empty.false) in
-    let h = held_in c.in_ok-dictionaries.dictionaries.held in
-    let ps = part_trees c.in_ok-dictionaries.dictionaries.parts.items in
-    blocks_behind content _ meta r h ps _ _ _ same c.in_ok-dictionaries.ensures.kept.content c.in_ok-dictionaries.ensures.reads c.in_ok-dictionaries.ensures.fetched c.send_blocks.ensures.fetched
+pub returns-in_err-rows-clause-fetched : goal.returns-in_err-rows-clause-fetched
+returns-in_err-rows-clause-fetched g c = more_fetched c.args.writer.now.encoding c.args.reader.now c.args.writer.now (g.W.Sink.written c.args.sink.now) (g.S.Source.content c.args.source.now) (g.S.Source.content c.loop.source) c.loop.reader c.loop.writer (g.W.Sink.written c.loop.sink) c.loop.summary.batches c.loop.summary.rows c.loop.counter c.send_next.new.reader.block (g.S.Source.fetched c.args.source.now) (g.S.Source.fetched c.loop.source) (g.S.Source.fetched c.send_next.new.source) c.loop.invariant.kept.content c.loop.invariant.metadata c.loop.invariant.projection c.loop.invariant.sends c.loop.invariant.fetched c.send_next.ensures.fetched

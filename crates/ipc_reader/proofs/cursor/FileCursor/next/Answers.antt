@@ -8,6 +8,8 @@ returns g c =
     record {
       ended = (omega arith, sym c.is_refused.ensures ∙ c.if-is_refused.false);
       gives = read.ensures.gives;
+      read = read.ensures.read;
+      first = read.ensures.first;
       dictionaries = read.ensures.dictionaries;
       schema = read.ensures.schema;
       left = c.left_behind-self.ensures ∙ ap (λ n. left_after n (Some read.result)) read.ensures.left;

@@ -7,7 +7,7 @@ use Rattle.ipc_files.specs.FileViews.{meta_view}
 use Rattle.ipc_files.specs.Selections.{IsMade, MayProject, schema_shown}
 use Rattle.ipc_files.specs.Requests.{asked}
 use Rattle.ipc_projection.specs.declared.projection.ProjectionInfo.{ProjectionInfo}
-use Rattle.ipc_reader.proofs.HeldDictionaries.{batch_goes, batch_stops, cause_since, fetched_going, fetched_stopping, goes_kept, ok_none, stops_kept}
+use Rattle.ipc_reader.proofs.HeldDictionaries.{batch_goes, batch_stops, cause_since, fetched_going, fetched_stopping, file_kept, goes_kept, ok_none, read_goes, stops_kept}
 use Rattle.ipc_reader.proofs.cursor.FileCursor.read_current.Goals as goal
 
 pub take-requires-clause-made : goal.take-requires-clause-made
@@ -23,6 +23,8 @@ returns-in_err-held g c =
     let e : c.from_residual.result ≡ Err err = is_err _ _ _ c.from_residual.ensures.0 c.from_residual.ensures.1 (λ f h. h) in
     record {
       gives = λ columns block may at. batch_stops content k (asked columns c.args.self.now.left) meta block err c.from_residual.result c.requires.not_refused e c.in_err-held.ensures.held (λ is. c.in_err-held.ensures.gives columns is (subst (MayProject s columns) (sym c.as_ref.ensures.value) may));
+      read = λ columns block may at. ok_none c.from_residual.result err _ e;
+      first = λ is m held. absurd (c.in_err-held.ensures.left m held);
       dictionaries = λ columns may. stops_kept content meta columns k _ err c.from_residual.result c.requires.not_refused e c.in_err-held.ensures.held (λ is. c.in_err-held.ensures.behind columns is (subst (MayProject s columns) (sym c.as_ref.ensures.value) may));
       schema = λ columns may. ok_none c.from_residual.result err _ e;
       left = refl;
@@ -48,6 +50,8 @@ returns g c =
     record {
       gives = λ columns block may at. batch_goes content _ k (asked columns c.args.self.now.left) meta block held read.result c.requires.not_refused c.in_ok-held.ensures.kept.content c.in_ok-held.ensures.held (λ is. c.in_ok-held.ensures.gives columns is (subst (MayProject s columns) (sym c.as_ref.ensures.value) may))
           (read.ensures.gives columns block (subst (MayProject s columns) (sym c.as_ref-2.ensures.value) may) at);
+      read = λ columns block may at. read_goes content _ (asked columns c.args.self.now.left) meta block held read.result c.in_ok-held.ensures.kept.content (read.ensures.read columns block (subst (MayProject s columns) (sym c.as_ref-2.ensures.value) may) at);
+      first = λ is. file_kept content meta held (c.in_ok-held.ensures.first is);
       dictionaries = λ columns may. goes_kept content meta columns k held read.result c.requires.not_refused c.in_ok-held.ensures.held (λ is. c.in_ok-held.ensures.gives columns is (subst (MayProject s columns) (sym c.as_ref.ensures.value) may));
       schema = λ columns may.
           subst (λ (p : Option ProjectionInfo). IfOk read.result (λ x. x.schema ≡ schema_shown s p)) c.as_ref-2.ensures.value

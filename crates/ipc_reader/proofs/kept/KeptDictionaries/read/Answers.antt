@@ -4,7 +4,7 @@ use Rattle.ipc_files.proofs.FetchedDictionaries.{nothing_read}
 use Rattle.ipc_files.proofs.ReadBatches.{kinds_cause}
 use Rattle.ipc_files.proofs.ReadFiles.{of_err}
 use Rattle.ipc_files.specs.FileViews.{meta_view}
-use Rattle.ipc_reader.proofs.HeldDictionaries.{all_held, dictionaries_kept, dictionaries_stop, kinds_kept, kinds_stop, not_held_uses, ok_none}
+use Rattle.ipc_reader.proofs.HeldDictionaries.{all_held, dictionaries_kept, dictionaries_stop, file_held, kinds_kept, kinds_stop, not_held_uses, not_read_left, ok_none}
 use Rattle.ipc_reader.proofs.kept.KeptDictionaries.read.Goals as goal
 
 pub returns-in_err-check_columns : goal.returns-in_err-check_columns
@@ -13,6 +13,8 @@ returns-in_err-check_columns g c =
     let e : c.from_residual.result ≡ Err c.in_err-check_columns.field-0.0 = is_err _ _ _ c.from_residual.ensures.0 c.from_residual.ensures.1 (λ f h. h) in
     record {
       gives = λ columns may. kinds_stop (g.S.Source.content c.args.source.now) meta columns c.from_residual.result c.in_err-check_columns.field-0.0 e (c.in_err-check_columns.ensures.exact columns may).err;
+      held = ok_none c.from_residual.result c.in_err-check_columns.field-0.0 _ e;
+      left = λ m is. not_read_left _ m c.requires.not_read is;
       behind = λ columns may. kinds_kept (g.S.Source.content c.args.source.now) meta columns _ c.from_residual.result c.in_err-check_columns.field-0.0 c.requires.not_read e (c.in_err-check_columns.ensures.exact columns may).err;
       uses = ok_none c.from_residual.result c.in_err-check_columns.field-0.0 _ e;
       keeps = not_held_uses meta _ c.requires.not_read;
@@ -26,6 +28,8 @@ returns-in-Ok g c =
     let meta = meta_view c.args.metadata.now in
     record {
       gives = λ columns may. all_held (g.S.Source.content c.args.source.now) meta columns c.in-Ok.held (c.in_ok-check_columns.ensures.exact columns may).ok.0 c.in-Ok.ensures.reads;
+      held = file_held (g.S.Source.content c.args.source.now) meta c.in-Ok.held c.in-Ok.ensures.reads;
+      left = λ m is. not_read_left _ m c.requires.not_read is;
       behind = λ columns may. tt;
       uses = c.in-Ok.ensures.uses;
       keeps = not_held_uses meta _ c.requires.not_read;
@@ -39,6 +43,8 @@ returns-in-Err g c =
     let meta = meta_view c.args.metadata.now in
     record {
       gives = λ columns may. dictionaries_stop (g.S.Source.content c.args.source.now) meta columns c.in-Err.error (c.in_ok-check_columns.ensures.exact columns may).ok.0 c.in-Err.ensures.reads;
+      held = tt;
+      left = λ m is. cc;
       behind = λ columns may. dictionaries_kept (g.S.Source.content c.args.source.now) meta columns c.in-Err.error c.in-Err.ensures.reads;
       uses = tt;
       keeps = tt;

@@ -1,7 +1,7 @@
 use Rattle.std.proofs.Common.{◌≡◌, ◌∙◌, refl, rules, sym}
 use Rattle.ipc_files.specs.FileViews.{meta_view}
 use Rattle.ipc_reader.specs.declared.kept.KeptDictionaries.TheVariants.{Held, NotRead}
-use Rattle.ipc_reader.proofs.HeldDictionaries.{held_uses, is_not_read, not_held_uses}
+use Rattle.ipc_reader.proofs.HeldDictionaries.{held_uses, is_not_read, not_held_uses, not_read_left}
 use Rattle.ipc_reader.proofs.kept.KeptDictionaries.take.Goals as goal
 
 pub returns-in-Held : goal.returns-in-Held
@@ -11,6 +11,8 @@ returns-in-Held g c =
     record {
       held = λ m is. let e : Held c.in-Held.held ≡ Held m = sym old ∙ is in cc;
       gives = λ columns is may. let e : Held c.in-Held.held ≡ NotRead = sym old ∙ is in cc;
+      first = λ is. let e : Held c.in-Held.held ≡ NotRead = sym old ∙ is in cc;
+      left = λ m is. not_read_left _ m c.replace.ensures.after is;
       behind = λ columns is may. tt;
       uses = held_uses meta c.args.self.now c.in-Held.held old c.requires.uses;
       keeps = not_held_uses meta _ c.replace.ensures.after;
@@ -27,6 +29,8 @@ returns-in_default g c =
     record {
       held = λ m is. let e : NotRead ≡ Held m = sym old ∙ is in cc;
       gives = λ columns is may. read.gives columns may;
+      first = λ is. read.held;
+      left = read.left;
       behind = λ columns is may. read.behind columns may;
       uses = read.uses;
       keeps = read.keeps;

@@ -1,4 +1,5 @@
 use Rattle.std.proofs.Common.{◌≡◌, inl, inr, refl, sym, ◌∙◌, true, false, true≢false}
+use Rattle.ipc_bodies.specs.Encodings.{text_of}
 use Rattle.ipc_write_messages.specs.Fields.{given_ids}
 use Rattle.ipc_write_messages.specs.States.{is_started}
 use Rattle.ipc_write_messages.proofs.Putting.{untouched}
@@ -21,4 +22,4 @@ send-requires g c = sym c.is_started.ensures ∙ c.if-not-is_started.false
 pub returns-clause-writes : goal.returns-clause-writes
 returns-clause-writes g c =
     let n : is_started c.args.self.now.state ≡ true = sym c.is_started.ensures ∙ c.if-not-is_started.false in
-    as_written _ c.send.result c.args.self.now c.send.new.self c.args.batch.now (given_ids c.args.ipc_fields) n (c.takes.ensures.0 c.if-not-takes.false) c.send.ensures.sends
+    as_written (text_of c.args.self.now.encoding) _ c.send.result c.args.self.now c.send.new.self c.args.batch.now (given_ids c.args.ipc_fields) n (c.takes.ensures.0 c.if-not-takes.false) c.send.ensures.sends

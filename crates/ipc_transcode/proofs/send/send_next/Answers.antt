@@ -1,0 +1,46 @@
+use Rattle.std.proofs.Common.{◌≡◌, Some, Ok, Err, refl, ap, subst}
+use Rattle.ipc_files.proofs.Errors.{is_err}
+use Rattle.ipc_reader.specs.Reads.{NextBatch}
+use Rattle.ipc_write_messages.specs.States.{is_started}
+use Rattle.ipc_transcode.proofs.Calls.{next_none, next_not_written, next_refused, next_written, write_cause}
+use Rattle.sent_dictionaries.proofs.FileSent.{file_sent}
+use Rattle.sent_dictionaries.proofs.Right.{columns_right}
+use Rattle.ipc_transcode.proofs.FetchedBlocks.{next_fetches}
+use Rattle.ipc_transcode.proofs.send.send_next.Goals as goal
+
+pub returns-in_err-batch-in-Some-clause-sends : goal.returns-in_err-batch-in-Some-clause-sends
+returns-in_err-batch-in-Some-clause-sends g c =
+    let e : c.from_residual.result ≡ Err c.in_err-batch-in-Some.field-0.0 = is_err _ _ _ c.from_residual.ensures.0 c.from_residual.ensures.1 (λ f h. h) in
+    let here : NextBatch g.S.Source.content g.S.Source.faults g.S.Source.fetched g.S.Source.references c.args.source.now c.next.new.source c.args.reader.now c.next.new.self (Some (Err c.in_err-batch-in-Some.field-0.0)) = subst (λ r. NextBatch g.S.Source.content g.S.Source.faults g.S.Source.fetched g.S.Source.references c.args.source.now c.next.new.source c.args.reader.now c.next.new.self (Some r)) c.in_err-batch-in-Some.was c.in-Some.ensures in
+    next_refused g.S.Source.content g.S.Source.faults g.S.Source.fetched g.S.Source.references c.args.source.now c.next.new.source c.args.reader.now c.next.new.self c.args.writer.now (g.W.Sink.written c.args.sink.now) c.requires.writer c.from_residual.result c.in_err-batch-in-Some.field-0.0 (g.W.Sink.wants c.args.sink.now) (g.W.Sink.wants c.args.sink.now) e here
+
+pub returns-in-None-clause-sends : goal.returns-in-None-clause-sends
+returns-in-None-clause-sends g c = next_none g.S.Source.content g.S.Source.faults g.S.Source.fetched g.S.Source.references c.args.source.now c.next.new.source c.args.reader.now c.next.new.self c.args.writer.now (g.W.Sink.written c.args.sink.now) c.requires.writer (g.W.Sink.wants c.args.sink.now) (g.W.Sink.wants c.args.sink.now) c.in-None.ensures
+
+pub returns-in_err-batch-in-Some-clause-fetched : goal.returns-in_err-batch-in-Some-clause-fetched
+returns-in_err-batch-in-Some-clause-fetched g c = next_fetches g.S.Source.content g.S.Source.faults g.S.Source.fetched g.S.Source.references c.args.source.now c.next.new.source c.args.reader.now c.next.new.self c.args.writer.now (g.W.Sink.written c.args.sink.now) c.next.result c.next.ensures
+
+pub returns-in-None-clause-fetched : goal.returns-in-None-clause-fetched
+returns-in-None-clause-fetched g c = next_fetches g.S.Source.content g.S.Source.faults g.S.Source.fetched g.S.Source.references c.args.source.now c.next.new.source c.args.reader.now c.next.new.self c.args.writer.now (g.W.Sink.written c.args.sink.now) c.next.result c.next.ensures
+
+pub returns-in-Ok-clause-fetched : goal.returns-in-Ok-clause-fetched
+returns-in-Ok-clause-fetched g c = next_fetches g.S.Source.content g.S.Source.faults g.S.Source.fetched g.S.Source.references c.args.source.now c.next.new.source c.args.reader.now c.next.new.self c.args.writer.now (g.W.Sink.written c.args.sink.now) c.next.result c.next.ensures
+
+pub returns-clause-fetched : goal.returns-clause-fetched
+returns-clause-fetched g c = next_fetches g.S.Source.content g.S.Source.faults g.S.Source.fetched g.S.Source.references c.args.source.now c.next.new.source c.args.reader.now c.next.new.self c.args.writer.now (g.W.Sink.written c.args.sink.now) c.next.result c.next.ensures
+
+pub returns-in-Ok-clause-sends : goal.returns-in-Ok-clause-sends
+returns-in-Ok-clause-sends g c =
+    let here : NextBatch g.S.Source.content g.S.Source.faults g.S.Source.fetched g.S.Source.references c.args.source.now c.next.new.source c.args.reader.now c.next.new.self (Some (Ok c.in_ok-batch-in-Some.batch)) = subst (λ r. NextBatch g.S.Source.content g.S.Source.faults g.S.Source.fetched g.S.Source.references c.args.source.now c.next.new.source c.args.reader.now c.next.new.self (Some r)) c.in_ok-batch-in-Some.was c.in-Some.ensures in
+    next_written g.S.Source.content g.S.Source.faults g.S.Source.fetched g.S.Source.references c.args.source.now c.next.new.source c.args.reader.now c.next.new.self c.args.writer.now (g.W.Sink.written c.args.sink.now) c.requires.writer file_sent columns_right _ c.height-rows.result _ _ (g.W.Sink.wants c.args.sink.now) (g.W.Sink.wants c.write.new.sink) c.height-rows.ensures.rows refl
+    here c.height-rows.ensures.sound c.in-Ok.ensures.writes
+
+pub returns-clause-sends : goal.returns-clause-sends
+returns-clause-sends g c =
+    let here : NextBatch g.S.Source.content g.S.Source.faults g.S.Source.fetched g.S.Source.references c.args.source.now c.next.new.source c.args.reader.now c.next.new.self (Some (Ok c.in_ok-batch-in-Some.batch)) = subst (λ r. NextBatch g.S.Source.content g.S.Source.faults g.S.Source.fetched g.S.Source.references c.args.source.now c.next.new.source c.args.reader.now c.next.new.self (Some r)) c.in_ok-batch-in-Some.was c.in-Some.ensures in
+    next_not_written g.S.Source.content g.S.Source.faults g.S.Source.fetched g.S.Source.references c.args.source.now c.next.new.source c.args.reader.now c.next.new.self c.args.writer.now (g.W.Sink.written c.args.sink.now) c.requires.writer file_sent columns_right _ _ c.in-Err.error _ _ (ap Err c.as_damage.ensures) refl
+    here c.height-rows.ensures.sound c.in-Err.ensures.writes
+
+pub returns-clause-cause : goal.returns-clause-cause
+returns-clause-cause g c =
+    write_cause _ c.in-Err.error _ _ _ _ _ _ (ap Err c.as_damage.ensures) (ap is_started c.requires.writer.state) c.in-Err.ensures.writes

@@ -1,0 +1,12 @@
+pub mod Lists
+pub mod Forms
+pub mod Empty
+pub mod FieldKinds
+pub mod Pieces
+pub mod Standings
+pub mod Visited
+pub mod Visits
+pub mod Walks
+pub mod Again
+pub mod FileSent
+pub mod Right

@@ -1,0 +1,15 @@
+//! What a writer sends of dictionaries that were read of a file (Arrow Columnar Format, "Dictionary Messages"). Each function's contract is a law,
+//! proved in `proofs/`.
+#![tactic(auto)]
+
+ghost use Rattle.sent_dictionaries.specs.Laws.{ColumnsAreRight, FileDictionariesAreSent};
+
+/// All that is to be sent of a file's dictionaries is sent before the first batch, and nothing before the others.
+pub fn file_dictionaries_are_sent()
+    ensures { FileDictionariesAreSent }
+{}
+
+/// Columns of the kinds of a stream's fields have no fault.
+pub fn columns_are_right()
+    ensures { ColumnsAreRight }
+{}

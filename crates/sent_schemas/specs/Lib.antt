@@ -1,0 +1,2 @@
+pub mod SentFields
+pub mod Laws
