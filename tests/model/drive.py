@@ -1,6 +1,5 @@
 """Runs the built program on random files of all kinds, half of them with dictionaries, by their names and as hex text, in random columns and up
 to random limits, as bytes and as hex text: python3 drive.py PROGRAM COUNT SEED. Prints what differs; the status is 0 where nothing does."""
-import random
 import subprocess
 import sys
 import tempfile
@@ -9,6 +8,7 @@ from pathlib import Path
 
 import fuzz_dictionaries
 import fuzz_nested
+from driving import drive
 
 
 def request_of(r):
@@ -49,15 +49,8 @@ def differs(program, folder, r):
 
 def main():
     program, count, seed = str(Path(sys.argv[1]).resolve()), int(sys.argv[2]), int(sys.argv[3])
-    wrong = 0
     with tempfile.TemporaryDirectory() as folder:
-        for i in range(count):
-            found = differs(program, folder, random.Random(seed * 100000 + i))
-            if found:
-                wrong += 1
-                print(i, *found)
-    print(count, "files,", wrong, "differ")
-    sys.exit(1 if wrong else 0)
+        sys.exit(drive(lambda r: differs(program, folder, r), count, seed))
 
 
 if __name__ == "__main__":

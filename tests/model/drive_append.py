@@ -1,13 +1,12 @@
 """Appends random streams to random files by the program, and compares each file with one of the model's that has the batches of both. Both
 are written again by `crates/rewrite` first, which leaves out a validity that tells of no nulls, and then made streams of:
 python3 drive_append.py PROGRAM REWRITE COUNT SEED. Prints what differs; the status is 0 where nothing does."""
-import random
 import sys
 import tempfile
 from pathlib import Path
 
 import fuzz_dictionaries
-from drive_writers import Programs
+from driving import Programs, drive
 
 
 def differs(programs, r):
@@ -28,17 +27,9 @@ def differs(programs, r):
 
 def main():
     program, rewrite = [str(Path(p).resolve()) for p in sys.argv[1:3]]
-    count, seed = int(sys.argv[3]), int(sys.argv[4])
-    wrong = 0
     with tempfile.TemporaryDirectory() as folder:
         programs = Programs(program, rewrite, folder)
-        for i in range(count):
-            found = differs(programs, random.Random(seed * 100000 + i))
-            if found:
-                wrong += 1
-                print(i, *found)
-    print(count, "files,", wrong, "differ")
-    sys.exit(1 if wrong else 0)
+        sys.exit(drive(lambda r: differs(programs, r), int(sys.argv[3]), int(sys.argv[4])))
 
 
 if __name__ == "__main__":

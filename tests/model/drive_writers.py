@@ -2,8 +2,6 @@
 that it writes of a file is the model's; written once more it stays as it is, and so does the stream of a file that it writes. A validity
 that tells of no nulls is left out where what was written is read: python3 drive_writers.py PROGRAM REWRITE COUNT SEED. Prints what
 differs; the status is 0 where nothing does."""
-import random
-import subprocess
 import sys
 import tempfile
 from argparse import Namespace
@@ -11,30 +9,12 @@ from pathlib import Path
 
 import fuzz_dictionaries
 import fuzz_nested
+from driving import Programs, drive
+
 
 def asked(shares):
     """All columns and rows, of dictionaries that share their ids or do not."""
     return Namespace(unions=True, columns=None, limit=None, shares=shares)
-
-
-class Programs:
-    """The program and the one that writes again, run in a folder."""
-
-    def __init__(self, program, rewrite, folder):
-        self.program, self.rewrite, self.folder = program, rewrite, Path(folder)
-
-    def again(self, word, source, target):
-        done = subprocess.run([self.rewrite, word, source, target], capture_output=True, cwd=self.folder)
-        return done.stderr.decode() or None
-
-    def append(self, name, stream):
-        return subprocess.run([self.program, "append", name], input=stream.hex().encode(), capture_output=True, cwd=self.folder)
-
-    def stream_of(self, name):
-        return subprocess.run([self.program, "stream", "--raw", name], capture_output=True, cwd=self.folder).stdout
-
-    def bytes_of(self, name):
-        return (self.folder / name).read_bytes()
 
 
 STREAMS = [("send", "file", "stream1"), ("stream", "stream1", "stream2"), ("stream", "stream2", "stream3")]
@@ -61,17 +41,9 @@ def differs(programs, r):
 
 def main():
     program, rewrite = [str(Path(p).resolve()) for p in sys.argv[1:3]]
-    count, seed = int(sys.argv[3]), int(sys.argv[4])
-    wrong = 0
     with tempfile.TemporaryDirectory() as folder:
         programs = Programs(program, rewrite, folder)
-        for i in range(count):
-            found = differs(programs, random.Random(seed * 100000 + i))
-            if found:
-                wrong += 1
-                print(i, *found)
-    print(count, "files,", wrong, "differ")
-    sys.exit(1 if wrong else 0)
+        sys.exit(drive(lambda r: differs(programs, r), int(sys.argv[3]), int(sys.argv[4])))
 
 
 if __name__ == "__main__":

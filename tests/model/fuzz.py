@@ -153,20 +153,23 @@ def column(r, kind_of, rows):
             return held
 
 
-def file_batch(r, rows, columns):
-    """Buffers at multiples of 8 in any order, with gaps."""
-    pieces = [(c, p, piece) for c, held in enumerate(columns) for p, piece in enumerate(held.file.pieces)]
+def held_tables(r, rows, columns):
+    """The tables of a batch and its body, with buffers at multiples of 8 in any order, with gaps."""
+    pieces = [(c, p, piece) for c, held in enumerate(columns) for p, piece in enumerate(held.pieces)]
     r.shuffle(pieces)
     body, places = b"", {}
     for c, p, piece in pieces:
         body += garbage(r, 8 * r.choice([0, 0, 1, 3]))
         places[c, p] = len(body)
         body += piece + bytes(up_to(8, len(piece)) - len(piece))
-    body += bytes(up_to(8, len(body)) - len(body))
-    buffers = [struct.pack("<qq", places[c, p], len(piece)) for c, held in enumerate(columns) for p, piece in enumerate(held.file.pieces)]
-    nodes = [struct.pack("<qq", h.file.rows, h.file.nulls) for h in columns]
-    views = [h.file.views for h in columns if h.file.views is not None]
-    header = Table(number(8, rows), Structs(nodes), Structs(buffers), None, Numbers64(views) if views else None)
+    buffers = [struct.pack("<qq", places[c, p], len(piece)) for c, held in enumerate(columns) for p, piece in enumerate(held.pieces)]
+    nodes = [struct.pack("<qq", c.rows, c.nulls) for c in columns]
+    views = [c.views for c in columns if c.views is not None]
+    return Table(number(8, rows), Structs(nodes), Structs(buffers), None, Numbers64(views) if views else None), body
+
+
+def file_batch(r, rows, columns):
+    header, body = held_tables(r, rows, [held.file for held in columns])
     return arrow.message(3, header, len(body)), body
 
 
@@ -185,16 +188,16 @@ def case(r):
     return file, stream
 
 
-def main():
-    folder, count, seed = sys.argv[1], int(sys.argv[2]), int(sys.argv[3])
+def write_cases(folder, count, seed, case):
+    """Random files as hex text, each with what is expected of it."""
     os.makedirs(folder, exist_ok=True)
     for i in range(count):
-        r = random.Random(seed * 100000 + i)
-        file, stream = case(r)
+        file, stream = case(random.Random(seed * 100000 + i))
         with open(os.path.join(folder, f"case{i:04}"), "w") as out:
             out.write(file.hex())
         with open(os.path.join(folder, f"case{i:04}.stdout"), "w") as out:
             out.write(stream.hex() + "\n")
 
 
-main()
+if __name__ == "__main__":
+    write_cases(sys.argv[1], int(sys.argv[2]), int(sys.argv[3]), case)

@@ -6,7 +6,8 @@ from collections import namedtuple
 import arrow
 import fuzz_nested
 import schemas
-from fuzz_nested import file_of, held_batch, held_tables, schema_kind
+from fuzz import held_tables
+from fuzz_nested import file_of, held_batch, schema_kind
 from layout import Table, number
 from nested import Array, children_of, random_array, random_kind
 

@@ -2,15 +2,13 @@
 `rt try --cases FOLDER -- stream WORDS`: python3 fuzz_nested.py FOLDER COUNT SEED [--unions] WORDS, where WORDS may be
 `--columns LIST` and `--limit N`."""
 import argparse
-import os
-import random
 import struct
 
 import arrow
 import schemas
-from arrow import up_to
-from layout import Numbers64, Structs, Table, Value, lay, number
-from nested import garbage, random_array, random_kind
+from fuzz import held_tables, write_cases
+from layout import Structs, Table, Value, lay, number
+from nested import random_array, random_kind
 
 
 def schema_kind(kind):
@@ -30,21 +28,6 @@ def schema_kind(kind):
     if name == "dictionary":
         return (*kind[:4], schema_kind(kind[4]))
     return kind
-
-
-def held_tables(r, rows, columns):
-    """The tables of a batch and its body, with buffers at multiples of 8 in any order, with gaps."""
-    pieces = [(c, p, piece) for c, held in enumerate(columns) for p, piece in enumerate(held.pieces)]
-    r.shuffle(pieces)
-    body, places = b"", {}
-    for c, p, piece in pieces:
-        body += garbage(r, 8 * r.choice([0, 0, 1, 3]))
-        places[c, p] = len(body)
-        body += piece + bytes(up_to(8, len(piece)) - len(piece))
-    buffers = [struct.pack("<qq", places[c, p], len(piece)) for c, held in enumerate(columns) for p, piece in enumerate(held.pieces)]
-    nodes = [struct.pack("<qq", c.rows, c.nulls) for c in columns]
-    views = [c.views for c in columns if c.views is not None]
-    return Table(number(8, rows), Structs(nodes), Structs(buffers), None, Numbers64(views) if views else None), body
 
 
 def held_batch(r, rows, columns, version):
@@ -105,14 +88,7 @@ def main(case):
     words.add_argument("--columns")
     words.add_argument("--limit", type=int)
     asked = words.parse_args()
-    os.makedirs(asked.folder, exist_ok=True)
-    for i in range(asked.count):
-        r = random.Random(asked.seed * 100000 + i)
-        file, stream = case(r, asked)
-        with open(os.path.join(asked.folder, f"case{i:04}"), "w") as out:
-            out.write(file.hex())
-        with open(os.path.join(asked.folder, f"case{i:04}.stdout"), "w") as out:
-            out.write(stream.hex() + "\n")
+    write_cases(asked.folder, asked.count, asked.seed, lambda r: case(r, asked))
 
 
 if __name__ == "__main__":

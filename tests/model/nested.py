@@ -7,6 +7,7 @@ whose values stand in messages of their own.
 import struct
 
 from arrow import Column, bits
+from fuzz import garbage
 
 CHILDREN = {"list": 1, "large_list": 1, "fixed_list": 1, "map": 1, "struct": 0, "union": 0}
 
@@ -166,10 +167,6 @@ def pack(pattern, numbers):
 
 
 # ── random arrays ──
-
-
-def garbage(r, n):
-    return bytes(r.randrange(256) for _ in range(n))
 
 
 LEAVES = [("int8",), ("int16",), ("int32",), ("int64",), ("uint16",), ("uint64",), ("decimal", 38, 10), ("date32",), ("date64",),

@@ -4,3 +4,4 @@ pub mod Chunks
 pub mod OwnFields
 pub mod Written
 pub mod Causes
+pub mod Refusals

@@ -10,4 +10,5 @@ pub mod PutSteps
 pub mod BatchMeaning
 pub mod AppendMeaning
 pub mod AppendSteps
-pub mod Faults
+pub mod RightColumns
+pub mod Refused

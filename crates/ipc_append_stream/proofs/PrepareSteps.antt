@@ -47,7 +47,7 @@ pub takes_it : (content : Option (List ℕ)) (m : FileMetadata) (s : StreamMetad
 takes_it content m s i h kinds = record { metadata = i; fields = same_with_ids m s h; kinds = kinds }
 
 pub has_others : (content : Option (List ℕ)) (m : FileMetadata) (s : StreamMetadata) (f g : ℕ) → IsMetadata content m → (SameFields m s → ⊥) → DoesNotTake content SchemaMismatch s f g
-has_others content m s f g i h = inr (record { is = refl; file = m; metadata = i; others = λ k. h (same_without_ids m s k) })
+has_others content m s f g i h = inr (refl, record { file = m; metadata = i; others = λ k. h (same_without_ids m s k) })
 
 pub takes_of : (content : Option (List ℕ)) (m : FileMetadata) (s : StreamMetadata) → IsMetadata content m → (a b : List Keyed) → a ≡ rc_value m.schema → b ≡ rc_value s.schema → IsTrue true ↔ (bare (fields_in a) ≡ bare (fields_in b)) → (true ≡ true → have_same_kinds (fields_in a) (fields_in b) ≡ true) → Takes content s m
 takes_of content m s i a b p q h kinds =

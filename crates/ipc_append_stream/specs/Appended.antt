@@ -1,5 +1,5 @@
 -- A stream's record batches at the end of a file. (Arrow Columnar Format, "IPC File Format".)
-use Rattle.std.specs.Prelude.{◌≡◌, ◌⊎◌, ℕ, List, ◌++◌, length, map, take, ⊤, Option, Some, Ok, IfSome}
+use Rattle.std.specs.Prelude.{◌≡◌, ◌⊎◌, ℕ, List, ◌++◌, length, map, take, ⊤, false, Option, Some, Ok, IfSome}
 use Rattle.std.specs.List.{flat_map}
 use Rattle.arrow_spec.specs.declared.error.IpcError.{IpcError}
 use Rattle.arrow_spec.specs.declared.error.IpcError.TheVariants as errors
@@ -22,7 +22,7 @@ use Rattle.ipc_append_stream.specs.declared.encode.EncodedChunk.{EncodedChunk}
 use Rattle.ipc_append_stream.specs.declared.stream.WholeStream.{WholeStream}
 use Rattle.ipc_append_stream.specs.Encoded.{AreEncoded, AreRefused}
 use Rattle.ipc_append_stream.specs.Puts.{AreGiven, NotEnded, OneNotGiven, PutCause, chunk_bytes}
-use Rattle.ipc_append_stream.specs.Targets.{DoesNotTake, HoldsDictionaries, LacksDictionaries, Takes}
+use Rattle.ipc_append_stream.specs.Targets.{DoesNotTake, HasOtherFields, HoldsDictionaries, LacksDictionaries, Takes}
 
 -- ── before the disk is changed ──
 
@@ -97,11 +97,16 @@ IsNotAppended old new e asked s faults faults' =
     ((NotPrepared old e asked s faults faults' ⊎ NotContinued old e asked s faults faults') × (new ≡ old))
     ⊎ (NotCut old new e asked s faults faults' ⊎ NotWritten old new e asked s faults faults')
 
--- `ReadFault` and `WriteFault` come only where the disk's faults rose
-abbrev pub FaultsTold : IpcError → ℕ → ℕ → Type 0
-FaultsTold errors.ReadFault faults faults' = Rose faults faults'
-FaultsTold errors.WriteFault faults faults' = Rose faults faults'
-FaultsTold e faults faults' = ⊤
+-- What a refusal says. A fault comes only where the disk's count of them rose, and `SchemaMismatch` only where the file's fields are others than the stream's.
+-- Parts of a dictionary are refused only where no deltas are written. A column that is not there, and a state of a writer, are never told.
+abbrev pub RefusalSays : IpcError → Option (List ℕ) → WriteOptions → WholeStream → ℕ → ℕ → Type 0
+RefusalSays errors.ReadFault content asked s faults faults' = Rose faults faults'
+RefusalSays errors.WriteFault content asked s faults faults' = Rose faults faults'
+RefusalSays errors.SchemaMismatch content asked s faults faults' = HasOtherFields content s.metadata
+RefusalSays errors.NotRepresentable content asked s faults faults' = asked.deltas ≡ false
+RefusalSays (errors.Projection index) content asked s faults faults' = ⊥
+RefusalSays errors.State content asked s faults faults' = ⊥
+RefusalSays e content asked s faults faults' = ⊤
 
 -- ── when all is done ──
 

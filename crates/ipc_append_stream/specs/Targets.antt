@@ -43,15 +43,14 @@ pub record LacksMetadata (content : Option (List ℕ)) (e : IpcError) (faults fa
   pub refused : IfSome content (λ b. (r : Request) → Refuses e (refusals (file_reading to_send b r None)))
 
 -- its fields are others than the stream's
-pub record HasOtherFields (content : Option (List ℕ)) (e : IpcError) (s : StreamMetadata) : Type 0 where
-  pub is : e ≡ SchemaMismatch
+pub record HasOtherFields (content : Option (List ℕ)) (s : StreamMetadata) : Type 0 where
   pub file : FileMetadata
   pub metadata : IsMetadata content file
   pub others : HaveSameFields file s → ⊥
 
 -- why it does not take the stream
 abbrev pub DoesNotTake : Option (List ℕ) → IpcError → StreamMetadata → ℕ → ℕ → Type 0
-DoesNotTake content e s faults faults' = LacksMetadata content e faults faults' ⊎ HasOtherFields content e s
+DoesNotTake content e s faults faults' = LacksMetadata content e faults faults' ⊎ ((e ≡ SchemaMismatch) × HasOtherFields content s)
 
 -- ── its dictionaries ──
 

@@ -1,7 +1,7 @@
 //! A stream's record batches, appended to a file on a disk.
 ghost use Rattle.std.specs.Prelude.{◌≡◌, ◌≤◌, IfErr, IfOk, MatchResult, Ok, length, true};
 ghost use Rattle.arrow_spec.specs.declared.error.IpcError.TheVariants.{WriteFault};
-ghost use Rattle.ipc_append_stream.specs.Appended.{EndsDisk, FaultsTold, IsAppended, IsNotAppended, IsWritten, StopsOnDisk, WritesNot};
+ghost use Rattle.ipc_append_stream.specs.Appended.{EndsDisk, IsAppended, IsNotAppended, IsWritten, RefusalSays, StopsOnDisk, WritesNot};
 ghost use Rattle.ipc_file_writer.specs.Begun.{MayEnd};
 ghost use Rattle.ipc_files.specs.FileViews.{IsReadable};
 ghost use Rattle.ipc_disk.specs.Disks.{below};
@@ -99,7 +99,7 @@ pub fn append_stream<D: Disk>(
 ) -> Result<u64, IpcError>
     ensures appended { IfOk result (λ n. (n ≡ length stream.now.batches.items) × IsAppended (D.content disk.old) (D.content disk.new) options stream.now) }
     ensures refused { IfErr result (λ e. IsNotAppended (D.content disk.old) (D.content disk.new) e options stream.now (D.faults disk.old) (D.faults disk.new)) }
-    ensures cause { IfErr result (λ e. FaultsTold e (D.faults disk.old) (D.faults disk.new)) }
+    ensures says { IfErr result (λ e. RefusalSays e (D.content disk.old) options stream.now (D.faults disk.old) (D.faults disk.new)) }
     ensures faults { D.faults disk.old ≤ D.faults disk.new }
     ensures same_references { D.references disk.new ≡ D.references disk.old }
 {

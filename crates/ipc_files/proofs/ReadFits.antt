@@ -70,6 +70,7 @@ was_read m footer may ids same schema ipc shapes most none =
     let is : SchemaMayBeWritten (meta_view m).schema.fields (meta_view m).schema.metadata = subst (λ (x : Meta). SchemaMayBeWritten x.schema.fields x.schema.metadata) (sym same) may in
     record {
       may = is;
+      ids = subst (λ (x : Meta). IdsMayBeWritten x.schema.fields) (sym same) ids;
       custom = subst CustomMayBeWritten (sym (ap metadata_of none)) (record { ascend = tt; few = omega arith });
       readable = record {
         shapes = rw (schema, ipc) shapes;

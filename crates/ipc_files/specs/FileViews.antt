@@ -6,7 +6,7 @@ use Rattle.arrow_spec.specs.declared.error.IpcError.TheVariants.{OutOfSpec, Unsu
 use Rattle.arrow_spec.specs.Files.{Meta, custom_of, meta_of}
 use Rattle.arrow_spec.specs.Kinds.{Metadata, uses_in}
 use Rattle.arrow_spec.specs.Schema.{uses_agree}
-use Rattle.arrow_spec.specs.WrittenSchemas.{CustomMayBeWritten, SchemaMayBeWritten}
+use Rattle.arrow_spec.specs.WrittenSchemas.{CustomMayBeWritten, IdsMayBeWritten, SchemaMayBeWritten}
 use Rattle.arrow_types.specs.Schemas.{fields_in}
 use Rattle.ipc_fields.specs.IpcFields.{have_shapes, ids_of, metadata_of, schema_view}
 use Rattle.ipc_io.specs.Outside.{Rose}
@@ -38,9 +38,10 @@ pub record IsReadable (m : FileMetadata) : Type 0 where
   pub agree : uses_agree [] (uses_in (meta_view m).schema.fields) ≡ Ok tt
   pub most : m.size < 2 ^ 63
 
--- metadata that was read of bytes: its schema and its pairs may be written too
+-- metadata that was read of bytes: its schema, the ids of its dictionaries and its pairs may be written too
 pub record WasRead (m : FileMetadata) : Type 0 where
   pub may : SchemaMayBeWritten (meta_view m).schema.fields (meta_view m).schema.metadata
+  pub ids : IdsMayBeWritten (meta_view m).schema.fields
   pub custom : CustomMayBeWritten (file_custom m)
   pub readable : IsReadable m
 

@@ -5,7 +5,7 @@ use Rattle.std.specs.Io.KnownBytes.{Appends, Keeps}
 use Rattle.arrow_spec.specs.declared.error.IpcError.{IpcError}
 use Rattle.arrow_spec.specs.declared.error.IpcError.TheVariants as errors
 use Rattle.arrow_spec.specs.Words.{Held}
-use Rattle.ipc_append_stream.specs.Appended.{FaultsTold, IsNotAppended}
+use Rattle.ipc_append_stream.specs.Appended.{IsNotAppended, RefusalSays}
 use Rattle.ipc_append_stream.specs.declared.stream.WholeStream.{WholeStream}
 use Rattle.ipc_disk.specs.Places.{IsReplaced}
 use Rattle.ipc_io.specs.Outside.{Closes, IsHeld, Rose}
@@ -26,21 +26,25 @@ closed_rose : (first failures before mid after : ℕ) → first ≡ 0 → before
 closed_rose first failures before mid after z le c r = rose_on before mid after le (c.rose (rose_above first failures z r))
 
 -- failures of a place that was closed are told by the shelf's count
-told_closed : (e : IpcError) (first failures before mid after : ℕ) → first ≡ 0 → before ≤ mid → Closes failures mid after → FaultsTold e first failures → FaultsTold e before after
-told_closed errors.ReadFault first failures before mid after z le c r = closed_rose first failures before mid after z le c r
-told_closed errors.WriteFault first failures before mid after z le c r = closed_rose first failures before mid after z le c r
-told_closed e first failures before mid after z le c r = tt
+says_closed : (e : IpcError) (content : Option (List ℕ)) (o : WriteOptions) (s : WholeStream) (first failures before mid after : ℕ) → first ≡ 0 → before ≤ mid → Closes failures mid after → RefusalSays e content o s first failures → RefusalSays e content o s before after
+says_closed errors.ReadFault content o s first failures before mid after z le c r = closed_rose first failures before mid after z le c r
+says_closed errors.WriteFault content o s first failures before mid after z le c r = closed_rose first failures before mid after z le c r
+says_closed errors.SchemaMismatch content o s first failures before mid after z le c r = r
+says_closed errors.NotRepresentable content o s first failures before mid after z le c r = r
+says_closed (errors.Projection index) content o s first failures before mid after z le c r = r
+says_closed errors.State content o s first failures before mid after z le c r = r
+says_closed e content o s first failures before mid after z le c r = tt
 
 -- a place that was closed behind an append that was refused
 pub place_left : (t : List ℕ) (e : IpcError) (old mid new : Option Held) (s : WholeStream) (content behind : Option (List ℕ)) (o : WriteOptions) (first failures before opened after : ℕ)
-    → IsHeld old t content → first ≡ 0 → o ≡ append_options → IsNotAppended content behind e o s first failures → FaultsTold e first failures → before ≤ opened → Closes failures opened after → mid ≡ old → IsReplaced mid new t behind → PlaceNotAppended t e old new s before after
-place_left t e old mid new s content behind o first failures before opened after was z is refused told le closed kept now = record {
+    → IsHeld old t content → first ≡ 0 → o ≡ append_options → IsNotAppended content behind e o s first failures → RefusalSays e content o s first failures → before ≤ opened → Closes failures opened after → mid ≡ old → IsReplaced mid new t behind → PlaceNotAppended t e old new s before after
+place_left t e old mid new s content behind o first failures before opened after was z is refused says le closed kept now = record {
   content = content;
   behind = behind;
   was = was;
   failures = failures;
   refused = subst (λ f. IsNotAppended content behind e append_options s f failures) z (subst (λ x. IsNotAppended content behind e x s first failures) is refused);
-  told = told_closed e first failures before opened after z le closed told;
+  says = subst (λ x. RefusalSays e content x s before after) is (says_closed e content o s first failures before opened after z le closed says);
   is = subst (λ h. IsReplaced h new t behind) kept now;
 }
 

@@ -1,3 +1,4 @@
+pub mod AppendRefusals
 pub mod AppendSteps
 pub mod Adding
 pub mod Completing

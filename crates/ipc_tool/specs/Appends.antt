@@ -4,7 +4,7 @@ use Rattle.std.specs.Io.KnownBytes.{Keeps}
 use Rattle.arrow_spec.specs.declared.error.IpcError.{IpcError}
 use Rattle.arrow_spec.specs.declared.error.IpcError.TheVariants as errors
 use Rattle.arrow_spec.specs.Words.{Held, bytes_of_hex}
-use Rattle.ipc_append_stream.specs.Appended.{FaultsTold, IsAppended, IsNotAppended}
+use Rattle.ipc_append_stream.specs.Appended.{IsAppended, IsNotAppended, RefusalSays}
 use Rattle.ipc_append_stream.specs.Wholes.{IsWhole, RefusesStream}
 use Rattle.ipc_append_stream.specs.declared.stream.WholeStream.{WholeStream}
 use Rattle.ipc_disk.specs.Places.{IsReplaced}
@@ -66,7 +66,7 @@ pub record PlaceNotAppended (target : List ℕ) (e : IpcError) (old new : Option
   pub was : IsHeld old target content
   pub failures : ℕ
   pub refused : IsNotAppended content behind e append_options s 0 failures
-  pub told : FaultsTold e faults faults'
+  pub says : RefusalSays e content append_options s faults faults'
   pub is : IsReplaced old new target behind
 
 -- why nothing is appended under the name

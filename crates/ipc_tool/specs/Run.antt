@@ -7,7 +7,8 @@ use Rattle.arrow_spec.specs.Meaning.{file_table, may}
 use Rattle.arrow_spec.specs.Files.{Request}
 use Rattle.arrow_spec.specs.Words.{Held, source_of}
 use Rattle.ipc_tool.specs.Asked.{Command, StreamAsked, TextAsked, of_append, of_stream, of_text}
-use Rattle.ipc_io.specs.Outside.{Rose, Stands, Lacks, AppendsPrefix}
+use Rattle.ipc_io.specs.Outside.{Rose, Stands, Lacks, AppendsPrefix, IsHeld}
+use Rattle.ipc_append_stream.specs.Targets.{HasOtherFields}
 use Rattle.ipc_append_stream.specs.declared.stream.WholeStream.{WholeStream}
 use Rattle.ipc_tool.specs.Appends.{CountRefused, InputCause, IsReadStream, KeepsOthers, PlaceAppended, PlaceRefused, count_text}
 use Rattle.ipc_tool.specs.Refusal.{number_of, line_of}
@@ -212,10 +213,23 @@ pub record StopsAtCount (e : Refusal) (target : List ℕ) (old new : Outside) : 
 abbrev pub AppendCause : Refusal → List ℕ → Outside → Outside → Type 0
 AppendCause e target old new = StopsAtInput e old new ⊎ (StopsAtPlace e target old new ⊎ StopsAtCount e target old new)
 
--- what its refusal says of the devices and of the input
+-- the fields of what stands under the name are others than those of the input's stream
+pub record HasOthers (target : List ℕ) (old : Outside) : Type 0 where
+  pub stream : WholeStream
+  pub read : IsReadStream old.rest stream
+  pub content : Option (List ℕ)
+  pub was : IsHeld old.held target content
+  pub others : HasOtherFields content stream.metadata
+
+-- What its refusal says. A device that failed has its count, and a mismatch of schemas is of fields that differ.
+-- A column that is not there, dictionaries that cannot be said and a state of a writer are never told.
 abbrev pub AppendSays : Refusal → List ℕ → Outside → Outside → Type 0
 AppendSays (Ipc errors.ReadFault) target old new = Rose old.input_faults new.input_faults ⊎ Rose old.shelf_faults new.shelf_faults
 AppendSays (Ipc errors.WriteFault) target old new = Rose old.shelf_faults new.shelf_faults ⊎ Rose old.output_faults new.output_faults
+AppendSays (Ipc errors.SchemaMismatch) target old new = HasOthers target old
+AppendSays (Ipc (errors.Projection index)) target old new = ⊥
+AppendSays (Ipc errors.NotRepresentable) target old new = ⊥
+AppendSays (Ipc errors.State) target old new = ⊥
 AppendSays (Ipc e) target old new = ⊤
 AppendSays Words target old new = ⊥
 AppendSays NotHex target old new = IsNoHex old.rest new.rest

@@ -1,5 +1,5 @@
 -- What one call that reads and writes a batch comes to.
-use Rattle.std.proofs.Common.{◌≡◌, inl, inr, ℕ, ◌<◌, List, ◌⊎◌, length, true, false, Option, Some, None, Result, Ok, Err, refl, sym, ap, ◌∙◌, subst, arith, slice_get}
+use Rattle.std.proofs.Common.{◌≡◌, inl, inr, ℕ, ◌<◌, List, Bool, ◌⊎◌, length, true, false, Option, Some, None, Result, Ok, Err, refl, sym, ap, ◌∙◌, subst, arith, slice_get}
 use Rattle.std.specs.Prelude.{IfErr, IfSome}
 use Rattle.std.specs.Rc.{rc_value}
 use Rattle.arrow_spec.specs.declared.error.IpcError.{IpcError}
@@ -22,7 +22,9 @@ use Rattle.ipc_stream_writer.specs.Calls.{HasWritten, LeavesAll, WriteCause, Wri
 use Rattle.ipc_stream_writer.specs.declared.stream.StreamCore.{StreamCore}
 use Rattle.sent_dictionaries.specs.Laws.{ColumnsAreRight, FileDictionariesAreSent}
 use Rattle.ipc_transcode.specs.Sends.{IsNamed, IsReadBy, IsWriter, Refused, SendCause, Sending, SendsNext, SendsOne, SentSoFar, as_damage, meta_in, schema_of_reader}
-use Rattle.chunk_laws.proofs.Causes.{IsOfChunk, batch_refused}
+use Rattle.ipc_dictionaries.specs.Columns.{columns_of}
+use Rattle.ipc_fields.specs.IpcFields.{ids_of}
+use Rattle.chunk_laws.proofs.Causes.{IsOfChunk, batch_refused, fault_is}
 use Rattle.ipc_transcode.proofs.NextBatches.{Answer, block_there, blocks_as, fields_by, none_left, read_refused, same_place, step}
 use Rattle.ipc_transcode.proofs.Writes.{refused, written}
 
@@ -143,20 +145,24 @@ module _ {S : Type 0} (content_of : S → Option (List ℕ)) (faults_of fetched_
 
 -- ── causes ──
 
-chunk_cause : (e : IpcError) (reads reads' writes writes' : ℕ) → IsOfChunk e → SendCause (as_damage e) reads reads' writes writes'
-chunk_cause errors.ReadFault reads reads' writes writes' h = absurd h
-chunk_cause errors.WriteFault reads reads' writes writes' h = absurd h
-chunk_cause errors.State reads reads' writes writes' h = absurd h
-chunk_cause errors.TooLarge reads reads' writes writes' h = tt
-chunk_cause errors.Memory reads reads' writes writes' h = tt
-chunk_cause (errors.OutOfSpec x) reads reads' writes writes' h = tt
-chunk_cause (errors.Unsupported x) reads reads' writes writes' h = tt
-chunk_cause errors.TooDeep reads reads' writes writes' h = tt
-chunk_cause (errors.TooMany x) reads reads' writes writes' h = tt
-chunk_cause (errors.Projection x) reads reads' writes writes' h = tt
-chunk_cause errors.SchemaMismatch reads reads' writes writes' h = tt
-chunk_cause (errors.DictionaryReplaced x) reads reads' writes writes' h = tt
-chunk_cause errors.NotRepresentable reads reads' writes writes' h = tt
+chunk_cause : (d : Bool) (e : IpcError) (reads reads' writes writes' : ℕ) → IsOfChunk d e → SendCause (as_damage e) reads reads' writes writes'
+chunk_cause d errors.ReadFault reads reads' writes writes' h = absurd h
+chunk_cause d errors.WriteFault reads reads' writes writes' h = absurd h
+chunk_cause d errors.State reads reads' writes writes' h = absurd h
+chunk_cause d errors.SchemaMismatch reads reads' writes writes' h = absurd h
+chunk_cause d (errors.Projection x) reads reads' writes writes' h = absurd h
+chunk_cause d errors.TooLarge reads reads' writes writes' h = tt
+chunk_cause d errors.Memory reads reads' writes writes' h = tt
+chunk_cause d (errors.OutOfSpec x) reads reads' writes writes' h = tt
+chunk_cause d (errors.Unsupported x) reads reads' writes writes' h = tt
+chunk_cause d errors.TooDeep reads reads' writes writes' h = tt
+chunk_cause d (errors.TooMany x) reads reads' writes writes' h = tt
+chunk_cause d (errors.DictionaryReplaced x) reads reads' writes writes' h = tt
+chunk_cause d errors.NotRepresentable reads reads' writes writes' h = tt
+
+fault_cause : (e : IpcError) (reads reads' writes writes' : ℕ) → (e ≡ errors.SchemaMismatch) ⊎ (e ≡ errors.NotRepresentable) → SendCause (as_damage e) reads reads' writes writes'
+fault_cause e reads reads' writes writes' (inl is) = subst (λ z. SendCause (as_damage z) reads reads' writes writes') (sym is) tt
+fault_cause e reads reads' writes writes' (inr is) = subst (λ z. SendCause (as_damage z) reads reads' writes writes') (sym is) tt
 
 pub put_cause : (e : IpcError) (m : Moved) (bs : List ℕ) (reads reads' : ℕ) → PutsPart m e bs → SendCause (as_damage e) reads reads' m.faults m.faults_now
 put_cause errors.ReadFault m bs reads reads' p = absurd p
@@ -182,4 +188,7 @@ write_cause r e w w' m y reads reads' is started h = subst (λ z. IfErr z (λ x.
     by (inr failed) = put_cause e m _ reads reads' failed.sends.failed.put
     by (inl (inl never, _)) = let clash : false ≡ true = sym never.1 ∙ started in cc
     by (inl (inr (_, inl mismatch), _)) = subst (λ z. SendCause (as_damage z) reads reads' m.faults m.faults_now) (sym mismatch.0) tt
-    by (inl (inr (_, inr why), _)) = chunk_cause e reads reads' m.faults m.faults_now (batch_refused e w.options w.tracker y _ why.1)
+    by (inl (inr (_, inr why), _)) =
+        let below = ids_of w.fields.items in
+        let cause = batch_refused e w.options w.tracker y below why.1 in
+        elim cause [ inl fault ↦ fault_cause e reads reads' m.faults m.faults_now (fault_is (columns_of (forest y.arrays)) below e fault) | inr of ↦ chunk_cause w.tracker.deltas e reads reads' m.faults m.faults_now of ]

@@ -7,7 +7,7 @@ use Rattle.arrow_spec.specs.Kinds as kind
 use Rattle.arrow_spec.specs.Kinds.{Kind, Fields, Metadata, none, field, width, same, are_same_ids, numbered, uses_in, uses_of}
 use Rattle.arrow_spec.specs.Schema.{are_ids, counted_ids}
 use Rattle.arrow_spec.specs.Regular.{is_dictionary_id, is_no_dictionary, is_representable_kind, is_size, representable}
-use Rattle.arrow_spec.specs.WrittenSchemas.{AreIds, AreStated, FieldsFit, KindFits, Part, SchemaMayBeWritten, of_dictionary, of_extension, of_field, own_fields, own_kind}
+use Rattle.arrow_spec.specs.WrittenSchemas.{AreIds, AreStated, FieldsFit, IdsMayBeWritten, KindFits, Part, SchemaMayBeWritten, of_dictionary, of_extension, of_field, own_fields, own_kind}
 use Rattle.arrow_spec.proofs.ExtensionPairs.{own_same}
 use Rattle.arrow_spec.proofs.NumberedFields.{numbered_may}
 use Rattle.ipc_dictionaries.specs.Shapes.{are_apart, is_apart}
@@ -149,8 +149,9 @@ mutual
       let both = split (λ u. FitsSigned w64 u.id) (uses_of k) (uses_in others) ok in
       and_from (is_representable_kind k && fits_below k) (all_fit others) (and_from (is_representable_kind k) (fits_below k) (kind_said of_field levels k fit.2 both.0) (below_said of_field levels k fit.2 both.0)) (fields_said (suc levels) others fit.3 both.1)
 
--- the fields of a schema that may be written can be said under ids that count from 0
+-- the fields of a schema that may be written can be said where their ids may, as those that count from 0
+pub may_be_said : (fs : Fields) (pairs : Metadata) → SchemaMayBeWritten fs pairs → IdsMayBeWritten fs → representable fs ≡ true
+may_be_said fs pairs may own = representable_is fs ∙ fields_said 64 fs may.fit own.within
+
 pub can_be_said : (fs : Fields) (pairs : Metadata) → SchemaMayBeWritten fs pairs → representable (numbered fs 0) ≡ true
-can_be_said fs pairs may =
-    let own = numbered_may fs pairs may in
-    representable_is (numbered fs 0) ∙ fields_said 64 (numbered fs 0) own.0.fit own.1.within
+can_be_said fs pairs may = let own = numbered_may fs pairs may in may_be_said (numbered fs 0) pairs own.0 own.1

@@ -1,0 +1,36 @@
+"""What the programs share that run the built ones on random files."""
+import random
+import subprocess
+from pathlib import Path
+
+
+class Programs:
+    """The program and the one that writes again, run in a folder."""
+
+    def __init__(self, program, rewrite, folder):
+        self.program, self.rewrite, self.folder = program, rewrite, Path(folder)
+
+    def again(self, word, source, target):
+        done = subprocess.run([self.rewrite, word, source, target], capture_output=True, cwd=self.folder)
+        return done.stderr.decode() or None
+
+    def append(self, name, stream):
+        return subprocess.run([self.program, "append", name], input=stream.hex().encode(), capture_output=True, cwd=self.folder)
+
+    def stream_of(self, name):
+        return subprocess.run([self.program, "stream", "--raw", name], capture_output=True, cwd=self.folder).stdout
+
+    def bytes_of(self, name):
+        return (self.folder / name).read_bytes()
+
+
+def drive(differs, count, seed):
+    """Prints what differs among so many random cases, and how many do. Answers the status: 0 where none does."""
+    wrong = 0
+    for i in range(count):
+        found = differs(random.Random(seed * 100000 + i))
+        if found:
+            wrong += 1
+            print(i, *found)
+    print(count, "files,", wrong, "differ")
+    return 1 if wrong else 0
