@@ -50,29 +50,17 @@ fn write_batches(
     Ok(())
 }
 
-/// Writes the record batches behind a schema message.
-fn write_behind(
-    alloc: Global,
-    feed: MemoryFeed,
-    metadata: StreamMetadata,
-    writer: &mut StreamWriter<MemorySink>,
-) -> Result<(), IpcError> {
-    match StreamReader::new(alloc, feed, metadata, None) {
-        Ok(opened) => {
-            let mut reader = opened;
-            write_batches(&mut reader, writer)
-        }
-        Err(refused) => Err(refused.error),
-    }
-}
-
 /// A stream with the same batches, ids and pairs.
 pub(crate) fn stream_again(alloc: Global, bytes: Vec<u8>) -> Result<MemorySink, IpcError> {
     let mut feed = MemoryFeed::new(bytes, 65_536, Vec::new(alloc));
     let metadata = read_stream_metadata(alloc, &mut feed)?;
     let heading = heading_of(metadata.try_clone(alloc)?);
+    let mut reader = match StreamReader::new(alloc, feed, metadata, None) {
+        Ok(reader) => reader,
+        Err(refused) => return Err(refused.error),
+    };
     let mut writer = stream_writer(alloc, heading, true)?;
-    write_behind(alloc, feed, metadata, &mut writer)?;
+    write_batches(&mut reader, &mut writer)?;
     writer.finish()?;
     Ok(writer.into_inner())
 }
