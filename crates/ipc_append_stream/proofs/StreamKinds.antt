@@ -1,6 +1,5 @@
 -- The kinds of a file's and of a stream's fields, and of the columns of the stream's batches.
-use Rattle.std.proofs.Common.{◌≡◌, ◌∙◌, ℕ, zero, suc, ◌<◌, ◌≤◌, List, [], ◌∷◌, length, map, slice_get, All, true, Option, None, Some, refl, sym, ap, arith}
-use Rattle.std.specs.List.{list_all}
+use Rattle.std.proofs.Common.{◌≡◌, ◌∙◌, ℕ, zero, suc, ◌<◌, ◌≤◌, List, [], ◌∷◌, length, map, slice_get, All, true, refl, sym, ap, arith}
 use Rattle.std.proofs.lemmas.Bool.{and_from, and_parts}
 use Rattle.std.proofs.lemmas.List.Elements.{All-head, All-tail}
 use Rattle.arrow_spec.specs.Kinds as kind
@@ -10,14 +9,12 @@ use Rattle.arrow_types.specs.KindOf.{child_of}
 use Rattle.arrow_types.specs.Schemas.{Keyed, fields_in}
 use Rattle.arrow_types.specs.declared.data_type.Field.{Field}
 use Rattle.arrow_arrays.specs.Batches.{Batch}
-use Rattle.arrow_arrays.specs.Parts.{Parts, forest, kind_in}
-use Rattle.ipc_dictionaries.specs.Columns.{columns_of}
-use Rattle.ipc_fields.proofs.SameKinds.{form, forms, same_by_form, same_itself, same_through}
-use Rattle.ipc_read.specs.Batches.{kinds_of}
+use Rattle.ipc_fields.proofs.SameKinds.{form, forms, same_by_form, same_through}
 use Rattle.ipc_read_laws.specs.PlainKinds.{plain_fields, plain_kind}
 use Rattle.ipc_read_laws.proofs.PlainTypes.{plain_of}
 use Rattle.ipc_read.proofs.Places.{kind_of_child}
-use Rattle.ipc_streams.specs.Readers.{HasFields}
+use Rattle.ipc_files.specs.Selections.{HasFields}
+use Rattle.sent_dictionaries.proofs.Right.{kinds_of_schema}
 use Rattle.ipc_append_stream.specs.Bare.{AreOfOneKind, bare_child}
 use Rattle.ipc_append_stream.specs.Columns.{are_of, is_of}
 
@@ -71,15 +68,6 @@ all_of_one_kind (p ∷ ps) (q ∷ qs) (suc n) l m h =
 
 -- ── columns ──
 
-columns_kinds : (s : List Keyed) (ps : List Parts) → map kind_in ps ≡ kinds_of s → have_same_kinds (fields_in s) (columns_of (forest ps)) ≡ true
-columns_kinds [] [] e = refl
-columns_kinds [] (p ∷ ps) e = cc
-columns_kinds (q ∷ qs) [] e = cc
-columns_kinds (q ∷ qs) (p ∷ ps) e =
-    let one : kind_in p ≡ q.1.kind = cc in
-    let others : map kind_in ps ≡ kinds_of qs = cc in
-    and_from (is_same_kind q.1.kind (kind_in p)) (have_same_kinds (fields_in qs) (columns_of (forest ps))) (ap (is_same_kind q.1.kind) one ∙ same_itself q.1.kind) (columns_kinds qs ps others)
-
 pub batches_of : (s : List Keyed) (bs : List Batch) → All (λ (x : Batch). HasFields x s) bs → are_of (fields_in s) bs ≡ true
 batches_of s [] h = refl
-batches_of s (b ∷ bs) h = and_from (is_of (fields_in s) b) (are_of (fields_in s) bs) (columns_kinds s b.arrays (All-head (λ (x : Batch). HasFields x s) b bs h).kinds) (batches_of s bs (All-tail (λ (x : Batch). HasFields x s) b bs h))
+batches_of s (b ∷ bs) h = and_from (is_of (fields_in s) b) (are_of (fields_in s) bs) (kinds_of_schema s b.arrays (All-head (λ (x : Batch). HasFields x s) b bs h).kinds) (batches_of s bs (All-tail (λ (x : Batch). HasFields x s) b bs h))

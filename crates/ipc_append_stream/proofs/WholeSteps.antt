@@ -15,7 +15,7 @@ use Rattle.arrow_arrays.specs.Batches.{Batch}
 use Rattle.arrow_types.specs.Schemas.{Keyed, fields_in}
 use Rattle.ipc_append_stream.proofs.Handed.{handed}
 use Rattle.ipc_files.specs.FileViews.{FileCause}
-use Rattle.ipc_files.specs.Selections.{MayProject, schema_shown}
+use Rattle.ipc_files.specs.Selections.{HasFields, MayProject, schema_shown}
 use Rattle.ipc_projection.specs.declared.projection.ProjectionInfo.{ProjectionInfo}
 use Rattle.ipc_read.specs.Batches.{table_of}
 use Rattle.ipc_read.specs.Held.{held_in}
@@ -23,7 +23,7 @@ use Rattle.ipc_read_laws.specs.Held.{HoldsCells, none_held}
 use Rattle.ipc_read_laws.proofs.Keys.{holds_none}
 use Rattle.ipc_streams.specs.Feeds.{FeedKept}
 use Rattle.ipc_streams.specs.Nexts.{GivesNext, NextState, answer_of}
-use Rattle.ipc_streams.specs.Readers.{HasFields, IsReader, fields_shown}
+use Rattle.ipc_streams.specs.Readers.{IsReader, fields_shown}
 use Rattle.ipc_streams.specs.Starts.{GivesStart, Start, start_view, stream_schema}
 use Rattle.ipc_streams.specs.Steps.{Nexts, most_dictionaries, next_in, none_left, none_yet, one_more}
 use Rattle.ipc_streams.specs.declared.columns.StreamColumns.{StreamColumns}

@@ -19,7 +19,8 @@ use Rattle.ipc_read.specs.Batches.{table_of}
 use Rattle.ipc_read.specs.Held.{held_in}
 use Rattle.ipc_read_laws.specs.Held.{HoldsCells}
 use Rattle.ipc_streams.specs.Feeds.{FeedKept}
-use Rattle.ipc_streams.specs.Readers.{HasFields, fields_shown}
+use Rattle.ipc_files.specs.Selections.{HasFields}
+use Rattle.ipc_streams.specs.Readers.{fields_shown}
 use Rattle.ipc_streams.specs.Starts.{Start, start_in, start_view, stream_schema}
 use Rattle.ipc_streams.specs.Steps.{Nexts, a_batch, most_dictionaries, next_in}
 use Rattle.ipc_streams.specs.declared.columns.StreamColumns.{StreamColumns}

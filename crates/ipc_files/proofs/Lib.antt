@@ -17,6 +17,7 @@ pub mod FieldWidths
 pub mod Picked
 pub mod Selected
 pub mod InOrder
+pub mod ShownFields
 pub mod FileDictionaries
 pub mod ReadColumns
 pub mod HeldUses

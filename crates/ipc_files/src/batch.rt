@@ -1,12 +1,13 @@
 //! The record batches of a file, one by one.
-ghost use Rattle.std.specs.Prelude.{◌≡◌, ◌+◌, ◌^◌, ◌<◌, [], length, slice_get, true, IfOk, IfErr, IfSome, Some};
+ghost use Rattle.std.specs.Prelude.{◌≡◌, ◌+◌, ◌^◌, ◌<◌, [], length, map, slice_get, true, IfOk, IfErr, IfSome, Some};
 ghost use Rattle.std.specs.Rc.{rc_value};
 ghost use Rattle.arrow_spec.specs.Arrays.{Dictionaries as History};
 ghost use Rattle.arrow_spec.specs.Features.{chosen_floats};
 ghost use Rattle.arrow_spec.specs.Files.{FileBlock};
 ghost use Rattle.arrow_spec.specs.Readings.{Gives};
+ghost use Rattle.arrow_arrays.specs.Parts.{kind_in};
 ghost use Rattle.ipc_io.specs.Outside.{IsSize, SourceKept};
-ghost use Rattle.ipc_read.specs.Batches.{table_of};
+ghost use Rattle.ipc_read.specs.Batches.{kinds_of, table_of};
 ghost use Rattle.ipc_read.specs.Held.{held_in};
 ghost use Rattle.ipc_read.specs.Projection.{are_columns, are_rising, chosen, columns_of};
 ghost use Rattle.ipc_read_laws.specs.Held.{HoldsCells};
@@ -57,6 +58,7 @@ pub fn read_block<S: Source>(
     ensures gives { IfSome (S.content source.old) (λ b. (d : History) → HoldsCells d (held_in dictionaries.now) → ReadsBlock b (held_in dictionaries.now) (asked_under b (meta_view file.now) d (asked (columns_of projection.entry) left)) (file_block block.now) left result) }
     ensures few { IfOk result (λ x. x.height < 2 ^ 63) }
     ensures schema { IfOk result (λ x. x.schema ≡ chosen (columns_of projection.entry) 0 (rc_value file.now.schema)) }
+    ensures kinds { IfOk result (λ x. map kind_in x.arrays ≡ chosen (columns_of projection.entry) 0 (kinds_of (rc_value file.now.schema))) }
     ensures cause { IfErr result (λ e. FileCause e (S.faults source.old) (S.faults source.new)) }
     ensures fetched { BlockFetched (S.content source.old) (meta_view file.now) (asked (columns_of projection.entry) left) (file_block block.now) left (S.fetched source.old) (S.fetched source.new) }
     ensures kept { SourceKept S.content S.faults S.references source.old source.new }
@@ -112,6 +114,7 @@ pub fn read_batch<S: Source>(
     ensures gives { (block : FileBlock) → slice_get (meta_view metadata.now).blocks index ≡ Some block → IfSome (S.content source.old) (λ b. (d : History) → HoldsCells d (held_in dictionaries.now) → Gives table_of result (batch_in (asked (columns_of projection.entry) limit) b (meta_view metadata.now) d block)) }
     ensures read { (block : FileBlock) → slice_get (meta_view metadata.now).blocks index ≡ Some block → IfOk result (λ x. IfSome (S.content source.old) (λ b. BatchRead b (held_in dictionaries.now) (meta_view metadata.now) (asked (columns_of projection.entry) limit) block x)) }
     ensures schema { IfOk result (λ x. x.schema ≡ chosen (columns_of projection.entry) 0 (rc_value metadata.now.schema)) }
+    ensures kinds { IfOk result (λ x. map kind_in x.arrays ≡ chosen (columns_of projection.entry) 0 (kinds_of (rc_value metadata.now.schema))) }
     ensures cause { IfErr result (λ e. FileCause e (S.faults source.old) (S.faults source.new)) }
 
     // Of a block that means a batch, its prefix, its metadata and the buffers that are looked at are fetched, of columns that are asked for alone, and no buffer where there are no rows.

@@ -15,7 +15,7 @@ ghost use Rattle.ipc_files.specs.Blocks.{batch_in, BatchRead};
 ghost use Rattle.ipc_files.specs.Fetching.{BlockFetched};
 ghost use Rattle.ipc_files.specs.FileDictionaries.{HoldsUses};
 ghost use Rattle.ipc_files.specs.FileViews.{meta_view, FileCause, IsReadable};
-ghost use Rattle.ipc_files.specs.Selections.{IsMade, MayProject, numbers_read, schema_shown};
+ghost use Rattle.ipc_files.specs.Selections.{HasFields, IsMade, MayProject, numbers_read, schema_shown};
 ghost use Rattle.ipc_files.specs.Requests.{asked};
 
 use crate::batch::read_batch;
@@ -79,7 +79,7 @@ pub fn read_projected_batch<S: Source>(
     // The batch is what the block means under the dictionaries whose cells are held, the columns that were asked for and the limit, or a refusal of its.
     ensures gives { (columns : Option (List ℕ)) (block : FileBlock) → MayProject (rc_value metadata.now.schema) columns (option_copied projection.entry) → slice_get (meta_view metadata.now).blocks index ≡ Some block → IfSome (S.content source.old) (λ b. (d : History) → HoldsCells d (held_in dictionaries.now) → Gives table_of result (batch_in (asked columns limit) b (meta_view metadata.now) d block)) }
     ensures read { (columns : Option (List ℕ)) (block : FileBlock) → MayProject (rc_value metadata.now.schema) columns (option_copied projection.entry) → slice_get (meta_view metadata.now).blocks index ≡ Some block → IfOk result (λ x. IfSome (S.content source.old) (λ b. BatchRead b (held_in dictionaries.now) (meta_view metadata.now) (asked columns limit) block x)) }
-    ensures schema { (columns : Option (List ℕ)) → MayProject (rc_value metadata.now.schema) columns (option_copied projection.entry) → IfOk result (λ x. x.schema ≡ schema_shown (rc_value metadata.now.schema) (option_copied projection.entry)) }
+    ensures schema { (columns : Option (List ℕ)) → MayProject (rc_value metadata.now.schema) columns (option_copied projection.entry) → IfOk result (λ x. HasFields x (schema_shown (rc_value metadata.now.schema) (option_copied projection.entry))) }
     ensures cause { IfErr result (λ e. FileCause e (S.faults source.old) (S.faults source.new)) }
 
     // No more is fetched than these columns of the block cost.

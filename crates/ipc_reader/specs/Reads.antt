@@ -12,7 +12,7 @@ use Rattle.ipc_files.specs.FileBlocks.{GivesIn, block_header}
 use Rattle.ipc_files.specs.Fetching.{MetadataFetched}
 use Rattle.ipc_files.specs.FileViews.{meta_view, FileCause}
 use Rattle.ipc_files.specs.RowCounts.{MessagesFetched, blocks_passed}
-use Rattle.ipc_files.specs.Selections.{MayProject, schema_shown}
+use Rattle.ipc_files.specs.Selections.{HasFields, MayProject, schema_shown}
 use Rattle.ipc_files.specs.Requests.{asked}
 use Rattle.ipc_reader.specs.Cursors.{block_after, left_after}
 use Rattle.ipc_reader.specs.Kept.{FetchedBy, GivesBy, KeepsFile, KeptAfter, KeptBehind, ReadUnderKept, is_refused}
@@ -30,7 +30,7 @@ module _ {S : Type 0} (content_of : S → Option (List ℕ)) (faults_of fetched_
         → IfOk result (ReadUnderKept (content_of s) (meta_view c.metadata) (asked columns c.left) block c'.dictionaries)
     pub first : c.dictionaries ≡ NotRead → KeepsFile (content_of s) (meta_view c.metadata) c'.dictionaries
     pub dictionaries : (columns : Option (List ℕ)) → MayProject (rc_value c.metadata.schema) columns c.projection → KeptAfter (content_of s) (meta_view c.metadata) columns c.dictionaries c'.dictionaries result
-    pub schema : (columns : Option (List ℕ)) → MayProject (rc_value c.metadata.schema) columns c.projection → IfOk result (λ x. x.schema ≡ schema_shown (rc_value c.metadata.schema) c.projection)
+    pub schema : (columns : Option (List ℕ)) → MayProject (rc_value c.metadata.schema) columns c.projection → IfOk result (λ x. HasFields x (schema_shown (rc_value c.metadata.schema) c.projection))
     pub left : c'.left ≡ c.left
     pub block : c'.block ≡ c.block
     pub projection : c'.projection ≡ c.projection
@@ -53,7 +53,7 @@ module _ {S : Type 0} (content_of : S → Option (List ℕ)) (faults_of fetched_
     -- those that a call reads are the file's, as they came of its blocks
     pub first : c.dictionaries ≡ NotRead → KeepsFile (content_of s) (meta_view c.metadata) c'.dictionaries
     pub dictionaries : (columns : Option (List ℕ)) → MayProject (rc_value c.metadata.schema) columns c.projection → KeptBehind (content_of s) (meta_view c.metadata) columns c.dictionaries c'.dictionaries result
-    pub schema : (columns : Option (List ℕ)) → MayProject (rc_value c.metadata.schema) columns c.projection → IfSome result (λ r. IfOk r (λ x. x.schema ≡ schema_shown (rc_value c.metadata.schema) c.projection))
+    pub schema : (columns : Option (List ℕ)) → MayProject (rc_value c.metadata.schema) columns c.projection → IfSome result (λ r. IfOk r (λ x. HasFields x (schema_shown (rc_value c.metadata.schema) c.projection)))
     pub left : c'.left ≡ left_after c.left result
     pub block : c'.block ≡ block_after c.block result
     pub projection : c'.projection ≡ c.projection

@@ -2,7 +2,6 @@ pub mod Pulled
 pub mod Handed
 pub mod HeadsRead
 pub mod StreamSchemas
-pub mod ShownFields
 pub mod ReadBatches
 pub mod Fronts
 pub mod ReadStarts

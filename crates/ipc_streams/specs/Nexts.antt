@@ -15,7 +15,8 @@ use Rattle.ipc_read.specs.Held.{held_in}
 use Rattle.ipc_files.specs.FileViews.{FileCause}
 use Rattle.ipc_streams.specs.Feeds.{FeedKept}
 use Rattle.ipc_streams.specs.Heads.{is_taken}
-use Rattle.ipc_streams.specs.Readers.{HasFields, IsReader, fields_shown}
+use Rattle.ipc_files.specs.Selections.{HasFields}
+use Rattle.ipc_streams.specs.Readers.{IsReader, fields_shown}
 use Rattle.ipc_streams.specs.Steps.{Found, Next, a_batch, ended, most_dictionaries, next_in, step_within, waiting}
 use Rattle.ipc_streams.specs.declared.cursor.StreamCursor.{StreamCursor}
 use Rattle.ipc_streams.specs.declared.state.StreamState.{StreamState}

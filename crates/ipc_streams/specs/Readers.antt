@@ -1,11 +1,10 @@
 -- What a reader of a stream knows of its columns, and what it reads of a message.
-use Rattle.std.specs.Prelude.{◌≡◌, ℕ, List, [], length, map, None, Result, IfOk}
+use Rattle.std.specs.Prelude.{◌≡◌, ℕ, List, [], length, None, Result, IfOk}
 use Rattle.arrow_spec.specs.declared.error.IpcError.{IpcError}
 use Rattle.arrow_spec.specs.Counts.{first_place}
 use Rattle.arrow_arrays.specs.Batches.{Batch}
-use Rattle.arrow_arrays.specs.Parts.{kind_in}
 use Rattle.ipc_read_laws.specs.Batches.{columns_read}
-use Rattle.ipc_read.specs.Batches.{kinds_of, table_of}
+use Rattle.ipc_read.specs.Batches.{table_of}
 use Rattle.transcode_laws.specs.Files.{AreAsked}
 use Rattle.std.specs.Rc.{rc_value}
 use Rattle.arrow_spec.specs.Arrays.{Dictionaries}
@@ -39,11 +38,6 @@ batch_read s d version custom tables body = batch_of_tables to_read (record {
 -- the fields of the columns, in the order asked
 abbrev pub fields_shown : StreamColumns → List Keyed
 fields_shown c = schema_shown (rc_value c.metadata.schema) c.projection
-
--- a batch has some fields, and columns of their kinds
-pub record HasFields (x : Batch) (s : List Keyed) : Type 0 where
-  pub schema : x.schema ≡ s
-  pub kinds : map kind_in x.arrays ≡ kinds_of s
 
 -- a reader knows the schema, and reads columns in its order: those of the numbers that rise, or all
 pub record IsRising (c : StreamColumns) (s : Reader) : Type 0 where

@@ -16,8 +16,8 @@ ghost use Rattle.ipc_read.specs.DictionaryBatches.{AddsDictionary};
 ghost use Rattle.ipc_read.specs.Held.{held_in};
 ghost use Rattle.ipc_read.specs.Projection.{chosen, columns_of};
 ghost use Rattle.ipc_read.specs.Sources.{Answers, IsRefusal};
-ghost use Rattle.ipc_files.specs.Selections.{numbers_read};
-ghost use Rattle.ipc_streams.specs.Readers.{HasFields, IsReader, IsRising, ReadsRising, batch_read, fields_shown};
+ghost use Rattle.ipc_files.specs.Selections.{HasFields, numbers_read};
+ghost use Rattle.ipc_streams.specs.Readers.{IsReader, IsRising, ReadsRising, batch_read, fields_shown};
 ghost use Rattle.ipc_streams.specs.Starts.{HoldsValues, stream_schema};
 
 use crate::body::HeldBody;

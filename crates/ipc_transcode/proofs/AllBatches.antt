@@ -41,7 +41,7 @@ part_before errors.State x text new wants mid wants' less p = p
 
 -- a refusal, seen from further before
 pub refused_before : (e : IpcError) (x : Sending) (new : Option (List ℕ)) (wants mid wants' : ℕ) → wants ≤ mid → Refused e x new mid wants' → Refused e x new wants wants'
-refused_before e x new wants mid wants' less r = record { named = r.named; refused = r.refused; part = part_before e x _ new wants mid wants' less r.part }
+refused_before e x new wants mid wants' less r = record { refused = r.refused; part = part_before e x _ new wants mid wants' less r.part }
 
 -- ── readers ──
 

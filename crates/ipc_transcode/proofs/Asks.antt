@@ -16,15 +16,14 @@ use Rattle.transcode_laws.proofs.Readings.{columns_refused}
 use Rattle.ipc_transcode.specs.declared.conversion.Summary.{Summary}
 use Rattle.ipc_transcode.specs.Sends.{FileRefused, SendCause, SendsFile}
 use Rattle.ipc_transcode.proofs.Fronts.{none_put}
-use Rattle.ipc_transcode.proofs.NextBatches.{read_named}
+use Rattle.ipc_transcode.proofs.NextBatches.{never_of_sink}
 
 -- what is read is refused
 pub file_refused : (result : Result Summary IpcError) (e : IpcError) (content : Option (List ℕ)) (r : Request) (encoding : Encoding) (o : Option (List ℕ)) (faults faults' wants wants' : ℕ) → result ≡ Err e → FileCause e faults faults'
     → IfSome content (λ b. (r : Request) → Refuses e (refusals (file_reading to_send b r None))) → IfSome content (λ b. SendsFile result b r encoding o o wants wants')
 file_refused result e None r encoding o faults faults' wants wants' is cause h = tt
 file_refused result e (Some b) r encoding o faults faults' wants wants' is cause h =
-    let names = read_named e faults faults' cause in
-    let refused : FileRefused e b r encoding o o wants wants' = record { named = names.0; refused = h r; part = none_put e b r (text_of encoding) o o wants wants' names.1 (Keeps-refl o) } in
+    let refused : FileRefused e b r encoding o o wants wants' = record { refused = h r; part = none_put e b r (text_of encoding) o o wants wants' (never_of_sink e faults faults' cause) (Keeps-refl o) } in
     subst (λ z. SendsFile z b r encoding o o wants wants') (sym is) refused
 
 -- only a number that is asked for is refused
@@ -48,12 +47,11 @@ columns_not_right result e None file r count encoding o wants wants' is same h s
 columns_not_right result e (Some b) file r count encoding o wants wants' is same h says = subst (λ z. SendsFile z b r encoding o o wants wants') (sym is) (by h)
   where
     by : (e ≡ errors.Memory) ⊎ (columns_right r.columns count ≡ Err (e ∷ [])) → FileRefused e b r encoding o o wants wants'
-    by (inl memory) = rw memory (record { named = tt; refused = tt; part = none_put errors.Memory b r (text_of encoding) o o wants wants' (λ z. z) (Keeps-refl o) })
+    by (inl memory) = rw memory (record { refused = tt; part = none_put errors.Memory b r (text_of encoding) o o wants wants' (λ z. z) (Keeps-refl o) })
     by (inr wrong) =
         let number = wrong_is r.columns count e wrong in
         let place : columns_right r.columns (width (meta_view file).schema.fields) ≡ Err (e ∷ []) = subst (λ n. columns_right r.columns n ≡ Err (e ∷ [])) same wrong in
         rw number.1 (record {
-          named = tt;
           refused = rw (columns_refused to_send b r None (meta_view file) (file_custom file) (e ∷ []) says.read says.pairs place) (inl number.1);
           part = none_put (errors.Projection number.0) b r (text_of encoding) o o wants wants' (λ z. z) (Keeps-refl o);
         })

@@ -1,6 +1,6 @@
 -- A stream of a file's columns that is begun, or not.
 use Rattle.std.proofs.Common.{◌≡◌, inl, inr, ℕ, ◌^◌, ◌≤◌, List, [], ◌∷◌, ◌++◌, ◌⊎◌, length, true, false, Option, Some, None, Result, Ok, Err, refl, sym, ap, ◌∙◌, subst, arith}
-use Rattle.std.specs.Prelude.{IfErr, nat_le}
+use Rattle.std.specs.Prelude.{nat_le}
 use Rattle.std.specs.Io.KnownBytes.{Appends, Keeps}
 use Rattle.std.specs.Rc.{rc_value}
 use Rattle.std.proofs.KnownBytes.{Appends-nil}
@@ -8,7 +8,6 @@ use Rattle.std.proofs.lemmas.Bool.{and_parts, leb-true}
 use Rattle.std.proofs.lemmas.List.{length-append}
 use Rattle.arrow_spec.specs.declared.error.IpcError.{IpcError}
 use Rattle.arrow_spec.specs.declared.error.IpcError.TheVariants as errors
-use Rattle.arrow_spec.specs.Features.{chosen_floats}
 use Rattle.arrow_spec.specs.Files.{file_reading, to_send}
 use Rattle.arrow_spec.specs.Framing.{message_bytes}
 use Rattle.arrow_spec.specs.Layout.{size, up_to}
@@ -27,7 +26,6 @@ use Rattle.ipc_files.specs.FileViews.{file_custom}
 use Rattle.ipc_files.specs.declared.metadata.FileMetadata.{FileMetadata}
 use Rattle.ipc_files.specs.Selections.{schema_shown}
 use Rattle.ipc_reader.specs.declared.cursor.FileCursor.{FileCursor}
-use Rattle.ipc_write.specs.declared.options.WriteOptions.{WriteOptions}
 use Rattle.ipc_write_laws.proofs.Messages.{messages_front_means}
 use Rattle.ipc_write_messages.specs.Schemas.{SchemaIsSaid, stream_text}
 use Rattle.ipc_write_messages.specs.States.{is_new}
@@ -42,13 +40,12 @@ use Rattle.transcode_laws.proofs.SentBatches.{none_table}
 use Rattle.sent_schemas.specs.Laws.{AreStarted, file_message}
 use Rattle.sent_schemas.specs.SentFields.{AreSentFields}
 use Rattle.sent_schemas.proofs.SentFields.{are_sent_fields}
-use Rattle.sent_schemas.proofs.Starts.{begun_sent, refused_as_file, why_refused}
-use Rattle.ipc_transcode.specs.Sends.{BatchesSoFar, BeginsStream, IsNamed, IsNewWriter, IsReadBy, IsUnsent, Refused, SendCause, Sending, SentRows, SentSoFar, as_damage, meta_in, schema_of_reader}
-use Rattle.ipc_transcode.proofs.Calls.{put_cause, refused_as}
+use Rattle.sent_schemas.proofs.Starts.{begun_sent, refused_as_file}
+use Rattle.ipc_transcode.specs.Sends.{BatchesSoFar, BeginsStream, IsNewWriter, IsReadBy, IsUnsent, Refused, Sending, SentRows, SentSoFar, meta_in, schema_of_reader}
 use Rattle.ipc_transcode.proofs.Fronts.{IsNext, IsOfSink, none_put, piece_stopped, table_sent}
 use Rattle.ipc_transcode.proofs.NextBatches.{asked_by}
-use Rattle.ipc_transcode.proofs.StartCauses.{IsFeature, chosen_features, schema_cause, text_refused}
-use Rattle.ipc_transcode.proofs.Writes.{put_names}
+use Rattle.ipc_transcode.proofs.StartCauses.{schema_refused_as, started_by}
+use Rattle.ipc_transcode.proofs.Writes.{put_refuses}
 
 -- the text of no bytes
 none_of : {A : Type 0} (xs : List A) → length xs ≡ 0 → xs ≡ []
@@ -69,21 +66,6 @@ short_message m h =
     let node = and_parts (nat_le (up_to 8 (size m.node)) 2147483647) (nat_le m.body 9223372036854775807) h in
     let small = leb-true (up_to 8 (size m.node)) 2147483647 node.0 in
     omega (arith, small, length-message m.node [])
-
-feature_named : (e : IpcError) → IsFeature e → IsNamed e × (IsOfSink e → ⊥)
-feature_named (errors.Unsupported feature) h = (tt, λ z. z)
-feature_named errors.ReadFault h = absurd h
-feature_named errors.WriteFault h = absurd h
-feature_named errors.State h = absurd h
-feature_named errors.TooLarge h = absurd h
-feature_named errors.Memory h = absurd h
-feature_named (errors.OutOfSpec x) h = absurd h
-feature_named errors.TooDeep h = absurd h
-feature_named (errors.TooMany x) h = absurd h
-feature_named (errors.Projection x) h = absurd h
-feature_named errors.SchemaMismatch h = absurd h
-feature_named (errors.DictionaryReplaced x) h = absurd h
-feature_named errors.NotRepresentable h = absurd h
 
 -- a refusal that is told by name is one of a reading's
 among_refuses : (e : IpcError) (es : List IpcError) → IsAmong es e → Refuses e es
@@ -115,16 +97,7 @@ module _ (x : Sending) (c : FileCursor) (w w' : StreamCore) (m : Moved) (is : Is
 
   started : (own : Ids) → IsNumbered (fields_in s) own → AreStarted w.options x.file x.request.columns s own w.pairs
   unfolding s shown
-  started own numbered = record {
-    plain = ap (λ (o : WriteOptions). o.compression) new.options;
-    most = ap (λ (o : WriteOptions). o.metadata_limit) new.options;
-    read = is.read;
-    right = is.right;
-    asked = shown;
-    ids = numbered;
-    schema = new.own;
-    message = new.custom;
-  }
+  started own numbered = started_by x.file x.request.columns s x.encoding w own new is.read is.right shown numbered
 
   -- the text is one of a file that may be sent
   module _ (own : Ids) (numbered : IsNumbered (fields_in s) own) (bytes : List ℕ) (text : stream_text w.options (fields_in s) own w.pairs ≡ Ok bytes) where
@@ -182,20 +155,19 @@ module _ (x : Sending) (c : FileCursor) (w w' : StreamCore) (m : Moved) (is : Is
   schema_refused e own numbered among kept =
       let start = started own numbered in
       let file = refused_as_file x.bytes x.request w.options x.file s own w.pairs e is.says start among in
-      let why = why_refused x.bytes x.request w.options x.file s own w.pairs is.says start e (chosen_floats x.request.columns (meta_in x).schema.fields 0) refl among in
-      let named : IsNamed e × (IsOfSink e → ⊥) = elim why [ inl large ↦ subst (λ f. IsNamed f × (IsOfSink f → ⊥)) large.2 (tt, λ z. z) | inr floats ↦ feature_named e (chosen_features x.request.columns (meta_in x).schema.fields 0 e floats) ] in
-      record { named = named.0; refused = among_refuses e _ file; part = none_put e x.bytes x.request (text_of x.encoding) x.start m.new m.wants m.wants_now named.1 kept }
+      let never : IsOfSink e → ⊥ = schema_refused_as (λ z. IsOfSink z → ⊥) (λ z. z) (λ feature z. z) w.options x.file x.request.columns s own w.pairs start e among in
+      record { refused = among_refuses e _ file; part = none_put e x.bytes x.request (text_of x.encoding) x.start m.new m.wants m.wants_now never kept }
 
   memory_wanted : Keeps x.start m.new → Refused errors.Memory x m.new m.wants m.wants_now
-  memory_wanted kept = record { named = tt; refused = tt; part = none_put errors.Memory x.bytes x.request (text_of x.encoding) x.start m.new m.wants m.wants_now (λ z. z) kept }
+  memory_wanted kept = record { refused = tt; part = none_put errors.Memory x.bytes x.request (text_of x.encoding) x.start m.new m.wants m.wants_now (λ z. z) kept }
 
   -- a part of it was put
   part_put : (e : IpcError) → StartFailed (text_of w.encoding) m e w w' (schema_of_reader c) None → Refused e x m.new m.wants m.wants_now
   unfolding s next
   part_put e f =
-      let names = put_names e m (text_of w.encoding f.bytes) (refusals (file_reading to_send x.bytes x.request None)) f.failed.put in
+      let refuses = put_refuses e m (text_of w.encoding f.bytes) (refusals (file_reading to_send x.bytes x.request None)) f.failed.put in
       let put : PutsPart m e (text_of x.encoding f.bytes) = subst (λ n. PutsPart m e (text_of n f.bytes)) new.encoding f.failed.put in
-      record { named = names.0; refused = names.1; part = piece_stopped e x.bytes x.request x.encoding x.start m [] f.bytes (starts_empty x.encoding x.start m.old old) (next f.below f.ids f.bytes f.text) put }
+      record { refused = refuses; part = piece_stopped e x.bytes x.request x.encoding x.start m [] f.bytes (starts_empty x.encoding x.start m.old old) (next f.below f.ids f.bytes f.text) put }
 
   not_begun : (e : IpcError) → (StartCause e w (schema_of_reader c) None × LeavesAll m w w') ⊎ StartFailed (text_of w.encoding) m e w w' (schema_of_reader c) None → Refused e x m.new m.wants m.wants_now
   unfolding s
@@ -210,16 +182,5 @@ module _ (x : Sending) (c : FileCursor) (w w' : StreamCore) (m : Moved) (is : Is
       by (inr (_, inl memory)) = subst (λ f. Refused f x m.new m.wants m.wants_now) (sym memory) (memory_wanted kept)
       by (inr (_, inr none)) = schema_refused e none.below none.ids none.refused kept
 
-  pub begins : (r : Result StreamCore IpcError) (e : IpcError) → r ≡ Err (as_damage e) → (StartCause e w (schema_of_reader c) None × LeavesAll m w w') ⊎ StartFailed (text_of w.encoding) m e w w' (schema_of_reader c) None → BeginsStream r x c m.new m.wants m.wants_now
-  begins r e is_err h = subst (λ z. BeginsStream z x c m.new m.wants m.wants_now) (sym is_err) (refused_as e x m.new m.wants m.wants_now (not_begun e h))
-
--- why it is not begun
-pub start_cause : (r : Result StreamCore IpcError) (e : IpcError) (w w' : StreamCore) (fs : List Keyed) (m : Moved) → r ≡ Err (as_damage e) → is_new w.state ≡ true → (StartCause e w fs None × LeavesAll m w w') ⊎ StartFailed (text_of w.encoding) m e w w' fs None
-    → IfErr r (λ e. (reads reads' : ℕ) → SendCause e reads reads' m.faults m.faults_now)
-start_cause r e w w' fs m is_err new h = subst (λ z. IfErr z (λ e. (reads reads' : ℕ) → SendCause e reads reads' m.faults m.faults_now)) (sym is_err) (λ reads reads'. by h reads reads')
-  where
-    by : (StartCause e w fs None × LeavesAll m w w') ⊎ StartFailed (text_of w.encoding) m e w w' fs None → (reads reads' : ℕ) → SendCause (as_damage e) reads reads' m.faults m.faults_now
-    by (inr failed) reads reads' = put_cause e m _ reads reads' failed.failed.put
-    by (inl (inl never, _)) reads reads' = let clash : true ≡ false = sym new ∙ never.1 in cc
-    by (inl (inr (_, inl memory), _)) reads reads' = subst (λ z. SendCause (as_damage z) reads reads' m.faults m.faults_now) (sym memory) tt
-    by (inl (inr (_, inr none), _)) reads reads' = schema_cause e reads reads' m.faults m.faults_now (text_refused w.options (fields_in fs) none.below w.pairs e none.refused)
+  pub begins : (r : Result StreamCore IpcError) (e : IpcError) → r ≡ Err e → (StartCause e w (schema_of_reader c) None × LeavesAll m w w') ⊎ StartFailed (text_of w.encoding) m e w w' (schema_of_reader c) None → BeginsStream r x c m.new m.wants m.wants_now
+  begins r e is_err h = subst (λ z. BeginsStream z x c m.new m.wants m.wants_now) (sym is_err) (not_begun e h)

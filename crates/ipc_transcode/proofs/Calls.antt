@@ -1,14 +1,13 @@
 -- What one call that reads and writes a batch comes to.
-use Rattle.std.proofs.Common.{◌≡◌, inl, inr, ℕ, ◌<◌, List, Bool, ◌⊎◌, length, true, false, Option, Some, None, Result, Ok, Err, refl, sym, ap, ◌∙◌, subst, arith, slice_get}
-use Rattle.std.specs.Prelude.{IfErr, IfSome}
+use Rattle.std.proofs.Common.{◌≡◌, ℕ, ◌<◌, List, ◌⊎◌, length, Option, Some, None, Result, Ok, Err, refl, sym, ap, ◌∙◌, subst, arith, slice_get}
+use Rattle.std.specs.Prelude.{IfSome}
 use Rattle.std.specs.Rc.{rc_value}
 use Rattle.arrow_spec.specs.declared.error.IpcError.{IpcError}
-use Rattle.arrow_spec.specs.declared.error.IpcError.TheVariants as errors
 use Rattle.arrow_spec.specs.Files.{FileBlock, TableBatch}
 use Rattle.arrow_arrays.specs.Batches.{Batch}
 use Rattle.arrow_arrays.specs.Parts.{fault_each, forest}
 use Rattle.ipc_bodies.specs.Encodings.{text_of}
-use Rattle.ipc_bodies.specs.Puts.{Moved, PutsPart}
+use Rattle.ipc_bodies.specs.Puts.{Moved}
 use Rattle.ipc_files.specs.FileViews.{meta_view}
 use Rattle.ipc_files.specs.Requests.{asked}
 use Rattle.ipc_files.specs.Selections.{MayProject}
@@ -17,39 +16,16 @@ use Rattle.ipc_reader.specs.Kept.{GivesBy, HoldsFile, KeptAfter, ReadUnderKept}
 use Rattle.ipc_reader.specs.Reads.{NextBatch}
 use Rattle.ipc_reader.specs.declared.cursor.FileCursor.{FileCursor}
 use Rattle.ipc_reader.specs.declared.kept.KeptDictionaries.{KeptDictionaries}
-use Rattle.ipc_write_messages.specs.States.{is_started}
 use Rattle.ipc_stream_writer.specs.Calls.{HasWritten, LeavesAll, WriteCause, WriteFailed}
 use Rattle.ipc_stream_writer.specs.declared.stream.StreamCore.{StreamCore}
 use Rattle.sent_dictionaries.specs.Laws.{ColumnsAreRight, FileDictionariesAreSent}
-use Rattle.ipc_transcode.specs.Sends.{IsNamed, IsReadBy, IsWriter, Refused, SendCause, Sending, SendsNext, SendsOne, SentSoFar, as_damage, meta_in, schema_of_reader}
-use Rattle.ipc_dictionaries.specs.Columns.{columns_of}
-use Rattle.ipc_fields.specs.IpcFields.{ids_of}
-use Rattle.chunk_laws.proofs.Causes.{IsOfChunk, batch_refused, fault_is}
+use Rattle.ipc_transcode.specs.Sends.{IsReadBy, IsWriter, Sending, SendsNext, SendsOne, SentSoFar, meta_in, schema_of_reader}
 use Rattle.ipc_transcode.proofs.NextBatches.{Answer, block_there, blocks_as, fields_by, none_left, read_refused, same_place, step}
 use Rattle.ipc_transcode.proofs.Writes.{refused, written}
 
 -- what is said of a call where the source's bytes are told
 abbrev pub Told : Option (List ℕ) → FileCursor → StreamCore → Option (List ℕ) → (Sending → List ℕ → List TableBatch → Type 0) → Type 0
 Told content c w now P = IfSome content (λ b. (x : Sending) (bytes : List ℕ) (bs : List TableBatch) → x.bytes ≡ b → x.encoding ≡ w.encoding → IsReadBy c x → SentSoFar x c w now bytes bs → P x bytes bs)
-
--- what a file is refused as is told as it is
-named_same : (e : IpcError) → IsNamed e → as_damage e ≡ e
-named_same errors.ReadFault h = refl
-named_same errors.WriteFault h = refl
-named_same errors.State h = absurd h
-named_same errors.TooLarge h = refl
-named_same errors.Memory h = refl
-named_same (errors.OutOfSpec x) h = refl
-named_same (errors.Unsupported x) h = refl
-named_same errors.TooDeep h = refl
-named_same (errors.TooMany x) h = refl
-named_same (errors.Projection x) h = refl
-named_same errors.SchemaMismatch h = absurd h
-named_same (errors.DictionaryReplaced x) h = absurd h
-named_same errors.NotRepresentable h = absurd h
-
-pub refused_as : (e : IpcError) (x : Sending) (new : Option (List ℕ)) (wants wants' : ℕ) → Refused e x new wants wants' → Refused (as_damage e) x new wants wants'
-refused_as e x new wants wants' r = subst (λ f. Refused f x new wants wants') (sym (named_same e r.named)) r
 
 -- a writer of the encoding that is asked for
 as_asked : (x : Sending) (c : FileCursor) (w : StreamCore) → x.encoding ≡ w.encoding → IsWriter (schema_of_reader c) w.encoding w → IsWriter (schema_of_reader c) x.encoding w
@@ -131,7 +107,7 @@ module _ {S : Type 0} (content_of : S → Option (List ℕ)) (faults_of fetched_
             subst (λ k. SendsOne x c' w' m.new bytes bs k) (sym height) (written x c c' w now y bytes bs here w' m old h)
 
     -- or not
-    pub next_not_written : (y : Batch) (r : Result (Option ℕ) IpcError) (e : IpcError) (w' : StreamCore) (m : Moved) → r ≡ Err (as_damage e) → m.old ≡ now → Next (Some (Ok y)) → fault_each (forest y.arrays) ≡ None
+    pub next_not_written : (y : Batch) (r : Result (Option ℕ) IpcError) (e : IpcError) (w' : StreamCore) (m : Moved) → r ≡ Err e → m.old ≡ now → Next (Some (Ok y)) → fault_each (forest y.arrays) ≡ None
         → (WriteCause e w y None × LeavesAll m w w') ⊎ WriteFailed (text_of w.encoding) m e w w' y None → Told (content_of s) c w now (λ x bytes bs. SendsNext r x c' w' m.new bytes bs m.wants m.wants_now)
     next_not_written y r e w' m is_err old n sound h = by (content_of s) refl
       where
@@ -141,54 +117,4 @@ module _ {S : Type 0} (content_of : S → Option (List ℕ)) (faults_of fetched_
             let asked_writer = as_asked x c w enc writer in
             let f = fields_by x c w is asked_writer in
             let here = step x c w now bytes bs is asked_writer f so_far law right c' y (answered y n sound b told x bytes bs same is asked_writer so_far) in
-            subst (λ z. SendsNext z x c' w' m.new bytes bs m.wants m.wants_now) (sym is_err) (refused_as e x m.new m.wants m.wants_now (refused x c c' w now y bytes bs here w' m e old h))
-
--- ── causes ──
-
-chunk_cause : (d : Bool) (e : IpcError) (reads reads' writes writes' : ℕ) → IsOfChunk d e → SendCause (as_damage e) reads reads' writes writes'
-chunk_cause d errors.ReadFault reads reads' writes writes' h = absurd h
-chunk_cause d errors.WriteFault reads reads' writes writes' h = absurd h
-chunk_cause d errors.State reads reads' writes writes' h = absurd h
-chunk_cause d errors.SchemaMismatch reads reads' writes writes' h = absurd h
-chunk_cause d (errors.Projection x) reads reads' writes writes' h = absurd h
-chunk_cause d errors.TooLarge reads reads' writes writes' h = tt
-chunk_cause d errors.Memory reads reads' writes writes' h = tt
-chunk_cause d (errors.OutOfSpec x) reads reads' writes writes' h = tt
-chunk_cause d (errors.Unsupported x) reads reads' writes writes' h = tt
-chunk_cause d errors.TooDeep reads reads' writes writes' h = tt
-chunk_cause d (errors.TooMany x) reads reads' writes writes' h = tt
-chunk_cause d (errors.DictionaryReplaced x) reads reads' writes writes' h = tt
-chunk_cause d errors.NotRepresentable reads reads' writes writes' h = tt
-
-fault_cause : (e : IpcError) (reads reads' writes writes' : ℕ) → (e ≡ errors.SchemaMismatch) ⊎ (e ≡ errors.NotRepresentable) → SendCause (as_damage e) reads reads' writes writes'
-fault_cause e reads reads' writes writes' (inl is) = subst (λ z. SendCause (as_damage z) reads reads' writes writes') (sym is) tt
-fault_cause e reads reads' writes writes' (inr is) = subst (λ z. SendCause (as_damage z) reads reads' writes writes') (sym is) tt
-
-pub put_cause : (e : IpcError) (m : Moved) (bs : List ℕ) (reads reads' : ℕ) → PutsPart m e bs → SendCause (as_damage e) reads reads' m.faults m.faults_now
-put_cause errors.ReadFault m bs reads reads' p = absurd p
-put_cause errors.WriteFault m bs reads reads' p = p.2
-put_cause errors.State m bs reads reads' p = absurd p
-put_cause errors.TooLarge m bs reads reads' p = absurd p
-put_cause errors.Memory m bs reads reads' p = tt
-put_cause (errors.OutOfSpec x) m bs reads reads' p = absurd p
-put_cause (errors.Unsupported x) m bs reads reads' p = absurd p
-put_cause errors.TooDeep m bs reads reads' p = absurd p
-put_cause (errors.TooMany x) m bs reads reads' p = absurd p
-put_cause (errors.Projection x) m bs reads reads' p = absurd p
-put_cause errors.SchemaMismatch m bs reads reads' p = absurd p
-put_cause (errors.DictionaryReplaced x) m bs reads reads' p = absurd p
-put_cause errors.NotRepresentable m bs reads reads' p = absurd p
-
--- why a batch is not written
-pub write_cause : (r : Result (Option ℕ) IpcError) (e : IpcError) (w w' : StreamCore) (m : Moved) (y : Batch) (reads reads' : ℕ) → r ≡ Err (as_damage e) → is_started w.state ≡ true → (WriteCause e w y None × LeavesAll m w w') ⊎ WriteFailed (text_of w.encoding) m e w w' y None
-    → IfErr r (λ x. SendCause x reads reads' m.faults m.faults_now)
-write_cause r e w w' m y reads reads' is started h = subst (λ z. IfErr z (λ x. SendCause x reads reads' m.faults m.faults_now)) (sym is) (by h)
-  where
-    by : (WriteCause e w y None × LeavesAll m w w') ⊎ WriteFailed (text_of w.encoding) m e w w' y None → SendCause (as_damage e) reads reads' m.faults m.faults_now
-    by (inr failed) = put_cause e m _ reads reads' failed.sends.failed.put
-    by (inl (inl never, _)) = let clash : false ≡ true = sym never.1 ∙ started in cc
-    by (inl (inr (_, inl mismatch), _)) = subst (λ z. SendCause (as_damage z) reads reads' m.faults m.faults_now) (sym mismatch.0) tt
-    by (inl (inr (_, inr why), _)) =
-        let below = ids_of w.fields.items in
-        let cause = batch_refused e w.options w.tracker y below why.1 in
-        elim cause [ inl fault ↦ fault_cause e reads reads' m.faults m.faults_now (fault_is (columns_of (forest y.arrays)) below e fault) | inr of ↦ chunk_cause w.tracker.deltas e reads reads' m.faults m.faults_now of ]
+            subst (λ z. SendsNext z x c' w' m.new bytes bs m.wants m.wants_now) (sym is_err) (refused x c c' w now y bytes bs here w' m e old h)

@@ -6,7 +6,7 @@ use Rattle.std.proofs.lemmas.List.{length-append, take_all}
 use Rattle.arrow_spec.specs.declared.error.IpcError.{IpcError}
 use Rattle.arrow_spec.specs.declared.error.IpcError.TheVariants as errors
 use Rattle.arrow_spec.specs.Files as files
-use Rattle.arrow_spec.specs.Files.{ArrowTable, FileBlock, Meta, Request, TableBatch, «all», columns_right, dictionaries_of, dictionaries_read, file_reading, meta_of, to_read, to_send}
+use Rattle.arrow_spec.specs.Files.{ArrowTable, FileBlock, Meta, TableBatch, «all», columns_right, dictionaries_of, dictionaries_read, file_reading, meta_of, to_read, to_send}
 use Rattle.arrow_spec.specs.Kinds.{width}
 use Rattle.arrow_spec.specs.Meaning.{file_table}
 use Rattle.arrow_spec.specs.Readings.{Reading, meaning, refusals}
@@ -29,7 +29,7 @@ use Rattle.ipc_transcode.specs.Transcode.{Transcodes}
 use Rattle.ipc_transcode.proofs.Fronts.{Appends-text, IsNext, front_stands, piece_stopped, same_table, table_sent}
 use Rattle.ipc_transcode.proofs.NextBatches.{fields_by, front_there}
 use Rattle.ipc_transcode.proofs.Nexts.{with_end}
-use Rattle.ipc_transcode.proofs.Writes.{put_names, says}
+use Rattle.ipc_transcode.proofs.Writes.{put_refuses, says}
 
 -- ── the file ──
 
@@ -97,11 +97,11 @@ module _ (x : Sending) (c : FileCursor) (w : StreamCore) (now : Option (List ℕ
   not_finished e w' m old (inl (inr memory, leaves)) =
       let front = front_there x c w now bytes bs is writer (fields_by x c w is writer) s in
       let kept : Keeps now m.new = subst (λ o. Keeps o m.new) old leaves.untouched.bytes in
-      let wanted : Refused errors.Memory x m.new m.wants m.wants_now = record { named = tt; refused = tt; part = front_stands errors.Memory x.bytes x.request (text_of x.encoding) x.start now m.new m.wants m.wants_now (λ z. z) front tt kept } in
+      let wanted : Refused errors.Memory x m.new m.wants m.wants_now = record { refused = tt; part = front_stands errors.Memory x.bytes x.request (text_of x.encoding) x.start now m.new m.wants m.wants_now (λ z. z) front tt kept } in
       subst (λ f. Refused f x m.new m.wants m.wants_now) (sym memory.1) wanted
   not_finished e w' m old (inr failed) =
-      let names = put_names e m (text_of w.encoding end_mark) (refusals (file_reading to_send x.bytes x.request None)) failed.1.put in
+      let refuses = put_refuses e m (text_of w.encoding end_mark) (refusals (file_reading to_send x.bytes x.request None)) failed.1.put in
       let put : PutsPart m e (text_of x.encoding end_mark) = subst (λ n. PutsPart m e (text_of n end_mark)) writer.encoding failed.1.put in
       let added : Appends x.start m.old (text_of x.encoding bytes) = subst (λ o. Appends x.start o (text_of x.encoding bytes)) (sym old) s.added in
       let next : IsNext x.bytes x.request (bytes ++ end_mark) = record { table = table_sent x bs; stream = inl stream } in
-      record { named = names.0; refused = names.1; part = piece_stopped e x.bytes x.request x.encoding x.start m bytes end_mark added next put }
+      record { refused = refuses; part = piece_stopped e x.bytes x.request x.encoding x.start m bytes end_mark added next put }

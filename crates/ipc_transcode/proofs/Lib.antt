@@ -9,6 +9,8 @@ pub mod Writes
 pub mod NextBatches
 pub mod Calls
 pub mod AllBatches
+pub mod Readers
+pub mod WriteCauses
 pub mod StartCauses
 pub mod Begins
 pub mod Ends

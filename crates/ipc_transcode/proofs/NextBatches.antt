@@ -39,7 +39,7 @@ use Rattle.part_laws.specs.Parts.{PartTree}
 use Rattle.part_laws.specs.Laws.{AreReadParts}
 use Rattle.part_laws.proofs.NextParts.{held_parts}
 use Rattle.sent_dictionaries.specs.Laws.{ColumnsAreRight, FileDictionariesAreSent}
-use Rattle.ipc_transcode.specs.Sends.{BatchesSoFar, IsNamed, IsReadBy, IsWriter, Refused, Sending, SentSoFar, asked_in, fields_in_request, meta_in, schema_of_reader}
+use Rattle.ipc_transcode.specs.Sends.{BatchesSoFar, IsReadBy, IsWriter, Refused, Sending, SentSoFar, asked_in, fields_in_request, meta_in, schema_of_reader}
 use Rattle.sent_schemas.specs.SentFields.{AreSentFields}
 use Rattle.ipc_transcode.specs.Transcode.{AddsFront}
 use Rattle.ipc_transcode.proofs.Blocks.{IsOfBlock, faultless, of_file}
@@ -123,21 +123,10 @@ none_left x c c' w now bytes bs is s block (inr never) = let clash : false ≡ t
 
 -- ── a refusal of what is read ──
 
--- what is read is never refused so
-pub read_named : (e : IpcError) (faults faults' : ℕ) → FileCause e faults faults' → IsNamed e × (IsOfSink e → ⊥)
-read_named errors.Memory faults faults' h = (tt, λ z. z)
-read_named errors.ReadFault faults faults' h = (tt, λ z. z)
-read_named (errors.OutOfSpec kind) faults faults' h = (tt, λ z. z)
-read_named (errors.Unsupported feature) faults faults' h = (tt, λ z. z)
-read_named errors.TooDeep faults faults' h = (tt, λ z. z)
-read_named (errors.TooMany counted) faults faults' h = (tt, λ z. z)
-read_named errors.WriteFault faults faults' h = absurd h
-read_named (errors.Projection index) faults faults' h = absurd h
-read_named errors.TooLarge faults faults' h = absurd h
-read_named errors.SchemaMismatch faults faults' h = absurd h
-read_named (errors.DictionaryReplaced id) faults faults' h = absurd h
-read_named errors.NotRepresentable faults faults' h = absurd h
-read_named errors.State faults faults' h = absurd h
+-- which is none of a sink
+pub never_of_sink : (e : IpcError) (faults faults' : ℕ) → FileCause e faults faults' → IsOfSink e → ⊥
+never_of_sink errors.WriteFault faults faults' h z = h
+never_of_sink e faults faults' h z = z
 
 -- the bytes that stand there are a front
 pub front_there : (x : Sending) (c : FileCursor) (w : StreamCore) (now : Option (List ℕ)) (bytes : List ℕ) (bs : List TableBatch) → IsReadBy c x → IsWriter (schema_of_reader c) x.encoding w → AreSentFields x.file x.request.columns (schema_of_reader c) (ids_of w.fields.items)
@@ -207,9 +196,8 @@ module _ (x : Sending) (c : FileCursor) (w : StreamCore) (now : Option (List ℕ
       → Refused e x now wants wants'
   unfolding front_there
   read_refused e block faults faults' wants wants' at gives cause =
-      let names = read_named e faults faults' cause in
       let both = file_refused e block at gives in
-      record { named = names.0; refused = both.0; part = front_stands e x.bytes x.request (text_of x.encoding) x.start now now wants wants' names.1 (front_there x c w now bytes bs is writer f s) both.1 (Keeps-refl now) }
+      record { refused = both.0; part = front_stands e x.bytes x.request (text_of x.encoding) x.start now now wants wants' (never_of_sink e faults faults' cause) (front_there x c w now bytes bs is writer f s) both.1 (Keeps-refl now) }
 
   -- ── a batch that was read ──
 

@@ -43,7 +43,7 @@ use Rattle.transcode_laws.proofs.Files.{large_dictionaries_refuse}
 use Rattle.transcode_laws.proofs.SentBatches.{block_stops, one_more_sent, part_table}
 use Rattle.part_laws.specs.Parts.{PartTree}
 use Rattle.sent_dictionaries.specs.Laws.{SendsNoMore}
-use Rattle.ipc_transcode.specs.Sends.{BatchesSoFar, IsNamed, IsReadBy, IsWriter, Refused, Sending, SendsOne, SentSoFar, asked_in, fields_in_request, meta_in, schema_of_reader, send_options}
+use Rattle.ipc_transcode.specs.Sends.{BatchesSoFar, IsReadBy, IsWriter, Refused, Sending, SendsOne, SentSoFar, asked_in, fields_in_request, meta_in, schema_of_reader, send_options}
 use Rattle.sent_schemas.specs.SentFields.{AreSentFields}
 use Rattle.ipc_transcode.specs.Transcode.{AddsFront}
 use Rattle.ipc_transcode.proofs.Blocks.{IsOfBlock, are_sent, batch_sent, suits}
@@ -97,20 +97,10 @@ pub says : (x : Sending) (c : FileCursor) (w : StreamCore) (now : Option (List �
 says x c w now bytes bs writer f s = record { own = s.own; custom = s.custom; fields = ap (λ t. bare (said_fields (fields_in t) (ids_of w.fields.items))) writer.schema ∙ f.fields }
 
 -- a sink's answers say nothing of the file
-pub put_names : (e : IpcError) (m : Moved) (bs : List ℕ) (es : List IpcError) → PutsPart m e bs → IsNamed e × Refuses e es
-put_names errors.WriteFault m bs es p = (tt, tt)
-put_names errors.Memory m bs es p = (tt, tt)
-put_names errors.ReadFault m bs es p = absurd p
-put_names (errors.OutOfSpec kind) m bs es p = absurd p
-put_names (errors.Unsupported feature) m bs es p = absurd p
-put_names errors.TooDeep m bs es p = absurd p
-put_names (errors.TooMany counted) m bs es p = absurd p
-put_names (errors.Projection index) m bs es p = absurd p
-put_names errors.TooLarge m bs es p = absurd p
-put_names errors.SchemaMismatch m bs es p = absurd p
-put_names (errors.DictionaryReplaced id) m bs es p = absurd p
-put_names errors.NotRepresentable m bs es p = absurd p
-put_names errors.State m bs es p = absurd p
+pub put_refuses : (e : IpcError) (m : Moved) (bs : List ℕ) (es : List IpcError) → PutsPart m e bs → Refuses e es
+put_refuses errors.WriteFault m bs es p = tt
+put_refuses errors.Memory m bs es p = tt
+put_refuses e m bs es p = absurd p
 
 -- ── the step is done ──
 
@@ -208,12 +198,12 @@ module _ (x : Sending) (c c' : FileCursor) (w : StreamCore) (now : Option (List 
       record { bytes = bytes; table = table_sent x bs; stream = front_of x s.so_far.pairs w bytes bs of s.so_far.written.not_ended s.so_far.written.means file; added = s.so_far.added }
 
   -- nothing was put behind it
-  none_put : (e : IpcError) (new : Option (List ℕ)) (wants wants' : ℕ) → IsNamed e → (IsOfSink e → ⊥) → Refuses e (refusals (file_reading to_send x.bytes x.request None)) → StopsBehind x.bytes x.request (length bs) e → Keeps now new → Refused e x new wants wants'
+  none_put : (e : IpcError) (new : Option (List ℕ)) (wants wants' : ℕ) → (IsOfSink e → ⊥) → Refuses e (refusals (file_reading to_send x.bytes x.request None)) → StopsBehind x.bytes x.request (length bs) e → Keeps now new → Refused e x new wants wants'
   unfolding front
-  none_put e new wants wants' named not_sink refuses stops kept = record { named = named; refused = refuses; part = front_stands e x.bytes x.request (text_of x.encoding) x.start now new wants wants' not_sink front stops kept }
+  none_put e new wants wants' not_sink refuses stops kept = record { refused = refuses; part = front_stands e x.bytes x.request (text_of x.encoding) x.start now new wants wants' not_sink front stops kept }
 
   memory_wanted : (new : Option (List ℕ)) (wants wants' : ℕ) → Keeps now new → Refused errors.Memory x new wants wants'
-  memory_wanted new wants wants' kept = none_put errors.Memory new wants wants' tt (λ z. z) tt tt kept
+  memory_wanted new wants wants' kept = none_put errors.Memory new wants wants' (λ z. z) tt tt kept
 
   -- what refuses the block where it is sent refuses the file
   block_refused : (e : IpcError) → Refuses e (refusals (batch_of to_send x.bytes (asked_in x s.dictionaries) s.block c.left)) → Refuses e (refusals (file_reading to_send x.bytes x.request None)) × StopsBehind x.bytes x.request (length bs) e
@@ -227,7 +217,7 @@ module _ (x : Sending) (c c' : FileCursor) (w : StreamCore) (now : Option (List 
   batch_too_large : (new : Option (List ℕ)) (wants wants' : ℕ) → may_be_sent (written_batch (written_batch_of y)) ≡ false → Keeps now new → Refused errors.TooLarge x new wants wants'
   batch_too_large new wants wants' large kept =
       let both = block_refused errors.TooLarge (block_too_large x.bytes (asked_in x s.dictionaries) (held_in s.held) s.block c.left y sent s.is.is large) in
-      none_put errors.TooLarge new wants wants' tt (λ z. z) both.0 both.1 kept
+      none_put errors.TooLarge new wants wants' (λ z. z) both.0 both.1 kept
 
   -- a message of its dictionaries is
   values_too_large : (new : Option (List ℕ)) (wants wants' : ℕ) → s.is_first ≡ true → all_may_be_sent (dictionary_messages s.dictionaries (fields_in_request x)) ≡ false → Keeps now new → Refused errors.TooLarge x new wants wants'
@@ -254,7 +244,7 @@ module _ (x : Sending) (c c' : FileCursor) (w : StreamCore) (now : Option (List 
           let here = subst (λ l. batch_of to_send x.bytes (asked_in x s.dictionaries) s.block l ≡ Ok (table_of y)) left one.sent in
           let both = large_dictionaries_refuse x.bytes x.request (meta_in x) (file_custom x.file) s.dictionaries s.block (drop 1 (meta_in x).blocks) (table_of y) s.by.file s.has all_there here large in
           let count : 0 ≡ length bs = sym (ap length none_before) in
-          none_put errors.TooLarge new wants wants' tt (λ z. z) (rw both.0 (inl refl)) (subst (λ n. StopsBehind x.bytes x.request n errors.TooLarge) count (rw both.1 (inl refl))) kept
+          none_put errors.TooLarge new wants wants' (λ z. z) (rw both.0 (inl refl)) (subst (λ n. StopsBehind x.bytes x.request n errors.TooLarge) count (rw both.1 (inl refl))) kept
 
   -- the message of the batch is refused
   batch_refused : (e : IpcError) (new : Option (List ℕ)) (wants wants' : ℕ) → Plans (Err e) send_options y → Keeps now new → Refused e x new wants wants'
@@ -296,8 +286,8 @@ module _ (x : Sending) (c c' : FileCursor) (w : StreamCore) (now : Option (List 
       let file = part_table x.bytes x.request (meta_in x) (file_custom x.file) s.dictionaries (length (bs ++ table_of y ∷ [])) (bs ++ table_of y ∷ []) s.by.file s.has there in
       let next : IsNext x.bytes x.request (bytes ++ chunk_text t.sent y) = record { table = table_sent x (bs ++ table_of y ∷ []); stream = inr (front_of x s.so_far.pairs w (bytes ++ chunk_text t.sent y) (bs ++ table_of y ∷ []) of on.going on.means file) } in
       let added : Appends x.start m.old (text_of x.encoding bytes) = subst (λ o. Appends x.start o (text_of x.encoding bytes)) (sym old) s.so_far.added in
-      let names = put_names e m (text_of x.encoding (chunk_text t.sent y)) (refusals (file_reading to_send x.bytes x.request None)) put in
-      record { named = names.0; refused = names.1; part = piece_stopped e x.bytes x.request x.encoding x.start m bytes (chunk_text t.sent y) added next put }
+      let refuses = put_refuses e m (text_of x.encoding (chunk_text t.sent y)) (refusals (file_reading to_send x.bytes x.request None)) put in
+      record { refused = refuses; part = piece_stopped e x.bytes x.request x.encoding x.start m bytes (chunk_text t.sent y) added next put }
 
   pub refused : (w' : StreamCore) (m : Moved) (e : IpcError) → m.old ≡ now → (WriteCause e w y None × LeavesAll m w w') ⊎ WriteFailed (text_of w.encoding) m e w w' y None → Refused e x m.new m.wants m.wants_now
   refused w' m e old (inr failed) =

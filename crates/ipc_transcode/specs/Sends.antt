@@ -4,7 +4,6 @@ use Rattle.std.specs.Io.KnownBytes.{Appends}
 use Rattle.std.specs.Rc.{rc_value}
 use Rattle.arrow_spec.specs.declared.error.IpcError.{IpcError}
 use Rattle.arrow_spec.specs.declared.error.IpcError.TheVariants as errors
-use Rattle.arrow_spec.specs.declared.error.OutOfSpecKind.TheVariants as kinds
 use Rattle.arrow_spec.specs.Arrays.{Dictionaries}
 use Rattle.arrow_spec.specs.Files.{Asked, Meta, Request, TableBatch, columns_right, fields_as_asked, file_reading, to_send}
 use Rattle.arrow_spec.specs.Kinds.{Fields, width}
@@ -14,6 +13,7 @@ use Rattle.transcode_laws.specs.Files.{BatchesSent, HasRead, IsSentFile, asked_o
 use Rattle.ipc_fields.specs.IpcFields.{ids_of, metadata_of}
 use Rattle.ipc_bodies.specs.Encodings.{text_of}
 use Rattle.ipc_bodies.specs.declared.encoding.Encoding.{Encoding}
+use Rattle.ipc_dictionaries.specs.Shapes.{are_apart}
 use Rattle.ipc_dictionaries.specs.Tracker.{held_by}
 use Rattle.ipc_dictionaries.specs.Walks.{options_of}
 use Rattle.ipc_io.specs.Outside.{Rose}
@@ -50,6 +50,7 @@ pub record IsWriter (s : List Keyed) (encoded : Encoding) (w : StreamCore) : Typ
   pub schema : w.schema ≡ s
   pub ids : IsNumbered (fields_in s) (ids_of w.fields.items)
   pub plain : plain_fields (fields_in s) ≡ fields_in s
+  pub apart : are_apart (fields_in s) ≡ true
   pub tracker : options_of w.tracker ≡ record { cannot_replace = false; deltas = true }
 
 -- a writer that has written nothing, with the pairs of a file's schema and of its footer
@@ -65,6 +66,13 @@ pub record IsNewWriter (file : FileMetadata) (encoded : Encoding) (w : StreamCor
 -- the schema of a reader's columns
 abbrev pub schema_of_reader : FileCursor → List Keyed
 schema_of_reader c = schema_shown (rc_value c.metadata.schema) c.projection
+
+-- a reader of columns of a file, whose metadata was read
+pub record IsReader (c : FileCursor) : Type 0 where
+  pub columns : Option (List ℕ)
+  pub projects : MayProject (rc_value c.metadata.schema) columns c.projection
+  pub right : columns_right columns (width (meta_view c.metadata).schema.fields) ≡ Ok tt
+  pub read : WasRead c.metadata
 
 -- ── what is sent ──
 
@@ -123,24 +131,8 @@ pub record SentSoFar (x : Sending) (c : FileCursor) (w : StreamCore) (now : Opti
   pub first : c.block ≡ 0 → length bytes ≤ 2 ^ 32
   pub few : length bytes ≤ 2 ^ 127 + 2 ^ 98 + c.block * (2 ^ 63 + 2 ^ 33)
 
--- a file is never refused so
-abbrev pub IsNamed : IpcError → Type 0
-IsNamed errors.SchemaMismatch = ⊥
-IsNamed (errors.DictionaryReplaced id) = ⊥
-IsNamed errors.NotRepresentable = ⊥
-IsNamed errors.State = ⊥
-IsNamed e = ⊤
-
--- what a writer refuses of a file that is read is damage of the file: one whose content is not told may answer other bytes at another call
-abbrev pub as_damage : IpcError → IpcError
-as_damage errors.SchemaMismatch = errors.OutOfSpec kinds.InvalidDataType
-as_damage (errors.DictionaryReplaced id) = errors.OutOfSpec kinds.InvalidDataType
-as_damage errors.NotRepresentable = errors.OutOfSpec kinds.InvalidDataType
-as_damage e = e
-
 -- what a refusal says of the bytes of a file, and what was added then
 pub record FileRefused (e : IpcError) (b : List ℕ) (r : Request) (encoding : Encoding) (old new : Option (List ℕ)) (wants wants' : ℕ) : Type 0 where
-  pub named : IsNamed e
   pub refused : Refuses e (refusals (file_reading to_send b r None))
   pub part : AddsPart e wants wants' b r (text_of encoding) old new
 

@@ -13,10 +13,10 @@ ghost use Rattle.ipc_files.specs.Requests.{asked};
 ghost use Rattle.ipc_reader.specs.Cursors.{numbers_in};
 ghost use Rattle.ipc_stream_writer.specs.Calls.{IsFresh};
 ghost use Rattle.ipc_transcode.specs.Fetching.{FetchesSome, FetchesTo, FileFetched};
-ghost use Rattle.ipc_transcode.specs.Sends.{BeginsStream, IsNewWriter, IsReadBy, IsUnsent, IsWriter, SendCause, Sending, SendsAll, SendsFile, SendsNext, SentRows, SentSoFar, as_damage, schema_of_reader, send_options};
+ghost use Rattle.ipc_transcode.specs.Sends.{BeginsStream, IsNewWriter, IsReadBy, IsReader, IsUnsent, IsWriter, SendCause, Sending, SendsAll, SendsFile, SendsNext, SentRows, SentSoFar, schema_of_reader, send_options};
 
 use crate::conversion::Summary;
-use arrow_spec::{IpcError, OutOfSpecKind};
+use arrow_spec::IpcError;
 use ipc_bodies::Encoding;
 use ipc_fields::copy_if_any;
 use ipc_files::{FileMetadata, read_file_metadata};
@@ -53,19 +53,6 @@ fn writer_of(alloc: Global, file: &FileMetadata, encoding: Encoding) -> Result<S
     Ok(writer)
 }
 
-/// What the writer refuses of a file that is read, as damage of the file: one whose content is not told may answer other bytes at
-/// another call.
-fn as_damage(error: IpcError) -> IpcError
-    ensures { result ≡ as_damage error }
-{
-    match error {
-        IpcError::SchemaMismatch => IpcError::OutOfSpec(OutOfSpecKind::InvalidDataType),
-        IpcError::DictionaryReplaced { .. } => IpcError::OutOfSpec(OutOfSpecKind::InvalidDataType),
-        IpcError::NotRepresentable => IpcError::OutOfSpec(OutOfSpecKind::InvalidDataType),
-        error => error,
-    }
-}
-
 /// Puts the message of the schema of a file's columns.
 fn begin_stream<W: Sink>(
     alloc: Global,
@@ -73,6 +60,7 @@ fn begin_stream<W: Sink>(
     reader: &FileCursor,
     encoding: Encoding,
 ) -> Result<StreamCore, IpcError>
+    requires reader { IsReader reader.now }
     requires few { length (file_custom reader.now.metadata) ≤ 1048576 }
     ensures begins { (x : Sending) → x.encoding ≡ encoding → x.start ≡ W.written sink.old → IsUnsent reader.now x → BeginsStream result x reader.now (W.written sink.new) (W.wants sink.old) (W.wants sink.new) }
     ensures writer { IfOk result (λ w. IsWriter (schema_of_reader reader.now) encoding w) }
@@ -81,10 +69,8 @@ fn begin_stream<W: Sink>(
 {
     let mut writer = writer_of(alloc, reader.metadata(), encoding)?;
     types_have_no_ids(reader.schema());
-    match writer.start(sink, reader.schema(), None) {
-        Ok(()) => Ok(writer),
-        Err(error) => Err(as_damage(error)),
-    }
+    writer.start(sink, reader.schema(), None)?;
+    Ok(writer)
 }
 
 /// How many record batches a file has.
@@ -104,6 +90,7 @@ fn send_next<S: Source, W: Sink>(
     writer: &mut StreamCore,
 ) -> Result<Option<usize>, IpcError>
     requires whole { IsSize (S.content source.old) reader.old.metadata.size }
+    requires reader { IsReader reader.old }
     requires writer { IsWriter (schema_of_reader reader.old) writer.old.encoding writer.old }
     ensures sends { IfSome (S.content source.old) (λ b. (x : Sending) (bytes : List ℕ) (bs : List TableBatch) → x.bytes ≡ b → x.encoding ≡ writer.old.encoding → IsReadBy reader.old x → SentSoFar x reader.old writer.old (W.written sink.old) bytes bs → SendsNext result x reader.new writer.new (W.written sink.new) bytes bs (W.wants sink.old) (W.wants sink.new)) }
     ensures writer { IfOk result (λ _. IsWriter (schema_of_reader reader.new) writer.old.encoding writer.new) }
@@ -120,10 +107,8 @@ fn send_next<S: Source, W: Sink>(
         Some(read) => {
             let batch = read?;
             let rows = batch.height();
-            match writer.write(sink, &batch, None) {
-                Ok(()) => Ok(Some(rows)),
-                Err(error) => Err(as_damage(error)),
-            }
+            writer.write(sink, &batch, None)?;
+            Ok(Some(rows))
         }
     }
 }
@@ -137,6 +122,7 @@ fn send_batches<S: Source, W: Sink>(
     writer: &mut StreamCore,
 ) -> Result<Summary, IpcError>
     requires whole { IsSize (S.content source.old) reader.old.metadata.size }
+    requires reader { IsReader reader.old }
     requires writer { IsWriter (schema_of_reader reader.old) writer.old.encoding writer.old }
     ensures sends { IfSome (S.content source.old) (λ b. (x : Sending) → x.bytes ≡ b → x.encoding ≡ writer.old.encoding → IsReadBy reader.old x → SentRows x reader.old writer.old (W.written sink.old) 0 0 → SendsAll result x reader.new writer.new (W.written sink.new) (W.wants sink.old) (W.wants sink.new)) }
     ensures writer { IfOk result (λ _. IsWriter (schema_of_reader reader.new) writer.old.encoding writer.new) }
@@ -171,6 +157,7 @@ fn send_stream<S: Source, W: Sink>(
     encoding: Encoding,
 ) -> Result<Summary, IpcError>
     requires whole { IsSize (S.content source.old) reader.old.metadata.size }
+    requires reader { IsReader reader.old }
     requires few { length (file_custom reader.old.metadata) ≤ 1048576 }
     ensures sends { IfSome (S.content source.old) (λ b. (x : Sending) → x.bytes ≡ b → x.encoding ≡ encoding → x.start ≡ W.written sink.old → IsUnsent reader.old x → SendsFile result b x.request encoding (W.written sink.old) (W.written sink.new) (W.wants sink.old) (W.wants sink.new)) }
     ensures cause { IfErr result (λ e. SendCause e (S.faults source.old) (S.faults source.new) (W.faults sink.old) (W.faults sink.new)) }

@@ -10,3 +10,4 @@ pub mod Walks
 pub mod Again
 pub mod FileSent
 pub mod Right
+pub mod Unreplaced

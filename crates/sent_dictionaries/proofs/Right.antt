@@ -2,19 +2,23 @@
 use Rattle.std.proofs.Common.{◌≡◌, ◌&&◌, ℤ, List, [], ◌∷◌, ◌++◌, map, Bool, true, false, Option, Some, None, is_some, Ok, refl, sym, ap, ◌∙◌}
 use Rattle.std.specs.Prelude.{cond}
 use Rattle.std.specs.Option.{option_map}
+use Rattle.std.proofs.lemmas.Bool.{and_from}
 use Rattle.std.proofs.lemmas.List.{map-append}
 use Rattle.arrow_spec.specs.declared.error.OutOfSpecKind.TheVariants.{InvalidIdDataType}
 use Rattle.arrow_spec.specs.Kinds as kind
-use Rattle.arrow_spec.specs.Kinds.{Kind, Fields, Use, agrees_with, is_same_kind, same, uses_in, uses_of, values_under}
+use Rattle.arrow_spec.specs.Kinds.{Kind, Fields, Use, agrees_with, have_same_kinds, is_same_kind, same, uses_in, uses_of, values_under}
 use Rattle.arrow_spec.specs.Readings.{Reading, is_absent, only_if, ◌>>=◌}
 use Rattle.arrow_spec.specs.Regular.{is_no_dictionary}
 use Rattle.arrow_spec.specs.Schema.{uses_agree}
+use Rattle.arrow_types.specs.Schemas.{Keyed, fields_in}
+use Rattle.arrow_arrays.specs.Parts.{Parts, forest, kind_in}
 use Rattle.ipc_fields.specs.IpcFields.{Ids, fields_with, has_shape, have_shapes, is_encoded, kind_with}
 use Rattle.ipc_fields.specs.IpcFields as fields
 use Rattle.ipc_fields.specs.Uses.{id_under, use_as}
-use Rattle.ipc_fields.proofs.SameKinds.{form, forms, form_is_same, same_by_form}
+use Rattle.ipc_fields.proofs.SameKinds.{form, forms, form_is_same, same_by_form, same_itself}
 use Rattle.ipc_dictionaries.specs.Columns.{columns_of}
 use Rattle.ipc_dictionaries.specs.Shapes.{are_apart, is_apart}
+use Rattle.ipc_read.specs.Batches.{kinds_of}
 use Rattle.sent_dictionaries.specs.Laws.{ColumnsAreRight}
 
 -- ── kinds of one form ──
@@ -143,6 +147,17 @@ agree_form earlier (u ∷ us) =
 
 -- ── columns ──
 
+-- those of the kinds of a schema's fields
+pub kinds_of_schema : (s : List Keyed) (ps : List Parts) → map kind_in ps ≡ kinds_of s → have_same_kinds (fields_in s) (columns_of (forest ps)) ≡ true
+kinds_of_schema [] [] e = refl
+kinds_of_schema [] (p ∷ ps) e = cc
+kinds_of_schema (q ∷ qs) [] e = cc
+kinds_of_schema (q ∷ qs) (p ∷ ps) e =
+    let one : kind_in p ≡ q.1.kind = cc in
+    let others : map kind_in ps ≡ kinds_of qs = cc in
+    and_from (is_same_kind q.1.kind (kind_in p)) (have_same_kinds (fields_in qs) (columns_of (forest ps))) (ap (is_same_kind q.1.kind) one ∙ same_itself q.1.kind) (kinds_of_schema qs ps others)
+
+-- they have no fault
 pub columns_right : ColumnsAreRight
 columns_right fs below columns same shapes agree apart =
     let gs = columns_of columns in

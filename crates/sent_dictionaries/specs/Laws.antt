@@ -1,6 +1,7 @@
 -- What a writer sends of dictionaries that were read of a file. Each statement is the contract of a public function without a body (src/lib.rt).
-use Rattle.std.specs.Prelude.{◌≡◌, ◌^◌, ◌<◌, ℤ, List, [], map, None, Ok, true}
+use Rattle.std.specs.Prelude.{◌≡◌, ◌^◌, ◌<◌, ℤ, List, [], map, None, Ok, Err, false, true}
 use Rattle.std.specs.List.{AllByRecursion}
+use Rattle.arrow_spec.specs.declared.error.IpcError.TheVariants.{DictionaryReplaced}
 use Rattle.arrow_spec.specs.Arrays.{Dictionaries}
 use Rattle.arrow_spec.specs.Kinds.{Fields, have_same_kinds, numbered, uses_in}
 use Rattle.arrow_spec.specs.Schema.{uses_agree}
@@ -53,3 +54,8 @@ FileDictionariesAreSent = (o : Options) (fs : Fields) (d : Dictionaries) (ps : L
 abbrev pub ColumnsAreRight : Type 0
 ColumnsAreRight = (fs : Fields) (below : Ids) (columns : Forest) → have_same_kinds fs (columns_of columns) ≡ true → have_shapes fs below ≡ true
     → uses_agree [] (uses_in (fields_with fs below)) ≡ Ok tt → are_apart fs ≡ true → columns_fault (columns_of columns) below ≡ None
+
+-- Where the ids count from 0 in preorder and values may be replaced, no dictionary of such columns is refused for values under its id: none has the id of another, so that the batch has fixed none before.
+abbrev pub NoneIsReplaced : Type 0
+NoneIsReplaced = (o : Options) (fs : Fields) (below : Ids) (columns : Forest) (s : Sending) (id : ℤ) → o.cannot_replace ≡ false → fields_with fs below ≡ numbered fs 0 → have_same_kinds fs (columns_of columns) ≡ true
+    → fault_each columns ≡ None → ((q : ℤ) → s.used q ≡ false) → arrays_sent o columns below s ≡ Err (DictionaryReplaced id) → ⊥

@@ -2,7 +2,7 @@
 //! proved in `proofs/`.
 #![tactic(auto)]
 
-ghost use Rattle.sent_dictionaries.specs.Laws.{ColumnsAreRight, FileDictionariesAreSent};
+ghost use Rattle.sent_dictionaries.specs.Laws.{ColumnsAreRight, FileDictionariesAreSent, NoneIsReplaced};
 
 /// All that is to be sent of a file's dictionaries is sent before the first batch, and nothing before the others.
 pub fn file_dictionaries_are_sent()
@@ -12,4 +12,9 @@ pub fn file_dictionaries_are_sent()
 /// Columns of the kinds of a stream's fields have no fault.
 pub fn columns_are_right()
     ensures { ColumnsAreRight }
+{}
+
+/// Under ids that count from 0 in preorder no dictionary of such columns is refused for values that the batch has fixed already.
+pub fn none_is_replaced()
+    ensures { NoneIsReplaced }
 {}

@@ -1,12 +1,13 @@
-use Rattle.std.proofs.Common.{◌≡◌, ◌∙◌, Err, IfOk, Option, ap, length, subst, sym, true}
+use Rattle.std.proofs.Common.{◌≡◌, ◌∙◌, Err, ap, length, subst, sym, true}
 use Rattle.std.specs.Prelude.{option_copied}
 use Rattle.std.specs.Rc.{rc_value}
+use Rattle.ipc_read.specs.Batches.{kinds_of}
 use Rattle.ipc_read.specs.Held.{held_in}
-use Rattle.ipc_read.specs.Projection.{are_columns, are_rising, columns_of}
-use Rattle.ipc_files.specs.Selections.{MayProject, numbers_read, schema_shown}
-use Rattle.ipc_projection.specs.declared.projection.ProjectionInfo.{ProjectionInfo}
+use Rattle.ipc_read.specs.Projection.{are_columns, are_rising, chosen, columns_of}
+use Rattle.ipc_files.specs.Selections.{MayProject, numbers_read}
 use Rattle.ipc_files.proofs.Errors.{is_err}
-use Rattle.ipc_files.proofs.InOrder.{all_read, all_shown, made_range, made_rising, may_reorder, none_shown, ordered_fetched, ordered_given, ordered_read, ordered_shown, refused_given}
+use Rattle.ipc_files.proofs.InOrder.{all_read, made_range, made_rising, may_reorder, none_shown, ordered_fetched, ordered_given, ordered_read, refused_given}
+use Rattle.ipc_files.proofs.ShownFields.{all_fields, ordered_fields}
 use Rattle.ipc_files.proofs.ordered.read_projected_batch.Goals as goal
 
 pub read_batch-requires-clause-rising : goal.read_batch-requires-clause-rising
@@ -44,7 +45,8 @@ returns-in-None-clause-read g c = λ columns block may at.
 
 pub returns-in-None-clause-schema : goal.returns-in-None-clause-schema
 returns-in-None-clause-schema g c = λ columns may.
-    all_shown (rc_value c.args.metadata.now.schema) (option_copied c.args.projection) (columns_of c.rising_numbers-numbers.result) c.in_ok-batch.batch.schema (ap option_copied c.in-None.is) c.rising_numbers-numbers.ensures c.in_ok-batch.ensures.schema
+    let s = rc_value c.args.metadata.now.schema in
+    all_fields s (option_copied c.args.projection) c.in_ok-batch.batch (ap option_copied c.in-None.is) (c.in_ok-batch.ensures.schema ∙ ap (λ ns. chosen ns 0 s) c.rising_numbers-numbers.ensures) (c.in_ok-batch.ensures.kinds ∙ ap (λ ns. chosen ns 0 (kinds_of s)) c.rising_numbers-numbers.ensures)
 
 pub apply_projection-requires : goal.apply_projection-requires
 apply_projection-requires g c = record {
@@ -65,9 +67,9 @@ returns-in-Some-clause-read g c = λ columns block may at.
 
 pub returns-in-Some-clause-schema : goal.returns-in-Some-clause-schema
 returns-in-Some-clause-schema g c = λ columns may.
-    subst (λ (o : Option ProjectionInfo). IfOk c.apply_projection.result (λ y. y.schema ≡ schema_shown (rc_value c.args.metadata.now.schema) o)) (sym (ap option_copied c.in-Some.is))
-    (ordered_shown (rc_value c.args.metadata.now.schema) columns c.in-Some.projection.now (columns_of c.rising_numbers-numbers.result) c.in_ok-batch.batch c.apply_projection.result
-    (c.rising_numbers-numbers.ensures ∙ ap numbers_read (ap option_copied c.in-Some.is)) (subst (MayProject (rc_value c.args.metadata.now.schema) columns) (ap option_copied c.in-Some.is) may) c.in_ok-batch.ensures.schema c.apply_projection.ensures.reordered)
+    let s = rc_value c.args.metadata.now.schema in
+    ordered_fields s columns (option_copied c.args.projection) c.in-Some.projection.now c.in_ok-batch.batch c.apply_projection.result (ap option_copied c.in-Some.is) may (c.in_ok-batch.ensures.schema ∙ ap (λ ns. chosen ns 0 s) c.rising_numbers-numbers.ensures)
+    (c.in_ok-batch.ensures.kinds ∙ ap (λ ns. chosen ns 0 (kinds_of s)) c.rising_numbers-numbers.ensures) c.apply_projection.ensures.reordered
 
 pub returns-in-Some-clause-fetched : goal.returns-in-Some-clause-fetched
 returns-in-Some-clause-fetched g c = λ columns block may at.

@@ -1,23 +1,38 @@
-use Rattle.std.proofs.Common.{None, Ok, Err, sym, ap, ◌∙◌, subst}
+use Rattle.std.proofs.Common.{◌≡◌, None, Ok, Err, sym, ◌∙◌, subst}
+use Rattle.arrow_types.specs.Schemas.{fields_in}
 use Rattle.ipc_bodies.specs.Encodings.{text_of}
 use Rattle.ipc_bodies.specs.Puts.{moved}
+use Rattle.ipc_files.proofs.Errors.{is_err}
+use Rattle.ipc_read_laws.specs.PlainKinds.{plain_fields}
 use Rattle.ipc_stream_writer.specs.Calls.{Starts}
-use Rattle.ipc_write_messages.specs.States.{is_new}
-use Rattle.ipc_transcode.proofs.Begins.{begins, begun, new_of, start_cause}
+use Rattle.ipc_transcode.specs.Sends.{IsNewWriter}
+use Rattle.ipc_transcode.proofs.Begins.{begins, begun, new_of}
+use Rattle.ipc_transcode.proofs.StartCauses.{start_cause, writer_begun}
 use Rattle.ipc_transcode.proofs.send.begin_stream.Goals as goal
 
-pub returns-in-Err-clause-begins : goal.returns-in-Err-clause-begins
-returns-in-Err-clause-begins g c = λ x encoding start is.
+pub returns-in_err-start-clause-begins : goal.returns-in_err-start-clause-begins
+returns-in_err-start-clause-begins g c = λ x encoding start is.
     let m = moved (g.W.Sink.written c.args.sink.now) (g.W.Sink.written c.start.new.sink) (g.W.Sink.faults c.args.sink.now) (g.W.Sink.faults c.start.new.sink) (g.W.Sink.wants c.args.sink.now) (g.W.Sink.wants c.start.new.sink) in
-    begins x c.args.reader.now c.in_ok-writer.writer c.start.new.self m is (new_of x c.metadata.result.now c.args.encoding c.in_ok-writer.writer (c.metadata.ensures ∙ is.metadata) encoding c.in_ok-writer.ensures.new) (sym start) _ c.in-Err.error (ap Err c.as_damage.ensures)
-    (subst (λ s. Starts (text_of c.in_ok-writer.writer.encoding) m (Err c.in-Err.error) c.in_ok-writer.writer c.start.new.self s None) (c.deref-2.ensures ∙ c.schema-2.ensures) c.in-Err.ensures.starts)
+    let e : c.from_residual-in_err-start.result ≡ Err c.in_err-start.field-0.0 = is_err _ _ _ c.from_residual-in_err-start.ensures.0 c.from_residual-in_err-start.ensures.1 (λ f h. h) in
+    begins x c.args.reader.now c.in_ok-writer.writer c.start.new.self m is (new_of x c.metadata.result.now c.args.encoding c.in_ok-writer.writer (c.metadata.ensures ∙ is.metadata) encoding c.in_ok-writer.ensures.new) (sym start) c.from_residual-in_err-start.result c.in_err-start.field-0.0 e
+    (subst (λ s. Starts (text_of c.in_ok-writer.writer.encoding) m (Err c.in_err-start.field-0.0) c.in_ok-writer.writer c.start.new.self s None) (c.deref-2.ensures ∙ c.schema-2.ensures) c.in_err-start.ensures.starts)
 
-pub returns-in-Err-clause-cause : goal.returns-in-Err-clause-cause
-returns-in-Err-clause-cause g c =
-    start_cause _ c.in-Err.error c.in_ok-writer.writer _ _ _ (ap Err c.as_damage.ensures) (ap is_new c.in_ok-writer.ensures.new.state) c.in-Err.ensures.starts
+pub returns-in_err-start-clause-cause : goal.returns-in_err-start-clause-cause
+returns-in_err-start-clause-cause g c =
+    let m = moved (g.W.Sink.written c.args.sink.now) (g.W.Sink.written c.start.new.sink) (g.W.Sink.faults c.args.sink.now) (g.W.Sink.faults c.start.new.sink) (g.W.Sink.wants c.args.sink.now) (g.W.Sink.wants c.start.new.sink) in
+    let e : c.from_residual-in_err-start.result ≡ Err c.in_err-start.field-0.0 = is_err _ _ _ c.from_residual-in_err-start.ensures.0 c.from_residual-in_err-start.ensures.1 (λ f h. h) in
+    start_cause c.args.reader.now c.args.encoding c.in_ok-writer.writer c.start.new.self m c.requires.reader (subst (λ f. IsNewWriter f c.args.encoding c.in_ok-writer.writer) c.metadata.ensures c.in_ok-writer.ensures.new) c.from_residual-in_err-start.result c.in_err-start.field-0.0 e
+    (subst (λ s. Starts (text_of c.in_ok-writer.writer.encoding) m (Err c.in_err-start.field-0.0) c.in_ok-writer.writer c.start.new.self s None) (c.deref-2.ensures ∙ c.schema-2.ensures) c.in_err-start.ensures.starts)
 
-pub returns-in-Ok-clause-begins : goal.returns-in-Ok-clause-begins
-returns-in-Ok-clause-begins g c = λ x encoding start is.
+pub returns-clause-begins : goal.returns-clause-begins
+returns-clause-begins g c = λ x encoding start is.
     let m = moved (g.W.Sink.written c.args.sink.now) (g.W.Sink.written c.start.new.sink) (g.W.Sink.faults c.args.sink.now) (g.W.Sink.faults c.start.new.sink) (g.W.Sink.wants c.args.sink.now) (g.W.Sink.wants c.start.new.sink) in
     begun x c.args.reader.now c.in_ok-writer.writer c.start.new.self m is (new_of x c.metadata.result.now c.args.encoding c.in_ok-writer.writer (c.metadata.ensures ∙ is.metadata) encoding c.in_ok-writer.ensures.new) (sym start)
-    (subst (λ s. Starts (text_of c.in_ok-writer.writer.encoding) m (Ok tt) c.in_ok-writer.writer c.start.new.self s None) (c.deref-2.ensures ∙ c.schema-2.ensures) c.in-Ok.ensures.starts)
+    (subst (λ s. Starts (text_of c.in_ok-writer.writer.encoding) m (Ok tt) c.in_ok-writer.writer c.start.new.self s None) (c.deref-2.ensures ∙ c.schema-2.ensures) c.in_ok-start.ensures.starts)
+
+pub returns-clause-writer : goal.returns-clause-writer
+returns-clause-writer g c =
+    let m = moved (g.W.Sink.written c.args.sink.now) (g.W.Sink.written c.start.new.sink) (g.W.Sink.faults c.args.sink.now) (g.W.Sink.faults c.start.new.sink) (g.W.Sink.wants c.args.sink.now) (g.W.Sink.wants c.start.new.sink) in
+    writer_begun c.args.reader.now c.args.encoding c.in_ok-writer.writer c.start.new.self m c.requires.reader (subst (λ f. IsNewWriter f c.args.encoding c.in_ok-writer.writer) c.metadata.ensures c.in_ok-writer.ensures.new)
+    (subst (λ s. plain_fields (fields_in s) ≡ fields_in s) (c.deref.ensures ∙ c.schema.ensures) c.types_have_no_ids.ensures)
+    (subst (λ s. Starts (text_of c.in_ok-writer.writer.encoding) m (Ok tt) c.in_ok-writer.writer c.start.new.self s None) (c.deref-2.ensures ∙ c.schema-2.ensures) c.in_ok-start.ensures.starts)

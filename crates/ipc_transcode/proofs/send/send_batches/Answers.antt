@@ -5,6 +5,7 @@ use Rattle.ipc_transcode.specs.Sends.{IsWriter, schema_of_reader}
 use Rattle.ipc_transcode.specs.declared.conversion.Summary.{Summary}
 use Rattle.ipc_transcode.proofs.AllBatches.{NextOf, SentSome, no_more, one_more, refused}
 use Rattle.ipc_transcode.proofs.FetchedCalls.{more_fetched}
+use Rattle.ipc_transcode.proofs.Readers.{reader_on}
 use Rattle.ipc_transcode.proofs.send.send_batches.Goals as goal
 use Rattle.ipc_transcode.proofs.send.send_batches.Goals.{in-Some, in_default}
 
@@ -34,3 +35,6 @@ loop-preserved g c = record {
 
 pub returns-in_err-rows-clause-fetched : goal.returns-in_err-rows-clause-fetched
 returns-in_err-rows-clause-fetched g c = more_fetched c.args.writer.now.encoding c.args.reader.now c.args.writer.now (g.W.Sink.written c.args.sink.now) (g.S.Source.content c.args.source.now) (g.S.Source.content c.loop.source) c.loop.reader c.loop.writer (g.W.Sink.written c.loop.sink) c.loop.summary.batches c.loop.summary.rows c.loop.counter c.send_next.new.reader.block (g.S.Source.fetched c.args.source.now) (g.S.Source.fetched c.loop.source) (g.S.Source.fetched c.send_next.new.source) c.loop.invariant.kept.content c.loop.invariant.metadata c.loop.invariant.projection c.loop.invariant.sends c.loop.invariant.fetched c.send_next.ensures.fetched
+
+pub send_next-requires-clause-reader : goal.send_next-requires-clause-reader
+send_next-requires-clause-reader g c = reader_on c.args.reader.now c.loop.reader c.loop.invariant.metadata c.loop.invariant.projection c.requires.reader

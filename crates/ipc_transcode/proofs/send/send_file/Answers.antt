@@ -10,6 +10,7 @@ use Rattle.std.specs.Rc.{rc_value}
 use Rattle.ipc_transcode.proofs.Asks.{columns_not_right, numbers_cause, wrong_as}
 use Rattle.ipc_transcode.proofs.FetchedCalls.{file_fetched}
 use Rattle.ipc_transcode.proofs.FetchedFiles.{file_by_footer}
+use Rattle.ipc_transcode.proofs.Readers.{reader_of}
 use Rattle.ipc_transcode.proofs.Streams.{file_sent}
 use Rattle.ipc_transcode.proofs.send.send_file.Goals as goal
 
@@ -52,3 +53,12 @@ returns-clause-fetched g c =
     (subst (λ cs. MayProject (rc_value file.schema) cs c.in_ok-reader.reader.projection) same c.in_ok-reader.ensures.projected)
     (right_of_file file (columns_of c.args.columns) (rc_value file.schema) refl (subst (λ cs. columns_right cs (length (rc_value file.schema)) ≡ Ok tt) same c.in_ok-reader.ensures.right))
     c.in_ok-reader.ensures.block c.in_ok-reader.ensures.dictionaries c.in_ok-reader.ensures.left c.in_ok-file.ensures.fetched c.send_stream.ensures.fetched
+
+pub send_stream-requires-clause-reader : goal.send_stream-requires-clause-reader
+send_stream-requires-clause-reader g c =
+    let file = c.in_ok-file.file in
+    let same = c.in_ok-columns.ensures.same in
+    reader_of file c.in_ok-reader.reader (columns_of c.args.columns) c.in_ok-reader.ensures.metadata
+    (subst (λ cs. MayProject (rc_value file.schema) cs c.in_ok-reader.reader.projection) same c.in_ok-reader.ensures.projected)
+    (right_of_file file (columns_of c.args.columns) (rc_value file.schema) refl (subst (λ cs. columns_right cs (length (rc_value file.schema)) ≡ Ok tt) same c.in_ok-reader.ensures.right))
+    c.in_ok-file.ensures.read

@@ -4,7 +4,7 @@ use Rattle.ipc_io.proofs.Kept.{source_kept_on}
 use Rattle.ipc_files.proofs.Errors.{is_err}
 use Rattle.ipc_files.proofs.ReadFiles.{of_err}
 use Rattle.ipc_files.specs.FileViews.{meta_view}
-use Rattle.ipc_files.specs.Selections.{IsMade, MayProject, schema_shown}
+use Rattle.ipc_files.specs.Selections.{HasFields, IsMade, MayProject, schema_shown}
 use Rattle.ipc_files.specs.Requests.{asked}
 use Rattle.ipc_projection.specs.declared.projection.ProjectionInfo.{ProjectionInfo}
 use Rattle.ipc_reader.proofs.HeldDictionaries.{batch_goes, batch_stops, cause_since, fetched_going, fetched_stopping, file_kept, goes_kept, ok_none, read_goes, stops_kept}
@@ -54,7 +54,7 @@ returns g c =
       first = λ is. file_kept content meta held (c.in_ok-held.ensures.first is);
       dictionaries = λ columns may. goes_kept content meta columns k held read.result c.requires.not_refused c.in_ok-held.ensures.held (λ is. c.in_ok-held.ensures.gives columns is (subst (MayProject s columns) (sym c.as_ref.ensures.value) may));
       schema = λ columns may.
-          subst (λ (p : Option ProjectionInfo). IfOk read.result (λ x. x.schema ≡ schema_shown s p)) c.as_ref-2.ensures.value
+          subst (λ (p : Option ProjectionInfo). IfOk read.result (λ x. HasFields x (schema_shown s p))) c.as_ref-2.ensures.value
           (read.ensures.schema columns (subst (MayProject s columns) (sym c.as_ref-2.ensures.value) may));
       left = refl;
       block = refl;

@@ -6,7 +6,7 @@ use Rattle.ipc_files.specs.Selections.{numbers_read}
 use Rattle.ipc_files.proofs.Errors.{is_err}
 use Rattle.ipc_files.proofs.InOrder.{floats_asked, may_reorder, none_shown}
 use Rattle.ipc_streams.proofs.ReadBatches.{all_asked, in_order, ordered_asked, refused_asked}
-use Rattle.ipc_streams.proofs.ShownFields.{all_fields, ordered_fields}
+use Rattle.ipc_files.proofs.ShownFields.{all_fields, ordered_fields}
 use Rattle.ipc_streams.proofs.StreamSchemas.{column_count}
 use Rattle.arrow_spec.specs.Kinds.{width}
 use Rattle.arrow_spec.specs.Schema.{Schema}

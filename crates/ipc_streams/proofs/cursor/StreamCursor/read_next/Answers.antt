@@ -2,7 +2,8 @@ use Rattle.std.proofs.Common.{◌≡◌, ◌<◌, ◌-◌, Err, IfSome, Ok, ap, 
 use Rattle.ipc_read.specs.Held.{held_in}
 use Rattle.ipc_files.proofs.Errors.{is_err}
 use Rattle.ipc_files.proofs.ReadFiles.{of_err}
-use Rattle.ipc_streams.specs.Readers.{HasFields, IsReader, fields_shown}
+use Rattle.ipc_files.specs.Selections.{HasFields}
+use Rattle.ipc_streams.specs.Readers.{IsReader, fields_shown}
 use Rattle.ipc_streams.proofs.NextBatches.{next_batch, next_ends, next_not_framed, next_reached, next_refused, next_waits, none_taken}
 use Rattle.ipc_streams.proofs.TakenCalls.{cause_since, keeps_feed, keeps_on, no_value}
 use Rattle.ipc_streams.proofs.cursor.StreamCursor.read_next.Goals as goal

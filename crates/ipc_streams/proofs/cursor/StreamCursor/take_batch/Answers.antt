@@ -7,7 +7,7 @@ use Rattle.ipc_schema.specs.Views.{message_of}
 use Rattle.ipc_files.proofs.Errors.{is_err}
 use Rattle.ipc_streams.specs.Starts.{stream_schema}
 use Rattle.ipc_streams.proofs.Handed.{decoded_cause, of_bytes}
-use Rattle.ipc_streams.proofs.ShownFields.{with_pairs}
+use Rattle.ipc_files.proofs.ShownFields.{with_pairs}
 use Rattle.ipc_streams.proofs.TakenCalls.{batch_not_taken, values_told}
 use Rattle.ipc_streams.proofs.TakenMessages.{given_ok, header_refused, pairs_refused, rows_cut, rows_given, rows_refused}
 use Rattle.ipc_streams.proofs.cursor.StreamCursor.take_batch.Goals as goal

@@ -1,5 +1,5 @@
 -- The columns of a batch are of the kinds of its fields, in the order asked.
-use Rattle.std.proofs.Common.{◌≡◌, ◌∙◌, ℕ, suc, List, [], ◌∷◌, length, map, slice_get, true, Option, Some, None, Result, Ok, Err, IfOk, refl, sym, ap, subst}
+use Rattle.std.proofs.Common.{◌≡◌, ◌∙◌, ℕ, suc, List, [], ◌∷◌, length, map, slice_get, Option, Some, None, Result, Ok, Err, IfOk, refl, sym, ap, subst}
 use Rattle.std.specs.Option.{option_map}
 use Rattle.std.specs.Rc.{rc_value}
 use Rattle.std.proofs.lemmas.List.{length-map}
@@ -11,13 +11,12 @@ use Rattle.arrow_arrays.specs.Batches.{Batch}
 use Rattle.arrow_arrays.specs.Parts.{kind_in}
 use Rattle.ipc_read.specs.Batches.{kinds_of}
 use Rattle.ipc_read.specs.Projection.{are_below, chosen}
-use Rattle.ipc_projection.specs.Places.{StandAt, entry}
+use Rattle.ipc_projection.specs.Places.{StandAt}
 use Rattle.ipc_projection.specs.Projections.{IsProjection, IsReordered}
 use Rattle.ipc_projection.specs.declared.projection.ProjectionInfo.{ProjectionInfo}
 use Rattle.ipc_projection.proofs.Projected.{chosen_stand, stand_once}
-use Rattle.ipc_files.specs.Selections.{MayProject, numbers_read, schema_shown}
+use Rattle.ipc_files.specs.Selections.{HasFields, MayProject, numbers_read, schema_shown}
 use Rattle.ipc_files.proofs.InOrder.{all_shown, ordered_shown}
-use Rattle.ipc_streams.specs.Readers.{HasFields}
 
 -- ── items and what is said of them ──
 
