@@ -1,24 +1,17 @@
 -- The types whose arrays are read.
-use Rattle.std.proofs.Common.{◌≡◌, Bool, true, false, ◌&&◌, Box, Global, ℕ, length, map, refl, ap, ◌∙◌, rules}
+use Rattle.std.proofs.Common.{◌≡◌, Bool, true, false, ◌&&◌, Box, Global, ℕ, length, map, refl, ap, ◌∙◌}
 use Rattle.std.proofs.lemmas.List.{length-map}
 use Rattle.arrow_spec.specs.Kinds as kind
 use Rattle.arrow_spec.specs.Schema.{is_struct_of_two}
-use Rattle.arrow_types.specs.Child.{one_field}
-use Rattle.arrow_types.specs.KindOf.{kind_of, child_of, fields_of, ids_of, union_kind_of}
+use Rattle.arrow_types.specs.KindOf.{kind_of, child_of, fields_of, ids_of}
 use Rattle.arrow_types.specs.UnionIds.{are_right}
-use Rattle.arrow_types.specs.declared.data_type.ArrowDataType.{the_lemmas}
 use Rattle.arrow_types.specs.declared.data_type.ArrowDataType as data_type
 use Rattle.arrow_types.specs.declared.data_type.Field.{Field}
 use Rattle.arrow_types.specs.declared.data_type.UnionType.{UnionType, out-UnionType}
 use Rattle.arrow_types.proofs.Children.{width_from}
+use Rattle.arrow_types.proofs.DataTypes.{kind_of_child, kind_of_Map, kind_of_Union}
 use Rattle.arrow_types.proofs.Sameness.{union_kind_of_is}
 use Rattle.arrow_arrays.specs.Carried.{is_carried, are_carried}
-
-kind_of_Map : (f : Box Field Global) (sorted : Bool) → kind_of (data_type.Map f sorted) ≡ kind.map sorted (one_field (child_of f.value))
-kind_of_Map f sorted = search (rules, the_lemmas)
-
-pub kind_of_child : (f : Field) → (child_of f).kind ≡ kind_of f.dtype
-kind_of_child f = search (rules, the_lemmas)
 
 by_entry : (a b : Bool) → a ≡ true → (a && (b && true)) ≡ b
 by_entry true true h = refl
@@ -31,9 +24,6 @@ map_carried f sorted h =
     ap is_carried (kind_of_Map f sorted)
     ∙ by_entry (is_struct_of_two (child_of f.value).kind) (is_carried (child_of f.value).kind) (ap is_struct_of_two (kind_of_child f.value) ∙ h)
     ∙ ap is_carried (kind_of_child f.value)
-
-kind_of_Union : (b : Box UnionType Global) → kind_of (data_type.Union b) ≡ union_kind_of b.value
-kind_of_Union b = search (rules, the_lemmas)
 
 -- whether the ids of a union are right for its children
 abbrev pub has_right : UnionType → Bool

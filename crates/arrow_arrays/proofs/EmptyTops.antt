@@ -1,17 +1,16 @@
 -- Arrays without rows: which tops types have, and what stands under them.
 use Rattle.std.proofs.Common.{◌≡◌, ℕ, zero, suc, ◌+◌, ◌≤◌, ◌<◌, ◌++◌, ◌&&◌, List, [], ◌∷◌, Bool, true, false, Option, Some, None, Result, Ok, Err, IfOk, ℤ, length, get_or, drop, nat_eq, refl, sym, ap, ◌∙◌, subst, arith, add-one}
 use Rattle.std.specs.Prelude.{nat_lt}
-use Rattle.std.specs.Option.{IfSome}
-use Rattle.std.proofs.lemmas.Bool.{and_parts, and_from, eqb-true, eq-eqb}
+use Rattle.std.proofs.lemmas.Bool.{and_parts, and_from, eqb-true}
 use Rattle.std.proofs.lemmas.List.{length-map}
 use Rattle.std.proofs.Math.Seq.{drop-cons}
 use Rattle.arrow_spec.specs.declared.types.IntegerType.{IntegerType}
 use Rattle.arrow_spec.specs.declared.types.IntegerType.TheVariants as integers
-use Rattle.arrow_spec.specs.declared.types.IntervalUnit.TheVariants.{YearMonth, DayTime, MonthDayNano}
+use Rattle.arrow_spec.specs.declared.types.IntervalUnit.TheVariants.{YearMonth}
 use Rattle.arrow_spec.specs.declared.types.UnionMode.{UnionMode}
 use Rattle.arrow_spec.specs.declared.types.UnionMode.TheVariants.{Dense, Sparse}
 use Rattle.arrow_spec.specs.Kinds as kind
-use Rattle.arrow_spec.specs.Kinds.{Kind, Fields, none, field, small, large, width, half, single, double}
+use Rattle.arrow_spec.specs.Kinds.{Kind, Fields, none, field, small, large, width, half}
 use Rattle.arrow_spec.specs.Schema.{first_is_struct_of_two}
 use Rattle.arrow_types.specs.KindCode.{kind_eq}
 use Rattle.arrow_types.specs.KindOf.{kind_of, child_of, fields_of}
@@ -25,13 +24,13 @@ use Rattle.arrow_buffers.specs.Layouts.{binary_size}
 use Rattle.arrow_arrays.specs.Carried.{is_carried, are_carried}
 use Rattle.arrow_arrays.specs.EmptyParts.{empty_leaf, empty_listed, empty_counted, empty_under, empty_forest, empty_parts}
 use Rattle.arrow_arrays.specs.EmptyTops.{EmptyUnder, ValuesUnder, is_dense, no_places, empty_indexed, values_in, empty_below}
-use Rattle.arrow_arrays.specs.Heads.{listed, mapped, sized, structured, tagged, indexed, is_list, is_map, is_sized, is_struct, is_union, is_dictionary, is_mode, has_offsets, child_fields, values_kind, are_of, each_of}
+use Rattle.arrow_arrays.specs.Heads.{listed, mapped, sized, structured, tagged, indexed, is_list, is_map, is_sized, is_struct, is_union, is_dictionary, is_mode, child_fields, are_of, each_of}
 use Rattle.arrow_arrays.specs.LeafKinds.{is_leaf_layout}
 use Rattle.arrow_arrays.specs.Parts.{Parts, Forest, leaf, nested, also, forest, kind_in, rows_in, kinds_each, fault_in}
 use Rattle.arrow_arrays.specs.Parts as parts
 use Rattle.arrow_arrays.specs.PartsOf.{parts_of, all_parts_of, forest_of}
 use Rattle.arrow_arrays.specs.declared.array.Array.{Array}
-use Rattle.arrow_arrays.proofs.CarriedTypes.{kind_of_child}
+use Rattle.arrow_types.proofs.DataTypes.{kind_of_child}
 use Rattle.arrow_arrays.proofs.EmptyParts.{union_sound, dictionary_itself, forest-empty, sound-empty, kind-empty, rows-empty, each_itself}
 use Rattle.arrow_arrays.proofs.Sliced.{both}
 
@@ -59,57 +58,15 @@ sized_suits (suc n) a b fs h = and_from a true (and_parts a (nat_lt 0 (suc n)) (
 
 over : (p : PhysicalType) (name : List ℕ) (metadata : Option (List ℕ)) (k : Kind) → fits_layout p (kind.extension name metadata k) ≡ fits_layout p k
 over physical.Null name metadata k = refl
-over physical.Boolean name metadata k = refl
-over (physical.Primitive i) name metadata k = refl
-over physical.Binary name metadata k = refl
-over physical.LargeBinary name metadata k = refl
-over physical.FixedSizeBinary name metadata k = refl
-over physical.Utf8 name metadata k = refl
-over physical.LargeUtf8 name metadata k = refl
-over physical.BinaryView name metadata k = refl
-over physical.Utf8View name metadata k = refl
-over physical.List name metadata k = refl
-over physical.LargeList name metadata k = refl
-over physical.FixedSizeList name metadata k = refl
-over physical.Struct name metadata k = refl
-over physical.Union name metadata k = refl
-over physical.Map name metadata k = refl
-over (physical.Dictionary i) name metadata k = refl
+over p name metadata k = refl
 
 -- a kind whose arrays are read has a top of its layout
 pub layout_fits : (k : Kind) → is_carried k ≡ true → fits_layout (physical_of k) k ≡ true
-layout_fits kind.null h = h
-layout_fits kind.boolean h = h
 layout_fits (kind.integer integers.Int8) h = h
-layout_fits (kind.integer integers.Int16) h = h
-layout_fits (kind.integer integers.Int32) h = h
-layout_fits (kind.integer integers.Int64) h = h
-layout_fits (kind.integer integers.Int128) h = h
-layout_fits (kind.integer integers.UInt8) h = h
-layout_fits (kind.integer integers.UInt16) h = h
-layout_fits (kind.integer integers.UInt32) h = h
-layout_fits (kind.integer integers.UInt64) h = h
 layout_fits (kind.float half) h = h
-layout_fits (kind.float single) h = h
-layout_fits (kind.float double) h = h
-layout_fits kind.date32 h = h
-layout_fits kind.date64 h = h
-layout_fits (kind.time32 u) h = h
-layout_fits (kind.time64 u) h = h
-layout_fits (kind.timestamp u z) h = h
-layout_fits (kind.duration u) h = h
 layout_fits (kind.interval YearMonth) h = h
-layout_fits (kind.interval DayTime) h = h
-layout_fits (kind.interval MonthDayNano) h = h
-layout_fits (kind.decimal p s) h = h
-layout_fits (kind.decimal256 p s) h = h
 layout_fits (kind.binary small) h = h
-layout_fits (kind.binary large) h = h
 layout_fits (kind.utf8 small) h = h
-layout_fits (kind.utf8 large) h = h
-layout_fits kind.binary_view h = h
-layout_fits kind.utf8_view h = h
-layout_fits (kind.fixed_size_binary n) h = h
 layout_fits (kind.«list» small fs) h = and_from (nat_eq (width fs) 1) true (and_parts (nat_eq (width fs) 1) (are_carried fs) h).0 refl
 layout_fits (kind.«list» large fs) h = and_from (nat_eq (width fs) 1) true (and_parts (nat_eq (width fs) 1) (are_carried fs) h).0 refl
 layout_fits (kind.fixed_size_list size fs) h = sized_suits size (nat_eq (width fs) 1) (are_carried fs) fs h
@@ -118,6 +75,7 @@ layout_fits (kind.map sorted fs) h = first (nat_eq (width fs) 1) (first_is_struc
 layout_fits (kind.union mode stated ids fs) h = mode_suits mode (are_right ids (width fs)) (are_carried fs) h
 layout_fits (kind.dictionary t ordered id k) h = dictionary_itself t ordered id k
 layout_fits (kind.extension name metadata k) h = over (physical_of k) name metadata k ∙ layout_fits k h
+layout_fits k h = h
 
 -- the fields of such a kind are of such kinds
 pub fields_carried : (k : Kind) → is_carried k ≡ true → are_carried (child_fields k) ≡ true

@@ -56,31 +56,19 @@ length-head h css v =
 
 pub kind-part : (o n : ℕ) (h : Head) → head_kind (head_part o n h) ≡ head_kind h
 kind-part o n (listed l) = refl
-kind-part o n (mapped l) = refl
-kind-part o n (sized c) = refl
-kind-part o n (structured c) = refl
-kind-part o n (tagged t) = refl
-kind-part o n (indexed d) = refl
+kind-part o n h = refl
 
 validity-part : (o n : ℕ) (h : Head) → head_validity (head_part o n h) ≡ option_map (part o n) (head_validity h)
 validity-part o n (listed l) = refl
-validity-part o n (mapped l) = refl
-validity-part o n (sized c) = refl
-validity-part o n (structured c) = refl
-validity-part o n (tagged t) = refl
-validity-part o n (indexed d) = refl
+validity-part o n h = refl
 
 has_offsets-part : (o n : ℕ) (offsets : Option (List ℤ)) → has_offsets (option_map (part o n) offsets) ≡ has_offsets offsets
 has_offsets-part o n None = refl
 has_offsets-part o n (Some os) = refl
 
 suits-part : (o n : ℕ) (h : Head) → suits (head_part o n h) ≡ suits h
-suits-part o n (listed l) = refl
-suits-part o n (mapped l) = refl
-suits-part o n (sized c) = refl
-suits-part o n (structured c) = refl
 suits-part o n (tagged t) = ap (λ b. is_union b t.kind) (has_offsets-part o n t.offsets)
-suits-part o n (indexed d) = refl
+suits-part o n h = refl
 
 under-part : (o n : ℕ) (h : Head) (ks : List Kind) → are_under (head_part o n h) ks ≡ are_under h ks
 under-part o n (indexed d) ks = refl
@@ -255,12 +243,8 @@ have_ids-part o n ids types e le =
     ap (λ m. not (some_row mine m)) (length-part types o n le) ∙ none-part o n (length types) mine theirs le same e
 
 fits_types-part : (o n : ℕ) (h : Head) → fits_types h ≡ true → o + n ≤ head_rows h → fits_types (head_part o n h) ≡ true
-fits_types-part o n (listed l) e le = refl
-fits_types-part o n (mapped l) e le = refl
-fits_types-part o n (sized c) e le = refl
-fits_types-part o n (structured c) e le = refl
 fits_types-part o n (tagged t) e le = have_ids-part o n (ids_in t.kind) t.types e le
-fits_types-part o n (indexed d) e le = refl
+fits_types-part o n h e le = refl
 
 have_keys-part : (o n held : ℕ) (keys : List ℤ) (v : Option (List Bool)) → have_keys held keys v ≡ true → o + n ≤ length keys → have_keys held (part o n keys) (option_map (part o n) v) ≡ true
 have_keys-part o n held keys v e le =

@@ -22,13 +22,7 @@ use Rattle.arrow_arrays.specs.LeafParts.{LeafParts, nulls, bits, numbers, fixed,
 
 pub kind-part : (o n : ℕ) (p : LeafParts) → leaf_kind_in (leaf_part_of o n p) ≡ leaf_kind_in p
 kind-part o n (nulls x) = refl
-kind-part o n (bits f) = refl
-kind-part o n (numbers f) = refl
-kind-part o n (fixed f) = refl
-kind-part o n (binary p) = refl
-kind-part o n (text p) = refl
-kind-part o n (binary_views p) = refl
-kind-part o n (text_views p) = refl
+kind-part o n p = refl
 
 -- there are as many cells as rows
 pub length-cells : (p : LeafParts) → leaf_fault_in p ≡ None → length (leaf_cells_in p) ≡ leaf_rows_in p

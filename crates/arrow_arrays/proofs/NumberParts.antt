@@ -22,40 +22,12 @@ size_by n = get_or (1 ∷ 2 ∷ 4 ∷ 8 ∷ 16 ∷ 0 ∷ 1 ∷ 2 ∷ 4 ∷ 8 ∷
 
 size_by-number : (p : PrimitiveType) → size_by (primitive_number p) ≡ primitive_size p
 size_by-number primitive.Int8 = refl
-size_by-number primitive.Int16 = refl
-size_by-number primitive.Int32 = refl
-size_by-number primitive.Int64 = refl
-size_by-number primitive.Int128 = refl
-size_by-number primitive.Int256 = refl
-size_by-number primitive.UInt8 = refl
-size_by-number primitive.UInt16 = refl
-size_by-number primitive.UInt32 = refl
-size_by-number primitive.UInt64 = refl
-size_by-number primitive.Float16 = refl
-size_by-number primitive.Float32 = refl
-size_by-number primitive.Float64 = refl
-size_by-number primitive.DaysMs = refl
-size_by-number primitive.MonthDayNano = refl
+size_by-number p = refl
 
 -- a layout of a primitive type has its size
 pub layout_size : (p : PrimitiveType) (l : PhysicalType) → is_primitive p l ≡ true → number_size l ≡ primitive_size p
 layout_size p (physical.Primitive q) e = sym (size_by-number q) ∙ ap size_by (eqb-true (primitive_number q) (primitive_number p) e) ∙ size_by-number p
-layout_size p physical.Null e = cc
-layout_size p physical.Boolean e = cc
-layout_size p physical.Binary e = cc
-layout_size p physical.LargeBinary e = cc
-layout_size p physical.FixedSizeBinary e = cc
-layout_size p physical.Utf8 e = cc
-layout_size p physical.LargeUtf8 e = cc
-layout_size p physical.BinaryView e = cc
-layout_size p physical.Utf8View e = cc
-layout_size p physical.List e = cc
-layout_size p physical.LargeList e = cc
-layout_size p physical.FixedSizeList e = cc
-layout_size p physical.Struct e = cc
-layout_size p physical.Union e = cc
-layout_size p physical.Map e = cc
-layout_size p (physical.Dictionary i) e = cc
+layout_size p l e = cc
 
 -- parts that are not refused have the layout
 pub leaf_suits : (s : Bool) (n : ℕ) (v : Option (List Bool)) → leaf_fault s n v ≡ None → s ≡ true

@@ -37,13 +37,7 @@ leaf_from (inr (inr (inr (inr (inr (inr (inr p))))))) = text_views p
 
 pub leaf_from-leaf_to : (p : LeafParts) → leaf_from (leaf_to p) ≡ p
 leaf_from-leaf_to (nulls n) = refl
-leaf_from-leaf_to (bits f) = refl
-leaf_from-leaf_to (numbers f) = refl
-leaf_from-leaf_to (fixed f) = refl
-leaf_from-leaf_to (binary p) = refl
-leaf_from-leaf_to (text p) = refl
-leaf_from-leaf_to (binary_views p) = refl
-leaf_from-leaf_to (text_views p) = refl
+leaf_from-leaf_to p = refl
 
 abbrev pub leaf_parts_code : Coded LeafParts
 leaf_parts_code = code_by StoredLeaf stored_leaf_code leaf_to leaf_from leaf_from-leaf_to

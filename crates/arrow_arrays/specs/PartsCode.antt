@@ -66,11 +66,7 @@ head_from (inr (inr (inr d))) = indexed d
 
 pub head_back : (h : Head) → head_from (head_to h) ≡ h
 head_back (listed l) = refl
-head_back (mapped l) = refl
-head_back (sized c) = refl
-head_back (structured c) = refl
-head_back (tagged t) = refl
-head_back (indexed d) = refl
+head_back h = refl
 
 abbrev pub head_code : Coded Head
 head_code =

@@ -26,40 +26,12 @@ by_number n = get_or (Int8 ∷ Int16 ∷ Int32 ∷ Int64 ∷ Int128 ∷ Int256 �
 
 by_number-number : (p : PrimitiveType) → by_number (primitive_number p) ≡ p
 by_number-number Int8 = refl
-by_number-number Int16 = refl
-by_number-number Int32 = refl
-by_number-number Int64 = refl
-by_number-number Int128 = refl
-by_number-number Int256 = refl
-by_number-number UInt8 = refl
-by_number-number UInt16 = refl
-by_number-number UInt32 = refl
-by_number-number UInt64 = refl
-by_number-number Float16 = refl
-by_number-number Float32 = refl
-by_number-number Float64 = refl
-by_number-number DaysMs = refl
-by_number-number MonthDayNano = refl
+by_number-number p = refl
 
-layout_is : (p : PrimitiveType) (l : PhysicalType) → is_primitive p l ≡ true → l ≡ physical.Primitive p
+pub layout_is : (p : PrimitiveType) (l : PhysicalType) → is_primitive p l ≡ true → l ≡ physical.Primitive p
 layout_is p (physical.Primitive q) e =
     ap physical.Primitive (sym (by_number-number q) ∙ ap by_number (eqb-true (primitive_number q) (primitive_number p) e) ∙ by_number-number p)
-layout_is p physical.Null e = cc
-layout_is p physical.Boolean e = cc
-layout_is p physical.Binary e = cc
-layout_is p physical.LargeBinary e = cc
-layout_is p physical.FixedSizeBinary e = cc
-layout_is p physical.Utf8 e = cc
-layout_is p physical.LargeUtf8 e = cc
-layout_is p physical.BinaryView e = cc
-layout_is p physical.Utf8View e = cc
-layout_is p physical.List e = cc
-layout_is p physical.LargeList e = cc
-layout_is p physical.FixedSizeList e = cc
-layout_is p physical.Struct e = cc
-layout_is p physical.Union e = cc
-layout_is p physical.Map e = cc
-layout_is p (physical.Dictionary i) e = cc
+layout_is p l e = cc
 
 -- the cell in a layout of a primitive type
 cell_is : (p : PrimitiveType) (k : Kind) (bytes : List ℕ) → is_primitive p (physical_of k) ≡ true

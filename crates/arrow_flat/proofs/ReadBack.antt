@@ -26,10 +26,6 @@ mutual
 
 pub reads_back : (n : Node) (b : List ℕ) → IsTable n → Fits n → size n < 2 ^ 31 → b ≡ layout n → ReadsBack n b
 reads_back (table s) b root fits short h = subst (λ (xs : List ℕ). Rooted s xs) (append-nil (layout (table s)) ∙ sym h) (layout_back s [] fits short)
-reads_back (text x) b root fits short h = root
-reads_back (structs n xs) b root fits short h = root
-reads_back (numbers32 xs) b root fits short h = root
-reads_back (numbers64 xs) b root fits short h = root
-reads_back (tables ns) b root fits short h = root
+reads_back n b root fits short h = root
 
 pub ruleset reads = (node_fits, reads_back)

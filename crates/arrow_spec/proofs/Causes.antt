@@ -17,16 +17,7 @@ refuses_mono : (xs ys : List IpcError) (e : IpcError) → (IsAmong xs e → IsAm
 refuses_mono xs ys errors.Memory f h = tt
 refuses_mono xs ys errors.ReadFault f h = tt
 refuses_mono xs ys errors.WriteFault f h = tt
-refuses_mono xs ys (errors.OutOfSpec k) f h = f h
-refuses_mono xs ys (errors.Unsupported k) f h = f h
-refuses_mono xs ys errors.TooDeep f h = f h
-refuses_mono xs ys (errors.TooMany k) f h = f h
-refuses_mono xs ys (errors.Projection i) f h = f h
-refuses_mono xs ys errors.TooLarge f h = f h
-refuses_mono xs ys errors.SchemaMismatch f h = f h
-refuses_mono xs ys (errors.DictionaryReplaced id) f h = f h
-refuses_mono xs ys errors.NotRepresentable f h = f h
-refuses_mono xs ys errors.State f h = f h
+refuses_mono xs ys e f h = f h
 
 pub refusals-place : (xs : List IpcError) → refusals (free_of xs) ≡ xs
 refusals-place [] = refl

@@ -1,9 +1,9 @@
 -- What holds of an array that is read for some rows holds of it where it is read for fewer.
-use Rattle.std.proofs.Common.{◌≡◌, ℕ, zero, suc, ◌+◌, ◌-◌, ◌*◌, ◌<◌, ◌≤◌, List, [], ◌∷◌, ◌++◌, length, take, drop, Option, Some, None, Bool, true, false, refl, sym, ◌∙◌, ap, arith, not, ◌&&◌, ◌||◌, cond}
+use Rattle.std.proofs.Common.{◌≡◌, ℕ, zero, suc, ◌+◌, ◌-◌, ◌*◌, ◌<◌, ◌≤◌, List, [], ◌∷◌, ◌++◌, length, Option, Some, None, Bool, true, false, refl, arith, not, ◌&&◌, ◌||◌, cond}
 use Rattle.std.specs.Prelude.{nat_lt, slice_get, ℤ}
 use Rattle.std.specs.Int.{byte_len}
 use Rattle.std.specs.Str.{is_utf8}
-use Rattle.std.proofs.lemmas.Bool.{ltb-false, le-ltb, or_parts, or_from, and_left, and_right, and_cases, false≢true}
+use Rattle.std.proofs.lemmas.Bool.{ltb-false, le-ltb, or_parts, or_from, leb-false}
 use Rattle.arrow_spec.specs.declared.error.IpcError.{IpcError}
 use Rattle.arrow_spec.specs.declared.error.IpcError.TheVariants.{OutOfSpec}
 use Rattle.arrow_spec.specs.declared.error.OutOfSpecKind.TheVariants as kinds
@@ -12,11 +12,11 @@ use Rattle.arrow_spec.specs.declared.types.UnionMode.{UnionMode}
 use Rattle.arrow_spec.specs.declared.types.UnionMode.TheVariants.{Dense, Sparse}
 use Rattle.arrow_spec.specs.declared.types.IntervalUnit.TheVariants.{YearMonth, DayTime, MonthDayNano}
 use Rattle.arrow_spec.specs.declared.types.IntegerType.{IntegerType}
-use Rattle.arrow_spec.specs.Kinds.{Kind, Fields, none, field, null, boolean, integer, float, date32, date64, time32, time64, timestamp, duration, interval, decimal, decimal256, binary, utf8, binary_view, utf8_view, fixed_size_binary, «list», fixed_size_list, struct, map, union, dictionary, extension, Offsets, small}
+use Rattle.arrow_spec.specs.Kinds.{Kind, Fields, none, field, boolean, integer, date32, date64, time32, time64, timestamp, duration, interval, decimal, binary, utf8, binary_view, utf8_view, fixed_size_binary, «list», fixed_size_list, struct, map, union, dictionary, extension, Offsets, small}
 use Rattle.arrow_spec.specs.Counts.{RecordBatch, Place, magnitude, is_negative, inside, after, union_buffers}
 use Rattle.arrow_spec.specs.Cells.{Cell}
-use Rattle.arrow_spec.specs.Arrays.{Dictionaries, valid, has_nulls, range_of, offset_width, offset, signed_in, row_bytes, integer_width, found, types_buffer, node_of}
-use Rattle.arrow_spec.specs.Faults.{cause, if_sound, some_row, some_valid_row, node_causes, node_faults, bitmap_faults, validity_faults, numbers_faults, fixed_faults, offsets_buffer_faults, offsets_faults, bytes_faults, utf8_faults, view_parts_faults, views_faults, view_text_faults, key_faults, dense_buffer_faults, dense_faults, union_faults, flat_faults, array_faults, child_faults, view_count_faults}
+use Rattle.arrow_spec.specs.Arrays.{Dictionaries, valid, has_nulls, range_of, offset_width, offset, signed_in, row_bytes, integer_width, found, types_buffer, node_of, or_0}
+use Rattle.arrow_spec.specs.Faults.{cause, if_sound, some_row, some_valid_row, node_causes, node_faults, bitmap_faults, validity_faults, numbers_faults, fixed_faults, offsets_buffer_faults, offsets_faults, bytes_faults, utf8_faults, view_parts_faults, views_faults, view_text_faults, key_faults, dense_buffer_faults, dense_faults, union_faults, flat_faults, array_faults, child_faults, view_count_faults, is_bad_row, is_no_id, place_in}
 
 -- ── nothing is wrong with the whole where nothing is with its parts ──
 
@@ -220,15 +220,7 @@ flat_faults-fewer m d binary_view p (suc n) (suc j) less h = views_faults-fewer 
 flat_faults-fewer m d utf8_view p (suc n) (suc j) less h = view_text_faults-fewer m p (suc n) (suc j) less h
 flat_faults-fewer m d (fixed_size_binary size) p (suc n) (suc j) less h = fixed_faults-fewer m p size (suc n) (suc j) less h
 flat_faults-fewer m d (dictionary t ordered id k) p (suc n) (suc j) less h = along_sound _ _ _ _ (fixed_faults-fewer m p (byte_len (integer_width t)) (suc n) (suc j) less) (key_faults-fewer m (found d id) t id p (suc n) (suc j) less) h
-flat_faults-fewer m d null p (suc n) (suc j) less h = refl
-flat_faults-fewer m d (float t) p (suc n) (suc j) less h = refl
-flat_faults-fewer m d (decimal256 precision scale) p (suc n) (suc j) less h = refl
-flat_faults-fewer m d («list» o fs) p (suc n) (suc j) less h = refl
-flat_faults-fewer m d (fixed_size_list size fs) p (suc n) (suc j) less h = refl
-flat_faults-fewer m d (struct fs) p (suc n) (suc j) less h = refl
-flat_faults-fewer m d (map sorted fs) p (suc n) (suc j) less h = refl
-flat_faults-fewer m d (union mode stated ids fs) p (suc n) (suc j) less h = refl
-flat_faults-fewer m d (extension name metadata k) p (suc n) (suc j) less h = refl
+flat_faults-fewer m d k p (suc n) (suc j) less h = refl
 
 -- ── arrays with children ──
 
@@ -237,25 +229,6 @@ times_few size n few less = grind (arith, less)
 
 mutual
   pub array_faults-fewer : (m : RecordBatch) (d : Dictionaries) (k : Kind) (p : Place) (n few : ℕ) → few ≤ n → array_faults m d k p n ≡ [] → array_faults m d k p few ≡ []
-  array_faults-fewer m d null p n few less h = along _ _ _ _ (node_faults-fewer m p n few less) (flat_faults-fewer m d null p n few less) h
-  array_faults-fewer m d boolean p n few less h = along _ _ _ _ (node_faults-fewer m p n few less) (flat_faults-fewer m d boolean p n few less) h
-  array_faults-fewer m d (integer t) p n few less h = along _ _ _ _ (node_faults-fewer m p n few less) (flat_faults-fewer m d (integer t) p n few less) h
-  array_faults-fewer m d (float t) p n few less h = along _ _ _ _ (node_faults-fewer m p n few less) (flat_faults-fewer m d (float t) p n few less) h
-  array_faults-fewer m d date32 p n few less h = along _ _ _ _ (node_faults-fewer m p n few less) (flat_faults-fewer m d date32 p n few less) h
-  array_faults-fewer m d date64 p n few less h = along _ _ _ _ (node_faults-fewer m p n few less) (flat_faults-fewer m d date64 p n few less) h
-  array_faults-fewer m d (time32 u) p n few less h = along _ _ _ _ (node_faults-fewer m p n few less) (flat_faults-fewer m d (time32 u) p n few less) h
-  array_faults-fewer m d (time64 u) p n few less h = along _ _ _ _ (node_faults-fewer m p n few less) (flat_faults-fewer m d (time64 u) p n few less) h
-  array_faults-fewer m d (timestamp u tz) p n few less h = along _ _ _ _ (node_faults-fewer m p n few less) (flat_faults-fewer m d (timestamp u tz) p n few less) h
-  array_faults-fewer m d (duration u) p n few less h = along _ _ _ _ (node_faults-fewer m p n few less) (flat_faults-fewer m d (duration u) p n few less) h
-  array_faults-fewer m d (interval u) p n few less h = along _ _ _ _ (node_faults-fewer m p n few less) (flat_faults-fewer m d (interval u) p n few less) h
-  array_faults-fewer m d (decimal precision scale) p n few less h = along _ _ _ _ (node_faults-fewer m p n few less) (flat_faults-fewer m d (decimal precision scale) p n few less) h
-  array_faults-fewer m d (decimal256 precision scale) p n few less h = along _ _ _ _ (node_faults-fewer m p n few less) (flat_faults-fewer m d (decimal256 precision scale) p n few less) h
-  array_faults-fewer m d (binary o) p n few less h = along _ _ _ _ (node_faults-fewer m p n few less) (flat_faults-fewer m d (binary o) p n few less) h
-  array_faults-fewer m d (utf8 o) p n few less h = along _ _ _ _ (node_faults-fewer m p n few less) (flat_faults-fewer m d (utf8 o) p n few less) h
-  array_faults-fewer m d binary_view p n few less h = along _ _ _ _ (node_faults-fewer m p n few less) (flat_faults-fewer m d binary_view p n few less) h
-  array_faults-fewer m d utf8_view p n few less h = along _ _ _ _ (node_faults-fewer m p n few less) (flat_faults-fewer m d utf8_view p n few less) h
-  array_faults-fewer m d (fixed_size_binary size) p n few less h = along _ _ _ _ (node_faults-fewer m p n few less) (flat_faults-fewer m d (fixed_size_binary size) p n few less) h
-  array_faults-fewer m d (dictionary t ordered id k) p n few less h = along _ _ _ _ (node_faults-fewer m p n few less) (flat_faults-fewer m d (dictionary t ordered id k) p n few less) h
   array_faults-fewer m d (extension name metadata k) p n few less h = array_faults-fewer m d k p n few less h
   array_faults-fewer m d (fixed_size_list size fs) p n few less h = along _ _ _ _ (along _ _ _ _ (node_faults-fewer m p n few less) (validity_faults-fewer m p n few less)) (child_faults-fewer m d fs (inside 1 p) (λ q. size * n) (λ q. size * few) (λ q. times_few size n few less)) h
   array_faults-fewer m d (struct fs) p n few less h = along _ _ _ _ (along _ _ _ _ (node_faults-fewer m p n few less) (validity_faults-fewer m p n few less)) (child_faults-fewer m d fs (inside 1 p) (λ q. n) (λ q. few) (λ q. less)) h
@@ -291,7 +264,26 @@ mutual
   array_faults-fewer m d (union Dense stated ids fs) p zero (suc j) less h = absurd (omega (arith, less))
   array_faults-fewer m d (union Dense stated ids fs) p (suc n) zero less h = none_both _ _ (node_faults-fewer m p (suc n) 0 less (none_first _ _ (none_first _ _ h))) (child_faults-fewer m d fs (inside (union_buffers m.version Dense) p) (λ q. magnitude (node_of m q.node).length) (λ q. 0) (λ q. omega arith) (none_second _ _ h))
   array_faults-fewer m d (union Dense stated ids fs) p (suc n) (suc j) less h = along _ _ _ _ (along _ _ _ _ (node_faults-fewer m p (suc n) (suc j) less) (union_faults-fewer m Dense ids fs p (suc n) (suc j) less)) (child_faults-fewer m d fs (inside (union_buffers m.version Dense) p) (λ q. magnitude (node_of m q.node).length) (λ q. magnitude (node_of m q.node).length) (λ q. omega arith)) h
+  array_faults-fewer m d k p n few less h = along _ _ _ _ (node_faults-fewer m p n few less) (flat_faults-fewer m d k p n few less) h
 
   pub child_faults-fewer : (m : RecordBatch) (d : Dictionaries) (fs : Fields) (p : Place) (rows fewer : Place → ℕ) → ((q : Place) → fewer q ≤ rows q) → child_faults m d fs p rows ≡ [] → child_faults m d fs p fewer ≡ []
   child_faults-fewer m d none p rows fewer less h = refl
   child_faults-fewer m d (field name nullable metadata k others) p rows fewer less h = along _ _ _ _ (array_faults-fewer m d k p (rows p) (fewer p) (less p)) (along_sound (view_count_faults m k p) (child_faults m d others (after m k p) rows) (view_count_faults m k p) (child_faults m d others (after m k p) fewer) (λ x. x) (child_faults-fewer m d others (after m k p) rows fewer less)) h
+
+-- ── rows ──
+
+-- rows between two offsets lie below the last one
+pub row_offset : (m : RecordBatch) (o : Offsets) (i n row most : ℕ) → row < n → offsets_faults m o i n most ≡ [] → (j : ℕ) → j < offset m o i row + (offset m o i (suc row) - offset m o i row) → j < offset m o i n
+row_offset m o i n row most below h j j_below =
+    let step : offset m o i row ≤ offset m o i (suc row) = offset-fewer m o i (suc row) row most (omega arith) (offsets_faults-fewer m o i n (suc row) most (omega (arith, below)) h) in
+    let last : offset m o i (suc row) ≤ offset m o i n = offset-fewer m o i n (suc row) most (omega (arith, below)) h in
+    omega (arith, step, last, j_below)
+
+-- a row of a fixed-size list lies below the last one
+pub fixed_row : (size n row j : ℕ) → row < n → j < size * row + size → j < size * n
+fixed_row size n row j below j_below = let whole : size * suc row ≤ size * n = grind (arith, below) in let one : size * suc row ≡ size * row + size = grind arith in omega (arith, whole, one, j_below)
+
+-- where a type is an id, the child's row is one of its rows
+pub dense_row : (m : RecordBatch) (fs : Fields) (p : Place) (i : Option ℕ) (at : ℤ) → is_no_id i ≡ false → is_bad_row m fs p i at ≡ false → magnitude at < magnitude (node_of m (place_in m fs (or_0 i) p).node).length
+dense_row m fs p None at h k = cc
+dense_row m fs p (Some i) at h k = leb-false (magnitude (node_of m (place_in m fs i p).node).length) (magnitude at) (or_parts _ _ k).1

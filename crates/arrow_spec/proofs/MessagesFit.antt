@@ -2,7 +2,7 @@
 use Rattle.std.proofs.Common.{refl, ap, ◌≡◌, ℕ, suc, zero, ◌^◌, ◌<◌, ◌≤◌, List, [], ◌∷◌, length, arith, true, false, Bool, pos}
 use Rattle.std.specs.Int.{Width, w64}
 use Rattle.arrow_spec.specs.declared.types.IntegerType.{IntegerType}
-use Rattle.arrow_spec.specs.declared.types.IntegerType.TheVariants.{Int8, Int16, Int32, Int64, Int128, UInt8, UInt16, UInt32, UInt64}
+use Rattle.arrow_spec.specs.declared.types.IntegerType.TheVariants.{UInt8, UInt16, UInt32, UInt64}
 use Rattle.arrow_spec.specs.Layout as layout
 use Rattle.arrow_spec.specs.Layout.{Node, Slots, slot_count, one_more}
 use Rattle.arrow_spec.specs.Held.{Fits, AllFit, NodesFit}
@@ -65,12 +65,8 @@ dictionary_fits id is_delta w few fits =
     (omega (arith, count_zero w64 id s, count_flag is_delta layout.no_more), fit_zero id s few (fits, fit_flag is_delta layout.no_more tt))
 
 pub int_fits : (i : IntegerType) → Fits (int_node i)
-int_fits Int8 = (omega arith, (omega arith, (omega arith, tt)))
-int_fits Int16 = (omega arith, (omega arith, (omega arith, tt)))
-int_fits Int32 = (omega arith, (omega arith, (omega arith, tt)))
-int_fits Int64 = (omega arith, (omega arith, (omega arith, tt)))
-int_fits Int128 = (omega arith, (omega arith, (omega arith, tt)))
 int_fits UInt8 = (omega arith, (omega arith, tt))
 int_fits UInt16 = (omega arith, (omega arith, tt))
 int_fits UInt32 = (omega arith, (omega arith, tt))
 int_fits UInt64 = (omega arith, (omega arith, tt))
+int_fits i = (omega arith, (omega arith, (omega arith, tt)))

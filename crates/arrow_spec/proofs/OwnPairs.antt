@@ -1,21 +1,21 @@
 -- Fields with their own pairs alone: what is written of them, what they count, and their uses of dictionaries are those of the fields.
-use Rattle.std.proofs.Common.{◌≡◌, ℕ, suc, List, [], ◌∷◌, ◌++◌, Option, Some, None, Ok, refl, sym, ap, ◌∙◌, true, false, Bool, ◌&&◌, ℤ, cond, inl, inr, subst}
+use Rattle.std.proofs.Common.{◌≡◌, ℕ, zero, suc, List, [], ◌∷◌, ◌++◌, Option, Some, None, Ok, refl, sym, ap, ◌∙◌, true, false, Bool, ℤ, cond, inl, inr, subst}
 use Rattle.std.specs.Prelude.{nat_eq, ◌||◌, not, filter}
 use Rattle.std.specs.Str.{bytes_eq}
 use Rattle.arrow_spec.specs.declared.types.UnionMode.TheVariants.{Dense, Sparse}
 use Rattle.arrow_spec.specs.Flat.{Order}
 use Rattle.arrow_spec.specs.Kinds as kind
-use Rattle.arrow_spec.specs.Kinds.{Kind, Fields, Metadata, Use, none, field, small, large, same, agrees_with, are_same_ids, dictionary_count, dictionary_counts, have_same_kinds, is_same_flag, is_same_integer, is_same_kind, is_same_mode, is_same_offsets, is_same_text, uses_in, uses_of, values_under, width}
+use Rattle.arrow_spec.specs.Kinds.{Kind, Fields, Metadata, Use, none, field, small, large, same, agrees_with, dictionary_counts, is_same_kind, uses_in, uses_of, values_under, width}
 use Rattle.arrow_spec.specs.Layout as layout
-use Rattle.arrow_spec.specs.Layout.{Nodes, Slots}
+use Rattle.arrow_spec.specs.Layout.{Slots}
 use Rattle.arrow_spec.specs.Schema.{extension_metadata, extension_name, first_is_struct_of_two, has_distinct_names, has_name, is_struct_of_two, own_pairs, uses_agree, value_of, without_key, is_reserved}
 use Rattle.arrow_spec.specs.Sent.{child_nodes, encoding_slot, field_nodes, field_pairs, pairs_slot, schema_message, type_node, type_tag}
-use Rattle.arrow_spec.specs.WrittenSchemas.{AreIds, Ascend, HaveNoReserved, HaveTexts, KindHasNoReserved, KindHasTexts, own_fields, own_kind}
-use Rattle.arrow_spec.proofs.SchemaPairs.{ascend_texts}
+use Rattle.arrow_spec.specs.WrittenSchemas.{AreFieldPairs, AreIds, FieldsFit, HaveNoReserved, KindFits, KindHasNoReserved, Part, of_field, of_dictionary, of_extension, own_fields, own_kind}
 use Rattle.arrow_spec.proofs.PairMaps.{AllBefore, IsSorted, bool_cases, without_absent}
 use Rattle.arrow_spec.proofs.PairOrder.{key_same}
 use Rattle.arrow_spec.proofs.ExtensionPairs.{own_same}
-use Rattle.arrow_spec.proofs.ReadPairs.{ascend_sorted, none_behind, other_left, own_may}
+use Rattle.arrow_spec.proofs.Forms.{counts_form, form, forms, form_same}
+use Rattle.arrow_spec.proofs.ReadPairs.{none_behind, other_left}
 
 -- ── names and widths ──
 
@@ -42,9 +42,6 @@ first_own (field name nullable metadata k others) = struct_own k
 
 -- ── what is written ──
 
-own_twice : (m : Metadata) → Ascend [] m → own_pairs (own_pairs m) ≡ own_pairs m
-own_twice m up = own_same (own_pairs m) (own_may m (ascend_texts m [] up) (ascend_sorted m up))
-
 tag_own : (k : Kind) → type_tag (own_kind k) ≡ type_tag k
 tag_own (kind.«list» small fs) = refl
 tag_own (kind.«list» large fs) = refl
@@ -53,8 +50,8 @@ tag_own (kind.extension name metadata k) = tag_own k
 tag_own k = refl
 
 node_own : (k : Kind) → type_node (own_kind k) ≡ type_node k
-node_own (kind.union Dense stated ids fs) = refl
-node_own (kind.union Sparse stated ids fs) = refl
+node_own (kind.union Dense stated types fs) = refl
+node_own (kind.union Sparse stated types fs) = refl
 node_own (kind.dictionary t ordered id k) = node_own k
 node_own (kind.extension name metadata k) = node_own k
 node_own k = refl
@@ -63,70 +60,58 @@ encoding_own : (k : Kind) (s : Slots) → encoding_slot (own_kind k) s ≡ encod
 encoding_own (kind.dictionary t ordered id k) s = refl
 encoding_own k s = refl
 
-pairs_own : (k : Kind) (m : Metadata) → Ascend [] m → field_pairs (own_kind k) (own_pairs m) ≡ field_pairs k m
-pairs_own (kind.extension name metadata k) m up = rw (own_twice m up) refl
-pairs_own (kind.dictionary t ordered id (kind.extension name metadata k)) m up = rw (own_twice m up) refl
-pairs_own (kind.dictionary t ordered id k) m up = rw (own_twice m up) refl
-pairs_own k m up = rw (own_twice m up) refl
+pairs_own : (k : Kind) (m : Metadata) → AreFieldPairs (own_pairs m) → field_pairs (own_kind k) (own_pairs m) ≡ field_pairs k m
+pairs_own (kind.extension name metadata k) m fit = rw (own_same (own_pairs m) fit) refl
+pairs_own (kind.dictionary t ordered id (kind.extension name metadata k)) m fit = rw (own_same (own_pairs m) fit) refl
+pairs_own (kind.dictionary t ordered id k) m fit = rw (own_same (own_pairs m) fit) refl
+pairs_own k m fit = rw (own_same (own_pairs m) fit) refl
 
 mutual
-  children_own : (k : Kind) → KindHasTexts k → child_nodes (own_kind k) ≡ child_nodes k
-  children_own (kind.«list» o fs) texts = nodes_own fs texts
-  children_own (kind.fixed_size_list n fs) texts = nodes_own fs texts
-  children_own (kind.struct fs) texts = nodes_own fs texts
-  children_own (kind.map sorted fs) texts = nodes_own fs texts
-  children_own (kind.union mode stated ids fs) texts = nodes_own fs texts
-  children_own (kind.dictionary t ordered id k) texts = children_own k texts
-  children_own (kind.extension name metadata k) texts = children_own k texts.2
-  children_own k texts = refl
+  children_own : (k : Kind) (at : Part) (levels : ℕ) → KindFits at levels (own_kind k) → child_nodes (own_kind k) ≡ child_nodes k
+  children_own (kind.«list» o fs) at levels fit = nodes_own fs levels fit.1
+  children_own (kind.fixed_size_list n fs) at levels fit = nodes_own fs levels fit.3
+  children_own (kind.struct fs) at levels fit = nodes_own fs levels fit
+  children_own (kind.map sorted fs) at levels fit = nodes_own fs levels fit.2
+  children_own (kind.union mode stated types fs) at levels fit = nodes_own fs levels fit.2
+  children_own (kind.dictionary t ordered id k) of_field levels fit = children_own k of_dictionary levels fit
+  children_own (kind.dictionary t ordered id k) of_dictionary levels fit = absurd fit
+  children_own (kind.dictionary t ordered id k) of_extension levels fit = absurd fit
+  children_own (kind.extension name metadata k) of_field levels fit = children_own k of_extension levels fit.2
+  children_own (kind.extension name metadata k) of_dictionary levels fit = children_own k of_extension levels fit.2
+  children_own (kind.extension name metadata k) of_extension levels fit = absurd fit
+  children_own k at levels fit = refl
 
-  nodes_own : (fs : Fields) → HaveTexts fs → field_nodes (own_fields fs) ≡ field_nodes fs
-  nodes_own none texts = refl
-  nodes_own (field name nullable metadata k others) texts =
+  pub nodes_own : (fs : Fields) (levels : ℕ) → FieldsFit levels (own_fields fs) → field_nodes (own_fields fs) ≡ field_nodes fs
+  nodes_own none levels fit = refl
+  nodes_own (field name nullable metadata k others) zero fit = absurd fit
+  nodes_own (field name nullable metadata k others) (suc levels) fit =
       let last = pairs_slot (field_pairs k metadata) layout.no_more in
       let below = layout.child (layout.tables (child_nodes k)) last in
-      rw (pairs_own k metadata texts.1, children_own k texts.2, encoding_own k below, node_own k, tag_own k, nodes_own others texts.3) refl
+      rw (pairs_own k metadata fit.1, children_own k of_field levels fit.2, encoding_own k below, node_own k, tag_own k, nodes_own others (suc levels) fit.3) refl
 
-pub message_own : (order : Order) (fs : Fields) (pairs custom : Metadata) → HaveTexts fs → schema_message order (own_fields fs) pairs custom ≡ schema_message order fs pairs custom
+pub message_own : (order : Order) (fs : Fields) (pairs custom : Metadata) (levels : ℕ) → FieldsFit levels (own_fields fs) → schema_message order (own_fields fs) pairs custom ≡ schema_message order fs pairs custom
 unfolding schema_message
-message_own order fs pairs custom texts = rw (nodes_own fs texts) refl
+message_own order fs pairs custom levels fit = rw (nodes_own fs levels fit) refl
 
 -- ── uses of dictionaries ──
 
 mutual
-  same_own : (k l : Kind) → is_same_kind (own_kind k) (own_kind l) ≡ is_same_kind k l
-  same_own (kind.«list» o fs) (kind.«list» q gs) = ap (λ x. is_same_offsets o q && x) (same_fields_own fs gs)
-  same_own (kind.fixed_size_list m fs) (kind.fixed_size_list n gs) = ap (λ x. nat_eq m n && x) (same_fields_own fs gs)
-  same_own (kind.struct fs) (kind.struct gs) = same_fields_own fs gs
-  same_own (kind.map b fs) (kind.map c gs) = ap (λ x. is_same_flag b c && x) (same_fields_own fs gs)
-  same_own (kind.union m stated ids fs) (kind.union n too others gs) = ap (λ x. is_same_mode m n && are_same_ids ids others && x) (same_fields_own fs gs)
-  same_own (kind.dictionary s b i k) (kind.dictionary t c j l) = ap (λ x. is_same_integer s t && is_same_flag b c && same i j && x) (same_own k l)
-  same_own (kind.extension m x k) (kind.extension n y l) = ap (λ z. bytes_eq m n && is_same_text x y && z) (same_own k l)
-  same_own kind.null (kind.struct gs) = refl
-  same_own kind.boolean (kind.struct gs) = refl
-  same_own (kind.integer t) (kind.struct gs) = refl
-  same_own (kind.float t) (kind.struct gs) = refl
-  same_own kind.date32 (kind.struct gs) = refl
-  same_own kind.date64 (kind.struct gs) = refl
-  same_own (kind.time32 u) (kind.struct gs) = refl
-  same_own (kind.time64 u) (kind.struct gs) = refl
-  same_own (kind.timestamp u tz) (kind.struct gs) = refl
-  same_own (kind.duration u) (kind.struct gs) = refl
-  same_own (kind.interval u) (kind.struct gs) = refl
-  same_own (kind.decimal p q) (kind.struct gs) = refl
-  same_own (kind.decimal256 p q) (kind.struct gs) = refl
-  same_own (kind.binary o) (kind.struct gs) = refl
-  same_own (kind.utf8 o) (kind.struct gs) = refl
-  same_own kind.binary_view (kind.struct gs) = refl
-  same_own kind.utf8_view (kind.struct gs) = refl
-  same_own (kind.fixed_size_binary n) (kind.struct gs) = refl
-  same_own k l = refl
+  pub form_own : (k : Kind) → form (own_kind k) ≡ form k
+  form_own (kind.«list» o fs) = ap (kind.«list» o) (forms_own fs)
+  form_own (kind.fixed_size_list n fs) = ap (kind.fixed_size_list n) (forms_own fs)
+  form_own (kind.struct fs) = ap kind.struct (forms_own fs)
+  form_own (kind.map sorted fs) = ap (kind.map sorted) (forms_own fs)
+  form_own (kind.union mode stated types fs) = ap (kind.union mode true types) (forms_own fs)
+  form_own (kind.dictionary t ordered id k) = ap (kind.dictionary t ordered id) (form_own k)
+  form_own (kind.extension name metadata k) = ap (kind.extension name metadata) (form_own k)
+  form_own k = refl
 
-  same_fields_own : (fs gs : Fields) → have_same_kinds (own_fields fs) (own_fields gs) ≡ have_same_kinds fs gs
-  same_fields_own none none = refl
-  same_fields_own none (field n c y l gs) = refl
-  same_fields_own (field m b x k fs) none = refl
-  same_fields_own (field m b x k fs) (field n c y l gs) = rw (same_own k l, same_fields_own fs gs) refl
+  pub forms_own : (fs : Fields) → forms (own_fields fs) ≡ forms fs
+  forms_own none = refl
+  forms_own (field name nullable metadata k fs) = rw (form_own k, forms_own fs) refl
+
+same_own : (k l : Kind) → is_same_kind (own_kind k) (own_kind l) ≡ is_same_kind k l
+same_own k l = sym (form_same (own_kind k) (own_kind l)) ∙ ap (λ x. is_same_kind x (form (own_kind l))) (form_own k) ∙ ap (is_same_kind (form k)) (form_own l) ∙ form_same k l
 
 -- the same use, its values with their own pairs alone
 abbrev own_use : Use → Use
@@ -204,20 +189,8 @@ mutual
 
 -- ── dictionaries ──
 
-mutual
-  count_kind_own : (k : Kind) → dictionary_count (own_kind k) ≡ dictionary_count k
-  count_kind_own (kind.«list» o fs) = count_own fs
-  count_kind_own (kind.fixed_size_list n fs) = count_own fs
-  count_kind_own (kind.struct fs) = count_own fs
-  count_kind_own (kind.map sorted fs) = count_own fs
-  count_kind_own (kind.union mode stated ids fs) = count_own fs
-  count_kind_own (kind.dictionary t ordered id k) = ap suc (count_kind_own k)
-  count_kind_own (kind.extension name metadata k) = count_kind_own k
-  count_kind_own k = refl
-
-  pub count_own : (fs : Fields) → dictionary_counts (own_fields fs) ≡ dictionary_counts fs
-  count_own none = refl
-  count_own (field name nullable metadata k others) = rw (count_kind_own k, count_own others) refl
+pub count_own : (fs : Fields) → dictionary_counts (own_fields fs) ≡ dictionary_counts fs
+count_own fs = sym (counts_form (own_fields fs)) ∙ ap dictionary_counts (forms_own fs) ∙ counts_form fs
 
 -- ── own pairs one by one ──
 

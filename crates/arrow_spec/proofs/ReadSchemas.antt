@@ -6,13 +6,14 @@ use Rattle.std.proofs.lemmas.Bool.{ltb-true}
 use Rattle.arrow_spec.specs.Readings.{Reading}
 use Rattle.arrow_spec.specs.Flat.{Table, Vector, or_default}
 use Rattle.arrow_spec.specs.Kinds as kind
-use Rattle.arrow_spec.specs.Kinds.{Kind, Fields, Metadata, none, field, Use, uses_in, uses_of, width}
+use Rattle.arrow_spec.specs.Kinds.{Kind, Fields, Metadata, none, field, Use, uses_in, width}
 use Rattle.arrow_spec.specs.Schema.{own_pairs, Before, Encoding, Head, Schema, Tag, empty_vector, is_nested, is_whole, children_at, type_at, with_extension, with_encoding, head_at, fields_by, field_at, uses_agree, schema_of}
-use Rattle.arrow_spec.specs.WrittenSchemas.{AreFieldPairs, AreIds, AreSizes, FieldsFit, IsText, KindFits, SchemaMayBeWritten, of_field, after_fields, after_kind, pairs_for, sizes_in, sizes_of}
+use Rattle.arrow_spec.specs.WrittenSchemas.{AreFieldPairs, AreSizes, FieldsFit, IsText, KindFits, SchemaMayBeWritten, of_field, after_fields, after_kind, pairs_for, sizes_in, sizes_of}
 use Rattle.arrow_spec.proofs.SchemaPairs.{AreTexts}
 use Rattle.arrow_spec.proofs.PairMaps.{IsSorted}
 use Rattle.arrow_spec.proofs.NumberedFields.{IsNotBehind}
 use Rattle.arrow_spec.proofs.ReadPairs.{is_true, own_may, pairs_are_read, same_read, slot_text_is, sorted_ascend, through}
+use Rattle.arrow_spec.proofs.RegularSchemas.{ids_all}
 use Rattle.arrow_spec.proofs.ReadTypes.{FieldKind, field_kind, type_read}
 use Rattle.arrow_spec.proofs.ReadNumbers.{IdFits, KindNumbers, NumbersFit, encoding_fits, field_numbers, type_numbers}
 use Rattle.arrow_spec.specs.Laws.{AreBytes, ReadSchemaMayBeWritten}
@@ -31,7 +32,7 @@ mutual
   kind_further (kind.extension name metadata k) p q h = kind_further k p q h
   kind_further k p q h = h
 
-  fields_further : (fs : Fields) (p q : Before) → IsNotBehind p q → IsNotBehind (after_fields fs p) (after_fields fs q)
+  pub fields_further : (fs : Fields) (p q : Before) → IsNotBehind p q → IsNotBehind (after_fields fs p) (after_fields fs q)
   fields_further none p q h = h
   fields_further (field name nullable metadata k others) p q h =
       let here : Before = record { fields = suc p.fields; pairs = p.pairs + length (pairs_for k metadata) } in
@@ -48,10 +49,6 @@ AreFew p = (p.fields ≤ 65536) × (p.pairs ≤ 1048576)
 sizes_both : (ms ns : List ℕ) → AreSizes (ms ++ ns) → AreSizes ms × AreSizes ns
 sizes_both [] ns h = (tt, h)
 sizes_both (m ∷ ms) ns h = let rest = sizes_both ms ns h.1 in ((h.0, rest.0), rest.1)
-
-ids_all : (us vs : List Use) → AreIds us → AreIds vs → AreIds (us ++ vs)
-ids_all [] vs h g = g
-ids_all (u ∷ us) vs h g = (h.0, ids_all us vs h.1 g)
 
 sizes_all : (ms ns : List ℕ) → AreSizes ms → AreSizes ns → AreSizes (ms ++ ns)
 sizes_all [] ns h g = g

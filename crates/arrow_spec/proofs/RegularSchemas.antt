@@ -1,7 +1,7 @@
 -- A regular schema that can be represented may be written.
 use Rattle.std.specs.Int.{w64}
-use Rattle.std.proofs.Common.{subst, Ok, ◌≡◌, ℕ, zero, suc, ◌+◌, ◌^◌, ◌<◌, ◌≤◌, List, [], ◌∷◌, ◌++◌, length, Some, None, refl, sym, ap, ◌∙◌, arith, true, false, Bool, ℤ, pos, negsuc, SFits, length-append}
-use Rattle.std.specs.Prelude.{nat_lt, nat_le, nat_eq, ◌||◌, sum_by}
+use Rattle.std.proofs.Common.{subst, Ok, ◌≡◌, ℕ, zero, suc, ◌+◌, ◌^◌, ◌<◌, ◌≤◌, List, [], ◌∷◌, ◌++◌, length, Some, None, refl, sym, ◌∙◌, arith, true, false, Bool, ℤ, pos, negsuc, SFits, length-append}
+use Rattle.std.specs.Prelude.{nat_lt, nat_le, ◌||◌, sum_by}
 use Rattle.std.proofs.lemmas.Bool.{and_parts, eqb-true, leb-true, ltb-true}
 use Rattle.std.proofs.lemmas.List.Sums.{sum_by-append, sum_by-cons}
 use Rattle.arrow_spec.specs.declared.types.TimeUnit.{TimeUnit}
@@ -12,6 +12,7 @@ use Rattle.arrow_spec.specs.Schema.{Before, own_pairs, counted_ids}
 use Rattle.arrow_spec.specs.Regular.{regular, representable, Standing, fields_below, fields_from, pairs_of_field, is_no_extension, is_regular_kind, is_regular_field, are_regular, is_size, is_dictionary_id, is_no_dictionary, is_representable_kind, are_representable}
 use Rattle.arrow_spec.proofs.ReadPairs.{ascend_sorted, length_own, own_may}
 use Rattle.arrow_spec.proofs.SchemaPairs.{ascend_texts}
+use Rattle.arrow_spec.proofs.SameIds.{ids_true}
 use Rattle.arrow_spec.proofs.OwnPairs.{count_own, distinct_own, first_own, message_own, own_fields_same, own_ids, uses_agree_own, uses_own, width_own}
 use Rattle.arrow_spec.proofs.NestedSchemas.{schema_bytes_back}
 use Rattle.arrow_spec.specs.Layout.{layout, size}
@@ -54,26 +55,9 @@ id_fits : (x : ℤ) → is_dictionary_id x ≡ true → SFits w64 x
 id_fits (pos n) h = record { sfits = omega (arith, leb-true n 9223372036854775807 h) }
 id_fits (negsuc n) h = record { sfits = omega (arith, leb-true n 9223372036854775807 h) }
 
-same_number : (a b : ℕ) → nat_eq a b ≡ true → a ≡ b
-same_number a b h = eqb-true a b h
-
-same_id : (x y : ℤ) → same x y ≡ true → x ≡ y
-same_id (pos a) (pos b) h = ap pos (same_number a b h)
-same_id (negsuc a) (negsuc b) h = ap negsuc (same_number a b h)
-same_id (pos a) (negsuc b) h = cc
-same_id (negsuc a) (pos b) h = cc
-
-same_ids : (xs ys : List ℤ) → are_same_ids xs ys ≡ true → xs ≡ ys
-same_ids [] [] h = refl
-same_ids [] (y ∷ ys) h = cc
-same_ids (x ∷ xs) [] h = cc
-same_ids (x ∷ xs) (y ∷ ys) h =
-    let parts = and_parts _ _ h in
-    ap (λ z. z ∷ xs) (same_id x y parts.0) ∙ ap (λ zs. y ∷ zs) (same_ids xs ys parts.1)
-
 stated_right : (stated : Bool) (ids : List ℤ) (n : ℕ) → (stated || are_same_ids ids (counted_ids 0 n)) ≡ true → AreStated stated ids n
 stated_right true ids n h = tt
-stated_right false ids n h = same_ids ids (counted_ids 0 n) h
+stated_right false ids n h = ids_true ids (counted_ids 0 n) h
 
 -- what may stand in a part: anything at a field, no dictionary in a dictionary, and neither a dictionary nor an extension in an extension
 abbrev MayStand : Part → Kind → Type 0
@@ -139,9 +123,9 @@ pairs_most level (kind.dictionary t ordered id k) m = omega (arith, length_own (
 pairs_most level k m = omega (arith, length_own (own_pairs m), length_own m)
 
 -- no more fields and pairs than are listed
-record Counted (p q : Before) (xs : List Standing) : Type 0 where
-  fields : q.fields ≤ p.fields + length xs
-  pairs : q.pairs ≤ p.pairs + sum_by (λ f. pairs_of_field f) xs
+pub record Counted (p q : Before) (xs : List Standing) : Type 0 where
+  pub fields : q.fields ≤ p.fields + length xs
+  pub pairs : q.pairs ≤ p.pairs + sum_by (λ f. pairs_of_field f) xs
 
 none_counted : (p : Before) → Counted p p []
 none_counted p = record { fields = omega arith; pairs = omega arith }
@@ -160,7 +144,7 @@ mutual
   kind_counted (kind.extension name metadata k) level p = kind_counted k level p
   kind_counted k level p = none_counted p
 
-  fields_counted : (fs : Fields) (level : ℕ) (p : Before) → Counted p (after_fields (own_fields fs) p) (fields_from level fs)
+  pub fields_counted : (fs : Fields) (level : ℕ) (p : Before) → Counted p (after_fields (own_fields fs) p) (fields_from level fs)
   fields_counted none level p = none_counted p
   fields_counted (field name nullable metadata k others) level p =
       let here : Before = record { fields = suc p.fields; pairs = p.pairs + length (pairs_for (own_kind k) (own_pairs metadata)) } in
@@ -176,7 +160,7 @@ mutual
 
 -- ── ids ──
 
-ids_all : (us vs : List Use) → AreIds us → AreIds vs → AreIds (us ++ vs)
+pub ids_all : (us vs : List Use) → AreIds us → AreIds vs → AreIds (us ++ vs)
 ids_all [] vs h g = g
 ids_all (u ∷ us) vs h g = (h.0, ids_all us vs h.1 g)
 
@@ -194,7 +178,7 @@ mutual
   kind_ids (kind.extension name metadata k) level rep reps = kind_ids k level (and_parts _ _ rep).1 reps
   kind_ids k level rep reps = tt
 
-  fields_ids : (fs : Fields) (level : ℕ) → are_representable (fields_from level fs) ≡ true → AreIds (uses_in fs)
+  pub fields_ids : (fs : Fields) (level : ℕ) → are_representable (fields_from level fs) ≡ true → AreIds (uses_in fs)
   fields_ids none level reps = tt
   fields_ids (field name nullable metadata k others) level reps =
       let parts = and_parts _ _ reps in
@@ -232,7 +216,7 @@ pub regular_back : RegularReadsBack
 regular_back order fs pairs custom rest reg rep texts ascend agree short =
     let may = own_regular_may fs pairs reg rep texts ascend in
     let ids : IdsMayBeWritten (own_fields fs) = record { within = subst AreIds (sym (uses_own fs)) (own_ids (uses_in fs) may.1); agree = uses_agree_own fs agree } in
-    let same = message_own order fs pairs custom texts in
+    let same = message_own order fs pairs custom 64 may.0.fit in
     let small : size (schema_message order (own_fields fs) pairs custom).node < 2 ^ 31 = rw same short in
     let read = schema_bytes_back order (own_fields fs) pairs custom rest may.0 ids small in
     (read.0, subst (λ x. schema_message_of (layout x.node ++ rest) ≡ Ok (read.0, record { order = order; fields = own_fields fs; metadata = pairs })) same read.1)

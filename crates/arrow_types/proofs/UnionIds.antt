@@ -1,28 +1,19 @@
 -- The ids of unions, one after another.
-use Rattle.std.proofs.Common.{◌≡◌, ◌≢◌, ℕ, zero, suc, ◌+◌, ◌-◌, ◌<◌, ◌≤◌, List, [], ◌∷◌, length, take, drop, get_or, Bool, true, false, not, ◌&&◌, ◌||◌, ℤ, pos, negsuc, refl, sym, ◌∙◌, ap, arith, subst, le-leb, leb-true}
+use Rattle.std.proofs.Common.{◌≡◌, ◌≢◌, ℕ, zero, suc, ◌+◌, ◌-◌, ◌<◌, ◌≤◌, List, [], ◌∷◌, length, take, drop, get_or, Bool, true, false, not, ◌&&◌, ◌||◌, ℤ, pos, refl, sym, ◌∙◌, ap, arith, subst, le-leb, leb-true}
 use Rattle.std.proofs.Common.{length-drop}
 use Rattle.std.proofs.Math.Seq.{take-length}
 use Rattle.std.proofs.lemmas.List.{drop_more}
 use Rattle.std.specs.Prelude.{nat_eq, nat_le, nat_lt}
-use Rattle.std.proofs.lemmas.Bool.{and_parts, eqb-true}
+use Rattle.std.proofs.lemmas.Bool.{and_parts}
 use Rattle.arrow_spec.specs.Kinds.{same}
 use Rattle.arrow_spec.specs.Schema.{counted_ids, is_id_behind, is_id, are_ids}
+use Rattle.arrow_spec.proofs.SameIds.{id_self, id_true}
 use Rattle.arrow_types.specs.UnionIds.{are_right}
 
 -- ── ids that are stated ──
 
-same_self : (x : ℤ) → same x x ≡ true
-same_self (pos n) = grind arith
-same_self (negsuc n) = grind arith
-
 pub same_when : (x y : ℤ) → x ≡ y → same x y ≡ true
-same_when x y h = ap (same x) (sym h) ∙ same_self x
-
-pub same_true : (x y : ℤ) → same x y ≡ true → x ≡ y
-same_true (pos a) (pos b) h = ap pos (eqb-true a b h)
-same_true (negsuc a) (negsuc b) h = ap negsuc (eqb-true a b h)
-same_true (pos a) (negsuc b) h = cc
-same_true (negsuc a) (pos b) h = cc
+same_when x y h = ap (same x) (sym h) ∙ id_self x
 
 pub not_true : (x : Bool) → (x ≡ true → ⊥) → x ≡ false
 not_true true h = absurd (h refl)
@@ -36,7 +27,7 @@ pub among_found : (xs : List ℤ) (i : ℕ) (x id : ℤ) (whole : Bool) → i < 
 among_found xs i x id whole h e g s = sym g ∙ ap (λ ys. is_id_behind ys id) (item_front xs i x x h e) ∙ ap (λ b. b || is_id_behind (drop (i + 1) xs) id) (same_when id x s)
 
 pub among_next : (xs : List ℤ) (i : ℕ) (x id : ℤ) (whole : Bool) → i < length xs → x ≡ get_or xs i x → is_id_behind (drop i xs) id ≡ whole → id ≢ x → is_id_behind (drop (i + 1) xs) id ≡ whole
-among_next xs i x id whole h e g s = sym (ap (λ ys. is_id_behind ys id) (item_front xs i x x h e) ∙ ap (λ b. b || is_id_behind (drop (i + 1) xs) id) (not_true (same id x) (λ k. s (same_true id x k)))) ∙ g
+among_next xs i x id whole h e g s = sym (ap (λ ys. is_id_behind ys id) (item_front xs i x x h e) ∙ ap (λ b. b || is_id_behind (drop (i + 1) xs) id) (not_true (same id x) (λ k. s (id_true id x k)))) ∙ g
 
 pub among_none : (xs : List ℤ) (i : ℕ) (id : ℤ) (whole : Bool) → length xs ≤ i → is_id_behind (drop i xs) id ≡ whole → whole ≡ false
 among_none [] zero id whole h g = sym g

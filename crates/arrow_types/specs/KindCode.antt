@@ -130,14 +130,7 @@ integer_type_from (suc (suc (suc (suc (suc (suc (suc (suc n)))))))) = integers.U
 
 pub integer_type_from-integer_number : (i : IntegerType) → integer_type_from (integer_number i) ≡ i
 integer_type_from-integer_number integers.Int8 = refl
-integer_type_from-integer_number integers.Int16 = refl
-integer_type_from-integer_number integers.Int32 = refl
-integer_type_from-integer_number integers.Int64 = refl
-integer_type_from-integer_number integers.Int128 = refl
-integer_type_from-integer_number integers.UInt8 = refl
-integer_type_from-integer_number integers.UInt16 = refl
-integer_type_from-integer_number integers.UInt32 = refl
-integer_type_from-integer_number integers.UInt64 = refl
+integer_type_from-integer_number i = refl
 
 abbrev pub interval_number : IntervalUnit → ℕ
 interval_number YearMonth = 0
@@ -281,24 +274,15 @@ abbrev mutual
 
 mutual
   pub kind_from-kind_to : (k : Kind) → kind_from (kind_to k) ≡ k
-  kind_from-kind_to kind.null = refl
-  kind_from-kind_to kind.boolean = refl
   kind_from-kind_to (kind.integer i) = ap kind.integer (integer_type_from-integer_number i)
   kind_from-kind_to (kind.float t) = ap kind.float (float_from-float_number t)
-  kind_from-kind_to kind.date32 = refl
-  kind_from-kind_to kind.date64 = refl
   kind_from-kind_to (kind.time32 u) = ap kind.time32 (unit_from-unit_number u)
   kind_from-kind_to (kind.time64 u) = ap kind.time64 (unit_from-unit_number u)
   kind_from-kind_to (kind.timestamp u zone) = rw (unit_from-unit_number u, text_from-text_to zone) refl
   kind_from-kind_to (kind.duration u) = ap kind.duration (unit_from-unit_number u)
   kind_from-kind_to (kind.interval u) = ap kind.interval (interval_from-interval_number u)
-  kind_from-kind_to (kind.decimal p s) = refl
-  kind_from-kind_to (kind.decimal256 p s) = refl
   kind_from-kind_to (kind.binary o) = ap kind.binary (offsets_from-offsets_number o)
   kind_from-kind_to (kind.utf8 o) = ap kind.utf8 (offsets_from-offsets_number o)
-  kind_from-kind_to kind.binary_view = refl
-  kind_from-kind_to kind.utf8_view = refl
-  kind_from-kind_to (kind.fixed_size_binary n) = refl
   kind_from-kind_to (kind.«list» o fs) = rw (offsets_from-offsets_number o, fields_back-fields_to fs) refl
   kind_from-kind_to (kind.fixed_size_list n fs) = ap (kind.fixed_size_list n) (fields_back-fields_to fs)
   kind_from-kind_to (kind.struct fs) = ap kind.struct (fields_back-fields_to fs)
@@ -307,6 +291,7 @@ mutual
   kind_from-kind_to (kind.dictionary i ordered id k) =
       rw (integer_type_from-integer_number i, bool_from-bool_to ordered, integer_from-integer_to id, kind_from-kind_to k) refl
   kind_from-kind_to (kind.extension name metadata k) = rw (bytes_from-bytes_to name, text_from-text_to metadata, kind_from-kind_to k) refl
+  kind_from-kind_to k = refl
 
   pub fields_back-fields_to : (fs : Fields) → fields_back (fields_to fs) ≡ fs
   fields_back-fields_to kind.none = refl

@@ -10,3 +10,4 @@ pub mod NumberLaws
 pub mod IntervalLaws
 pub mod BytesBack
 pub mod UnionIds
+pub mod Leaves

@@ -1,6 +1,7 @@
 //! The type tree.
 ghost use Rattle.std.specs.Prelude.{◌≡◌, [], string_bytes};
 ghost use Rattle.arrow_types.specs.KindOf.{kind_of, child_of};
+ghost use Rattle.arrow_types.specs.Leaves.{is_leaf};
 
 use arrow_spec::{IntegerType, IntervalUnit, TimeUnit, UnionMode};
 use std::alloc::Global;
@@ -90,6 +91,23 @@ pub struct ExtensionType {
     pub name: String,
     pub inner: ArrowDataType,
     pub metadata: Option<String>,
+}
+
+/// Whether a type has neither children nor values nor a type below it.
+pub fn is_leaf(dtype: &ArrowDataType) -> bool
+    ensures { result ≡ is_leaf (kind_of dtype.now) }
+{
+    match dtype {
+        ArrowDataType::List(_)
+        | ArrowDataType::LargeList(_)
+        | ArrowDataType::FixedSizeList(_, _)
+        | ArrowDataType::Map(_, _)
+        | ArrowDataType::Struct(_)
+        | ArrowDataType::Union(_)
+        | ArrowDataType::Dictionary(_, _, _)
+        | ArrowDataType::Extension(_) => false,
+        _ => true,
+    }
 }
 
 impl Field {

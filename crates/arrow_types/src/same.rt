@@ -1,17 +1,20 @@
 //! Equality of types: two are equal exactly where all their parts are, metadata as maps.
-ghost use Rattle.std.specs.Prelude.{◌≡◌, ◌↔◌, IsTrue, string_bytes, map};
+ghost use Rattle.std.specs.Prelude.{◌≡◌, ◌↔◌, IsTrue, true, string_bytes, map};
 ghost use Rattle.std.specs.Option.{option_map};
 ghost use Rattle.arrow_types.specs.KindOf.{kind_of, child_of, union_kind_of, extension_kind_of, texts_of};
+ghost use Rattle.arrow_types.specs.Leaves.{is_leaf, is_plain};
 
 use crate::{ArrowDataType, ExtensionType, Field, Metadata, UnionMode, UnionType};
 
-pub(crate) fn is_same_text(a: &String, b: &String) -> bool
+/// Whether two texts are the same.
+pub fn is_same_text(a: &String, b: &String) -> bool
     ensures { IsTrue result ↔ (string_bytes a.now ≡ string_bytes b.now) }
 {
     a == b
 }
 
-fn is_same_option(a: &Option<String>, b: &Option<String>) -> bool
+/// Whether two texts that may be absent are the same.
+pub fn is_same_option(a: &Option<String>, b: &Option<String>) -> bool
     ensures { IsTrue result ↔ (option_map string_bytes a.now ≡ option_map string_bytes b.now) }
 {
     match a {
@@ -41,7 +44,8 @@ fn are_same_ids(a: &Option<Vec<i32>>, b: &Option<Vec<i32>>) -> bool
     }
 }
 
-fn is_same_mode(a: UnionMode, b: UnionMode) -> bool
+/// Whether two unions are both dense or both sparse.
+pub fn is_same_mode(a: UnionMode, b: UnionMode) -> bool
     ensures { IsTrue result ↔ (a ≡ b) }
 {
     a == b
@@ -54,8 +58,9 @@ pub fn is_same_metadata(a: &Metadata, b: &Metadata) -> bool
     a == b
 }
 
-#[cycle(same)]
-fn is_same_type(a: &ArrowDataType, b: &ArrowDataType) -> bool
+/// Whether two types are the same, of which the first has neither parameters nor children.
+fn is_same_plain(a: &ArrowDataType, b: &ArrowDataType) -> bool
+    requires { is_plain (kind_of a.now) ≡ true }
     ensures { IsTrue result ↔ (kind_of a.now ≡ kind_of b.now) }
 {
     match a {
@@ -75,6 +80,22 @@ fn is_same_type(a: &ArrowDataType, b: &ArrowDataType) -> bool
         ArrowDataType::Float64 => matches!(b, ArrowDataType::Float64),
         ArrowDataType::Date32 => matches!(b, ArrowDataType::Date32),
         ArrowDataType::Date64 => matches!(b, ArrowDataType::Date64),
+        ArrowDataType::Binary => matches!(b, ArrowDataType::Binary),
+        ArrowDataType::LargeBinary => matches!(b, ArrowDataType::LargeBinary),
+        ArrowDataType::Utf8 => matches!(b, ArrowDataType::Utf8),
+        ArrowDataType::LargeUtf8 => matches!(b, ArrowDataType::LargeUtf8),
+        ArrowDataType::BinaryView => matches!(b, ArrowDataType::BinaryView),
+        ArrowDataType::Utf8View => matches!(b, ArrowDataType::Utf8View),
+        _ => false,
+    }
+}
+
+/// Whether two types are the same, of which the first has no children.
+fn is_same_leaf(a: &ArrowDataType, b: &ArrowDataType) -> bool
+    requires { is_leaf (kind_of a.now) ≡ true }
+    ensures { IsTrue result ↔ (kind_of a.now ≡ kind_of b.now) }
+{
+    match a {
         ArrowDataType::Time32(u) => match b {
             ArrowDataType::Time32(v) => *u == *v,
             _ => false,
@@ -95,12 +116,6 @@ fn is_same_type(a: &ArrowDataType, b: &ArrowDataType) -> bool
             ArrowDataType::Interval(v) => *u == *v,
             _ => false,
         },
-        ArrowDataType::Binary => matches!(b, ArrowDataType::Binary),
-        ArrowDataType::LargeBinary => matches!(b, ArrowDataType::LargeBinary),
-        ArrowDataType::Utf8 => matches!(b, ArrowDataType::Utf8),
-        ArrowDataType::LargeUtf8 => matches!(b, ArrowDataType::LargeUtf8),
-        ArrowDataType::BinaryView => matches!(b, ArrowDataType::BinaryView),
-        ArrowDataType::Utf8View => matches!(b, ArrowDataType::Utf8View),
         ArrowDataType::FixedSizeBinary(m) => match b {
             ArrowDataType::FixedSizeBinary(n) => *m == *n,
             _ => false,
@@ -113,6 +128,15 @@ fn is_same_type(a: &ArrowDataType, b: &ArrowDataType) -> bool
             ArrowDataType::Decimal256(q, t) => *p == *q && *s == *t,
             _ => false,
         },
+        _ => is_same_plain(a, b),
+    }
+}
+
+#[cycle(same)]
+fn is_same_type(a: &ArrowDataType, b: &ArrowDataType) -> bool
+    ensures { IsTrue result ↔ (kind_of a.now ≡ kind_of b.now) }
+{
+    match a {
         ArrowDataType::List(f) => match b {
             ArrowDataType::List(g) => is_same_field(f, g),
             _ => false,
@@ -145,6 +169,7 @@ fn is_same_type(a: &ArrowDataType, b: &ArrowDataType) -> bool
             ArrowDataType::Extension(e) => is_same_extension(d, e),
             _ => false,
         },
+        _ => is_same_leaf(a, b),
     }
 }
 

@@ -78,13 +78,7 @@ of_chunk d Q r w s m n p errors.State h = s h
 of_chunk d Q r w s m n p errors.SchemaMismatch h = m h
 of_chunk d Q r w s m n p errors.NotRepresentable h = absurd (n h)
 of_chunk d Q r w s m n p (errors.Projection i) h = p i h
-of_chunk d Q r w s m n p errors.TooLarge h = tt
-of_chunk d Q r w s m n p errors.Memory h = tt
-of_chunk d Q r w s m n p (errors.OutOfSpec x) h = tt
-of_chunk d Q r w s m n p (errors.Unsupported x) h = tt
-of_chunk d Q r w s m n p errors.TooDeep h = tt
-of_chunk d Q r w s m n p (errors.TooMany x) h = tt
-of_chunk d Q r w s m n p (errors.DictionaryReplaced x) h = tt
+of_chunk d Q r w s m n p e h = tt
 
 values_refused : (d : Bool) (e : IpcError) (options : WriteOptions) (ss : List ToSend) → RefusesOne e options ss → IsOfChunk d e
 values_refused d e options [] h = absurd h

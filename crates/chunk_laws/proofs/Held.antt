@@ -7,9 +7,10 @@ use Rattle.arrow_spec.specs.Arrays.{Dictionaries, found}
 use Rattle.arrow_arrays.specs.Heads.{child_fields, indexed, joined, listed, mapped, sized, structured, tagged}
 use Rattle.arrow_arrays.specs.Parts.{Parts, Forest, leaf, nested, none, also, cells_each, forest, kind_in}
 use Rattle.ipc_fields.specs.IpcFields.{Ids, fields_with, ids, kind_with, no_fields}
-use Rattle.ipc_fields.proofs.SameKinds.{form, same_by_form}
+use Rattle.arrow_spec.proofs.Forms.{form}
+use Rattle.ipc_fields.proofs.SameKinds.{same_by_form}
 use Rattle.ipc_read_laws.specs.PlainKinds.{plain_kind}
-use Rattle.ipc_read.proofs.ColumnIds.{plain_with}
+use Rattle.ipc_read_laws.proofs.PlainTypes.{plain_with}
 use Rattle.ipc_write_laws.specs.Messages.{IsKnown, Known}
 use Rattle.ipc_write_arrays.specs.Dictionaries.{Begins, HoldsEachAt, HoldsValuesAt, dictionary_id, first_kind, is_alike, other_fields}
 use Rattle.ipc_write.specs.Encoding.{AreAlike, HoldAllValues}

@@ -28,7 +28,8 @@ use Rattle.chunk_laws.specs.Chunks.{MayFollow, chunk_of}
 use Rattle.chunk_laws.specs.Laws.{ChunkIsPut, SchemaIsPut}
 use Rattle.chunk_laws.specs.Written.{cells_of, said_fields}
 use Rattle.chunk_laws.proofs.Chunks.{may_follow}
-use Rattle.chunk_laws.proofs.OwnFields.{floats_own, kinds_own, message_own, with_own}
+use Rattle.arrow_spec.proofs.OwnPairs.{message_own}
+use Rattle.chunk_laws.proofs.OwnFields.{floats_own, kinds_own, with_own}
 use Rattle.chunk_laws.proofs.Uses.{all_floats}
 
 -- ── the schema ──

@@ -80,11 +80,7 @@ head_lengths_are o n (indexed d) = two_same _ _ _ _ (length-validity (option_map
 
 validity_same : (o n : ℕ) (h : Head) → head_validity (head_part o n h) ≡ head_validity (head_trim o n h)
 validity_same o n (listed l) = refl
-validity_same o n (mapped l) = refl
-validity_same o n (sized c) = refl
-validity_same o n (structured c) = refl
-validity_same o n (tagged t) = refl
-validity_same o n (indexed d) = refl
+validity_same o n h = refl
 
 -- ── trees ──
 
@@ -107,12 +103,8 @@ tagged_same o n None = refl
 tagged_same o n (Some offsets) = refl
 
 held_same : (o n : ℕ) (h : Head) → read.held_by o n h ≡ held_by o n h
-held_same o n (listed l) = refl
-held_same o n (mapped l) = refl
-held_same o n (sized c) = refl
-held_same o n (structured c) = refl
 held_same o n (tagged t) = tagged_same o n t.offsets
-held_same o n (indexed d) = refl
+held_same o n h = refl
 
 -- the top of some rows
 top_as : (o n : ℕ) (h : Head) (cs : Forest) → head_rows (head_part o n h) ≡ head_rows (head_trim o n h)

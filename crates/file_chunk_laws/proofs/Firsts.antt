@@ -1,6 +1,6 @@
 -- A walk that may replace no dictionary sends of each id one message that is no delta, before all others.
-use Rattle.std.proofs.Common.{◌≡◌, ℕ, ◌-◌, ◌++◌, ◌||◌, ◌&&◌, ℤ, List, [], ◌∷◌, Bool, true, false, not, Option, Some, None, Result, Ok, refl, sym, ap, subst, ◌∙◌, append-nil, append_assoc, length, take, inl, inr, ◌⊎◌}
-use Rattle.std.specs.Prelude.{is_some, nat_le, nat_lt, if◌then◌else◌}
+use Rattle.std.proofs.Common.{◌≡◌, ℕ, ◌-◌, ◌++◌, ◌||◌, ◌&&◌, ℤ, List, [], ◌∷◌, Bool, true, false, not, Option, Some, None, Result, Ok, refl, sym, ap, subst, ◌∙◌, append-nil, append_assoc, inl, inr, ◌⊎◌}
+use Rattle.std.specs.Prelude.{is_some, nat_le, if◌then◌else◌}
 use Rattle.std.specs.Option.{unwrap_or}
 use Rattle.std.proofs.lemmas.Bool.{or_parts}
 use Rattle.arrow_spec.specs.declared.error.IpcError.{IpcError}
@@ -8,16 +8,17 @@ use Rattle.arrow_spec.specs.declared.error.IpcError.TheVariants.{NotRepresentabl
 use Rattle.arrow_spec.specs.Kinds.{Kind, same}
 use Rattle.arrow_spec.specs.Cells.{Cell}
 use Rattle.arrow_spec.specs.Arrays.{cells_before}
-use Rattle.arrow_arrays.specs.Heads.{each_of, indexed, joined, listed, mapped, sized, structured, tagged, values_kind}
-use Rattle.arrow_arrays.specs.Parts.{Parts, Forest, leaf, nested, none, also, cells_each, cells_in, kinds_each, rows_in}
+use Rattle.arrow_arrays.specs.Heads.{indexed, listed, mapped, sized, structured, tagged, values_kind}
+use Rattle.arrow_arrays.specs.Parts.{Parts, Forest, leaf, nested, none, also, cells_in, rows_in}
 use Rattle.ipc_fields.specs.IpcFields.{Ids}
 use Rattle.ipc_fields.specs.Uses.{first_id, first_ids, id_under, other_ids}
-use Rattle.ipc_fields.proofs.SameKinds.{id_self, id_true}
+use Rattle.arrow_spec.proofs.SameIds.{id_self, id_true}
 use Rattle.ipc_dictionaries.specs.declared.comparison.Standing.{Standing}
 use Rattle.ipc_dictionaries.specs.declared.comparison.Standing.TheVariants.{Absent, Same, Longer, Other}
-use Rattle.ipc_dictionaries.specs.Standing.{allowed, are_same_cells, delta_start, standing}
+use Rattle.ipc_dictionaries.specs.Standing.{allowed, delta_start, standing}
 use Rattle.ipc_dictionaries.specs.NewDictionaries.{Options, Sending, ToSend, array_sent, arrays_sent, dictionary_sent, fixing, has_several, holding, message_of, parts_sent, rows_from, scoped, sending, then_by}
 use Rattle.stream_laws.specs.Heard.{AreApart, IsApart, PartsAreApart, heard, stands_in, stands_in_each, stands_in_parts, with_part}
+use Rattle.stream_laws.proofs.Stands.{never_absent}
 use Rattle.stream_laws.proofs.Steps.{either_left, either_right, stepped, unless_err}
 use Rattle.file_chunk_laws.specs.Firsts.{AreFirst}
 
@@ -239,21 +240,6 @@ dictionary_firsts o (Some true) start id parts s t walked f e h =
     let is : holding id parts st.0 ≡ t = let last = st.2 in cc in
     let b = h st.0 refl st.1 in
     subst (λ u. Firsts s u (λ q. same id q || f q)) is (put_firsts id b.new parts s st.0 f b.walk b.absent)
-
-never_absent : (old parts : Forest) (k : Kind) → standing (Some old) k parts ≡ Absent → ⊥
-never_absent old parts k e = by (each_of k (kinds_each old)) (are_same_cells xs (take (length xs) ys)) (nat_lt (length xs) (length ys)) e
-  where
-    xs : List Cell
-    xs = joined (cells_each old)
-
-    ys : List Cell
-    ys = joined (cells_each parts)
-
-    by : (a b c : Bool) → (if a then (if b then (if c then Longer (length xs) else Same) else Other) else Other) ≡ Absent → ⊥
-    by true true true h = absurd (let gone : Longer (length xs) ≡ Absent = h in cc)
-    by true true false h = absurd (let gone : Same ≡ Absent = h in cc)
-    by true false c h = absurd (let gone : Other ≡ Absent = h in cc)
-    by false b c h = absurd (let gone : Other ≡ Absent = h in cc)
 
 -- values that are put whole where none may be replaced are the first under their id
 whole_is_new : (deltas : Bool) (held : Option Forest) (k : Kind) (parts : Forest) → allowed true deltas (standing held k parts) ≡ Some true → delta_start deltas (standing held k parts) ≡ None → held ≡ None

@@ -4,7 +4,7 @@ use Rattle.std.specs.Prelude.{nat_le, nat_lt, slice_get, ℤ, pos}
 use Rattle.std.specs.List.{AllByRecursion}
 use Rattle.std.specs.Int.{Width, byte_len, w32, w64, w8, w128, cast_signed}
 use Rattle.std.specs.Str.{is_utf8, bytes_eq}
-use Rattle.std.proofs.lemmas.Bool.{leb-false, ltb-true, or_parts, and_parts}
+use Rattle.std.proofs.lemmas.Bool.{ltb-true, and_parts}
 use Rattle.arrow_spec.specs.declared.error.IpcError.{IpcError}
 use Rattle.arrow_spec.specs.declared.error.IpcError.TheVariants.{OutOfSpec}
 use Rattle.arrow_spec.specs.declared.error.OutOfSpecKind.TheVariants as kinds
@@ -16,12 +16,12 @@ use Rattle.arrow_spec.specs.Flat.{num}
 use Rattle.arrow_spec.specs.Kinds.{Kind, Fields, none, field, null, boolean, integer, float, date32, date64, time32, time64, timestamp, duration, interval, decimal, decimal256, binary, utf8, binary_view, utf8_view, fixed_size_binary, «list», fixed_size_list, struct, map as map_of, union, dictionary, extension, Offsets, small}
 use Rattle.arrow_spec.specs.Counts.{RecordBatch, Place, magnitude, is_negative, inside, after, union_buffers, count_at}
 use Rattle.arrow_spec.specs.Cells as cells
-use Rattle.arrow_spec.specs.Cells.{Cell, Cells, cells_of}
+use Rattle.arrow_spec.specs.Cells.{Cell, cells_of}
 use Rattle.arrow_spec.specs.Arrays.{Dictionaries, buf, bit, or_0, valid, has_nulls, range_of, offset_width, offset, unsigned_in, signed_in, integer_in, is_unsigned, row_bytes, u32_of, view_of, view_bytes, integer_width, found, types_buffer, id_place, node_of, if_valid, keyed, from_on, part_of_row, number_in}
 use Rattle.arrow_spec.specs.ArrayCells.{cell, cell_in, row_of}
 use Rattle.arrow_spec.specs.Faults.{cause, if_sound, some_row, some_valid_row, node_faults, range_causes, range_faults, bitmap_faults, validity_faults, numbers_faults, fixed_faults, offsets_buffer_faults, offsets_faults, bytes_faults, utf8_faults, is_good_view, ranges_faults, data_faults, view_parts_faults, bad_view_faults, views_faults, is_no_text_view, view_text_faults, key_faults, is_no_id, place_in, is_bad_row, dense_buffer_faults, dense_faults, union_faults, flat_faults, array_faults, child_faults, view_count_faults}
 use Rattle.arrow_spec.specs.Needed.{looked_at, looked_at_in, validity_looked_at, union_looked_at, numbers_from}
-use Rattle.arrow_spec.proofs.Fewer.{none_first, none_second, sound_second, cause-none, some_row-none, offset-fewer, offsets_faults-fewer}
+use Rattle.arrow_spec.proofs.Fewer.{dense_row, fixed_row, row_offset, none_first, none_second, sound_second, cause-none, some_row-none}
 
 -- the same tables over another body
 abbrev pub with_body : RecordBatch → List ℕ → RecordBatch
@@ -299,15 +299,7 @@ flat_faults-same m b d d' len same (dictionary t ordered id k) p (suc n) h =
     ap (λ es. if_sound es (key_faults (with_body m b) (found d' id) t id p (suc n))) (fixed_faults-same m b p (byte_len (integer_width t)) (suc n) len)
     ∙ ap (λ xs. if_sound (fixed_faults m p (byte_len (integer_width t)) (suc n)) (key_faults (with_body m b) xs t id p (suc n))) (same id)
     ∙ ap (λ es. if_sound (fixed_faults m p (byte_len (integer_width t)) (suc n)) es) (key_faults-same m b (found d id) t id p (suc n) v parts.0)
-flat_faults-same m b d d' len same null p (suc n) h = refl
-flat_faults-same m b d d' len same (float t) p (suc n) h = refl
-flat_faults-same m b d d' len same (decimal256 precision scale) p (suc n) h = refl
-flat_faults-same m b d d' len same («list» o fs) p (suc n) h = refl
-flat_faults-same m b d d' len same (fixed_size_list size fs) p (suc n) h = refl
-flat_faults-same m b d d' len same (struct fs) p (suc n) h = refl
-flat_faults-same m b d d' len same (map_of sorted fs) p (suc n) h = refl
-flat_faults-same m b d d' len same (union mode stated ids fs) p (suc n) h = refl
-flat_faults-same m b d d' len same (extension name metadata k) p (suc n) h = refl
+flat_faults-same m b d d' len same k p (suc n) h = refl
 
 joined : {xs xs' ys ys' : List IpcError} → xs ≡ xs' → ys ≡ ys' → xs ++ ys ≡ xs' ++ ys'
 joined {xs} {xs'} {ys} {ys'} e f = ap (λ zs. zs ++ ys) e ∙ ap (λ zs. xs' ++ zs) f
@@ -321,25 +313,6 @@ node_faults-same m b p rows = refl
 
 mutual
   pub array_faults-same : (m : RecordBatch) (b : List ℕ) (d d' : Dictionaries) → length b ≡ length m.body → SameCells d d' → (k : Kind) (p : Place) (n : ℕ) → AreSame m b (looked_at m k p) → array_faults (with_body m b) d' k p n ≡ array_faults m d k p n
-  array_faults-same m b d d' len same null p n h = ap (λ es. es ++ flat_faults (with_body m b) d' null p n) (node_faults-same m b p n) ∙ ap (λ es. node_faults m p n ++ es) (flat_faults-same m b d d' len same null p n h)
-  array_faults-same m b d d' len same boolean p n h = ap (λ es. es ++ flat_faults (with_body m b) d' boolean p n) (node_faults-same m b p n) ∙ ap (λ es. node_faults m p n ++ es) (flat_faults-same m b d d' len same boolean p n h)
-  array_faults-same m b d d' len same (integer t) p n h = ap (λ es. es ++ flat_faults (with_body m b) d' (integer t) p n) (node_faults-same m b p n) ∙ ap (λ es. node_faults m p n ++ es) (flat_faults-same m b d d' len same (integer t) p n h)
-  array_faults-same m b d d' len same (float t) p n h = ap (λ es. es ++ flat_faults (with_body m b) d' (float t) p n) (node_faults-same m b p n) ∙ ap (λ es. node_faults m p n ++ es) (flat_faults-same m b d d' len same (float t) p n h)
-  array_faults-same m b d d' len same date32 p n h = ap (λ es. es ++ flat_faults (with_body m b) d' date32 p n) (node_faults-same m b p n) ∙ ap (λ es. node_faults m p n ++ es) (flat_faults-same m b d d' len same date32 p n h)
-  array_faults-same m b d d' len same date64 p n h = ap (λ es. es ++ flat_faults (with_body m b) d' date64 p n) (node_faults-same m b p n) ∙ ap (λ es. node_faults m p n ++ es) (flat_faults-same m b d d' len same date64 p n h)
-  array_faults-same m b d d' len same (time32 u) p n h = ap (λ es. es ++ flat_faults (with_body m b) d' (time32 u) p n) (node_faults-same m b p n) ∙ ap (λ es. node_faults m p n ++ es) (flat_faults-same m b d d' len same (time32 u) p n h)
-  array_faults-same m b d d' len same (time64 u) p n h = ap (λ es. es ++ flat_faults (with_body m b) d' (time64 u) p n) (node_faults-same m b p n) ∙ ap (λ es. node_faults m p n ++ es) (flat_faults-same m b d d' len same (time64 u) p n h)
-  array_faults-same m b d d' len same (timestamp u tz) p n h = ap (λ es. es ++ flat_faults (with_body m b) d' (timestamp u tz) p n) (node_faults-same m b p n) ∙ ap (λ es. node_faults m p n ++ es) (flat_faults-same m b d d' len same (timestamp u tz) p n h)
-  array_faults-same m b d d' len same (duration u) p n h = ap (λ es. es ++ flat_faults (with_body m b) d' (duration u) p n) (node_faults-same m b p n) ∙ ap (λ es. node_faults m p n ++ es) (flat_faults-same m b d d' len same (duration u) p n h)
-  array_faults-same m b d d' len same (interval u) p n h = ap (λ es. es ++ flat_faults (with_body m b) d' (interval u) p n) (node_faults-same m b p n) ∙ ap (λ es. node_faults m p n ++ es) (flat_faults-same m b d d' len same (interval u) p n h)
-  array_faults-same m b d d' len same (decimal precision scale) p n h = ap (λ es. es ++ flat_faults (with_body m b) d' (decimal precision scale) p n) (node_faults-same m b p n) ∙ ap (λ es. node_faults m p n ++ es) (flat_faults-same m b d d' len same (decimal precision scale) p n h)
-  array_faults-same m b d d' len same (decimal256 precision scale) p n h = ap (λ es. es ++ flat_faults (with_body m b) d' (decimal256 precision scale) p n) (node_faults-same m b p n) ∙ ap (λ es. node_faults m p n ++ es) (flat_faults-same m b d d' len same (decimal256 precision scale) p n h)
-  array_faults-same m b d d' len same (binary o) p n h = ap (λ es. es ++ flat_faults (with_body m b) d' (binary o) p n) (node_faults-same m b p n) ∙ ap (λ es. node_faults m p n ++ es) (flat_faults-same m b d d' len same (binary o) p n h)
-  array_faults-same m b d d' len same (utf8 o) p n h = ap (λ es. es ++ flat_faults (with_body m b) d' (utf8 o) p n) (node_faults-same m b p n) ∙ ap (λ es. node_faults m p n ++ es) (flat_faults-same m b d d' len same (utf8 o) p n h)
-  array_faults-same m b d d' len same binary_view p n h = ap (λ es. es ++ flat_faults (with_body m b) d' binary_view p n) (node_faults-same m b p n) ∙ ap (λ es. node_faults m p n ++ es) (flat_faults-same m b d d' len same binary_view p n h)
-  array_faults-same m b d d' len same utf8_view p n h = ap (λ es. es ++ flat_faults (with_body m b) d' utf8_view p n) (node_faults-same m b p n) ∙ ap (λ es. node_faults m p n ++ es) (flat_faults-same m b d d' len same utf8_view p n h)
-  array_faults-same m b d d' len same (fixed_size_binary size) p n h = ap (λ es. es ++ flat_faults (with_body m b) d' (fixed_size_binary size) p n) (node_faults-same m b p n) ∙ ap (λ es. node_faults m p n ++ es) (flat_faults-same m b d d' len same (fixed_size_binary size) p n h)
-  array_faults-same m b d d' len same (dictionary t ordered id k) p n h = ap (λ es. es ++ flat_faults (with_body m b) d' (dictionary t ordered id k) p n) (node_faults-same m b p n) ∙ ap (λ es. node_faults m p n ++ es) (flat_faults-same m b d d' len same (dictionary t ordered id k) p n h)
   array_faults-same m b d d' len same (extension name metadata k) p n h = array_faults-same m b d d' len same k p n h
   array_faults-same m b d d' len same (fixed_size_list size fs) p n h =
       let first = node_faults-same m b p n in
@@ -383,6 +356,7 @@ mutual
   array_faults-same m b d d' len same (union Dense stated ids fs) p (suc n) h =
       let parts = same_second m b (union_looked_at m Dense p) _ h in
       joined (joined (node_faults-same m b p (suc n)) (union_faults-same m b Dense ids fs p (suc n) len (same_first m b (union_looked_at m Dense p) _ h))) (child_faults-same m b d d' len same fs (inside (union_buffers m.version Dense) p) (λ q. magnitude (node_of m q.node).length) parts)
+  array_faults-same m b d d' len same k p n h = ap (λ es. es ++ flat_faults (with_body m b) d' k p n) (node_faults-same m b p n) ∙ ap (λ es. node_faults m p n ++ es) (flat_faults-same m b d d' len same k p n h)
 
   pub child_faults-same : (m : RecordBatch) (b : List ℕ) (d d' : Dictionaries) → length b ≡ length m.body → SameCells d d' → (fs : Fields) (p : Place) (rows : Place → ℕ) → AreSame m b (looked_at_in m fs p) → child_faults (with_body m b) d' fs p rows ≡ child_faults m d fs p rows
   child_faults-same m b d d' len same none p rows h = refl
@@ -417,22 +391,6 @@ number_in-same m b p w row h = if_valid-same m b p row _ _ (same_first m b (vali
 
 part_of_row-same : (m : RecordBatch) (b : List ℕ) (p : Place) (stride at : ℕ) (w : Width) (row : ℕ) → IsSame m b (p.buffer + 1) → part_of_row (with_body m b) p stride at w row ≡ part_of_row m p stride at w row
 part_of_row-same m b p stride at w row e = ap (λ bytes. cast_signed w (or_0 (num bytes (stride * row + at) w m.order))) e
-
--- rows between two offsets lie below the last one
-row_offset : (m : RecordBatch) (o : Offsets) (i n row most : ℕ) → row < n → offsets_faults m o i n most ≡ [] → (j : ℕ) → j < offset m o i row + (offset m o i (suc row) - offset m o i row) → j < offset m o i n
-row_offset m o i n row most below h j j_below =
-    let step : offset m o i row ≤ offset m o i (suc row) = offset-fewer m o i (suc row) row most (omega arith) (offsets_faults-fewer m o i n (suc row) most (omega (arith, below)) h) in
-    let last : offset m o i (suc row) ≤ offset m o i n = offset-fewer m o i n (suc row) most (omega (arith, below)) h in
-    omega (arith, step, last, j_below)
-
--- a row of a fixed-size list lies below the last one
-fixed_row : (size n row j : ℕ) → row < n → j < size * row + size → j < size * n
-fixed_row size n row j below j_below = let whole : size * suc row ≤ size * n = grind (arith, below) in let one : size * suc row ≡ size * row + size = grind arith in omega (arith, whole, one, j_below)
-
--- where a type is an id, the child's row is one of its rows
-dense_row : (m : RecordBatch) (fs : Fields) (p : Place) (i : Option ℕ) (at : ℤ) → is_no_id i ≡ false → is_bad_row m fs p i at ≡ false → magnitude at < magnitude (node_of m (place_in m fs (or_0 i) p).node).length
-dense_row m fs p None at h k = cc
-dense_row m fs p (Some i) at h k = leb-false (magnitude (node_of m (place_in m fs i p).node).length) (magnitude at) (or_parts _ _ k).1
 
 bad_of_binary_view : (m : RecordBatch) (p : Place) (n : ℕ) → views_faults m p n ≡ [] → bad_view_faults m p n ≡ []
 unfolding views_faults

@@ -6,7 +6,7 @@ use Rattle.std.specs.BTreeMap.{BTreeMap}
 use Rattle.std.specs.declared.alloc.Global.{Global}
 use Rattle.std.specs.declared.vec.Vec.{Vec}
 use Rattle.arrow_spec.specs.declared.error.IpcError.{IpcError}
-use Rattle.arrow_spec.specs.declared.error.IpcError.TheVariants.{DictionaryReplaced, Memory, NotRepresentable, OutOfSpec, Projection, ReadFault, SchemaMismatch, State, TooDeep, TooLarge, TooMany, Unsupported, WriteFault}
+use Rattle.arrow_spec.specs.declared.error.IpcError.TheVariants.{Memory, OutOfSpec, Unsupported, WriteFault}
 use Rattle.arrow_spec.specs.Files.{dictionaries_of}
 use Rattle.arrow_spec.specs.Layout.{up_to}
 use Rattle.arrow_spec.specs.Readings.{IsAmong, Refuses, free_of, refusals}
@@ -36,17 +36,7 @@ among (OutOfSpec k) [] h r = absurd r
 among (OutOfSpec k) (x ∷ xs) h r = r
 among (Unsupported f) [] h r = absurd r
 among (Unsupported f) (x ∷ xs) h r = r
-among TooDeep es h r = absurd h
-among (TooMany x) es h r = absurd h
-among (Projection x) es h r = absurd h
-among TooLarge es h r = absurd h
-among SchemaMismatch es h r = absurd h
-among (DictionaryReplaced x) es h r = absurd h
-among NotRepresentable es h r = absurd h
-among State es h r = absurd h
-among ReadFault es h r = absurd h
-among WriteFault es h r = absurd h
-among Memory es h r = absurd h
+among e es h r = absurd h
 
 pub kinds_told : (r : Result (Unit {0}) IpcError) (es : List IpcError) → Answers (λ u. u) r es tt → IfErr r IsRefusal → Tells r (free_of es)
 kinds_told (Ok u) es a h = ap free_of a.ok.0

@@ -1,14 +1,12 @@
 -- The schema of a file that goes on: it is said as it was read, with whatever pairs, and its ids have 64 bits.
-use Rattle.std.specs.Int.{w64}
-use Rattle.std.proofs.Common.{◌≡◌, ℕ, zero, suc, ◌+◌, ℤ, pos, negsuc, List, [], ◌∷◌, ◌++◌, length, true, SFits, refl, arith}
-use Rattle.std.proofs.lemmas.Bool.{and_parts, leb-true}
+use Rattle.std.proofs.Common.{◌≡◌, ℕ, zero, suc, [], length, true, arith}
 use Rattle.arrow_spec.specs.Kinds as kind
-use Rattle.arrow_spec.specs.Kinds.{Kind, Fields, Metadata, Use, none, field, uses_in, uses_of}
-use Rattle.arrow_spec.specs.Regular.{Standing, are_representable, fields_below, fields_from, is_dictionary_id, is_representable_kind, representable}
-use Rattle.arrow_spec.specs.Schema.{Before}
-use Rattle.arrow_spec.specs.WrittenSchemas.{AreIds, FieldsFit, HaveNoReserved, KindFits, KindHasNoReserved, Part, SchemaMayBeWritten, after_fields, after_kind, of_dictionary, of_extension, of_field, own_fields, pairs_for}
-use Rattle.arrow_spec.proofs.NumberedFields.{IsNotBehind}
+use Rattle.arrow_spec.specs.Kinds.{Kind, Fields, Metadata, none, field, uses_in}
+use Rattle.arrow_spec.specs.Regular.{representable}
+use Rattle.arrow_spec.specs.WrittenSchemas.{AreIds, FieldsFit, HaveNoReserved, KindFits, KindHasNoReserved, Part, SchemaMayBeWritten, of_dictionary, of_extension, of_field, own_fields}
 use Rattle.arrow_spec.proofs.OwnPairs.{own_fields_same}
+use Rattle.arrow_spec.proofs.ReadSchemas.{fields_further}
+use Rattle.arrow_spec.proofs.RegularSchemas.{fields_ids}
 
 -- ── reserved keys ──
 
@@ -39,24 +37,6 @@ said_same fs levels fit = own_fields_same fs (unreserved fs levels fit)
 
 -- ── pairs of the schema ──
 
-mutual
-  kind_further : (k : Kind) (p q : Before) → IsNotBehind p q → IsNotBehind (after_kind k p) (after_kind k q)
-  kind_further (kind.«list» o fs) p q h = fields_further fs p q h
-  kind_further (kind.fixed_size_list n fs) p q h = fields_further fs p q h
-  kind_further (kind.struct fs) p q h = fields_further fs p q h
-  kind_further (kind.map sorted fs) p q h = fields_further fs p q h
-  kind_further (kind.union mode stated ids fs) p q h = fields_further fs p q h
-  kind_further (kind.dictionary t ordered id k) p q h = kind_further k p q h
-  kind_further (kind.extension name metadata k) p q h = kind_further k p q h
-  kind_further k p q h = h
-
-  fields_further : (fs : Fields) (p q : Before) → IsNotBehind p q → IsNotBehind (after_fields fs p) (after_fields fs q)
-  fields_further none p q h = h
-  fields_further (field name nullable metadata k others) p q h =
-      let here : Before = record { fields = suc p.fields; pairs = p.pairs + length (pairs_for k metadata) } in
-      let there : Before = record { fields = suc q.fields; pairs = q.pairs + length (pairs_for k metadata) } in
-      fields_further others (after_kind k here) (after_kind k there) (kind_further k here there (omega (arith, h.0), omega (arith, h.1)))
-
 -- a schema that may be written may be written without its pairs
 pub may_without : (fs : Fields) (pairs : Metadata) → SchemaMayBeWritten fs pairs → SchemaMayBeWritten fs []
 may_without fs pairs may =
@@ -64,42 +44,6 @@ may_without fs pairs may =
     record { fit = may.fit; ascend = tt; few_fields = omega (arith, fewer.0, may.few_fields); few_pairs = omega (arith, fewer.1, may.few_pairs); distinct = may.distinct }
 
 -- ── ids ──
-
-both_representable : (xs ys : List Standing) → are_representable (xs ++ ys) ≡ true → (are_representable xs ≡ true) × (are_representable ys ≡ true)
-both_representable [] ys h = (refl, h)
-both_representable (x ∷ xs) ys h =
-    let parts = and_parts (is_representable_kind x.kind) (are_representable (xs ++ ys)) h in
-    let rest = both_representable xs ys parts.1 in
-    (rw (parts.0, rest.0) refl, rest.1)
-
-id_fits : (x : ℤ) → is_dictionary_id x ≡ true → SFits w64 x
-id_fits (pos n) h = record { sfits = omega (arith, leb-true n 9223372036854775807 h) }
-id_fits (negsuc n) h = record { sfits = omega (arith, leb-true n 9223372036854775807 h) }
-
-ids_all : (us vs : List Use) → AreIds us → AreIds vs → AreIds (us ++ vs)
-ids_all [] vs h g = g
-ids_all (u ∷ us) vs h g = (h.0, ids_all us vs h.1 g)
-
-mutual
-  kind_ids : (k : Kind) (level : ℕ) → is_representable_kind k ≡ true → are_representable (fields_below level k) ≡ true → AreIds (uses_of k)
-  kind_ids (kind.«list» o fs) level rep reps = fields_ids fs (suc level) reps
-  kind_ids (kind.fixed_size_list n fs) level rep reps = fields_ids fs (suc level) reps
-  kind_ids (kind.struct fs) level rep reps = fields_ids fs (suc level) reps
-  kind_ids (kind.map sorted fs) level rep reps = fields_ids fs (suc level) reps
-  kind_ids (kind.union mode stated ids fs) level rep reps = fields_ids fs (suc level) reps
-  kind_ids (kind.dictionary t ordered id k) level rep reps =
-      let parts = and_parts _ _ rep in
-      let first = and_parts _ _ parts.0 in
-      (id_fits id first.0, kind_ids k level parts.1 reps)
-  kind_ids (kind.extension name metadata k) level rep reps = kind_ids k level (and_parts _ _ rep).1 reps
-  kind_ids k level rep reps = tt
-
-  fields_ids : (fs : Fields) (level : ℕ) → are_representable (fields_from level fs) ≡ true → AreIds (uses_in fs)
-  fields_ids none level reps = tt
-  fields_ids (field name nullable metadata k others) level reps =
-      let parts = and_parts _ _ reps in
-      let rest = both_representable (fields_below level k) (fields_from level others) parts.1 in
-      ids_all (uses_of k) (uses_in others) (kind_ids k level parts.0 rest.0) (fields_ids others level rest.1)
 
 -- the ids of fields that may be said have 64 bits
 pub ids_within : (fs : Fields) → representable fs ≡ true → AreIds (uses_in fs)

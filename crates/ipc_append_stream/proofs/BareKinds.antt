@@ -2,12 +2,10 @@
 use Rattle.std.proofs.Common.{◌≡◌, ◌∙◌, ℕ, zero, suc, ◌+◌, ◌≤◌, List, [], ◌∷◌, map, length, take, slice_get, Bool, true, Option, None, Vec, Global, ℤ, pos, IsTrue, ◌↔◌, refl, sym, ap, rules, arith, add-one}
 use Rattle.std.proofs.lemmas.List.{length-map, take_all}
 use Rattle.std.specs.Option.{option_map}
-use Rattle.std.proofs.lemmas.Bool.{and_parts}
 use Rattle.arrow_spec.specs.declared.types.UnionMode.{UnionMode}
 use Rattle.arrow_spec.specs.Kinds as kind
 use Rattle.arrow_spec.specs.Kinds.{Kind, Fields, are_same_ids, bare, bare_kind, same}
 use Rattle.arrow_types.proofs.Sameness.{fields_from_same, union_kind_of_is}
-use Rattle.arrow_types.proofs.UnionIds.{same_true, same_when}
 use Rattle.arrow_types.specs.Child.{Child, fields_from}
 use Rattle.arrow_types.specs.KindOf.{child_of, fields_of, ids_of, kind_of, union_kind_of}
 use Rattle.arrow_types.specs.Schemas.{Keyed, fields_in}
@@ -15,27 +13,9 @@ use Rattle.arrow_types.specs.declared.data_type.ArrowDataType.{Struct, the_lemma
 use Rattle.arrow_types.specs.declared.data_type.UnionType.{UnionType, out-UnionType}
 use Rattle.arrow_types.specs.declared.data_type.Field.{Field}
 use Rattle.ipc_fields.specs.IpcFields.{Ids, fields_with, ids, kind_with, no_fields}
-use Rattle.ipc_fields.specs.Leaves.{is_leaf}
+use Rattle.arrow_types.specs.Leaves.{is_leaf}
+use Rattle.arrow_spec.proofs.SameIds.{ids_self, ids_true}
 use Rattle.ipc_append_stream.specs.Bare.{bare_child, bare_entry}
-
--- ── ids ──
-
-pub ids_self : (xs : List ℤ) → are_same_ids xs xs ≡ true
-ids_self [] = refl
-ids_self (x ∷ xs) = rw (same_when x x refl, ids_self xs) refl
-
-pub ids_true : (xs ys : List ℤ) → are_same_ids xs ys ≡ true → xs ≡ ys
-ids_true [] [] h = refl
-ids_true [] (y ∷ ys) h = cc
-ids_true (x ∷ xs) [] h = cc
-ids_true (x ∷ xs) (y ∷ ys) h =
-    let p = and_parts (same x y) (are_same_ids xs ys) h in
-    let first : x ≡ y = same_true x y p.0 in
-    let rest : xs ≡ ys = ids_true xs ys p.1 in
-    rw (first, rest) refl
-
-pub ids_equal : (xs ys : List ℤ) → xs ≡ ys → are_same_ids xs ys ≡ true
-ids_equal xs ys h = rw h (ids_self ys)
 
 -- ── fields ──
 
@@ -129,7 +109,7 @@ unions_same u v n r count mode fields is =
     let lengths : length fs ≡ length gs = sym (length-map fs bare_field) ∙ ap length fields ∙ length-map gs bare_field in (
       λ h. let same : ids_of x n ≡ ids_of y n = ids_true _ _ (sym is ∙ h) in
           union_bare u ∙ union_whole _ _ _ _ _ _ mode (ap (ids_of x) (sym count) ∙ same ∙ ap (ids_of y) (count ∙ lengths)) fields ∙ sym (union_bare v),
-      λ h. is ∙ ids_equal _ _ (ap (ids_of x) count ∙ (parts_of_unions u v h).ids ∙ ap (ids_of y) (sym (count ∙ lengths))),
+      λ h. is ∙ ap (are_same_ids (ids_of x n)) (sym (ap (ids_of x) count ∙ (parts_of_unions u v h).ids ∙ ap (ids_of y) (sym (count ∙ lengths)))) ∙ ids_self (ids_of x n),
     )
 
 -- ── fields at places ──

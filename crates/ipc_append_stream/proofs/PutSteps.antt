@@ -67,31 +67,12 @@ pub cause_later : (e : IpcError) (f g h : ℕ) → f ≤ g → PutCause e g h �
 cause_later errors.TooLarge f g h k c = tt
 cause_later errors.Memory f g h k c = tt
 cause_later errors.WriteFault f g h k c = omega (arith, k, c)
-cause_later errors.ReadFault f g h k c = absurd c
-cause_later (errors.OutOfSpec x) f g h k c = absurd c
-cause_later (errors.Unsupported x) f g h k c = absurd c
-cause_later errors.TooDeep f g h k c = absurd c
-cause_later (errors.TooMany x) f g h k c = absurd c
-cause_later (errors.Projection x) f g h k c = absurd c
-cause_later errors.SchemaMismatch f g h k c = absurd c
-cause_later (errors.DictionaryReplaced x) f g h k c = absurd c
-cause_later errors.NotRepresentable f g h k c = absurd c
-cause_later errors.State f g h k c = absurd c
+cause_later e f g h k c = absurd c
 
 part_stops : (m : Moved) (e : IpcError) (bytes : List ℕ) → PutsPart m e bytes → StopsIn m e
 part_stops m errors.WriteFault bytes h = record { added = take h.0.0 bytes; appended = h.0.1; counts = h.1; cause = h.2 }
 part_stops m errors.Memory bytes h = record { added = take h.0.0 bytes; appended = h.0.1; counts = h.1; cause = tt }
-part_stops m errors.TooLarge bytes h = absurd h
-part_stops m errors.ReadFault bytes h = absurd h
-part_stops m (errors.OutOfSpec x) bytes h = absurd h
-part_stops m (errors.Unsupported x) bytes h = absurd h
-part_stops m errors.TooDeep bytes h = absurd h
-part_stops m (errors.TooMany x) bytes h = absurd h
-part_stops m (errors.Projection x) bytes h = absurd h
-part_stops m errors.SchemaMismatch bytes h = absurd h
-part_stops m (errors.DictionaryReplaced x) bytes h = absurd h
-part_stops m errors.NotRepresentable bytes h = absurd h
-part_stops m errors.State bytes h = absurd h
+part_stops m e bytes h = absurd h
 
 -- nothing was put
 left_stops : (m : Moved) (e : IpcError) → Untouched m → PutCause e m.faults m.faults_now → StopsIn m e

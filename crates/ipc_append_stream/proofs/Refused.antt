@@ -121,13 +121,7 @@ module _ (content : Option (List ℕ)) (asked : WriteOptions) (s : WholeStream) 
   plain errors.NotRepresentable h = absurd h
   plain (errors.Projection x) h = absurd h
   plain errors.State h = absurd h
-  plain errors.TooLarge h = tt
-  plain errors.Memory h = tt
-  plain (errors.OutOfSpec x) h = tt
-  plain (errors.Unsupported x) h = tt
-  plain errors.TooDeep h = tt
-  plain (errors.TooMany x) h = tt
-  plain (errors.DictionaryReplaced x) h = tt
+  plain e h = tt
 
   as_plain : (e x : IpcError) → e ≡ x → IsPlain x → RefusalSays e content asked s f g
   as_plain e x is h = plain e (subst IsPlain (sym is) h)
@@ -135,34 +129,19 @@ module _ (content : Option (List ℕ)) (asked : WriteOptions) (s : WholeStream) 
   -- reading a file
   of_file : (e : IpcError) → FileCause e f g → RefusalSays e content asked s f g
   of_file errors.ReadFault h = h
-  of_file errors.WriteFault h = absurd h
-  of_file errors.SchemaMismatch h = absurd h
-  of_file errors.NotRepresentable h = absurd h
-  of_file (errors.Projection x) h = absurd h
-  of_file errors.State h = absurd h
-  of_file errors.TooLarge h = absurd h
-  of_file (errors.DictionaryReplaced x) h = absurd h
   of_file errors.Memory h = tt
   of_file (errors.OutOfSpec x) h = tt
   of_file (errors.Unsupported x) h = tt
   of_file errors.TooDeep h = tt
   of_file (errors.TooMany x) h = tt
+  of_file e h = absurd h
 
   -- putting
   of_put : (e : IpcError) → PutCause e f g → RefusalSays e content asked s f g
   of_put errors.WriteFault h = h
   of_put errors.TooLarge h = tt
   of_put errors.Memory h = tt
-  of_put errors.ReadFault h = absurd h
-  of_put errors.SchemaMismatch h = absurd h
-  of_put errors.NotRepresentable h = absurd h
-  of_put (errors.Projection x) h = absurd h
-  of_put errors.State h = absurd h
-  of_put (errors.DictionaryReplaced x) h = absurd h
-  of_put (errors.OutOfSpec x) h = absurd h
-  of_put (errors.Unsupported x) h = absurd h
-  of_put errors.TooDeep h = absurd h
-  of_put (errors.TooMany x) h = absurd h
+  of_put e h = absurd h
 
   of_chunk : (e : IpcError) → IsOfChunk asked.deltas e → RefusalSays e content asked s f g
   of_chunk errors.NotRepresentable h = h
@@ -171,13 +150,7 @@ module _ (content : Option (List ℕ)) (asked : WriteOptions) (s : WholeStream) 
   of_chunk errors.SchemaMismatch h = absurd h
   of_chunk (errors.Projection x) h = absurd h
   of_chunk errors.State h = absurd h
-  of_chunk errors.TooLarge h = tt
-  of_chunk errors.Memory h = tt
-  of_chunk (errors.DictionaryReplaced x) h = tt
-  of_chunk (errors.OutOfSpec x) h = tt
-  of_chunk (errors.Unsupported x) h = tt
-  of_chunk errors.TooDeep h = tt
-  of_chunk (errors.TooMany x) h = tt
+  of_chunk e h = tt
 
   of_batches : (e : IpcError) → BatchesRefused content e asked s → RefusalSays e content asked s f g
   of_batches e h = by (ids_of h.file.ipc_schema.fields.items) refl h.refused

@@ -10,7 +10,7 @@ use Rattle.ipc_dictionaries.specs.Columns.{columns_fault, columns_of}
 use Rattle.ipc_fields.specs.IpcFields.{ids_of}
 use Rattle.ipc_files.specs.FileViews.{WasRead, meta_view}
 use Rattle.ipc_files.specs.declared.metadata.FileMetadata.{FileMetadata}
-use Rattle.ipc_read.proofs.ColumnIds.{plain_fields_with}
+use Rattle.ipc_read_laws.proofs.PlainTypes.{plain_fields_with}
 use Rattle.sent_dictionaries.proofs.Right.{columns_right}
 use Rattle.sent_schemas.proofs.PlainFields.{same_apart}
 use Rattle.sent_schemas.proofs.SayableFields.{fields_apart}

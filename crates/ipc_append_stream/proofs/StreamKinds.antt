@@ -9,10 +9,11 @@ use Rattle.arrow_types.specs.KindOf.{child_of}
 use Rattle.arrow_types.specs.Schemas.{Keyed, fields_in}
 use Rattle.arrow_types.specs.declared.data_type.Field.{Field}
 use Rattle.arrow_arrays.specs.Batches.{Batch}
-use Rattle.ipc_fields.proofs.SameKinds.{form, forms, same_by_form, same_through}
+use Rattle.arrow_spec.proofs.Forms.{form, forms}
+use Rattle.ipc_fields.proofs.SameKinds.{same_by_form, same_through}
 use Rattle.ipc_read_laws.specs.PlainKinds.{plain_fields, plain_kind}
 use Rattle.ipc_read_laws.proofs.PlainTypes.{plain_of}
-use Rattle.ipc_read.proofs.Places.{kind_of_child}
+use Rattle.arrow_types.proofs.DataTypes.{kind_of_child}
 use Rattle.ipc_files.specs.Selections.{HasFields}
 use Rattle.sent_dictionaries.proofs.Right.{kinds_of_schema}
 use Rattle.ipc_append_stream.specs.Bare.{AreOfOneKind, bare_child}

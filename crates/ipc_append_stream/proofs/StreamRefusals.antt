@@ -29,26 +29,8 @@ one_refused : (e x : IpcError) (es : List IpcError) → Refuses e (x ∷ []) →
 one_refused errors.Memory x es h = inr tt
 one_refused errors.ReadFault x es h = inr tt
 one_refused errors.WriteFault x es h = inr tt
-one_refused (errors.OutOfSpec k) x es (inl h) = inl (sym h)
-one_refused (errors.Unsupported k) x es (inl h) = inl (sym h)
-one_refused errors.TooDeep x es (inl h) = inl (sym h)
-one_refused (errors.TooMany k) x es (inl h) = inl (sym h)
-one_refused (errors.Projection k) x es (inl h) = inl (sym h)
-one_refused errors.TooLarge x es (inl h) = inl (sym h)
-one_refused errors.SchemaMismatch x es (inl h) = inl (sym h)
-one_refused (errors.DictionaryReplaced k) x es (inl h) = inl (sym h)
-one_refused errors.NotRepresentable x es (inl h) = inl (sym h)
-one_refused errors.State x es (inl h) = inl (sym h)
-one_refused (errors.OutOfSpec k) x es (inr h) = absurd h
-one_refused (errors.Unsupported k) x es (inr h) = absurd h
-one_refused errors.TooDeep x es (inr h) = absurd h
-one_refused (errors.TooMany k) x es (inr h) = absurd h
-one_refused (errors.Projection k) x es (inr h) = absurd h
-one_refused errors.TooLarge x es (inr h) = absurd h
-one_refused errors.SchemaMismatch x es (inr h) = absurd h
-one_refused (errors.DictionaryReplaced k) x es (inr h) = absurd h
-one_refused errors.NotRepresentable x es (inr h) = absurd h
-one_refused errors.State x es (inr h) = absurd h
+one_refused e x es (inl h) = inl (sym h)
+one_refused e x es (inr h) = absurd h
 
 -- ── what stands next ──
 

@@ -1,105 +1,24 @@
 //! Whether two schemas have the same fields, whether or not the ids of a union are stated (Schema.fbs, Union).
-ghost use Rattle.std.specs.Prelude.{◌≡◌, ◌↔◌, IsTrue, false, true, map, string_bytes};
+ghost use Rattle.std.specs.Prelude.{◌≡◌, ◌↔◌, IsTrue, false, true, map};
 ghost use Rattle.std.specs.Option.{option_map};
-ghost use Rattle.arrow_spec.specs.Kinds.{are_same_ids, bare, bare_kind, have_same_kinds};
-ghost use Rattle.arrow_spec.specs.Schema.{counted_ids};
-ghost use Rattle.arrow_types.specs.KindOf.{child_of, extension_kind_of, ids_of, kind_of, union_kind_of};
+ghost use Rattle.arrow_spec.specs.Kinds.{bare, bare_kind, have_same_kinds};
+ghost use Rattle.arrow_types.specs.KindOf.{child_of, extension_kind_of, kind_of, union_kind_of};
 ghost use Rattle.arrow_types.specs.Schemas.{entry_of, fields_in};
-ghost use Rattle.ipc_fields.specs.Leaves.{is_leaf};
+ghost use Rattle.arrow_types.specs.Leaves.{is_leaf};
 ghost use Rattle.ipc_append_stream.specs.Bare.{AreOfOneKind, bare_child, bare_entry};
 
-use arrow_spec::{IntegerType, UnionMode};
-use arrow_types::{ArrowDataType, ArrowSchema, ExtensionType, Field, UnionType, is_same_metadata};
-
-/// Whether a type has neither children nor values nor a type below it.
-fn is_leaf(dtype: &ArrowDataType) -> bool
-    ensures { result ≡ is_leaf (kind_of dtype.now) }
-{
-    match dtype {
-        ArrowDataType::List(_)
-        | ArrowDataType::LargeList(_)
-        | ArrowDataType::FixedSizeList(_, _)
-        | ArrowDataType::Map(_, _)
-        | ArrowDataType::Struct(_)
-        | ArrowDataType::Union(_)
-        | ArrowDataType::Dictionary(_, _, _)
-        | ArrowDataType::Extension(_) => false,
-        _ => true,
-    }
-}
-
-fn is_same_text(a: &String, b: &String) -> bool
-    ensures { IsTrue result ↔ (string_bytes a.now ≡ string_bytes b.now) }
-{
-    a == b
-}
-
-fn is_same_option(a: &Option<String>, b: &Option<String>) -> bool
-    ensures { IsTrue result ↔ (option_map string_bytes a.now ≡ option_map string_bytes b.now) }
-{
-    match a {
-        None => b.is_none(),
-        Some(x) => match b {
-            None => false,
-            Some(y) => is_same_text(x, y),
-        },
-    }
-}
-
-fn is_same_mode(a: UnionMode, b: UnionMode) -> bool
-    ensures { IsTrue result ↔ (a ≡ b) }
-{
-    a == b
-}
+use arrow_spec::IntegerType;
+use arrow_types::{
+    ArrowDataType, ArrowSchema, ExtensionType, Field, UnionType, is_leaf, is_same_metadata,
+    is_same_mode, is_same_option, is_same_text,
+};
+use ipc_fields::are_same_ids;
 
 /// Whether the keys of two dictionaries are of one type, and their values in order or not.
 fn are_same_keys(a: IntegerType, b: IntegerType, a_ordered: bool, b_ordered: bool) -> bool
     ensures { IsTrue result ↔ ((a ≡ b) × (a_ordered ≡ b_ordered)) }
 {
     a == b && a_ordered == b_ordered
-}
-
-#[tactic(auto, using(ipc_fields::proofs::KindSteps::same_lists))]
-fn are_equal(a: &[i32], b: &[i32]) -> bool
-    ensures { result ≡ are_same_ids a.now b.now }
-{
-    a == b
-}
-
-/// Whether ids are 0, 1, .. for so many children.
-#[tactic(auto, using(ipc_fields::proofs::KindSteps::counted_apart))]
-fn are_counted(ids: &[i32], children: usize) -> bool
-    ensures { result ≡ are_same_ids ids.now (counted_ids 0 children) }
-{
-    if ids.len() != children {
-        return false;
-    }
-    for i in 0..children {
-        if ids[i] < 0 {
-            return false;
-        }
-        if ids[i] as usize != i {
-            return false;
-        }
-    }
-    true
-}
-
-/// Whether two unions, of so many children each, have the same ids.
-#[tactic(auto, using(ipc_fields::proofs::KindSteps::counted_both, ipc_fields::proofs::KindSteps::same_ids_turned, crate::proofs::BareKinds::ids_self))]
-fn have_same_ids(a: &Option<Vec<i32>>, b: &Option<Vec<i32>>, children: usize) -> bool
-    ensures { result ≡ are_same_ids (ids_of a.now children) (ids_of b.now children) }
-{
-    match a {
-        None => match b {
-            None => true,
-            Some(ids) => are_counted(ids, children),
-        },
-        Some(ids) => match b {
-            None => are_counted(ids, children),
-            Some(others) => are_equal(ids, others),
-        },
-    }
 }
 
 /// Whether two types, of which the first has parts, are the same.
@@ -196,7 +115,8 @@ fn is_same_union(a: &UnionType, b: &UnionType) -> bool
     if !are_same_fields(a.fields.as_slice(), b.fields.as_slice()) {
         return false;
     }
-    have_same_ids(&a.ids, &b.ids, a.fields.len())
+    let children = a.fields.len();
+    are_same_ids(&a.ids, children, &b.ids, children)
 }
 
 /// Whether two extensions are the same.

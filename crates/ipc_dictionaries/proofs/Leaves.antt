@@ -16,29 +16,10 @@ use Rattle.ipc_dictionaries.specs.NewDictionaries.{Options, Sending, array_sent}
 pub nothing_sent : (o : Options) (a : Array) (id : Option ℤ) (below : Ids) (s : Sending)
     → ((x : ListArray) → a ≡ arrays.List x → ⊥) → ((x : FixedSizeListArray) → a ≡ arrays.FixedSizeList x → ⊥) → ((x : MapArray) → a ≡ arrays.Map x → ⊥) → ((x : StructArray) → a ≡ arrays.Struct x → ⊥) → ((x : UnionArray) → a ≡ arrays.Union x → ⊥) → ((x : DictionaryArray) → a ≡ arrays.Dictionary x → ⊥)
     → array_sent o (parts_of a) id below s ≡ Ok s
-nothing_sent o (arrays.Null x) id below s nl nf nm ns nu nd = refl
-nothing_sent o (arrays.Boolean x) id below s nl nf nm ns nu nd = refl
-nothing_sent o (arrays.Int8 x) id below s nl nf nm ns nu nd = refl
-nothing_sent o (arrays.Int16 x) id below s nl nf nm ns nu nd = refl
-nothing_sent o (arrays.Int32 x) id below s nl nf nm ns nu nd = refl
-nothing_sent o (arrays.Int64 x) id below s nl nf nm ns nu nd = refl
-nothing_sent o (arrays.Int128 x) id below s nl nf nm ns nu nd = refl
-nothing_sent o (arrays.UInt8 x) id below s nl nf nm ns nu nd = refl
-nothing_sent o (arrays.UInt16 x) id below s nl nf nm ns nu nd = refl
-nothing_sent o (arrays.UInt32 x) id below s nl nf nm ns nu nd = refl
-nothing_sent o (arrays.UInt64 x) id below s nl nf nm ns nu nd = refl
-nothing_sent o (arrays.DaysMs x) id below s nl nf nm ns nu nd = refl
-nothing_sent o (arrays.MonthsDaysNs x) id below s nl nf nm ns nu nd = refl
-nothing_sent o (arrays.Binary x) id below s nl nf nm ns nu nd = refl
-nothing_sent o (arrays.LargeBinary x) id below s nl nf nm ns nu nd = refl
-nothing_sent o (arrays.Utf8 x) id below s nl nf nm ns nu nd = refl
-nothing_sent o (arrays.LargeUtf8 x) id below s nl nf nm ns nu nd = refl
-nothing_sent o (arrays.BinaryView x) id below s nl nf nm ns nu nd = refl
-nothing_sent o (arrays.Utf8View x) id below s nl nf nm ns nu nd = refl
-nothing_sent o (arrays.FixedSizeBinary x) id below s nl nf nm ns nu nd = refl
 nothing_sent o (arrays.List x) id below s nl nf nm ns nu nd = absurd (nl x refl)
 nothing_sent o (arrays.FixedSizeList x) id below s nl nf nm ns nu nd = absurd (nf x refl)
 nothing_sent o (arrays.Map x) id below s nl nf nm ns nu nd = absurd (nm x refl)
 nothing_sent o (arrays.Struct x) id below s nl nf nm ns nu nd = absurd (ns x refl)
 nothing_sent o (arrays.Union x) id below s nl nf nm ns nu nd = absurd (nu x refl)
 nothing_sent o (arrays.Dictionary x) id below s nl nf nm ns nu nd = absurd (nd x refl)
+nothing_sent o a id below s nl nf nm ns nu nd = refl

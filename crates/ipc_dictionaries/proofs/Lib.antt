@@ -1,7 +1,5 @@
 pub mod Runs
 pub mod Places
-pub mod Rests
-pub mod ShapeSteps
 pub mod Ids
 pub mod ChangeSteps
 pub mod UsedSteps

@@ -16,7 +16,8 @@ use Rattle.ipc_dictionaries.specs.NewDictionaries.{Options, Sending, ToSend, mes
 use Rattle.ipc_dictionaries.specs.Tracker.{Held}
 use Rattle.ipc_dictionaries.specs.Used.{is_among}
 use Rattle.ipc_dictionaries.proofs.Ids.{among-append, both_came}
-use Rattle.ipc_dictionaries.proofs.Rests.{rest_at, others_at}
+use Rattle.ipc_fields.proofs.Steps.{drop_item}
+use Rattle.ipc_fields.proofs.UseSteps.{others_at}
 
 -- ── arrays under IPC fields ──
 
@@ -25,7 +26,7 @@ arrays_at : (o : Options) (xs : List Array) (ts : List IpcField) (i : ℕ) (x : 
 arrays_at o xs ts i x id below s h e f g =
     let own = ids_of (drop i ts) in
     let rest = forest_of (drop (i + 1) xs) in
-    ap (λ ys. arrays_sent o (forest_of ys) own s) (rest_at xs i x h e)
+    ap (λ ys. arrays_sent o (forest_of ys) own s) (drop_item xs i x x h e)
     ∙ ap (λ ks. then_by (array_sent o (parts_of x) (first_id own) (first_ids own) s) (arrays_sent o rest ks)) (others_at ts i)
     ∙ ap (λ z. then_by (array_sent o (parts_of x) z (first_ids own) s) (arrays_sent o rest (ids_of (drop (i + 1) ts)))) (sym f)
     ∙ ap (λ z. then_by (array_sent o (parts_of x) id z s) (arrays_sent o rest (ids_of (drop (i + 1) ts)))) (sym g)
@@ -57,7 +58,7 @@ parts_skipped o u id below is_delta n m xs i x s h e d le r =
     let t : nat_le rows n ≡ true = le-leb rows n le in
     let k : n - rows ≡ m = omega arith in
     let rest = forest_of (drop (i + 1) xs) in
-    ap (λ ys. parts_sent o u id below is_delta n (forest_of ys) s) (rest_at xs i x h e)
+    ap (λ ys. parts_sent o u id below is_delta n (forest_of ys) s) (drop_item xs i x x h e)
     ∙ ap (λ b. parts_sent o u id below b n (also (parts_of x) rest) s) d
     ∙ ap (λ b. if b then parts_sent o u id below true (n - rows) rest s
     else then_by (array_sent o (parts_of x) None below (scoped u s)) (λ t. parts_sent o u id below true 0 rest (sending (message_of id true (rows_from n (parts_of x))) s.used t))) t
@@ -70,7 +71,7 @@ part_at : (o : Options) (u : ℤ → Bool) (id : ℤ) (below : Ids) (is_delta : 
     ≡ then_by (array_sent o (parts_of x) None below (scoped u s)) (λ t. parts_sent o u id below true 0 (forest_of (drop (i + 1) xs)) (sending (message_of id is_delta (rows_from n (parts_of x))) s.used t))
 part_at o u id below is_delta n xs i x s h e f =
     let rest = forest_of (drop (i + 1) xs) in
-    ap (λ ys. parts_sent o u id below is_delta n (forest_of ys) s) (rest_at xs i x h e)
+    ap (λ ys. parts_sent o u id below is_delta n (forest_of ys) s) (drop_item xs i x x h e)
     ∙ ap (λ b. if b then parts_sent o u id below true (n - rows_in (parts_of x)) rest s
     else then_by (array_sent o (parts_of x) None below (scoped u s)) (λ t. parts_sent o u id below true 0 rest (sending (message_of id is_delta (rows_from n (parts_of x))) s.used t))) f
 

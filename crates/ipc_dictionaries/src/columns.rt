@@ -7,11 +7,12 @@ ghost use Rattle.ipc_fields.specs.IpcFields.{ids_of, fields_with, have_shapes};
 ghost use Rattle.ipc_dictionaries.specs.Columns.{columns_of, ChecksColumns};
 ghost use Rattle.ipc_dictionaries.specs.Shapes.{agree};
 
-use crate::shapes::{agree, are_apart, have_shapes};
+use crate::shapes::{agree, are_apart};
 use arrow_arrays::Array;
 use arrow_spec::IpcError;
 use arrow_types::Field;
 use ipc_fields::IpcField;
+use ipc_fields::shapes::have_shapes;
 use std::alloc::{AllocError, Global};
 
 /// A column without a name for each array.

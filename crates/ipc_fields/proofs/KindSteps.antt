@@ -1,9 +1,11 @@
 -- Types of one kind.
-use Rattle.std.proofs.Common.{◌≡◌, ◌≢◌, ◌↔◌, IsTrue, ℕ, zero, suc, ◌+◌, ◌-◌, ◌<◌, ◌≤◌, List, [], ◌∷◌, length, drop, get_or, Bool, true, false, ◌&&◌, Option, Some, None, ℤ, pos, negsuc, refl, sym, ◌∙◌, ap, arith, true≢false, add-one}
+use Rattle.std.proofs.Common.{◌≡◌, ◌≢◌, ◌↔◌, IsTrue, ℕ, zero, suc, ◌+◌, ◌-◌, ◌<◌, ◌≤◌, List, [], ◌∷◌, length, drop, get_or, Bool, true, false, ◌&&◌, Option, Some, None, ℤ, pos, negsuc, refl, sym, ◌∙◌, ap, arith, true≢false}
 use Rattle.std.specs.Prelude.{nat_eq}
 use lib.Signed.{lt_z}
 use lib.IntN.{nat_abs}
+use Rattle.std.proofs.Math.Bool.{and-false}
 use Rattle.std.proofs.lemmas.Bool.{and_parts, eqb-true}
+use Rattle.std.proofs.lemmas.List.{drop_all}
 use Rattle.arrow_spec.specs.Kinds as kind
 use Rattle.std.proofs.Common.{map}
 use Rattle.std.proofs.lemmas.Slice.Eq.{bytes_eq-Decides}
@@ -21,18 +23,19 @@ use Rattle.ipc_fields.specs.Uses.{first_id, first_ids, other_ids}
 use Rattle.ipc_fields.specs.declared.ipc_field.IpcField.{IpcField}
 use Rattle.ipc_fields.proofs.Widths.{width_with, leaf_with}
 use Rattle.ipc_fields.proofs.Steps.{drop_item}
-use Rattle.ipc_fields.proofs.UseSteps.{next_ids}
+use Rattle.ipc_fields.proofs.UseSteps.{others_at}
 use Rattle.arrow_spec.specs.Schema.{counted_ids}
-use Rattle.ipc_fields.specs.Leaves.{is_leaf}
+use Rattle.arrow_types.specs.Leaves.{is_leaf}
 use Rattle.ipc_fields.specs.IpcFields.{Ids, no_fields, ids, ids_of, kind_with, fields_with}
 use Rattle.arrow_types.proofs.Children.{width_from}
-use Rattle.arrow_types.proofs.UnionIds.{same_when, same_true, same_test, not_true}
+use Rattle.arrow_spec.proofs.SameIds.{id_true, ids_self, ids_true}
+use Rattle.arrow_types.proofs.UnionIds.{same_when, same_test, not_true}
 
 pub ids_equal : (x y : ℤ) → x ≡ y → same x y ≡ true
 ids_equal x y h = same_when x y h
 
 pub ids_differ : (x y : ℤ) → x ≢ y → same x y ≡ false
-ids_differ x y h = not_true (same x y) (λ k. h (same_true x y k))
+ids_differ x y h = not_true (same x y) (λ k. h (id_true x y k))
 
 same_turned : (x y : ℤ) → same x y ≡ same y x
 same_turned (pos a) (pos b) = grind arith
@@ -46,20 +49,6 @@ same_ids_turned [] (y ∷ ys) = refl
 same_ids_turned (x ∷ xs) [] = refl
 same_ids_turned (x ∷ xs) (y ∷ ys) = rw (same_turned x y, same_ids_turned xs ys) refl
 
-ids_self : (xs : List ℤ) → are_same_ids xs xs ≡ true
-ids_self [] = refl
-ids_self (x ∷ xs) = rw (same_when x x refl, ids_self xs) refl
-
-ids_true : (xs ys : List ℤ) → are_same_ids xs ys ≡ true → xs ≡ ys
-ids_true [] [] h = refl
-ids_true [] (y ∷ ys) h = cc
-ids_true (x ∷ xs) [] h = cc
-ids_true (x ∷ xs) (y ∷ ys) h =
-    let p = and_parts _ _ h in
-    let a : x ≡ y = same_true x y p.0 in
-    let b : xs ≡ ys = ids_true xs ys p.1 in
-    rw (a, b) refl
-
 pub same_lists : (xs ys : List ℤ) (r : Bool) → (IsTrue r ↔ (xs ≡ ys)) → r ≡ are_same_ids xs ys
 same_lists xs ys r h = same_test r (are_same_ids xs ys) (λ t. ap (are_same_ids xs) (sym (h.0 t)) ∙ ids_self xs) (λ t. h.1 (ids_true xs ys t))
 
@@ -67,11 +56,7 @@ counted_lengths : (xs : List ℤ) (i n : ℕ) → length xs ≢ n → are_same_i
 counted_lengths [] i zero h = absurd (h refl)
 counted_lengths [] i (suc n) h = refl
 counted_lengths (x ∷ xs) i zero h = refl
-counted_lengths (x ∷ xs) i (suc n) h = ap (λ b. same x (pos i) && b) (counted_lengths xs (suc i) n (λ e. h (ap suc e))) ∙ and_false (same x (pos i))
-  where
-    and_false : (b : Bool) → (b && false) ≡ false
-    and_false true = refl
-    and_false false = refl
+counted_lengths (x ∷ xs) i (suc n) h = ap (λ b. same x (pos i) && b) (counted_lengths xs (suc i) n (λ e. h (ap suc e))) ∙ and-false (same x (pos i))
 
 pub counted_apart : (xs : List ℤ) (n : ℕ) → length xs ≢ n → are_same_ids xs (counted_ids 0 n) ≡ false
 counted_apart xs n h = counted_lengths xs 0 n h
@@ -119,14 +104,8 @@ pub counted_done : (xs : List ℤ) (i n : ℕ) (whole : Bool) → n ≤ i → le
 unfolding counted_left
 counted_done xs i n whole less len h =
     let count : n - i ≡ 0 = omega arith in
-    let none : drop i xs ≡ [] = drop_all xs i (omega (arith, len)) in
+    let none : drop i xs ≡ [] = drop_all i xs (omega (arith, len)) in
     sym h ∙ ap (λ k. are_same_ids (drop i xs) (counted_ids i k)) count ∙ ap (λ ys. are_same_ids ys []) none
-  where
-    drop_all : (ys : List ℤ) (k : ℕ) → length ys ≤ k → drop k ys ≡ []
-    drop_all [] zero l = refl
-    drop_all [] (suc k) l = refl
-    drop_all (y ∷ ys) zero l = absurd (omega (arith, l))
-    drop_all (y ∷ ys) (suc k) l = drop_all ys k (omega (arith, l))
 
 -- ── kinds without children ──
 
@@ -209,54 +188,30 @@ leaf_self k h = refl
 
 pub leaf_true : (k l : Kind) → is_leaf k ≡ true → is_same_kind k l ≡ true → k ≡ l
 leaf_true kind.null kind.null h g = refl
-leaf_true kind.null l h g = cc
 leaf_true kind.boolean kind.boolean h g = refl
-leaf_true kind.boolean l h g = cc
 leaf_true kind.date32 kind.date32 h g = refl
-leaf_true kind.date32 l h g = cc
 leaf_true kind.date64 kind.date64 h g = refl
-leaf_true kind.date64 l h g = cc
 leaf_true kind.binary_view kind.binary_view h g = refl
-leaf_true kind.binary_view l h g = cc
 leaf_true kind.utf8_view kind.utf8_view h g = refl
-leaf_true kind.utf8_view l h g = cc
 leaf_true (kind.integer i) (kind.integer j) h g = ap kind.integer (integer_true i j g)
-leaf_true (kind.integer i) l h g = cc
 leaf_true (kind.float i) (kind.float j) h g = ap kind.float (float_true i j g)
-leaf_true (kind.float i) l h g = cc
 leaf_true (kind.time32 i) (kind.time32 j) h g = ap kind.time32 (unit_true i j g)
-leaf_true (kind.time32 i) l h g = cc
 leaf_true (kind.time64 i) (kind.time64 j) h g = ap kind.time64 (unit_true i j g)
-leaf_true (kind.time64 i) l h g = cc
 leaf_true (kind.duration i) (kind.duration j) h g = ap kind.duration (unit_true i j g)
-leaf_true (kind.duration i) l h g = cc
 leaf_true (kind.interval i) (kind.interval j) h g = ap kind.interval (interval_true i j g)
-leaf_true (kind.interval i) l h g = cc
 leaf_true (kind.binary i) (kind.binary j) h g = ap kind.binary (offsets_true i j g)
-leaf_true (kind.binary i) l h g = cc
 leaf_true (kind.utf8 i) (kind.utf8 j) h g = ap kind.utf8 (offsets_true i j g)
-leaf_true (kind.utf8 i) l h g = cc
 leaf_true (kind.fixed_size_binary i) (kind.fixed_size_binary j) h g = ap kind.fixed_size_binary (eqb-true i j g)
-leaf_true (kind.fixed_size_binary i) l h g = cc
 leaf_true (kind.timestamp u y) (kind.timestamp v z) h g =
     let p = and_parts _ _ g in
     ap (λ x. kind.timestamp x y) (unit_true u v p.0) ∙ ap (kind.timestamp v) (text_true y z p.1)
-leaf_true (kind.timestamp u y) l h g = cc
 leaf_true (kind.decimal p s) (kind.decimal q t) h g =
     let e = and_parts _ _ g in
     ap (λ x. kind.decimal x s) (eqb-true p q e.0) ∙ ap (kind.decimal q) (eqb-true s t e.1)
-leaf_true (kind.decimal p s) l h g = cc
 leaf_true (kind.decimal256 p s) (kind.decimal256 q t) h g =
     let e = and_parts _ _ g in
     ap (λ x. kind.decimal256 x s) (eqb-true p q e.0) ∙ ap (kind.decimal256 q) (eqb-true s t e.1)
-leaf_true (kind.decimal256 p s) l h g = cc
-leaf_true (kind.«list» o fs) l h g = cc
-leaf_true (kind.fixed_size_list n fs) l h g = cc
-leaf_true (kind.struct fs) l h g = cc
-leaf_true (kind.map sorted fs) l h g = cc
-leaf_true (kind.union mode stated types fs) l h g = cc
-leaf_true (kind.dictionary index ordered old k) l h g = cc
-leaf_true (kind.extension name metadata k) l h g = cc
+leaf_true k l h g = cc
 
 leaf_list : (k : Kind) (o : Offsets) (fs gs : Fields) → is_leaf k ≡ true → is_same_kind k (kind.«list» o fs) ≡ is_same_kind k (kind.«list» o gs)
 leaf_list (kind.«list» p hs) o fs gs h = cc
@@ -308,11 +263,7 @@ differ : (fs gs : Fields) → width fs ≢ width gs → have_same_kinds fs gs �
 differ kind.none kind.none h = absurd (h refl)
 differ kind.none (kind.field n c y l gs) h = refl
 differ (kind.field m b x k fs) kind.none h = refl
-differ (kind.field m b x k fs) (kind.field n c y l gs) h = ap (λ r. is_same_kind k l && r) (differ fs gs (λ e. h (ap suc e))) ∙ and_false (is_same_kind k l)
-  where
-    and_false : (b : Bool) → (b && false) ≡ false
-    and_false true = refl
-    and_false false = refl
+differ (kind.field m b x k fs) (kind.field n c y l gs) h = ap (λ r. is_same_kind k l && r) (differ fs gs (λ e. h (ap suc e))) ∙ and-false (is_same_kind k l)
 
 pub lengths_differ : (xs ys : List Field) (A B : Ids) → length xs ≢ length ys → have_same_kinds (fields_with (fields_from (map child_of xs)) A) (fields_with (fields_from (map child_of ys)) B) ≡ false
 lengths_differ xs ys A B h = differ _ _ (λ e. h (sym (width_from child_of xs) ∙ sym (width_with (fields_from (map child_of xs)) A) ∙ e ∙ width_with (fields_from (map child_of ys)) B ∙ width_from child_of ys))
@@ -332,9 +283,6 @@ first_kinds c d fs gs (ids i a b) (ids j e f) = refl
 left_at : (xs : List Field) (fs : List IpcField) (i : ℕ) (x : Field) → i < length xs → x ≡ get_or xs i x → fields_left xs fs i ≡ fields_with (kind.field (child_of x).name (child_of x).nullable (child_of x).metadata (child_of x).kind (fields_from (map child_of (drop (i + 1) xs)))) (ids_of (drop i fs))
 left_at xs fs i x h e = ap (λ ys. fields_with (fields_from (map child_of ys)) (ids_of (drop i fs))) (drop_item xs i x x h e)
 
-next_others : (fs : List IpcField) (i : ℕ) → other_ids (ids_of (drop i fs)) ≡ ids_of (drop (i + 1) fs)
-next_others fs i = next_ids fs i ∙ ap (λ n. ids_of (drop n fs)) (sym (add-one i))
-
 kinds_at : (xs ys : List Field) (fs gs : List IpcField) (i : ℕ) (x y : Field) → i < length xs → i < length ys → x ≡ get_or xs i x → y ≡ get_or ys i y → have_same_kinds (fields_left xs fs i) (fields_left ys gs i) ≡ (is_same_kind (kind_at x fs i) (kind_at y gs i) && have_same_kinds (fields_left xs fs (i + 1)) (fields_left ys gs (i + 1)))
 kinds_at xs ys fs gs i x y h g e d =
     let rest = fields_from (map child_of (drop (i + 1) xs)) in
@@ -342,8 +290,8 @@ kinds_at xs ys fs gs i x y h g e d =
     ap (λ k. have_same_kinds k (fields_left ys gs i)) (left_at xs fs i x h e)
     ∙ ap (λ k. have_same_kinds (fields_with (kind.field (child_of x).name (child_of x).nullable (child_of x).metadata (child_of x).kind rest) (ids_of (drop i fs))) k) (left_at ys gs i y g d)
     ∙ first_kinds (child_of x) (child_of y) rest others (ids_of (drop i fs)) (ids_of (drop i gs))
-    ∙ ap (λ b. is_same_kind (kind_at x fs i) (kind_at y gs i) && have_same_kinds (fields_with rest b) (fields_with others (other_ids (ids_of (drop i gs))))) (next_others fs i)
-    ∙ ap (λ b. is_same_kind (kind_at x fs i) (kind_at y gs i) && have_same_kinds (fields_left xs fs (i + 1)) (fields_with others b)) (next_others gs i)
+    ∙ ap (λ b. is_same_kind (kind_at x fs i) (kind_at y gs i) && have_same_kinds (fields_with rest b) (fields_with others (other_ids (ids_of (drop i gs))))) (others_at fs i)
+    ∙ ap (λ b. is_same_kind (kind_at x fs i) (kind_at y gs i) && have_same_kinds (fields_left xs fs (i + 1)) (fields_with others b)) (others_at gs i)
 
 pub kinds_more : (xs ys : List Field) (fs gs : List IpcField) (i : ℕ) (x y : Field) (whole : Bool) → i < length xs → i < length ys → x ≡ get_or xs i x → y ≡ get_or ys i y → have_same_kinds (fields_left xs fs i) (fields_left ys gs i) ≡ whole → is_same_kind (kind_at x fs i) (kind_at y gs i) ≡ true → have_same_kinds (fields_left xs fs (i + 1)) (fields_left ys gs (i + 1)) ≡ whole
 kinds_more xs ys fs gs i x y whole h g e d w same = sym (kinds_at xs ys fs gs i x y h g e d ∙ ap (λ b. b && have_same_kinds (fields_left xs fs (i + 1)) (fields_left ys gs (i + 1))) same) ∙ w

@@ -3,6 +3,7 @@ pub mod Trees
 pub mod UnionSteps
 pub mod Widths
 pub mod UseSteps
+pub mod ShapeSteps
 pub mod KindSteps
 pub mod Agreement
 pub mod TextOrder

@@ -1,5 +1,5 @@
 -- Each kind is one with itself, and kinds that are one with a kind are with each other.
-use Rattle.std.proofs.Common.{◌≡◌, ◌∙◌, ℕ, List, [], ◌∷◌, Bool, true, false, ℤ, pos, negsuc, refl, sym, ap, ◌&&◌}
+use Rattle.std.proofs.Common.{◌≡◌, ◌∙◌, ℕ, List, Bool, true, false, refl, sym, ap, ◌&&◌}
 use Rattle.std.specs.Prelude.{nat_eq}
 use Rattle.std.proofs.lemmas.Bool.{and_parts, eqb-true}
 use Rattle.arrow_spec.specs.declared.types.UnionMode.{UnionMode}
@@ -8,15 +8,9 @@ use Rattle.std.specs.Str.{bytes_eq}
 use Rattle.std.proofs.lemmas.Slice.Eq.{bytes_eq-Decides}
 use Rattle.arrow_spec.specs.Kinds as kind
 use Rattle.arrow_spec.specs.Kinds.{Kind, Fields, same, integer_number, is_same_kind, have_same_kinds, is_same_flag, is_same_mode, are_same_ids, is_same_integer, is_same_offsets, is_same_text}
+use Rattle.arrow_spec.proofs.Forms.{form, forms, form_same}
+use Rattle.arrow_spec.proofs.SameIds.{id_self, id_true, ids_self, ids_true}
 use Rattle.ipc_fields.proofs.KindSteps.{leaf_self, leaf_true, integer_true, number_self, offsets_self, offsets_true, text_self, text_true}
-
-pub id_self : (x : ℤ) → same x x ≡ true
-id_self (pos n) = number_self n
-id_self (negsuc n) = number_self n
-
-ids_self : (xs : List ℤ) → are_same_ids xs xs ≡ true
-ids_self [] = refl
-ids_self (x ∷ xs) = rw (id_self x, ids_self xs) refl
 
 flag_self : (b : Bool) → is_same_flag b b ≡ true
 flag_self true = refl
@@ -46,22 +40,6 @@ mutual
 
 -- ── kinds that are one with the same kind ──
 
--- a kind without names, nullability and metadata
-abbrev mutual
-  pub form : Kind → Kind
-  form (kind.«list» o fs) = kind.«list» o (forms fs)
-  form (kind.fixed_size_list n fs) = kind.fixed_size_list n (forms fs)
-  form (kind.struct fs) = kind.struct (forms fs)
-  form (kind.map sorted fs) = kind.map sorted (forms fs)
-  form (kind.union mode stated types fs) = kind.union mode true types (forms fs)
-  form (kind.dictionary t ordered id k) = kind.dictionary t ordered id (form k)
-  form (kind.extension name metadata k) = kind.extension name metadata (form k)
-  form k = k
-
-  pub forms : Fields → Fields
-  forms kind.none = kind.none
-  forms (kind.field name nullable metadata k fs) = kind.field [] true [] (form k) (forms fs)
-
 three : (a b c : Bool) → (a && b && c) ≡ true → (a ≡ true) × (b ≡ true) × (c ≡ true)
 three true true true h = (refl, refl, refl)
 three true true false h = cc
@@ -74,18 +52,6 @@ four true true true false h = cc
 four true true false e h = cc
 four true false c e h = cc
 four false b c e h = cc
-
-pub id_true : (x y : ℤ) → same x y ≡ true → x ≡ y
-id_true (pos m) (pos n) h = ap pos (eqb-true m n h)
-id_true (negsuc m) (negsuc n) h = ap negsuc (eqb-true m n h)
-id_true (pos m) (negsuc n) h = cc
-id_true (negsuc m) (pos n) h = cc
-
-ids_true : (xs ys : List ℤ) → are_same_ids xs ys ≡ true → xs ≡ ys
-ids_true [] [] h = refl
-ids_true [] (y ∷ ys) h = cc
-ids_true (x ∷ xs) [] h = cc
-ids_true (x ∷ xs) (y ∷ ys) h = let both = and_parts (same x y) (are_same_ids xs ys) h in rw (id_true x y both.0, ids_true xs ys both.1) refl
 
 flag_true : (b c : Bool) → is_same_flag b c ≡ true → b ≡ c
 flag_true true c h = sym h
@@ -127,41 +93,6 @@ mutual
   same_forms kind.none (kind.field n c y l gs) h = cc
   same_forms (kind.field m b x k fs) kind.none h = cc
   same_forms (kind.field m b x k fs) (kind.field n c y l gs) h = let both = and_parts (is_same_kind k l) (have_same_kinds fs gs) h in rw (same_form k l both.0, same_forms fs gs both.1) refl
-
-mutual
-  form_same : (k l : Kind) → is_same_kind (form k) (form l) ≡ is_same_kind k l
-  form_same (kind.«list» o fs) (kind.«list» q gs) = ap (λ x. is_same_offsets o q && x) (forms_same fs gs)
-  form_same (kind.fixed_size_list m fs) (kind.fixed_size_list n gs) = ap (λ x. nat_eq m n && x) (forms_same fs gs)
-  form_same (kind.struct fs) (kind.struct gs) = forms_same fs gs
-  form_same (kind.map b fs) (kind.map c gs) = ap (λ x. is_same_flag b c && x) (forms_same fs gs)
-  form_same (kind.union m stated ids fs) (kind.union n too others gs) = ap (λ x. is_same_mode m n && are_same_ids ids others && x) (forms_same fs gs)
-  form_same (kind.dictionary s b i k) (kind.dictionary t c j l) = ap (λ x. is_same_integer s t && is_same_flag b c && same i j && x) (form_same k l)
-  form_same (kind.extension m x k) (kind.extension n y l) = ap (λ z. bytes_eq m n && is_same_text x y && z) (form_same k l)
-  form_same kind.null (kind.struct gs) = refl
-  form_same kind.boolean (kind.struct gs) = refl
-  form_same (kind.integer t) (kind.struct gs) = refl
-  form_same (kind.float t) (kind.struct gs) = refl
-  form_same kind.date32 (kind.struct gs) = refl
-  form_same kind.date64 (kind.struct gs) = refl
-  form_same (kind.time32 u) (kind.struct gs) = refl
-  form_same (kind.time64 u) (kind.struct gs) = refl
-  form_same (kind.timestamp u tz) (kind.struct gs) = refl
-  form_same (kind.duration u) (kind.struct gs) = refl
-  form_same (kind.interval u) (kind.struct gs) = refl
-  form_same (kind.decimal p q) (kind.struct gs) = refl
-  form_same (kind.decimal256 p q) (kind.struct gs) = refl
-  form_same (kind.binary o) (kind.struct gs) = refl
-  form_same (kind.utf8 o) (kind.struct gs) = refl
-  form_same kind.binary_view (kind.struct gs) = refl
-  form_same kind.utf8_view (kind.struct gs) = refl
-  form_same (kind.fixed_size_binary n) (kind.struct gs) = refl
-  form_same k l = refl
-
-  forms_same : (fs gs : Fields) → have_same_kinds (forms fs) (forms gs) ≡ have_same_kinds fs gs
-  forms_same kind.none kind.none = refl
-  forms_same kind.none (kind.field n c y l gs) = refl
-  forms_same (kind.field m b x k fs) kind.none = refl
-  forms_same (kind.field m b x k fs) (kind.field n c y l gs) = rw (form_same k l, forms_same fs gs) refl
 
 pub form_is_same : (k l : Kind) → is_same_kind k l ≡ true → form k ≡ form l
 form_is_same = same_form

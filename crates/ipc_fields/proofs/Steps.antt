@@ -1,10 +1,11 @@
 -- Steps of reading tables.
-use Rattle.std.proofs.Common.{◌≡◌, ℕ, suc, ◌+◌, ◌*◌, ◌<◌, List, [], ◌∷◌, length, drop, get_or, add-one, drop-cons, Option, Some, None, false, Result, Ok, Err, refl, sym, ◌∙◌, ap, arith}
-use Rattle.std.specs.Prelude.{nat_eq, not}
+use Rattle.std.proofs.Common.{◌≡◌, ℕ, zero, suc, ◌+◌, ◌*◌, ◌<◌, List, [], ◌∷◌, length, map, drop, get_or, Option, Some, None, false, Result, Ok, Err, refl, sym, ◌∙◌, ap, arith}
+use Rattle.std.specs.Prelude.{nat_eq, not, slice_get}
+use Rattle.std.proofs.lemmas.List.{drop_more}
 use Rattle.std.specs.Int.{w8}
 use Rattle.std.specs.Result.{IsErr, IsErrAnd}
 use Rattle.arrow_spec.specs.declared.error.IpcError.{IpcError}
-use Rattle.arrow_spec.specs.declared.error.IpcError.TheVariants.{OutOfSpec, Unsupported, TooDeep, TooMany, Projection, TooLarge, SchemaMismatch, DictionaryReplaced, NotRepresentable, State, ReadFault, WriteFault, Memory}
+use Rattle.arrow_spec.specs.declared.error.IpcError.TheVariants.{OutOfSpec, Unsupported, TooDeep, TooMany, Memory}
 use Rattle.arrow_spec.specs.declared.error.FlatError.{FlatError}
 use Rattle.arrow_spec.specs.Readings.{bind, Reading, Refuses, Gives, refusals}
 use Rattle.ipc_fields.specs.Causes.{RefusesBytes, Decodes}
@@ -33,18 +34,11 @@ table_in v i wide = let p : v.vector.first + i * 4 ≡ v.vector.first + 4 * i = 
 -- what bytes alone refuse is a refusal also where a device may fail
 pub refuses : (e : IpcError) (es : List IpcError) → RefusesBytes e es → Refuses e es
 refuses Memory es h = h
-refuses ReadFault es h = absurd h
-refuses WriteFault es h = absurd h
 refuses (OutOfSpec x) es h = h
 refuses (Unsupported x) es h = h
 refuses TooDeep es h = h
 refuses (TooMany x) es h = h
-refuses (Projection x) es h = absurd h
-refuses TooLarge es h = absurd h
-refuses SchemaMismatch es h = absurd h
-refuses (DictionaryReplaced x) es h = absurd h
-refuses NotRepresentable es h = absurd h
-refuses State es h = absurd h
+refuses e es h = absurd h
 
 pub gives : {X Y : Type 0} (view : X → Y) (r : Result X IpcError) (R : Reading Y) → Decodes view r R → Gives view r R
 gives view (Ok x) R h = h
@@ -53,18 +47,7 @@ gives view (Err e) R h = refuses e (refusals R) h
 -- a refusal where nothing is refused is one of any refusals
 pub none_refused : (e : IpcError) (es : List IpcError) → RefusesBytes e [] → RefusesBytes e es
 none_refused Memory es h = tt
-none_refused ReadFault es h = absurd h
-none_refused WriteFault es h = absurd h
-none_refused (OutOfSpec x) es h = absurd h
-none_refused (Unsupported x) es h = absurd h
-none_refused TooDeep es h = absurd h
-none_refused (TooMany x) es h = absurd h
-none_refused (Projection x) es h = absurd h
-none_refused TooLarge es h = absurd h
-none_refused SchemaMismatch es h = absurd h
-none_refused (DictionaryReplaced x) es h = absurd h
-none_refused NotRepresentable es h = absurd h
-none_refused State es h = absurd h
+none_refused e es h = absurd h
 
 pub bind_twice : {A B C E : Type 0} (r : Result A E) (f : A → Result B E) (g : B → Result C E) → bind (bind r f) g ≡ bind r (λ x. bind (f x) g)
 unfolding bind
@@ -91,7 +74,16 @@ is_err (Err f) e P h p k = ap Err (k f p)
 
 -- an item of a list, and those behind it
 pub drop_item : {A : Type 0} (xs : List A) (i : ℕ) (x d : A) → i < length xs → x ≡ get_or xs i d → drop i xs ≡ x ∷ drop (i + 1) xs
-drop_item xs i x d h e = drop-cons xs i d h ∙ ap (λ y. y ∷ drop (suc i) xs) (sym e) ∙ ap (λ n. x ∷ drop n xs) (sym (add-one i))
+drop_item xs i x d h e = drop_more xs i d h ∙ ap (λ y. y ∷ drop (i + 1) xs) (sym e)
+
+-- the same of what is made of the items
+pub mapped_item : {A B : Type 0} (f : A → B) (xs : List A) (i : ℕ) (x : A) → i < length xs → x ≡ get_or xs i x → map f (drop i xs) ≡ f x ∷ map f (drop (i + 1) xs)
+mapped_item f xs i x h e = ap (map f) (drop_item xs i x x h e)
+
+pub mapped_found : {A B : Type 0} (f : A → B) (xs : List A) (i : ℕ) (y : B) → slice_get (map f xs) i ≡ Some y → map f (drop i xs) ≡ y ∷ map f (drop (i + 1) xs)
+mapped_found f [] i y h = cc
+mapped_found f (x ∷ xs) zero y h = ap (λ z. z ∷ map f xs) cc
+mapped_found f (x ∷ xs) (suc i) y h = let e : suc i + 1 ≡ suc (i + 1) = omega arith in rw e (mapped_found f xs i y h)
 
 -- a refusal of a call that is handed on
 pub refused_with : {A B : Type 0} (view : A → B) (r : Result A IpcError) (R : Reading B) (e : IpcError) → r ≡ Err e → RefusesBytes e (refusals R) → Decodes view r R

@@ -3,7 +3,7 @@ use Rattle.std.proofs.Common.{◌≡◌, suc, true, Option, ℤ, refl, ap}
 use Rattle.arrow_spec.specs.Kinds as kind
 use Rattle.arrow_spec.specs.Kinds.{Kind, Fields, width}
 use Rattle.ipc_fields.specs.IpcFields.{Ids, no_fields, ids, kind_with, fields_with}
-use Rattle.ipc_fields.specs.Leaves.{is_leaf}
+use Rattle.arrow_types.specs.Leaves.{is_leaf}
 
 pub leaf_with : (k : Kind) (id : Option ℤ) (below : Ids) → is_leaf k ≡ true → kind_with k id below ≡ k
 leaf_with (kind.«list» o fs) id below h = cc

@@ -5,4 +5,3 @@ pub mod Causes
 pub mod UnionIds
 pub mod Uses
 pub mod Latest
-pub mod Leaves

@@ -1,5 +1,5 @@
 //! Types of one kind: names, nullability and metadata aside.
-ghost use Rattle.std.specs.Prelude.{◌≡◌, ◌&&◌, map, drop, None, true, false, length, string_bytes};
+ghost use Rattle.std.specs.Prelude.{◌≡◌, ◌&&◌, map, drop, None, true, false, string_bytes};
 ghost use Rattle.std.specs.Option.{option_map};
 ghost use Rattle.std.specs.Str.{bytes_eq};
 ghost use Rattle.arrow_spec.specs.Kinds.{is_same_kind, have_same_kinds, is_same_mode, is_same_integer, is_same_text, are_same_ids, same};
@@ -7,30 +7,13 @@ ghost use Rattle.arrow_spec.specs.Schema.{counted_ids};
 ghost use Rattle.arrow_types.specs.Child.{fields_from};
 ghost use Rattle.arrow_types.specs.KindOf.{kind_of, child_of, ids_of as union_ids};
 ghost use Rattle.ipc_fields.specs.IpcFields.{ids_of, kind_with, fields_with};
-ghost use Rattle.ipc_fields.specs.Leaves.{is_leaf};
+ghost use Rattle.arrow_types.specs.Leaves.{is_leaf};
 ghost use Rattle.ipc_fields.specs.Uses.{use_in, id_under, first_id, first_ids};
 
 use crate::IpcField;
 use crate::uses::{Use, fields_at, id_at};
 use arrow_spec::{IntegerType, UnionMode};
-use arrow_types::{ArrowDataType, Field};
-
-/// Whether a type has neither children nor values nor a type below it.
-fn is_leaf(dtype: &ArrowDataType) -> bool
-    ensures { result ≡ is_leaf (kind_of dtype.now) }
-{
-    match dtype {
-        ArrowDataType::List(_)
-        | ArrowDataType::LargeList(_)
-        | ArrowDataType::FixedSizeList(_, _)
-        | ArrowDataType::Map(_, _)
-        | ArrowDataType::Struct(_)
-        | ArrowDataType::Union(_)
-        | ArrowDataType::Dictionary(_, _, _)
-        | ArrowDataType::Extension(_) => false,
-        _ => true,
-    }
-}
+use arrow_types::{ArrowDataType, Field, is_leaf};
 
 fn is_same_text(a: &String, b: &String) -> bool
     ensures { result ≡ bytes_eq (string_bytes a.now) (string_bytes b.now) }
@@ -104,9 +87,9 @@ fn are_equal(a: &[i32], b: &[i32]) -> bool
     a == b
 }
 
-/// Whether two unions, of so many children each, have the same ids.
+/// Whether two unions, of so many children each, have the same ids, stated or not.
 #[tactic(auto, using(crate::proofs::KindSteps::counted_both, crate::proofs::KindSteps::same_ids_turned))]
-fn are_same_ids(a: &Option<Vec<i32>>, m: usize, b: &Option<Vec<i32>>, n: usize) -> bool
+pub fn are_same_ids(a: &Option<Vec<i32>>, m: usize, b: &Option<Vec<i32>>, n: usize) -> bool
     ensures { result ≡ are_same_ids (union_ids a.now m) (union_ids b.now n) }
 {
     match a {

@@ -5,8 +5,9 @@ pub mod agree;
 mod ipc_field;
 mod kinds;
 mod pairs;
+pub mod shapes;
 pub mod uses;
 
 pub use ipc_field::{IpcField, IpcSchema};
-pub use kinds::is_same_kind_of_values;
+pub use kinds::{are_same_ids, is_same_kind_of_values};
 pub use pairs::copy_if_any;

@@ -41,7 +41,7 @@ use Rattle.stream_laws.specs.Heard.{cells_held}
 use Rattle.chunk_laws.specs.Chunks.{chunk_of}
 use Rattle.chunk_laws.specs.Written.{cells_of, said_fields}
 use Rattle.chunk_laws.proofs.Chunks.{message_under}
-use Rattle.chunk_laws.proofs.OwnFields.{nodes_own}
+use Rattle.arrow_spec.proofs.OwnPairs.{nodes_own}
 use Rattle.chunk_laws.proofs.Written.{schema_is_put}
 use Rattle.written_files.specs.Files.{Begun, FrontMeans, MayBeEnded, batch_blocks, ended, file_end, file_front, footer_of, only_begun, values_blocks, with_more}
 use Rattle.written_files.specs.Files as files

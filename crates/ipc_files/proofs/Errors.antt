@@ -17,16 +17,7 @@ pub none_refused : (e : IpcError) (es : List IpcError) → Refuses e [] → Refu
 none_refused errors.Memory es h = tt
 none_refused errors.ReadFault es h = tt
 none_refused errors.WriteFault es h = tt
-none_refused (errors.OutOfSpec x) es h = absurd h
-none_refused (errors.Unsupported x) es h = absurd h
-none_refused errors.TooDeep es h = absurd h
-none_refused (errors.TooMany x) es h = absurd h
-none_refused (errors.Projection x) es h = absurd h
-none_refused errors.TooLarge es h = absurd h
-none_refused errors.SchemaMismatch es h = absurd h
-none_refused (errors.DictionaryReplaced x) es h = absurd h
-none_refused errors.NotRepresentable es h = absurd h
-none_refused errors.State es h = absurd h
+none_refused e es h = absurd h
 
 -- what only bytes or memory refuse is no fault of the source
 pub bytes_cause : {X Y : Type 0} (view : X → Y) (r : Result X IpcError) (R : Reading Y) (n m : ℕ) → Decodes view r R → IfErr r (λ e. FileCause e n m)

@@ -17,7 +17,7 @@ use Rattle.arrow_arrays.specs.Heads.{joined}
 use Rattle.arrow_arrays.specs.Parts.{cells_each}
 use Rattle.ipc_fields.specs.Causes.{Decodes}
 use Rattle.ipc_fields.specs.IpcFields.{Ids, fields_with, schema_with}
-use Rattle.ipc_fields.proofs.SameKinds.{id_true}
+use Rattle.arrow_spec.proofs.SameIds.{id_true}
 use Rattle.ipc_io.specs.Outside.{IsSize}
 use Rattle.ipc_schema.specs.Headers.{dictionary_message, dictionary_message_of}
 use Rattle.ipc_schema.specs.Views.{header_of}

@@ -1,5 +1,5 @@
 -- What is held under the ids of a schema is of the kind of each use, since the uses of one id agree.
-use Rattle.std.proofs.Common.{◌≡◌, ◌∙◌, List, [], ◌∷◌, ◌++◌, Bool, true, false, Option, Some, None, Ok, IfSome, ℤ, pos, refl, sym, ap, subst}
+use Rattle.std.proofs.Common.{◌≡◌, ◌∙◌, List, [], ◌∷◌, ◌++◌, Bool, true, false, Option, Some, None, Ok, IfSome, ℤ, refl, sym, ap, subst}
 use Rattle.std.specs.Prelude.{if◌then◌else◌}
 use Rattle.std.proofs.lemmas.Bool.{and_parts, and_from}
 use Rattle.std.specs.List.{AllByRecursion, list_all}
@@ -12,27 +12,14 @@ use Rattle.arrow_spec.specs.Kinds.{Kind, Fields, Use, agrees_with, is_same_kind,
 use Rattle.arrow_spec.proofs.Projection.{went}
 use Rattle.arrow_arrays.specs.Heads.{each_of}
 use Rattle.arrow_arrays.specs.Parts.{Forest, kinds_each}
-use Rattle.ipc_fields.proofs.SameKinds.{form, forms, form_is_same, id_self, id_true, same_as_other, same_by_form, same_itself, same_through}
+use Rattle.arrow_spec.proofs.SameIds.{id_self, id_true}
+use Rattle.ipc_fields.proofs.SameKinds.{form_is_same, same_as_other, same_by_form, same_itself, same_through}
 use Rattle.ipc_read_laws.specs.Held.{Held, HasKind, HasKinds, HasFields}
-use Rattle.ipc_read_laws.specs.PlainKinds.{plain_kind, plain_fields}
+use Rattle.ipc_read_laws.proofs.PlainTypes.{form_plain}
+use Rattle.ipc_read_laws.specs.PlainKinds.{plain_kind}
 use Rattle.ipc_read.specs.DictionaryBatches.{HasKindOf, values_of_id}
 
 -- ── kinds without ids ──
-
-mutual
-  form_plain : (k : Kind) → form (plain_kind k) ≡ plain_kind (form k)
-  form_plain (kind.«list» o fs) = ap (kind.«list» o) (forms_plain fs)
-  form_plain (kind.fixed_size_list n fs) = ap (kind.fixed_size_list n) (forms_plain fs)
-  form_plain (kind.struct fs) = ap kind.struct (forms_plain fs)
-  form_plain (kind.map sorted fs) = ap (kind.map sorted) (forms_plain fs)
-  form_plain (kind.union mode stated types fs) = ap (kind.union mode true types) (forms_plain fs)
-  form_plain (kind.dictionary t ordered id k) = ap (kind.dictionary t ordered (pos 0)) (form_plain k)
-  form_plain (kind.extension name metadata k) = ap (kind.extension name metadata) (form_plain k)
-  form_plain k = refl
-
-  forms_plain : (fs : Fields) → forms (plain_fields fs) ≡ plain_fields (forms fs)
-  forms_plain kind.none = refl
-  forms_plain (kind.field name nullable metadata k fs) = rw (form_plain k, forms_plain fs) refl
 
 pub plain_same : (k l : Kind) → is_same_kind k l ≡ true → is_same_kind (plain_kind k) (plain_kind l) ≡ true
 plain_same k l h = same_by_form (plain_kind k) (plain_kind l) (form_plain k ∙ ap plain_kind (form_is_same k l h) ∙ sym (form_plain l))

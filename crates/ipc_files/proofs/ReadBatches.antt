@@ -40,17 +40,7 @@ kinds_refused (Some b) h r meta s below block result e is same refused = λ d ho
 pub kinds_cause : (e : IpcError) (n m : ℕ) → IsRefusal e → FileCause e n m
 kinds_cause (errors.OutOfSpec kind) n m h = tt
 kinds_cause (errors.Unsupported feature) n m h = tt
-kinds_cause (errors.TooMany counted) n m h = absurd h
-kinds_cause errors.TooDeep n m h = absurd h
-kinds_cause errors.Memory n m h = absurd h
-kinds_cause errors.ReadFault n m h = absurd h
-kinds_cause errors.WriteFault n m h = absurd h
-kinds_cause (errors.Projection index) n m h = absurd h
-kinds_cause errors.TooLarge n m h = absurd h
-kinds_cause errors.SchemaMismatch n m h = absurd h
-kinds_cause (errors.DictionaryReplaced id) n m h = absurd h
-kinds_cause errors.NotRepresentable n m h = absurd h
-kinds_cause errors.State n m h = absurd h
+kinds_cause e n m h = absurd h
 
 batch_in_block : (b : List ℕ) (r : Request) (meta : Meta) (d : Dictionaries) (block : FileBlock) → chosen_floats r.columns meta.schema.fields 0 ≡ [] → batch_in r b meta d block ≡ batch_of to_read b (asked_under b meta d r) block r.limit
 unfolding batch_in bind

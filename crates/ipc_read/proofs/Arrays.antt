@@ -63,16 +63,6 @@ pub leaf_is_flat : (k : Kind) → is_leaf_kind k ≡ true → is_childless_kind 
 leaf_is_flat k h = layout_is_flat (physical_of k) (binary_size k) h
   where
     layout_is_flat : (layout : PhysicalType) (size : ℕ) → is_leaf_layout layout size ≡ true → is_childless_layout layout ≡ true
-    layout_is_flat physical.Null size h = refl
-    layout_is_flat physical.Boolean size h = refl
-    layout_is_flat (physical.Primitive t) size h = refl
-    layout_is_flat physical.Binary size h = refl
-    layout_is_flat physical.LargeBinary size h = refl
-    layout_is_flat physical.FixedSizeBinary size h = refl
-    layout_is_flat physical.Utf8 size h = refl
-    layout_is_flat physical.LargeUtf8 size h = refl
-    layout_is_flat physical.BinaryView size h = refl
-    layout_is_flat physical.Utf8View size h = refl
     layout_is_flat physical.List size h = cc
     layout_is_flat physical.LargeList size h = cc
     layout_is_flat physical.FixedSizeList size h = cc
@@ -80,6 +70,7 @@ leaf_is_flat k h = layout_is_flat (physical_of k) (binary_size k) h
     layout_is_flat physical.Union size h = cc
     layout_is_flat physical.Map size h = cc
     layout_is_flat (physical.Dictionary i) size h = cc
+    layout_is_flat layout size h = refl
 
 pub no_views : (k : Kind) (layout : PhysicalType) → is_leaf_kind k ≡ true → physical_of k ≡ layout → own_views layout ≡ 0 → views k ≡ 0
 no_views k layout h e v = flat_views k (leaf_is_flat k h) ∙ ap own_views e ∙ v

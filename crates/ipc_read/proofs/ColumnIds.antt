@@ -1,5 +1,5 @@
 -- A kind with the ids of IPC fields is laid out as the kind itself.
-use Rattle.std.proofs.Common.{◌≡◌, ℕ, suc, List, true, Option, Some, None, ℤ, pos, refl, sym, ap, ◌∙◌}
+use Rattle.std.proofs.Common.{◌≡◌, ℕ, suc, List, true, Option, Some, None, ℤ, refl, sym, ap, ◌∙◌}
 use Rattle.arrow_spec.specs.declared.types.IntegerType.{IntegerType}
 use Rattle.arrow_spec.specs.declared.types.UnionMode.{UnionMode}
 use Rattle.arrow_spec.specs.Features.{float_faults, floats_in, chosen_floats}
@@ -16,31 +16,13 @@ use Rattle.arrow_types.specs.declared.data_type.ArrowDataType.{ArrowDataType}
 use Rattle.ipc_fields.specs.IpcFields.{Ids, no_fields, ids, ids_of, kind_with, fields_with}
 use Rattle.ipc_fields.specs.Uses.{id_under}
 use Rattle.ipc_fields.specs.declared.ipc_field.IpcField.{IpcField}
-use Rattle.ipc_read_laws.specs.PlainKinds.{plain_kind, plain_fields}
+use Rattle.ipc_read_laws.specs.PlainKinds.{plain_kind}
 use Rattle.ipc_read_laws.proofs.PlainKinds.{after_plain, count_faults_plain, carried_plain, none_left}
-use Rattle.ipc_read_laws.proofs.PlainTypes.{plain_of}
+use Rattle.ipc_read_laws.proofs.PlainTypes.{plain_of, plain_with}
 use Rattle.ipc_read.specs.CountedArrays.{counted_kind}
 use Rattle.ipc_read.specs.Held.{column_kind, dictionary_as, ordered_in}
 use Rattle.ipc_read.specs.Lists.{as_lists, is_any_map}
 use Rattle.ipc_read.specs.Unions.{union_as, stated_in}
-
--- ── without its ids it is the kind without ids ──
-
-mutual
-  pub plain_with : (k : Kind) (id : Option ℤ) (below : Ids) → plain_kind (kind_with k id below) ≡ plain_kind k
-  plain_with (kind.«list» o fs) id below = ap (kind.«list» o) (plain_fields_with fs below)
-  plain_with (kind.fixed_size_list n fs) id below = ap (kind.fixed_size_list n) (plain_fields_with fs below)
-  plain_with (kind.struct fs) id below = ap kind.struct (plain_fields_with fs below)
-  plain_with (kind.map sorted fs) id below = ap (kind.map sorted) (plain_fields_with fs below)
-  plain_with (kind.union mode stated types fs) id below = ap (kind.union mode stated types) (plain_fields_with fs below)
-  plain_with (kind.dictionary t ordered old k) id below = ap (kind.dictionary t ordered (pos 0)) (plain_with k None below)
-  plain_with (kind.extension name metadata k) id below = ap (kind.extension name metadata) (plain_with k id below)
-  plain_with k id below = refl
-
-  pub plain_fields_with : (fs : Fields) (below : Ids) → plain_fields (fields_with fs below) ≡ plain_fields fs
-  plain_fields_with none below = refl
-  plain_fields_with (field name nullable metadata k fs) no_fields = rw (plain_with k None no_fields, plain_fields_with fs no_fields) refl
-  plain_fields_with (field name nullable metadata k fs) (ids id below others) = rw (plain_with k id below, plain_fields_with fs others) refl
 
 -- so the kind of a column without its ids is that of its type
 pub plain_column : (dtype : ArrowDataType) (id : Option ℤ) (fs : List IpcField) → plain_kind (column_kind dtype id fs) ≡ kind_of dtype

@@ -35,7 +35,7 @@ use Rattle.arrow_spec.specs.declared.types.UnionMode.{UnionMode}
 use Rattle.arrow_types.specs.UnionIds.{are_right}
 use Rattle.arrow_arrays.specs.Heads.{ids_in}
 use Rattle.ipc_read.proofs.Refusals.{refuses_left, none_of_both}
-use Rattle.ipc_read.proofs.Places.{kind_of_child}
+use Rattle.arrow_types.proofs.DataTypes.{kind_of_child}
 use Rattle.ipc_read.proofs.Nested.{wrapped, of_lists, left_child, drop_all}
 
 -- a refusal for a feature
@@ -44,38 +44,11 @@ feature_faults None = []
 feature_faults (Some f) = Unsupported f ∷ []
 
 pub plain_floats : (k : Kind) → is_plain_kind k ≡ true → float_faults k ≡ feature_faults (unread_feature (physical_of k))
-plain_floats null h = refl
-plain_floats boolean h = refl
 plain_floats (integer integers.Int8) h = refl
-plain_floats (integer integers.Int16) h = refl
-plain_floats (integer integers.Int32) h = refl
-plain_floats (integer integers.Int64) h = refl
-plain_floats (integer integers.Int128) h = refl
-plain_floats (integer integers.UInt8) h = refl
-plain_floats (integer integers.UInt16) h = refl
-plain_floats (integer integers.UInt32) h = refl
-plain_floats (integer integers.UInt64) h = refl
 plain_floats (float half) h = refl
-plain_floats (float single) h = refl
-plain_floats (float double) h = refl
-plain_floats date32 h = refl
-plain_floats date64 h = refl
-plain_floats (time32 u) h = refl
-plain_floats (time64 u) h = refl
-plain_floats (timestamp u z) h = refl
-plain_floats (duration u) h = refl
 plain_floats (interval YearMonth) h = refl
-plain_floats (interval DayTime) h = refl
-plain_floats (interval MonthDayNano) h = refl
-plain_floats (decimal p s) h = refl
-plain_floats (decimal256 p s) h = refl
 plain_floats (binary small) h = refl
-plain_floats (binary large) h = refl
 plain_floats (utf8 small) h = refl
-plain_floats (utf8 large) h = refl
-plain_floats binary_view h = refl
-plain_floats utf8_view h = refl
-plain_floats (fixed_size_binary n) h = refl
 plain_floats («list» small fs) h = cc
 plain_floats («list» large fs) h = cc
 plain_floats (fixed_size_list n fs) h = cc
@@ -84,6 +57,7 @@ plain_floats (map sorted fs) h = cc
 plain_floats (union mode stated ids fs) h = cc
 plain_floats (dictionary i ordered id k) h = cc
 plain_floats (extension name metadata k) h = plain_floats k h
+plain_floats k h = refl
 
 -- so a kind is refused by what is unread of its layout
 pub floats_of : (k : Kind) (layout : PhysicalType) (o : Option Feature) → is_plain_kind k ≡ true → layout ≡ physical_of k → o ≡ unread_feature layout → float_faults k ≡ feature_faults o
@@ -95,22 +69,7 @@ kind_refused k o f e h = subst (λ es. Refuses (Unsupported f) es) (sym (e ∙ a
 -- a column's kind has no children
 pub column_is_plain : (layout : PhysicalType) (size : ℕ) → is_column_layout layout size ≡ true → is_plain_layout layout ≡ true
 column_is_plain physical.FixedSizeBinary size h = refl
-column_is_plain physical.Null size h = h
-column_is_plain physical.Boolean size h = h
-column_is_plain (physical.Primitive t) size h = h
-column_is_plain physical.Binary size h = h
-column_is_plain physical.LargeBinary size h = h
-column_is_plain physical.Utf8 size h = h
-column_is_plain physical.LargeUtf8 size h = h
-column_is_plain physical.BinaryView size h = h
-column_is_plain physical.Utf8View size h = h
-column_is_plain physical.List size h = h
-column_is_plain physical.LargeList size h = h
-column_is_plain physical.FixedSizeList size h = h
-column_is_plain physical.Struct size h = h
-column_is_plain physical.Union size h = h
-column_is_plain physical.Map size h = h
-column_is_plain (physical.Dictionary i) size h = h
+column_is_plain layout size h = h
 
 none_unread : (o : Option Feature) → feature_faults o ≡ [] → o ≡ None
 none_unread None h = refl
@@ -122,29 +81,11 @@ column_is_leaf k h f = by_layout (physical_of k) (binary_size k) h (none_unread 
   where
     by_layout : (layout : PhysicalType) (size : ℕ) → is_column_layout layout size ≡ true → unread_feature layout ≡ None → is_leaf_layout layout size ≡ true
     by_layout physical.FixedSizeBinary size h u = h
-    by_layout physical.Null size h u = refl
-    by_layout physical.Boolean size h u = refl
     by_layout (physical.Primitive primitive.Int8) size h u = refl
-    by_layout (physical.Primitive primitive.Int16) size h u = refl
-    by_layout (physical.Primitive primitive.Int32) size h u = refl
-    by_layout (physical.Primitive primitive.Int64) size h u = refl
-    by_layout (physical.Primitive primitive.Int128) size h u = refl
     by_layout (physical.Primitive primitive.Int256) size h u = cc
-    by_layout (physical.Primitive primitive.UInt8) size h u = refl
-    by_layout (physical.Primitive primitive.UInt16) size h u = refl
-    by_layout (physical.Primitive primitive.UInt32) size h u = refl
-    by_layout (physical.Primitive primitive.UInt64) size h u = refl
     by_layout (physical.Primitive primitive.Float16) size h u = cc
     by_layout (physical.Primitive primitive.Float32) size h u = cc
     by_layout (physical.Primitive primitive.Float64) size h u = cc
-    by_layout (physical.Primitive primitive.DaysMs) size h u = refl
-    by_layout (physical.Primitive primitive.MonthDayNano) size h u = refl
-    by_layout physical.Binary size h u = refl
-    by_layout physical.LargeBinary size h u = refl
-    by_layout physical.Utf8 size h u = refl
-    by_layout physical.LargeUtf8 size h u = refl
-    by_layout physical.BinaryView size h u = refl
-    by_layout physical.Utf8View size h u = refl
     by_layout physical.List size h u = cc
     by_layout physical.LargeList size h u = cc
     by_layout physical.FixedSizeList size h u = cc
@@ -152,6 +93,7 @@ column_is_leaf k h f = by_layout (physical_of k) (binary_size k) h (none_unread 
     by_layout physical.Union size h u = cc
     by_layout physical.Map size h u = cc
     by_layout (physical.Dictionary i) size h u = cc
+    by_layout layout size h u = refl
 
 -- ── kinds with children ──
 

@@ -35,7 +35,8 @@ use Rattle.ipc_read.proofs.ColumnKinds.{drop_at, both_first, both_second}
 use Rattle.ipc_read.proofs.ColumnIds.{after_with, counts_with}
 use Rattle.ipc_read.proofs.LeftFields.{dropped, before, StandsIn, next_in, dropped_end, stands_with, child_as, child_at, child_kind}
 use Rattle.ipc_read.proofs.Nested.{drop_all, stated_append}
-use Rattle.ipc_read.proofs.Places.{first_place_in, kind_of_child}
+use Rattle.arrow_types.proofs.DataTypes.{kind_of_child}
+use Rattle.ipc_read.proofs.Places.{first_place_in}
 use Rattle.ipc_read.proofs.Chosen.{kept_before, chosen_next}
 use Rattle.ipc_read.proofs.BatchTables.{refused_first, refused_place, place_none}
 

@@ -56,26 +56,10 @@ pub record Counted (k : Kind) (l : PhysicalType) : Type 0 where
   pub looked : (m : RecordBatch) (p : Place) → looked_at m k p ≡ own_looked l m p
 
 pub counted : (k : Kind) → is_own (physical_of k) ≡ true → Counted k (physical_of k)
-counted kind.null h = record { nodes = refl; buffers = λ v c w. refl; views = refl; looked = λ m p. refl }
-counted kind.boolean h = record { nodes = refl; buffers = λ v c w. refl; views = refl; looked = λ m p. refl }
-counted (kind.integer t) h = record { nodes = refl; buffers = λ v c w. refl; views = refl; looked = λ m p. refl }
-counted (kind.float t) h = record { nodes = refl; buffers = λ v c w. refl; views = refl; looked = λ m p. refl }
-counted kind.date32 h = record { nodes = refl; buffers = λ v c w. refl; views = refl; looked = λ m p. refl }
-counted kind.date64 h = record { nodes = refl; buffers = λ v c w. refl; views = refl; looked = λ m p. refl }
-counted (kind.time32 u) h = record { nodes = refl; buffers = λ v c w. refl; views = refl; looked = λ m p. refl }
-counted (kind.time64 u) h = record { nodes = refl; buffers = λ v c w. refl; views = refl; looked = λ m p. refl }
-counted (kind.timestamp u z) h = record { nodes = refl; buffers = λ v c w. refl; views = refl; looked = λ m p. refl }
-counted (kind.duration u) h = record { nodes = refl; buffers = λ v c w. refl; views = refl; looked = λ m p. refl }
-counted (kind.interval u) h = record { nodes = refl; buffers = λ v c w. refl; views = refl; looked = λ m p. refl }
-counted (kind.decimal p s) h = record { nodes = refl; buffers = λ v c w. refl; views = refl; looked = λ m p. refl }
-counted (kind.decimal256 p s) h = record { nodes = refl; buffers = λ v c w. refl; views = refl; looked = λ m p. refl }
 counted (kind.binary small) h = record { nodes = refl; buffers = λ v c w. refl; views = refl; looked = λ m p. refl }
-counted (kind.binary large) h = record { nodes = refl; buffers = λ v c w. refl; views = refl; looked = λ m p. refl }
 counted (kind.utf8 small) h = record { nodes = refl; buffers = λ v c w. refl; views = refl; looked = λ m p. refl }
-counted (kind.utf8 large) h = record { nodes = refl; buffers = λ v c w. refl; views = refl; looked = λ m p. refl }
 counted kind.binary_view h = cc
 counted kind.utf8_view h = cc
-counted (kind.fixed_size_binary n) h = record { nodes = refl; buffers = λ v c w. refl; views = refl; looked = λ m p. refl }
 counted (kind.«list» small fs) h = cc
 counted (kind.«list» large fs) h = cc
 counted (kind.fixed_size_list n fs) h = cc
@@ -84,6 +68,7 @@ counted (kind.map sorted fs) h = cc
 counted (kind.union mode stated ids fs) h = cc
 counted (kind.dictionary t ordered id k) h = cc
 counted (kind.extension name metadata k) h = let r = counted k h in record { nodes = r.nodes; buffers = r.buffers; views = r.views; looked = r.looked }
+counted k h = record { nodes = refl; buffers = λ v c w. refl; views = refl; looked = λ m p. refl }
 
 -- ── what is refused ──
 

@@ -41,7 +41,7 @@ use Rattle.ipc_read.specs.DictionaryBatches.{values_of_id, one_column, with_part
 use Rattle.arrow_types.specs.Child.{Child}
 use Rattle.ipc_read.proofs.BatchTables.{refused_first}
 use Rattle.ipc_read.proofs.Refusals.{memory_refuses}
-use Rattle.ipc_read.proofs.ColumnIds.{plain_fields_with}
+use Rattle.ipc_read_laws.proofs.PlainTypes.{plain_fields_with}
 use Rattle.ipc_read.proofs.LeftFields.{dropped, StandsIn, dropped_end}
 
 -- ── what is held ──

@@ -55,7 +55,8 @@ use Rattle.ipc_read_laws.proofs.Labels.{Label, label_plain}
 use Rattle.ipc_read.specs.Held.{is_any_dictionary, ordered_in, id_in, dictionary_as}
 use Rattle.ipc_read.specs.Queues.{At, Shortened, ShortenedBy}
 use Rattle.ipc_read.specs.Sources.{Answers}
-use Rattle.ipc_read.proofs.ColumnIds.{plain_with, counts_with, carried_with}
+use Rattle.ipc_read_laws.proofs.PlainTypes.{plain_with}
+use Rattle.ipc_read.proofs.ColumnIds.{counts_with, carried_with}
 use Rattle.ipc_read.proofs.Nested.{wrapped, wrapped_reads, carried_under, array_none, shortened_under}
 use Rattle.ipc_read.proofs.OffsetReads.{signed_is}
 use Rattle.ipc_read.proofs.Parts.{item_fits}

@@ -39,68 +39,16 @@ use Rattle.ipc_read.proofs.Counted.{Counted, counted, is_own, own_buffers, own_l
 
 pub null_layout : (l : PhysicalType) → is_null l ≡ true → l ≡ physical.Null
 null_layout physical.Null h = refl
-null_layout physical.Boolean h = cc
-null_layout (physical.Primitive t) h = cc
-null_layout physical.Binary h = cc
-null_layout physical.LargeBinary h = cc
-null_layout physical.FixedSizeBinary h = cc
-null_layout physical.Utf8 h = cc
-null_layout physical.LargeUtf8 h = cc
-null_layout physical.BinaryView h = cc
-null_layout physical.Utf8View h = cc
-null_layout physical.List h = cc
-null_layout physical.LargeList h = cc
-null_layout physical.FixedSizeList h = cc
-null_layout physical.Struct h = cc
-null_layout physical.Union h = cc
-null_layout physical.Map h = cc
-null_layout (physical.Dictionary i) h = cc
+null_layout l h = cc
 
 boolean_layout : (l : PhysicalType) → is_boolean l ≡ true → l ≡ physical.Boolean
-boolean_layout physical.Null h = cc
 boolean_layout physical.Boolean h = refl
-boolean_layout (physical.Primitive t) h = cc
-boolean_layout physical.Binary h = cc
-boolean_layout physical.LargeBinary h = cc
-boolean_layout physical.FixedSizeBinary h = cc
-boolean_layout physical.Utf8 h = cc
-boolean_layout physical.LargeUtf8 h = cc
-boolean_layout physical.BinaryView h = cc
-boolean_layout physical.Utf8View h = cc
-boolean_layout physical.List h = cc
-boolean_layout physical.LargeList h = cc
-boolean_layout physical.FixedSizeList h = cc
-boolean_layout physical.Struct h = cc
-boolean_layout physical.Union h = cc
-boolean_layout physical.Map h = cc
-boolean_layout (physical.Dictionary i) h = cc
+boolean_layout l h = cc
 
 fixed_layout : (k : Kind) → 0 < binary_size k → physical_of k ≡ physical.FixedSizeBinary
 fixed_layout (kind.fixed_size_binary n) h = refl
 fixed_layout (kind.extension name metadata k) h = fixed_layout k h
-fixed_layout kind.null h = absurd (omega (arith, h))
-fixed_layout kind.boolean h = absurd (omega (arith, h))
-fixed_layout (kind.integer t) h = absurd (omega (arith, h))
-fixed_layout (kind.float t) h = absurd (omega (arith, h))
-fixed_layout kind.date32 h = absurd (omega (arith, h))
-fixed_layout kind.date64 h = absurd (omega (arith, h))
-fixed_layout (kind.time32 u) h = absurd (omega (arith, h))
-fixed_layout (kind.time64 u) h = absurd (omega (arith, h))
-fixed_layout (kind.timestamp u z) h = absurd (omega (arith, h))
-fixed_layout (kind.duration u) h = absurd (omega (arith, h))
-fixed_layout (kind.interval u) h = absurd (omega (arith, h))
-fixed_layout (kind.decimal p s) h = absurd (omega (arith, h))
-fixed_layout (kind.decimal256 p s) h = absurd (omega (arith, h))
-fixed_layout (kind.binary o) h = absurd (omega (arith, h))
-fixed_layout (kind.utf8 o) h = absurd (omega (arith, h))
-fixed_layout kind.binary_view h = absurd (omega (arith, h))
-fixed_layout kind.utf8_view h = absurd (omega (arith, h))
-fixed_layout (kind.«list» o fs) h = absurd (omega (arith, h))
-fixed_layout (kind.fixed_size_list n fs) h = absurd (omega (arith, h))
-fixed_layout (kind.struct fs) h = absurd (omega (arith, h))
-fixed_layout (kind.map sorted fs) h = absurd (omega (arith, h))
-fixed_layout (kind.union mode stated ids fs) h = absurd (omega (arith, h))
-fixed_layout (kind.dictionary t ordered id k) h = absurd (omega (arith, h))
+fixed_layout k h = absurd (omega (arith, h))
 
 -- ── arrays ──
 
@@ -154,22 +102,7 @@ leaf_primitive m k p rows width t h w a = on (physical_of k) refl h (layout_size
   where
     on : (l : PhysicalType) → physical_of k ≡ l → is_primitive t l ≡ true → number_size l ≡ width → LeafArray m k p rows (λ i. numbers_faults m i width rows)
     on (physical.Primitive q) e h s = leaf_of m k p rows width q e s a
-    on physical.Null e h s = cc
-    on physical.Boolean e h s = cc
-    on physical.Binary e h s = cc
-    on physical.LargeBinary e h s = cc
-    on physical.FixedSizeBinary e h s = cc
-    on physical.Utf8 e h s = cc
-    on physical.LargeUtf8 e h s = cc
-    on physical.BinaryView e h s = cc
-    on physical.Utf8View e h s = cc
-    on physical.List e h s = cc
-    on physical.LargeList e h s = cc
-    on physical.FixedSizeList e h s = cc
-    on physical.Struct e h s = cc
-    on physical.Union e h s = cc
-    on physical.Map e h s = cc
-    on (physical.Dictionary i) e h s = cc
+    on l e h s = cc
 
 fixed_contents : (m : RecordBatch) (size : ℕ) (p : Place) (rows : ℕ) → contents_of physical.FixedSizeBinary size m p rows ≡ validity_faults m p rows ++ faults_where rows (numbers_faults m (p.buffer + 1) size rows)
 unfolding validity_faults

@@ -15,7 +15,8 @@ use Rattle.ipc_read.specs.Held.{column_kind, column_fields}
 use Rattle.ipc_read.specs.Lists.{as_lists}
 use Rattle.ipc_read.specs.Places.{behind, IsBehind}
 use Rattle.ipc_read.proofs.ColumnIds.{list_with}
-use Rattle.ipc_read.proofs.Places.{behind_itself, behind_then, after_is_behind, same_place, fields_behind, first_place_in, kind_of_child}
+use Rattle.arrow_types.proofs.DataTypes.{kind_of_child}
+use Rattle.ipc_read.proofs.Places.{behind_itself, behind_then, after_is_behind, same_place, fields_behind, first_place_in}
 
 -- ── places ──
 

@@ -9,7 +9,6 @@ pub mod Places
 pub mod ColumnIds
 pub mod LeftFields
 pub mod HeldKinds
-pub mod DataTypes
 pub mod Arrays
 pub mod DataReads
 pub mod ViewArrays

@@ -47,7 +47,8 @@ use Rattle.ipc_read.specs.CountedArrays.{is_any_counted, counted_kind, counted_r
 use Rattle.ipc_read.specs.Readers.{ShortenedByAll}
 use Rattle.ipc_read.specs.Sources.{Answers, head_faults, validity_fetched}
 use Rattle.ipc_read.proofs.Refusals.{refuses_left, refuses_right, refuses_more, refuses_by, both_none, none_of_both, among_left, among_right}
-use Rattle.ipc_read.proofs.Places.{behind_itself, after_is_behind, fields_behind, wider_refuses, AreNatural, are_natural, none_missing, natural_then, natural_itself, counts_between, first_place_in, kind_of_child}
+use Rattle.arrow_types.proofs.DataTypes.{kind_of_child}
+use Rattle.ipc_read.proofs.Places.{behind_itself, after_is_behind, fields_behind, wider_refuses, AreNatural, are_natural, none_missing, natural_then, natural_itself, counts_between, first_place_in}
 use Rattle.ipc_read.proofs.LeftFields.{dropped, StandsIn, stands_within, dropped_end, next_in, last_in, within_all, place_behind, place_within}
 use Rattle.ipc_read.proofs.Passed.{Opens, after_opens, buffers_dropped, only_tables, batch_from_first}
 use Rattle.ipc_read.proofs.Shortened.{none_taken, all_taken, taken_more, taken_then}

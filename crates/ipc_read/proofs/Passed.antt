@@ -30,31 +30,15 @@ dropped_count (x ∷ xs) (suc i) v = let s : suc (i + v) ≡ suc i + v = omega a
 
 mutual
   pub buffers_dropped : (version : MetadataVersion) (vs : List ℤ) (i : ℕ) (k : Kind) (v : ℕ) → buffers version (drop i vs) k v ≡ buffers version vs k (i + v)
-  buffers_dropped version vs i null v = refl
-  buffers_dropped version vs i boolean v = refl
-  buffers_dropped version vs i (integer t) v = refl
-  buffers_dropped version vs i (float t) v = refl
-  buffers_dropped version vs i date32 v = refl
-  buffers_dropped version vs i date64 v = refl
-  buffers_dropped version vs i (time32 u) v = refl
-  buffers_dropped version vs i (time64 u) v = refl
-  buffers_dropped version vs i (timestamp u z) v = refl
-  buffers_dropped version vs i (duration u) v = refl
-  buffers_dropped version vs i (interval u) v = refl
-  buffers_dropped version vs i (decimal precision scale) v = refl
-  buffers_dropped version vs i (decimal256 precision scale) v = refl
-  buffers_dropped version vs i (binary o) v = refl
-  buffers_dropped version vs i (utf8 o) v = refl
   buffers_dropped version vs i binary_view v = ap (λ n. 2 + n) (dropped_count vs i v)
   buffers_dropped version vs i utf8_view v = ap (λ n. 2 + n) (dropped_count vs i v)
-  buffers_dropped version vs i (fixed_size_binary n) v = refl
   buffers_dropped version vs i («list» o fs) v = ap (λ n. 2 + n) (all_dropped version vs i fs v)
   buffers_dropped version vs i (fixed_size_list n fs) v = ap (λ n. 1 + n) (all_dropped version vs i fs v)
   buffers_dropped version vs i (struct fs) v = ap (λ n. 1 + n) (all_dropped version vs i fs v)
   buffers_dropped version vs i (map sorted fs) v = ap (λ n. 2 + n) (all_dropped version vs i fs v)
   buffers_dropped version vs i (union mode stated ids fs) v = ap (λ n. Rattle.arrow_spec.specs.Counts.union_buffers version mode + n) (all_dropped version vs i fs v)
-  buffers_dropped version vs i (dictionary t ordered id k) v = refl
   buffers_dropped version vs i (extension name metadata k) v = buffers_dropped version vs i k v
+  buffers_dropped version vs i k v = refl
 
   all_dropped : (version : MetadataVersion) (vs : List ℤ) (i : ℕ) (fs : Fields) (v : ℕ) → buffers_of version (drop i vs) fs v ≡ buffers_of version vs fs (i + v)
   all_dropped version vs i none v = refl

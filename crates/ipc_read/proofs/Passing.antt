@@ -101,64 +101,28 @@ own_views physical.Utf8View = 1
 own_views layout = 0
 
 pub flat_views : (k : Kind) → is_childless_kind k ≡ true → views k ≡ own_views (physical_of k)
-flat_views null h = refl
-flat_views boolean h = refl
-flat_views (integer t) h = refl
-flat_views (float t) h = refl
-flat_views date32 h = refl
-flat_views date64 h = refl
-flat_views (time32 u) h = refl
-flat_views (time64 u) h = refl
-flat_views (timestamp u z) h = refl
-flat_views (duration u) h = refl
-flat_views (interval u) h = refl
-flat_views (decimal p s) h = refl
-flat_views (decimal256 p s) h = refl
 flat_views (binary small) h = refl
-flat_views (binary large) h = refl
 flat_views (utf8 small) h = refl
-flat_views (utf8 large) h = refl
-flat_views binary_view h = refl
-flat_views utf8_view h = refl
-flat_views (fixed_size_binary n) h = refl
 flat_views («list» small fs) h = cc
 flat_views («list» large fs) h = cc
 flat_views (fixed_size_list n fs) h = cc
 flat_views (struct fs) h = cc
 flat_views (map sorted fs) h = cc
 flat_views (union mode stated ids fs) h = cc
-flat_views (dictionary i ordered id k) h = refl
 flat_views (extension name metadata k) h = flat_views k h
+flat_views k h = refl
 
 pub flat_after : (m : RecordBatch) (k : Kind) (p : Place) → is_childless_kind k ≡ true → after m k p ≡ moved 1 (own_buffers (physical_of k) (count_at m p.view)) (own_views (physical_of k)) p
-flat_after m null p h = refl
-flat_after m boolean p h = refl
-flat_after m (integer t) p h = refl
-flat_after m (float t) p h = refl
-flat_after m date32 p h = refl
-flat_after m date64 p h = refl
-flat_after m (time32 u) p h = refl
-flat_after m (time64 u) p h = refl
-flat_after m (timestamp u z) p h = refl
-flat_after m (duration u) p h = refl
-flat_after m (interval u) p h = refl
-flat_after m (decimal precision scale) p h = refl
-flat_after m (decimal256 precision scale) p h = refl
 flat_after m (binary small) p h = refl
-flat_after m (binary large) p h = refl
 flat_after m (utf8 small) p h = refl
-flat_after m (utf8 large) p h = refl
-flat_after m binary_view p h = refl
-flat_after m utf8_view p h = refl
-flat_after m (fixed_size_binary n) p h = refl
 flat_after m («list» small fs) p h = cc
 flat_after m («list» large fs) p h = cc
 flat_after m (fixed_size_list n fs) p h = cc
 flat_after m (struct fs) p h = cc
 flat_after m (map sorted fs) p h = cc
 flat_after m (union mode stated ids fs) p h = cc
-flat_after m (dictionary i ordered id k) p h = refl
 flat_after m (extension name metadata k) p h = flat_after m k p h
+flat_after m k p h = refl
 
 -- ── arrays that are passed over ──
 

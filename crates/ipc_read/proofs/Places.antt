@@ -1,5 +1,5 @@
 -- Places behind one another, and what is missing between them.
-use Rattle.std.proofs.Common.{◌≡◌, ℕ, zero, suc, ◌+◌, ◌-◌, ◌≤◌, ◌<◌, List, [], ◌∷◌, ◌++◌, length, take, drop, get_or, Bool, true, false, ◌||◌, refl, sym, ap, ◌∙◌, arith, subst, rules, drop-drop, ℤ}
+use Rattle.std.proofs.Common.{◌≡◌, ℕ, zero, suc, ◌+◌, ◌-◌, ◌≤◌, ◌<◌, List, [], ◌∷◌, ◌++◌, length, take, drop, get_or, Bool, true, false, ◌||◌, refl, sym, ap, ◌∙◌, arith, subst, drop-drop, ℤ}
 use Rattle.std.specs.Prelude.{nat_lt}
 use Rattle.std.proofs.lemmas.Bool.{lt-ltb, le-ltb}
 use Rattle.arrow_spec.specs.declared.error.IpcError.{IpcError}
@@ -11,9 +11,9 @@ use Rattle.arrow_spec.specs.Readings.{IsAmong, Refuses}
 use Rattle.arrow_spec.specs.Kinds.{Kind, Fields, none, field}
 use Rattle.arrow_spec.specs.Counts.{RecordBatch, Place, is_negative, after, views}
 use Rattle.arrow_spec.specs.Faults.{cause, some_negative, counts_faults, count_faults, place_in}
+use Rattle.arrow_types.proofs.DataTypes.{kind_of_child}
 use Rattle.arrow_types.specs.Child.{Child}
 use Rattle.arrow_types.specs.KindOf.{kind_of, child_of, fields_of}
-use Rattle.arrow_types.specs.declared.data_type.ArrowDataType.{the_lemmas}
 use Rattle.arrow_types.specs.declared.data_type.Field.{Field}
 use Rattle.ipc_read.specs.Queues.{AllAt}
 use Rattle.ipc_read.specs.Places.{behind, IsBehind, place_faults}
@@ -153,9 +153,6 @@ counts_between m k p =
 pub first_place_in : (m : RecordBatch) (fs : Fields) (p : Place) → place_in m fs 0 p ≡ p
 first_place_in m none p = refl
 first_place_in m (field name nullable metadata k others) p = refl
-
-pub kind_of_child : (f : Field) → (child_of f).kind ≡ kind_of f.dtype
-kind_of_child f = search (rules, the_lemmas)
 
 pub next_place_in : (m : RecordBatch) (cs : List Field) (i : ℕ) (x : Field) (p : Place) → i < length cs → x ≡ get_or cs i x → place_in m (fields_of cs) (i + 1) p ≡ after m (kind_of x.dtype) (place_in m (fields_of cs) i p)
 next_place_in m [] i x p h e = absurd (omega (arith, h))

@@ -4,7 +4,7 @@ use Rattle.std.specs.Prelude.{nat_le, slice_get}
 use Rattle.std.specs.Result.{IsErr, IsErrAnd}
 use Rattle.std.proofs.lemmas.Bool.{le-leb}
 use Rattle.arrow_spec.specs.declared.error.IpcError.{IpcError}
-use Rattle.arrow_spec.specs.declared.error.IpcError.TheVariants.{OutOfSpec, Unsupported, TooDeep, TooMany, Projection, TooLarge, SchemaMismatch, DictionaryReplaced, NotRepresentable, State, ReadFault, WriteFault, Memory}
+use Rattle.arrow_spec.specs.declared.error.IpcError.TheVariants.{OutOfSpec, Unsupported, ReadFault, WriteFault, Memory}
 use Rattle.arrow_spec.specs.declared.error.OutOfSpecKind.TheVariants as kinds
 use Rattle.arrow_spec.specs.declared.message.IpcBuffer.{IpcBuffer}
 use Rattle.arrow_spec.specs.Readings.{IsAmong, Refuses}
@@ -37,19 +37,10 @@ none_at (x ∷ xs) (suc i) h = none_at xs i (omega (arith, h))
 -- ── refusals ──
 
 pub refuses_more : (es fs : List IpcError) (e : IpcError) → ((x : IpcError) → IsAmong es x → IsAmong fs x) → Refuses e es → Refuses e fs
-refuses_more es fs (OutOfSpec k) s h = s _ h
-refuses_more es fs (Unsupported k) s h = s _ h
-refuses_more es fs TooDeep s h = s _ h
-refuses_more es fs (TooMany k) s h = s _ h
-refuses_more es fs (Projection k) s h = s _ h
-refuses_more es fs TooLarge s h = s _ h
-refuses_more es fs SchemaMismatch s h = s _ h
-refuses_more es fs (DictionaryReplaced k) s h = s _ h
-refuses_more es fs NotRepresentable s h = s _ h
-refuses_more es fs State s h = s _ h
 refuses_more es fs ReadFault s h = tt
 refuses_more es fs WriteFault s h = tt
 refuses_more es fs Memory s h = tt
+refuses_more es fs e s h = s _ h
 
 -- what refuses nothing refuses anything
 pub refuses_none : (fs : List IpcError) (e : IpcError) → Refuses e [] → Refuses e fs
@@ -95,19 +86,10 @@ refused_by (x ∷ es) fs gs e l r (inl h) = l (inl h)
 refused_by (x ∷ es) fs gs e l r (inr h) = refused_by es fs gs e (λ k. l (inr k)) r h
 
 pub refuses_by : (es fs gs : List IpcError) (e : IpcError) → (Refuses e es → Refuses e gs) → (Refuses e fs → Refuses e gs) → Refuses e (es ++ fs) → Refuses e gs
-refuses_by es fs gs (OutOfSpec k) l r h = refused_by es fs gs _ l r h
-refuses_by es fs gs (Unsupported k) l r h = refused_by es fs gs _ l r h
-refuses_by es fs gs TooDeep l r h = refused_by es fs gs _ l r h
-refuses_by es fs gs (TooMany k) l r h = refused_by es fs gs _ l r h
-refuses_by es fs gs (Projection k) l r h = refused_by es fs gs _ l r h
-refuses_by es fs gs TooLarge l r h = refused_by es fs gs _ l r h
-refuses_by es fs gs SchemaMismatch l r h = refused_by es fs gs _ l r h
-refuses_by es fs gs (DictionaryReplaced k) l r h = refused_by es fs gs _ l r h
-refuses_by es fs gs NotRepresentable l r h = refused_by es fs gs _ l r h
-refuses_by es fs gs State l r h = refused_by es fs gs _ l r h
 refuses_by es fs gs ReadFault l r h = tt
 refuses_by es fs gs WriteFault l r h = tt
 refuses_by es fs gs Memory l r h = tt
+refuses_by es fs gs e l r h = refused_by es fs gs _ l r h
 
 -- where nothing is wrong in front
 pub answers_behind : {X Y : Type 0} → (view : X → Y) (r : Result X IpcError) (es fs : List IpcError) (y : Y) → es ≡ [] → Answers view r fs y → Answers view r (es ++ fs) y
@@ -181,14 +163,4 @@ err_if (Err f) e P Q h p k q = subst Q (sym (k f p)) q
 pub refusal_cause : (e : IpcError) (n : ℕ) → IsRefusal e → BodyReadCause e n n
 refusal_cause (OutOfSpec k) n h = tt
 refusal_cause (Unsupported k) n h = tt
-refusal_cause TooDeep n h = absurd h
-refusal_cause (TooMany k) n h = absurd h
-refusal_cause (Projection k) n h = absurd h
-refusal_cause TooLarge n h = absurd h
-refusal_cause SchemaMismatch n h = absurd h
-refusal_cause (DictionaryReplaced k) n h = absurd h
-refusal_cause NotRepresentable n h = absurd h
-refusal_cause State n h = absurd h
-refusal_cause ReadFault n h = absurd h
-refusal_cause WriteFault n h = absurd h
-refusal_cause Memory n h = absurd h
+refusal_cause e n h = absurd h

@@ -37,38 +37,8 @@ by_large true s l = l
 binary_layout : (large : Bool) (l : PhysicalType) → is_variable false large l ≡ true → l ≡ by_large large physical.Binary physical.LargeBinary
 binary_layout false physical.Binary h = refl
 binary_layout true physical.LargeBinary h = refl
-binary_layout true physical.Binary h = cc
-binary_layout false physical.LargeBinary h = cc
-binary_layout false physical.Null h = cc
-binary_layout true physical.Null h = cc
-binary_layout false physical.Boolean h = cc
-binary_layout true physical.Boolean h = cc
-binary_layout false (physical.Primitive t) h = cc
-binary_layout true (physical.Primitive t) h = cc
-binary_layout false physical.FixedSizeBinary h = cc
-binary_layout true physical.FixedSizeBinary h = cc
-binary_layout false physical.Utf8 h = cc
-binary_layout true physical.Utf8 h = cc
-binary_layout false physical.LargeUtf8 h = cc
-binary_layout true physical.LargeUtf8 h = cc
-binary_layout false physical.BinaryView h = cc
-binary_layout true physical.BinaryView h = cc
-binary_layout false physical.Utf8View h = cc
-binary_layout true physical.Utf8View h = cc
-binary_layout false physical.List h = cc
-binary_layout true physical.List h = cc
-binary_layout false physical.LargeList h = cc
-binary_layout true physical.LargeList h = cc
-binary_layout false physical.FixedSizeList h = cc
-binary_layout true physical.FixedSizeList h = cc
-binary_layout false physical.Struct h = cc
-binary_layout true physical.Struct h = cc
-binary_layout false physical.Union h = cc
-binary_layout true physical.Union h = cc
-binary_layout false physical.Map h = cc
-binary_layout true physical.Map h = cc
-binary_layout false (physical.Dictionary i) h = cc
-binary_layout true (physical.Dictionary i) h = cc
+binary_layout true l h = cc
+binary_layout false l h = cc
 
 -- ── arrays ──
 
@@ -236,38 +206,8 @@ shape_of k a offsets values v rows e c = rw e (refl, omega (arith, c))
 text_layout : (large : Bool) (l : PhysicalType) → is_variable true large l ≡ true → l ≡ by_large large physical.Utf8 physical.LargeUtf8
 text_layout false physical.Utf8 h = refl
 text_layout true physical.LargeUtf8 h = refl
-text_layout true physical.Utf8 h = cc
-text_layout false physical.LargeUtf8 h = cc
-text_layout false physical.Null h = cc
-text_layout true physical.Null h = cc
-text_layout false physical.Boolean h = cc
-text_layout true physical.Boolean h = cc
-text_layout false (physical.Primitive t) h = cc
-text_layout true (physical.Primitive t) h = cc
-text_layout false physical.FixedSizeBinary h = cc
-text_layout true physical.FixedSizeBinary h = cc
-text_layout false physical.Binary h = cc
-text_layout true physical.Binary h = cc
-text_layout false physical.LargeBinary h = cc
-text_layout true physical.LargeBinary h = cc
-text_layout false physical.BinaryView h = cc
-text_layout true physical.BinaryView h = cc
-text_layout false physical.Utf8View h = cc
-text_layout true physical.Utf8View h = cc
-text_layout false physical.List h = cc
-text_layout true physical.List h = cc
-text_layout false physical.LargeList h = cc
-text_layout true physical.LargeList h = cc
-text_layout false physical.FixedSizeList h = cc
-text_layout true physical.FixedSizeList h = cc
-text_layout false physical.Struct h = cc
-text_layout true physical.Struct h = cc
-text_layout false physical.Union h = cc
-text_layout true physical.Union h = cc
-text_layout false physical.Map h = cc
-text_layout true physical.Map h = cc
-text_layout false (physical.Dictionary i) h = cc
-text_layout true (physical.Dictionary i) h = cc
+text_layout true l h = cc
+text_layout false l h = cc
 
 -- what is wrong with the texts
 abbrev pub texts_at : RecordBatch → Offsets → Place → ℕ → List IpcError

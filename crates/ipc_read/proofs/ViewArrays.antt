@@ -46,38 +46,8 @@ by_text true = physical.Utf8View
 view_layout : (t : Bool) (l : PhysicalType) → is_view t l ≡ true → l ≡ by_text t
 view_layout false physical.BinaryView h = refl
 view_layout true physical.Utf8View h = refl
-view_layout true physical.BinaryView h = cc
-view_layout false physical.Utf8View h = cc
-view_layout false physical.Null h = cc
-view_layout true physical.Null h = cc
-view_layout false physical.Boolean h = cc
-view_layout true physical.Boolean h = cc
-view_layout false (physical.Primitive t) h = cc
-view_layout true (physical.Primitive t) h = cc
-view_layout false physical.FixedSizeBinary h = cc
-view_layout true physical.FixedSizeBinary h = cc
-view_layout false physical.Binary h = cc
-view_layout true physical.Binary h = cc
-view_layout false physical.LargeBinary h = cc
-view_layout true physical.LargeBinary h = cc
-view_layout false physical.Utf8 h = cc
-view_layout true physical.Utf8 h = cc
-view_layout false physical.LargeUtf8 h = cc
-view_layout true physical.LargeUtf8 h = cc
-view_layout false physical.List h = cc
-view_layout true physical.List h = cc
-view_layout false physical.LargeList h = cc
-view_layout true physical.LargeList h = cc
-view_layout false physical.FixedSizeList h = cc
-view_layout true physical.FixedSizeList h = cc
-view_layout false physical.Struct h = cc
-view_layout true physical.Struct h = cc
-view_layout false physical.Union h = cc
-view_layout true physical.Union h = cc
-view_layout false physical.Map h = cc
-view_layout true physical.Map h = cc
-view_layout false (physical.Dictionary i) h = cc
-view_layout true (physical.Dictionary i) h = cc
+view_layout true l h = cc
+view_layout false l h = cc
 
 abbrev is_any_view : PhysicalType → Bool
 is_any_view physical.BinaryView = true
@@ -98,31 +68,13 @@ viewed : (k : Kind) → is_any_view (physical_of k) ≡ true → Viewed k
 viewed kind.binary_view h = record { nodes = refl; buffers = λ v c w. refl; views = refl; looked = λ m p. refl }
 viewed kind.utf8_view h = record { nodes = refl; buffers = λ v c w. refl; views = refl; looked = λ m p. refl }
 viewed (kind.extension name metadata k) h = let r = viewed k h in record { nodes = r.nodes; buffers = r.buffers; views = r.views; looked = r.looked }
-viewed kind.null h = cc
-viewed kind.boolean h = cc
-viewed (kind.integer t) h = cc
-viewed (kind.float t) h = cc
-viewed kind.date32 h = cc
-viewed kind.date64 h = cc
-viewed (kind.time32 u) h = cc
-viewed (kind.time64 u) h = cc
-viewed (kind.timestamp u z) h = cc
-viewed (kind.duration u) h = cc
-viewed (kind.interval u) h = cc
-viewed (kind.decimal p s) h = cc
-viewed (kind.decimal256 p s) h = cc
 viewed (kind.binary small) h = cc
 viewed (kind.binary large) h = cc
 viewed (kind.utf8 small) h = cc
 viewed (kind.utf8 large) h = cc
-viewed (kind.fixed_size_binary n) h = cc
 viewed (kind.«list» small fs) h = cc
 viewed (kind.«list» large fs) h = cc
-viewed (kind.fixed_size_list n fs) h = cc
-viewed (kind.struct fs) h = cc
-viewed (kind.map sorted fs) h = cc
-viewed (kind.union mode stated ids fs) h = cc
-viewed (kind.dictionary t ordered id k) h = cc
+viewed k h = cc
 
 -- ── arrays ──
 

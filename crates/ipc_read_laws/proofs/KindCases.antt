@@ -105,14 +105,9 @@ by_kind P c (kinds.extension name metadata k) h = c.on_extension name metadata k
 by_kind P c (kinds.float half) h = cc
 by_kind P c (kinds.float single) h = cc
 by_kind P c (kinds.float double) h = cc
-by_kind P c (kinds.decimal256 precision scale) h = cc
 by_kind P c (kinds.«list» small fs) h = cc
 by_kind P c (kinds.«list» large fs) h = cc
-by_kind P c (kinds.fixed_size_list size fs) h = cc
-by_kind P c (kinds.struct fs) h = cc
-by_kind P c (kinds.map sorted fs) h = cc
-by_kind P c (kinds.union mode stated ids fs) h = cc
-by_kind P c (kinds.dictionary t ordered id k) h = cc
+by_kind P c e h = cc
 
 -- a kind of the same layout and size
 pub record Like (l k : Kind) : Type 0 where

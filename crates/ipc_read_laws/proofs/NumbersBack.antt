@@ -102,17 +102,4 @@ as_bytes-read write read size m k p rows = rw (map-from_on write (λ j. read m.o
 -- it has as many bytes as its type takes
 pub number_size-read : (t : PrimitiveType) (order : Order) (bytes : List ℕ) → length (number_read t order bytes) ≡ primitive_size t
 number_size-read primitive.Int8 order bytes = refl
-number_size-read primitive.Int16 order bytes = refl
-number_size-read primitive.Int32 order bytes = refl
-number_size-read primitive.Int64 order bytes = refl
-number_size-read primitive.Int128 order bytes = refl
-number_size-read primitive.Int256 order bytes = refl
-number_size-read primitive.UInt8 order bytes = refl
-number_size-read primitive.UInt16 order bytes = refl
-number_size-read primitive.UInt32 order bytes = refl
-number_size-read primitive.UInt64 order bytes = refl
-number_size-read primitive.Float16 order bytes = refl
-number_size-read primitive.Float32 order bytes = refl
-number_size-read primitive.Float64 order bytes = refl
-number_size-read primitive.DaysMs order bytes = refl
-number_size-read primitive.MonthDayNano order bytes = refl
+number_size-read t order bytes = refl

@@ -124,23 +124,13 @@ views_kind m l p zero = refl
 views_kind m l p (suc n) = refl
 
 pub kind_under : (layout : PhysicalType) (m : RecordBatch) (l : Kind) (p : Place) (rows : ℕ) → leaf_kind_in (parts_in layout m l p rows) ≡ l
-kind_under physical.Null m l p rows = refl
-kind_under physical.Boolean m l p rows = refl
-kind_under (physical.Primitive t) m l p rows = refl
 kind_under physical.Binary m l p rows = variable_kind m l small p rows
 kind_under physical.LargeBinary m l p rows = variable_kind m l large p rows
-kind_under physical.FixedSizeBinary m l p rows = refl
 kind_under physical.Utf8 m l p rows = variable_kind m l small p rows
 kind_under physical.LargeUtf8 m l p rows = variable_kind m l large p rows
 kind_under physical.BinaryView m l p rows = views_kind m l p rows
 kind_under physical.Utf8View m l p rows = views_kind m l p rows
-kind_under physical.List m l p rows = refl
-kind_under physical.LargeList m l p rows = refl
-kind_under physical.FixedSizeList m l p rows = refl
-kind_under physical.Struct m l p rows = refl
-kind_under physical.Union m l p rows = refl
-kind_under physical.Map m l p rows = refl
-kind_under (physical.Dictionary i) m l p rows = refl
+kind_under layout m l p rows = refl
 
 -- ── their rows ──
 

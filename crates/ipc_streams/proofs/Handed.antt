@@ -20,14 +20,7 @@ of_bytes (errors.Unsupported x) n m h = tt
 of_bytes (errors.TooMany x) n m h = tt
 of_bytes errors.TooDeep n m h = tt
 of_bytes errors.Memory n m h = tt
-of_bytes errors.ReadFault n m h = absurd h
-of_bytes errors.WriteFault n m h = absurd h
-of_bytes (errors.Projection x) n m h = absurd h
-of_bytes errors.TooLarge n m h = absurd h
-of_bytes errors.SchemaMismatch n m h = absurd h
-of_bytes (errors.DictionaryReplaced x) n m h = absurd h
-of_bytes errors.NotRepresentable n m h = absurd h
-of_bytes errors.State n m h = absurd h
+of_bytes e n m h = absurd h
 
 pub decoded_cause : (e : IpcError) (es : List IpcError) (n m : ℕ) → RefusesBytes e es → FileCause e n m
 decoded_cause (errors.OutOfSpec x) es n m h = tt
@@ -35,14 +28,7 @@ decoded_cause (errors.Unsupported x) es n m h = tt
 decoded_cause (errors.TooMany x) es n m h = tt
 decoded_cause errors.TooDeep es n m h = tt
 decoded_cause errors.Memory es n m h = tt
-decoded_cause errors.ReadFault es n m h = absurd h
-decoded_cause errors.WriteFault es n m h = absurd h
-decoded_cause (errors.Projection x) es n m h = absurd h
-decoded_cause errors.TooLarge es n m h = absurd h
-decoded_cause errors.SchemaMismatch es n m h = absurd h
-decoded_cause (errors.DictionaryReplaced x) es n m h = absurd h
-decoded_cause errors.NotRepresentable es n m h = absurd h
-decoded_cause errors.State es n m h = absurd h
+decoded_cause e es n m h = absurd h
 
 pub of_bytes_in : {A : Type 0} (result : Result A IpcError) (n m : ℕ) → IfErr result IsOfBytes → IfErr result (λ e. FileCause e n m)
 of_bytes_in (Ok x) n m h = tt

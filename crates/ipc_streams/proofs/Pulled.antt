@@ -36,32 +36,12 @@ feed_kept_on h k = record { faults = omega (arith, h.faults, k.faults); referenc
 pub pull_refuses : (e : IpcError) (es : List IpcError) (n m : ℕ) → PullCause e n m → Refuses e es
 pull_refuses errors.Memory es n m h = tt
 pull_refuses errors.ReadFault es n m h = tt
-pull_refuses errors.WriteFault es n m h = absurd h
-pull_refuses (errors.OutOfSpec x) es n m h = absurd h
-pull_refuses (errors.Unsupported x) es n m h = absurd h
-pull_refuses errors.TooDeep es n m h = absurd h
-pull_refuses (errors.TooMany x) es n m h = absurd h
-pull_refuses (errors.Projection x) es n m h = absurd h
-pull_refuses errors.TooLarge es n m h = absurd h
-pull_refuses errors.SchemaMismatch es n m h = absurd h
-pull_refuses (errors.DictionaryReplaced x) es n m h = absurd h
-pull_refuses errors.NotRepresentable es n m h = absurd h
-pull_refuses errors.State es n m h = absurd h
+pull_refuses e es n m h = absurd h
 
 pub pull_cause : (e : IpcError) (n m : ℕ) → PullCause e n m → FileCause e n m
 pull_cause errors.Memory n m h = tt
 pull_cause errors.ReadFault n m h = h
-pull_cause errors.WriteFault n m h = absurd h
-pull_cause (errors.OutOfSpec x) n m h = absurd h
-pull_cause (errors.Unsupported x) n m h = absurd h
-pull_cause errors.TooDeep n m h = absurd h
-pull_cause (errors.TooMany x) n m h = absurd h
-pull_cause (errors.Projection x) n m h = absurd h
-pull_cause errors.TooLarge n m h = absurd h
-pull_cause errors.SchemaMismatch n m h = absurd h
-pull_cause (errors.DictionaryReplaced x) n m h = absurd h
-pull_cause errors.NotRepresentable n m h = absurd h
-pull_cause errors.State n m h = absurd h
+pull_cause e n m h = absurd h
 
 -- bytes that were put behind others, into room that was made for them
 pub pulled_in_place : (a b : Option (List ℕ)) (old wide whole new zeros : List ℕ) (start most n : ℕ) → start ≡ length old → wide ≡ take (start + most) old ++ zeros → take start whole ≡ take start wide → length whole ≡ start + most → start + n ≤ length whole → new ≡ take (start + n) whole

@@ -91,13 +91,7 @@ cause_since (errors.TooMany x) k n m h c = tt
 cause_since errors.TooDeep k n m h c = tt
 cause_since errors.Memory k n m h c = tt
 cause_since errors.ReadFault k n m h c = omega (arith, h, c)
-cause_since errors.WriteFault k n m h c = absurd c
-cause_since (errors.Projection x) k n m h c = absurd c
-cause_since errors.TooLarge k n m h c = absurd c
-cause_since errors.SchemaMismatch k n m h c = absurd c
-cause_since (errors.DictionaryReplaced x) k n m h c = absurd c
-cause_since errors.NotRepresentable k n m h c = absurd c
-cause_since errors.State k n m h c = absurd c
+cause_since e k n m h c = absurd c
 
 pub keeps_feed : {F : Type 0} {rest_of : F → Option (List ℕ)} {faults_of : F → ℕ} {references_of : F → List ℕ} {f f1 f2 : F} {c c1 : StreamCursor} → KeepsColumns rest_of faults_of references_of f f1 c c1 → FeedKept faults_of references_of f1 f2 → KeepsColumns rest_of faults_of references_of f f2 c c1
 keeps_feed h k = record { columns = h.columns; is_finished = h.is_finished; feed = feed_kept_on h.feed k }

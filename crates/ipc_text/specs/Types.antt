@@ -26,3 +26,19 @@ abbrev pub type_text_with : Kind → Option ℤ → List ℕ
 type_text_with (kind.dictionary index ordered old k) id = dictionary_front index ordered (or_default (pos 0) id) ++ type_text_with k None
 type_text_with (kind.extension name metadata k) id = extension_front name metadata ++ type_text_with k id
 type_text_with k id = type_text k
+
+-- a kind whose text is a name alone
+abbrev pub is_named : Kind → Bool
+is_named (kind.time32 u) = false
+is_named (kind.time64 u) = false
+is_named (kind.timestamp unit timezone) = false
+is_named (kind.duration u) = false
+is_named (kind.interval u) = false
+is_named (kind.decimal precision scale) = false
+is_named (kind.decimal256 precision scale) = false
+is_named (kind.fixed_size_binary n) = false
+is_named (kind.fixed_size_list n fs) = false
+is_named (kind.union mode stated ids fs) = false
+is_named (kind.dictionary index ordered id k) = false
+is_named (kind.extension name metadata k) = false
+is_named k = true

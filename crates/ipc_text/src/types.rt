@@ -1,5 +1,5 @@
 //! The texts of types.
-ghost use Rattle.std.specs.Prelude.{◌≡◌, ◌++◌, Option, true, pos, string_bytes, OnOk, codes, decimal};
+ghost use Rattle.std.specs.Prelude.{◌≡◌, ◌++◌, Option, ℤ, true, pos, string_bytes, OnOk, codes, decimal};
 ghost use Rattle.std.specs.Option.{option_map};
 ghost use Rattle.arrow_spec.specs.Flat.{or_default};
 ghost use Rattle.arrow_spec.specs.Kinds as kind;
@@ -7,7 +7,7 @@ ghost use Rattle.arrow_spec.specs.Kinds.{none};
 ghost use Rattle.arrow_spec.specs.SchemaText as text;
 ghost use Rattle.arrow_spec.specs.SchemaText.{type_text};
 ghost use Rattle.arrow_types.specs.KindOf.{kind_of, ids_of};
-ghost use Rattle.ipc_text.specs.Types.{dictionary_front, extension_front, type_text_with};
+ghost use Rattle.ipc_text.specs.Types.{dictionary_front, extension_front, is_named, type_text_with};
 
 use crate::names::{integer_name, interval_name, mode_name, order_name, unit_name};
 use crate::numbers::{push_ids, push_number, push_signed};
@@ -135,6 +135,43 @@ fn push_extension(
     push_text(out, ") ")
 }
 
+// The text of a type that is a name alone.
+fn type_name(dtype: &ArrowDataType) -> &'static str
+    requires { is_named (kind_of dtype.now) ≡ true }
+    ensures { (id : Option ℤ) → result.now ≡ type_text_with (kind_of dtype.now) id }
+{
+    match dtype {
+        ArrowDataType::Null => "null",
+        ArrowDataType::Boolean => "bool",
+        ArrowDataType::Int8 => "int8",
+        ArrowDataType::Int16 => "int16",
+        ArrowDataType::Int32 => "int32",
+        ArrowDataType::Int64 => "int64",
+        ArrowDataType::Int128 => "int128",
+        ArrowDataType::UInt8 => "uint8",
+        ArrowDataType::UInt16 => "uint16",
+        ArrowDataType::UInt32 => "uint32",
+        ArrowDataType::UInt64 => "uint64",
+        ArrowDataType::Float16 => "float16",
+        ArrowDataType::Float32 => "float32",
+        ArrowDataType::Float64 => "float64",
+        ArrowDataType::Date32 => "date32",
+        ArrowDataType::Date64 => "date64",
+        ArrowDataType::Binary => "binary",
+        ArrowDataType::LargeBinary => "large_binary",
+        ArrowDataType::Utf8 => "utf8",
+        ArrowDataType::LargeUtf8 => "large_utf8",
+        ArrowDataType::BinaryView => "binary_view",
+        ArrowDataType::Utf8View => "utf8_view",
+        ArrowDataType::List(_) => "list",
+        ArrowDataType::LargeList(_) => "large_list",
+        ArrowDataType::Struct(_) => "struct",
+        ArrowDataType::Map(_, true) => "map(sorted)",
+        ArrowDataType::Map(_, false) => "map",
+        _ => "",
+    }
+}
+
 /// A type, with the id of its dictionary; of nested types without their children.
 pub(crate) fn push_type(
     alloc: Global,
@@ -145,33 +182,11 @@ pub(crate) fn push_type(
     ensures { OnOk result (out.new.items ≡ out.old.items ++ type_text_with (kind_of dtype.now) id) }
 {
     match dtype {
-        ArrowDataType::Null => push_text(out, "null"),
-        ArrowDataType::Boolean => push_text(out, "bool"),
-        ArrowDataType::Int8 => push_text(out, "int8"),
-        ArrowDataType::Int16 => push_text(out, "int16"),
-        ArrowDataType::Int32 => push_text(out, "int32"),
-        ArrowDataType::Int64 => push_text(out, "int64"),
-        ArrowDataType::Int128 => push_text(out, "int128"),
-        ArrowDataType::UInt8 => push_text(out, "uint8"),
-        ArrowDataType::UInt16 => push_text(out, "uint16"),
-        ArrowDataType::UInt32 => push_text(out, "uint32"),
-        ArrowDataType::UInt64 => push_text(out, "uint64"),
-        ArrowDataType::Float16 => push_text(out, "float16"),
-        ArrowDataType::Float32 => push_text(out, "float32"),
-        ArrowDataType::Float64 => push_text(out, "float64"),
-        ArrowDataType::Date32 => push_text(out, "date32"),
-        ArrowDataType::Date64 => push_text(out, "date64"),
         ArrowDataType::Time32(unit) => push_with_unit(out, "time32(", *unit),
         ArrowDataType::Time64(unit) => push_with_unit(out, "time64(", *unit),
         ArrowDataType::Duration(unit) => push_with_unit(out, "duration(", *unit),
         ArrowDataType::Timestamp(unit, zone) => push_timestamp(alloc, out, *unit, zone),
         ArrowDataType::Interval(unit) => push_interval(out, *unit),
-        ArrowDataType::Binary => push_text(out, "binary"),
-        ArrowDataType::LargeBinary => push_text(out, "large_binary"),
-        ArrowDataType::Utf8 => push_text(out, "utf8"),
-        ArrowDataType::LargeUtf8 => push_text(out, "large_utf8"),
-        ArrowDataType::BinaryView => push_text(out, "binary_view"),
-        ArrowDataType::Utf8View => push_text(out, "utf8_view"),
         ArrowDataType::FixedSizeBinary(size) => push_with_size(alloc, out, "fixed_binary(", *size),
         ArrowDataType::Decimal(precision, scale) => push_decimal(
             alloc, out, "decimal(", *precision, *scale,
@@ -183,12 +198,7 @@ pub(crate) fn push_type(
             *precision,
             *scale,
         ),
-        ArrowDataType::List(_) => push_text(out, "list"),
-        ArrowDataType::LargeList(_) => push_text(out, "large_list"),
         ArrowDataType::FixedSizeList(_, size) => push_with_size(alloc, out, "fixed_list(", *size),
-        ArrowDataType::Struct(_) => push_text(out, "struct"),
-        ArrowDataType::Map(_, true) => push_text(out, "map(sorted)"),
-        ArrowDataType::Map(_, false) => push_text(out, "map"),
         ArrowDataType::Union(union) => push_union(
             alloc,
             out,
@@ -204,5 +214,6 @@ pub(crate) fn push_type(
             push_extension(alloc, out, &extension.name, &extension.metadata)?;
             push_type(alloc, out, &extension.inner, id)
         }
+        _ => push_text(out, type_name(dtype)),
     }
 }

@@ -1,5 +1,5 @@
 -- What the refusal of an append says, by the step that it is of.
-use Rattle.std.proofs.Common.{◌≡◌, ◌⊎◌, inl, inr, ℕ, true, false, arith, List, Result, IfErr, Ok, Err, refl, sym, subst}
+use Rattle.std.proofs.Common.{◌≡◌, inl, inr, ℕ, true, false, arith, List, Result, IfErr, Ok, Err, refl, sym, subst}
 use Rattle.arrow_spec.specs.declared.error.IpcError.{IpcError}
 use Rattle.arrow_spec.specs.declared.error.IpcError.TheVariants as errors
 use Rattle.ipc_append_stream.specs.declared.stream.WholeStream.{WholeStream}
@@ -37,17 +37,11 @@ module _ (target : List ℕ) (old new : Outside) where
   of_stream : (x : IpcError) → StreamRefused x old.rest → AppendSays (Ipc x) target old new
   of_stream errors.ReadFault h = absurd (omega (arith, h.cause))
   of_stream errors.Memory h = tt
-  of_stream errors.WriteFault h = absurd h.cause
-  of_stream errors.SchemaMismatch h = absurd h.cause
-  of_stream errors.NotRepresentable h = absurd h.cause
-  of_stream (errors.Projection x) h = absurd h.cause
-  of_stream errors.State h = absurd h.cause
-  of_stream errors.TooLarge h = absurd h.cause
-  of_stream (errors.DictionaryReplaced x) h = absurd h.cause
   of_stream (errors.OutOfSpec x) h = tt
   of_stream (errors.Unsupported x) h = tt
   of_stream errors.TooDeep h = tt
   of_stream (errors.TooMany x) h = tt
+  of_stream x h = absurd h.cause
 
   of_opening : (e : Refusal) → NotOpened target e old.held new.held old.shelf_faults new.shelf_faults → AppendSays e target old new
   of_opening e h = by h.error h.is h.unknown h.failed
@@ -64,13 +58,7 @@ module _ (target : List ℕ) (old new : Outside) where
   of_place errors.NotRepresentable s read p = let never : true ≡ false = p.says in cc
   of_place (errors.Projection x) s read p = absurd p.says
   of_place errors.State s read p = absurd p.says
-  of_place errors.TooLarge s read p = tt
-  of_place errors.Memory s read p = tt
-  of_place (errors.DictionaryReplaced x) s read p = tt
-  of_place (errors.OutOfSpec x) s read p = tt
-  of_place (errors.Unsupported x) s read p = tt
-  of_place errors.TooDeep s read p = tt
-  of_place (errors.TooMany x) s read p = tt
+  of_place x s read p = tt
 
   of_count : (e : Refusal) (n : ℕ) → CountRefused e n old.written new.written old.output_faults new.output_faults → AppendSays e target old new
   of_count e n (inl h) = subst (λ y. AppendSays y target old new) (sym h.0) tt

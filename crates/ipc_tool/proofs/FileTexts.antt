@@ -50,15 +50,9 @@ print_refused what (errors.OutOfSpec kind) content reads reads' h c = h
 print_refused what (errors.Unsupported feature) content reads reads' h c = h
 print_refused what errors.TooDeep content reads reads' h c = h
 print_refused what (errors.TooMany counted) content reads reads' h c = h
-print_refused what (errors.Projection index) content reads reads' h c = absurd c
-print_refused what errors.TooLarge content reads reads' h c = absurd c
-print_refused what errors.SchemaMismatch content reads reads' h c = absurd c
-print_refused what (errors.DictionaryReplaced id) content reads reads' h c = absurd c
-print_refused what errors.NotRepresentable content reads reads' h c = absurd c
-print_refused what errors.State content reads reads' h c = absurd c
 print_refused what errors.ReadFault content reads reads' h c = c
-print_refused what errors.WriteFault content reads reads' h c = absurd c
 print_refused what errors.Memory content reads reads' h c = tt
+print_refused what e content reads reads' h c = absurd c
 
 pub schema_refused : (e : IpcError) (content : Option (List ℕ)) (reads reads' : ℕ) → IfSome content (λ b. Refuses e (refusals (meta_of b))) → FileCause e reads reads' → PrintCause texts.Schema e content reads reads' 0 0
 schema_refused e content reads reads' h c = print_refused texts.Schema e content reads reads' (told content _ _ (λ b s r. refuses_text b e r) h) c

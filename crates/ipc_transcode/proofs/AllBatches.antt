@@ -26,18 +26,7 @@ rose_before f g h k r = omega (arith, k, r)
 part_before : (e : IpcError) (x : Sending) (text : List ℕ → List ℕ) (new : Option (List ℕ)) (wants mid wants' : ℕ) → wants ≤ mid → AddsPart e mid wants' x.bytes x.request text x.start new → AddsPart e wants wants' x.bytes x.request text x.start new
 part_before errors.Memory x text new wants mid wants' less (inl front) = inl front
 part_before errors.Memory x text new wants mid wants' less (inr piece) = inr (rose_before wants mid wants' less piece.0, piece.1)
-part_before errors.WriteFault x text new wants mid wants' less p = p
-part_before errors.ReadFault x text new wants mid wants' less p = p
-part_before (errors.OutOfSpec kind) x text new wants mid wants' less p = p
-part_before (errors.Unsupported feature) x text new wants mid wants' less p = p
-part_before errors.TooDeep x text new wants mid wants' less p = p
-part_before (errors.TooMany counted) x text new wants mid wants' less p = p
-part_before (errors.Projection index) x text new wants mid wants' less p = p
-part_before errors.TooLarge x text new wants mid wants' less p = p
-part_before errors.SchemaMismatch x text new wants mid wants' less p = p
-part_before (errors.DictionaryReplaced id) x text new wants mid wants' less p = p
-part_before errors.NotRepresentable x text new wants mid wants' less p = p
-part_before errors.State x text new wants mid wants' less p = p
+part_before e x text new wants mid wants' less p = p
 
 -- a refusal, seen from further before
 pub refused_before : (e : IpcError) (x : Sending) (new : Option (List ℕ)) (wants mid wants' : ℕ) → wants ≤ mid → Refused e x new mid wants' → Refused e x new wants wants'

@@ -20,12 +20,7 @@ module _ (r : Request) (encoding : Encoding) (old new : Option (List ℕ)) (want
   cause_told errors.SchemaMismatch content reads reads' writes writes' h c = absurd c
   cause_told (errors.DictionaryReplaced id) content reads reads' writes writes' h c = absurd c
   cause_told errors.NotRepresentable content reads reads' writes writes' h c = absurd c
-  cause_told (errors.Projection index) content reads reads' writes writes' h c = told content _ _ (λ b s r. r.refused) h
-  cause_told (errors.OutOfSpec kind) content reads reads' writes writes' h c = told content _ _ (λ b s r. r.refused) h
-  cause_told (errors.Unsupported feature) content reads reads' writes writes' h c = told content _ _ (λ b s r. r.refused) h
-  cause_told errors.TooDeep content reads reads' writes writes' h c = told content _ _ (λ b s r. r.refused) h
-  cause_told (errors.TooMany counted) content reads reads' writes writes' h c = told content _ _ (λ b s r. r.refused) h
-  cause_told errors.TooLarge content reads reads' writes writes' h c = told content _ _ (λ b s r. r.refused) h
+  cause_told e content reads reads' writes writes' h c = told content _ _ (λ b s r. r.refused) h
 
   pub cause_of : (result : Result Summary IpcError) (content : Option (List ℕ)) (reads reads' writes writes' : ℕ) → IfSome content (λ b. SendsFile result b r encoding old new wants wants') → IfErr result (λ e. SendCause e reads reads' writes writes')
       → IfErr result (λ e. TranscodeCause e content r reads reads' writes writes')

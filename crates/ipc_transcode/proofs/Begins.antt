@@ -72,16 +72,7 @@ among_refuses : (e : IpcError) (es : List IpcError) → IsAmong es e → Refuses
 among_refuses errors.ReadFault es m = tt
 among_refuses errors.WriteFault es m = tt
 among_refuses errors.Memory es m = tt
-among_refuses errors.State es m = m
-among_refuses errors.TooLarge es m = m
-among_refuses (errors.OutOfSpec x) es m = m
-among_refuses (errors.Unsupported x) es m = m
-among_refuses errors.TooDeep es m = m
-among_refuses (errors.TooMany x) es m = m
-among_refuses (errors.Projection x) es m = m
-among_refuses errors.SchemaMismatch es m = m
-among_refuses (errors.DictionaryReplaced x) es m = m
-among_refuses errors.NotRepresentable es m = m
+among_refuses e es m = m
 
 -- a new writer of a file's
 pub new_of : (x : Sending) (file : FileMetadata) (encoded : Encoding) (w : StreamCore) → file ≡ x.file → x.encoding ≡ encoded → IsNewWriter file encoded w → IsNewWriter x.file x.encoding w

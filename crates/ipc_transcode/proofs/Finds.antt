@@ -40,17 +40,7 @@ one_refused : (e : IpcError) (s : ToSend) → rows_in s.part < 2 ^ 63 → Refuse
 one_refused errors.Memory s few h = inl refl
 one_refused errors.TooLarge s few h = inr (refl, sym (short_is_sent (rows_in s.part) (sent_message s) few) ∙ h.1)
 one_refused (errors.Unsupported features.Compression) s few h = let never : false ≡ true = h in cc
-one_refused (errors.Unsupported feature) s few h = absurd h
-one_refused (errors.OutOfSpec kind) s few h = absurd h
-one_refused errors.TooDeep s few h = absurd h
-one_refused (errors.TooMany counted) s few h = absurd h
-one_refused (errors.Projection index) s few h = absurd h
-one_refused errors.ReadFault s few h = absurd h
-one_refused errors.WriteFault s few h = absurd h
-one_refused errors.SchemaMismatch s few h = absurd h
-one_refused (errors.DictionaryReplaced id) s few h = absurd h
-one_refused errors.NotRepresentable s few h = absurd h
-one_refused errors.State s few h = absurd h
+one_refused e s few h = absurd h
 
 -- why messages of values are refused: one is too large, or memory was wanted
 each_refused : (e : IpcError) (ss : List ToSend) → AllByRecursion (λ m. rows_in m.part < 2 ^ 63) ss → RefusesOne e send_options ss → (e ≡ errors.Memory) ⊎ ((e ≡ errors.TooLarge) × (all_may_be_sent (map sent_message ss) ≡ false))

@@ -72,17 +72,7 @@ pub piece_stopped : (e : IpcError) (b : List ℕ) (r : Request) (encoding : Enco
     → AddsPart e m.wants m.wants_now b r (text_of encoding) old m.new
 piece_stopped errors.WriteFault b r encoding old m x y a n p = part_stands b r encoding old m.old m.new x y a n p.0
 piece_stopped errors.Memory b r encoding old m x y a n p = inr (p.2, part_stands b r encoding old m.old m.new x y a n p.0)
-piece_stopped errors.ReadFault b r encoding old m x y a n p = absurd p
-piece_stopped (errors.OutOfSpec kind) b r encoding old m x y a n p = absurd p
-piece_stopped (errors.Unsupported feature) b r encoding old m x y a n p = absurd p
-piece_stopped errors.TooDeep b r encoding old m x y a n p = absurd p
-piece_stopped (errors.TooMany counted) b r encoding old m x y a n p = absurd p
-piece_stopped (errors.Projection index) b r encoding old m x y a n p = absurd p
-piece_stopped errors.TooLarge b r encoding old m x y a n p = absurd p
-piece_stopped errors.SchemaMismatch b r encoding old m x y a n p = absurd p
-piece_stopped (errors.DictionaryReplaced id) b r encoding old m x y a n p = absurd p
-piece_stopped errors.NotRepresentable b r encoding old m x y a n p = absurd p
-piece_stopped errors.State b r encoding old m x y a n p = absurd p
+piece_stopped e b r encoding old m x y a n p = absurd p
 
 -- ── refusals before a put ──
 
@@ -94,17 +84,7 @@ IsOfSink e = ⊥
 as_part : (e : IpcError) (b : List ℕ) (r : Request) (text : List ℕ → List ℕ) (old new : Option (List ℕ)) (wants wants' : ℕ) → (IsOfSink e → ⊥) → AddsFrontOrNone e b r text old new → AddsPart e wants wants' b r text old new
 as_part errors.WriteFault b r text old new wants wants' n a = absurd (n tt)
 as_part errors.Memory b r text old new wants wants' n a = inl a
-as_part errors.ReadFault b r text old new wants wants' n a = a
-as_part (errors.OutOfSpec kind) b r text old new wants wants' n a = a
-as_part (errors.Unsupported feature) b r text old new wants wants' n a = a
-as_part errors.TooDeep b r text old new wants wants' n a = a
-as_part (errors.TooMany counted) b r text old new wants wants' n a = a
-as_part (errors.Projection index) b r text old new wants wants' n a = a
-as_part errors.TooLarge b r text old new wants wants' n a = a
-as_part errors.SchemaMismatch b r text old new wants wants' n a = a
-as_part (errors.DictionaryReplaced id) b r text old new wants wants' n a = a
-as_part errors.NotRepresentable b r text old new wants wants' n a = a
-as_part errors.State b r text old new wants wants' n a = a
+as_part e b r text old new wants wants' n a = a
 
 -- nothing was put
 pub none_put : (e : IpcError) (b : List ℕ) (r : Request) (text : List ℕ → List ℕ) (old new : Option (List ℕ)) (wants wants' : ℕ) → (IsOfSink e → ⊥) → Keeps old new → AddsPart e wants wants' b r text old new

@@ -36,12 +36,8 @@ small errors.SchemaMismatch b r reads reads' writes writes' c h s t = absurd c
 small (errors.DictionaryReplaced id) b r reads reads' writes writes' c h s t = absurd c
 small errors.NotRepresentable b r reads reads' writes writes' c h s t = absurd c
 small errors.State b r reads reads' writes writes' c h s t = absurd c
-small (errors.OutOfSpec kind) b r reads reads' writes writes' c h s t = let e = may_only b r (file_table b r) (errors.OutOfSpec kind) refl h c in cc
-small (errors.Unsupported feature) b r reads reads' writes writes' c h s t = let e = may_only b r (file_table b r) (errors.Unsupported feature) refl h c in cc
-small errors.TooDeep b r reads reads' writes writes' c h s t = let e = may_only b r (file_table b r) errors.TooDeep refl h c in cc
-small (errors.TooMany counted) b r reads reads' writes writes' c h s t = let e = may_only b r (file_table b r) (errors.TooMany counted) refl h c in cc
-small (errors.Projection index) b r reads reads' writes writes' c h s t = let e = may_only b r (file_table b r) (errors.Projection index) refl h c in cc
 small errors.TooLarge b r reads reads' writes writes' c h s t = inr (refl, c)
+small k b r reads reads' writes writes' c h s t = let e = may_only b r (file_table b r) k refl h c in cc
 
 -- the completeness of a transcoding follows from its causes
 pub complete_by_cause : {T : Type 0} (result : Result T IpcError) (content : Option (List ℕ)) (r : Request) (reads reads' writes writes' : ℕ) → IfErr result (λ e. TranscodeCause e content r reads reads' writes writes')

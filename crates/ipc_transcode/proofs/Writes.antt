@@ -253,17 +253,7 @@ module _ (x : Sending) (c c' : FileCursor) (w : StreamCore) (now : Option (List 
       let few = few_rows _ s.is.is.message.version s.is.is.message.custom s.is.is.message.tables _ c.left (table_of y) s.is.is.fits s.is.is.read in
       batch_too_large new wants wants' (ap may_be_sent (sym (same_message y)) ∙ beyond_is_not_sent y few p.1) kept
   batch_refused (errors.Unsupported features.Compression) new wants wants' p kept = let never : false ≡ true = p in cc
-  batch_refused (errors.Unsupported feature) new wants wants' p kept = absurd p
-  batch_refused (errors.OutOfSpec kind) new wants wants' p kept = absurd p
-  batch_refused errors.TooDeep new wants wants' p kept = absurd p
-  batch_refused (errors.TooMany counted) new wants wants' p kept = absurd p
-  batch_refused (errors.Projection index) new wants wants' p kept = absurd p
-  batch_refused errors.ReadFault new wants wants' p kept = absurd p
-  batch_refused errors.WriteFault new wants wants' p kept = absurd p
-  batch_refused errors.SchemaMismatch new wants wants' p kept = absurd p
-  batch_refused (errors.DictionaryReplaced id) new wants wants' p kept = absurd p
-  batch_refused errors.NotRepresentable new wants wants' p kept = absurd p
-  batch_refused errors.State new wants wants' p kept = absurd p
+  batch_refused e new wants wants' p kept = absurd p
 
   chunk_refused : (e : IpcError) (new : Option (List ℕ)) (wants wants' : ℕ) (t : Walk) → found_before w y ≡ Ok t → RefusesChunk e w.options t.sent y → Keeps now new → Refused e x new wants wants'
   chunk_refused e new wants wants' t is r kept =

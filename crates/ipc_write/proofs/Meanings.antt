@@ -7,7 +7,7 @@ use Rattle.arrow_spec.specs.Flat.{little}
 use Rattle.arrow_spec.specs.Kinds.{Fields, none, field}
 use Rattle.arrow_spec.specs.Arrays.{Dictionaries}
 use Rattle.arrow_arrays.specs.Batches.{Batch, have_rows}
-use Rattle.arrow_arrays.specs.LeafParts.{LeafParts, nulls, bits, numbers, fixed, binary, text, binary_views, text_views}
+use Rattle.arrow_arrays.specs.LeafParts.{LeafParts, binary_views, text_views}
 use Rattle.arrow_arrays.specs.Parts.{Parts, Forest, leaf, nested, none as no_parts, also, kind_in, rows_in, cells_in, fault_in}
 use Rattle.arrow_arrays.specs.PartsOf.{parts_of, all_parts_of}
 use Rattle.arrow_arrays.specs.declared.array.Array.{Array}
@@ -28,14 +28,9 @@ use Rattle.ipc_write.proofs.Compacted.{top_cells, top_kind, top_rows, top_held}
 -- ── the order ──
 
 leaf_little : (l : LeafParts) → LeafMayHaveOrder l true
-leaf_little (nulls x) = tt
-leaf_little (bits f) = tt
-leaf_little (numbers f) = tt
-leaf_little (fixed f) = tt
-leaf_little (binary x) = tt
-leaf_little (text x) = tt
 leaf_little (binary_views x) = refl
 leaf_little (text_views x) = refl
+leaf_little l = tt
 
 -- any array may be written in little-endian order
 mutual

@@ -1,10 +1,10 @@
 -- The view counts of arrays are no more than their buffers.
-use Rattle.std.proofs.Common.{◌≡◌, ℕ, ◌+◌, ◌^◌, ◌<◌, ◌≤◌, List, [], ◌∷◌, ◌++◌, length, map, refl, sym, ap, ◌∙◌, arith, subst, length-append, append-nil}
+use Rattle.std.proofs.Common.{◌≡◌, ℕ, ◌+◌, ◌^◌, ◌<◌, ◌≤◌, List, [], ◌∷◌, ◌++◌, length, map, sym, ap, ◌∙◌, arith, subst, length-append, append-nil}
 use Rattle.std.specs.List.{flat_map, AllByRecursion}
 use Rattle.std.proofs.lemmas.List.Concat.{flat_map-cons}
 use Rattle.arrow_spec.specs.Bodies.{NodeFits}
 use Rattle.arrow_spec.specs.Flat.{Order, little}
-use Rattle.arrow_arrays.specs.LeafParts.{LeafParts, nulls, bits, numbers, fixed, binary, text, binary_views, text_views}
+use Rattle.arrow_arrays.specs.LeafParts.{LeafParts, binary_views, text_views}
 use Rattle.arrow_arrays.specs.Nodes.{counts_in, counts_each, leaf_counts_in}
 use Rattle.arrow_arrays.specs.Parts.{Parts, Forest, leaf, nested, none, also}
 use Rattle.ipc_write_laws.specs.Columns.{WrittenColumn}
@@ -30,14 +30,9 @@ both few least most [] ms le lt h k = more least most ms lt k
 both few least most (n ∷ ns) ms le lt h k = (omega (arith, h.0), both few least most ns ms le lt h.1 k)
 
 leaf_within : (order : Order) (l : LeafParts) → AllWithin (length (leaf_pieces order l)) (leaf_counts_in l)
-leaf_within order (nulls n) = tt
-leaf_within order (bits f) = tt
-leaf_within order (numbers f) = tt
-leaf_within order (fixed f) = tt
-leaf_within order (binary p) = tt
-leaf_within order (text p) = tt
 leaf_within order (binary_views p) = (omega arith, tt)
 leaf_within order (text_views p) = (omega arith, tt)
+leaf_within order l = tt
 
 mutual
   tree_within : (order : Order) (q : Parts) → AllWithin (length (tree_pieces order q)) (counts_in q)

@@ -1,5 +1,5 @@
 -- What a top takes of its kind is the same of kinds that are alike.
-use Rattle.std.proofs.Common.{◌≡◌, ◌&&◌, ℕ, zero, suc, ◌*◌, List, [], ◌∷◌, Bool, true, false, Option, None, Some, length, nat_eq, pos, refl, sym, ap, ◌∙◌}
+use Rattle.std.proofs.Common.{◌≡◌, ◌&&◌, ℕ, zero, suc, ◌*◌, List, [], ◌∷◌, Bool, true, false, Option, None, Some, length, nat_eq, refl, sym, ap, ◌∙◌}
 use Rattle.std.specs.Prelude.{not, nat_lt, if◌then◌else◌}
 use Rattle.std.proofs.lemmas.Bool.{and_parts, and_from}
 use Rattle.arrow_spec.specs.declared.types.IntegerType.{IntegerType}
@@ -24,7 +24,9 @@ use Rattle.arrow_arrays.specs.LeafParts.{LeafParts, nulls, bits, numbers, fixed,
 use Rattle.arrow_arrays.specs.Parts.{Forest, none, also, kind_in, kinds_each}
 use Rattle.arrow_arrays.proofs.EmptyParts.{each_itself}
 use Rattle.arrow_arrays.proofs.HeadSliced.{Sound}
-use Rattle.ipc_fields.proofs.SameKinds.{form, forms, form_is_same, same_by_form}
+use Rattle.arrow_spec.proofs.Forms.{form, forms}
+use Rattle.ipc_fields.proofs.SameKinds.{form_is_same, same_by_form}
+use Rattle.ipc_read_laws.proofs.PlainTypes.{form_plain, plain_twice}
 use Rattle.ipc_read_laws.specs.PlainKinds.{plain_kind, plain_fields}
 use Rattle.ipc_write_arrays.specs.Dictionaries.{is_alike}
 
@@ -40,38 +42,8 @@ one_shape k l = form_is_same (plain_kind k) (plain_kind l)
 
 -- ── a kind that is one with another's kind without ids ──
 
-mutual
-  plain_form : (k : Kind) → shape k ≡ plain_kind (form k)
-  plain_form (kind.«list» o fs) = ap (kind.«list» o) (plain_forms fs)
-  plain_form (kind.fixed_size_list n fs) = ap (kind.fixed_size_list n) (plain_forms fs)
-  plain_form (kind.struct fs) = ap kind.struct (plain_forms fs)
-  plain_form (kind.map sorted fs) = ap (kind.map sorted) (plain_forms fs)
-  plain_form (kind.union mode stated types fs) = ap (kind.union mode true types) (plain_forms fs)
-  plain_form (kind.dictionary t ordered id k) = ap (kind.dictionary t ordered (pos 0)) (plain_form k)
-  plain_form (kind.extension name metadata k) = ap (kind.extension name metadata) (plain_form k)
-  plain_form k = refl
-
-  plain_forms : (fs : Fields) → shapes fs ≡ plain_fields (forms fs)
-  plain_forms kind.none = refl
-  plain_forms (kind.field name nullable metadata k fs) = rw (plain_form k, plain_forms fs) refl
-
-mutual
-  plain_shape : (k : Kind) → plain_kind (shape k) ≡ shape k
-  plain_shape (kind.«list» o fs) = ap (kind.«list» o) (plain_shapes fs)
-  plain_shape (kind.fixed_size_list n fs) = ap (kind.fixed_size_list n) (plain_shapes fs)
-  plain_shape (kind.struct fs) = ap kind.struct (plain_shapes fs)
-  plain_shape (kind.map sorted fs) = ap (kind.map sorted) (plain_shapes fs)
-  plain_shape (kind.union mode stated types fs) = ap (kind.union mode true types) (plain_shapes fs)
-  plain_shape (kind.dictionary t ordered id k) = ap (kind.dictionary t ordered (pos 0)) (plain_shape k)
-  plain_shape (kind.extension name metadata k) = ap (kind.extension name metadata) (plain_shape k)
-  plain_shape k = refl
-
-  plain_shapes : (fs : Fields) → plain_fields (shapes fs) ≡ shapes fs
-  plain_shapes kind.none = refl
-  plain_shapes (kind.field name nullable metadata k fs) = rw (plain_shape k, plain_shapes fs) refl
-
 pub alike_by : (k l : Kind) → is_same_kind k (plain_kind l) ≡ true → is_alike k l ≡ true
-alike_by k l h = same_by_form (plain_kind k) (plain_kind l) (plain_form k ∙ ap plain_kind (form_is_same k (plain_kind l) h) ∙ plain_shape l)
+alike_by k l h = same_by_form (plain_kind k) (plain_kind l) (form_plain k ∙ ap plain_kind (form_is_same k (plain_kind l) h) ∙ sym (form_plain (plain_kind l)) ∙ ap form (plain_twice l))
 
 -- ── what kinds of one shape have in common ──
 

@@ -1,19 +1,17 @@
 -- What each layout's buffers are, by its kind.
-use Rattle.std.proofs.Common.{◌≡◌, ℕ, ◌<◌, List, [], ◌∷◌, ◌++◌, Bool, true, false, Option, map, get_or, refl, sym, ap, subst, ◌∙◌}
+use Rattle.std.proofs.Common.{◌≡◌, ℕ, ◌<◌, List, [], ◌∷◌, ◌++◌, Bool, true, false, Option, map, refl, sym, ap, subst, ◌∙◌}
 use Rattle.std.specs.Prelude.{ℤ, None, not, ◌&&◌}
 use Rattle.std.specs.List.{flat_map, AllByRecursion}
-use Rattle.std.proofs.lemmas.Bool.{eqb-true}
 use Rattle.arrow_spec.specs.Counts.{magnitude}
 use Rattle.arrow_spec.specs.Flat.{Order, little}
 use Rattle.arrow_spec.specs.Kinds.{Kind, Offsets, small, large, binary, utf8, «list», extension}
 use Rattle.arrow_spec.specs.Framing.{validity_bytes}
 use Rattle.arrow_types.specs.Numbers.{offsets_by}
 use Rattle.arrow_types.specs.Physical.{physical_of}
-use Rattle.arrow_types.specs.declared.physical.PhysicalType.{PhysicalType}
 use Rattle.arrow_types.specs.declared.physical.PhysicalType.TheVariants as physical
 use Rattle.arrow_types.specs.declared.physical.PrimitiveType.{PrimitiveType}
-use Rattle.arrow_types.specs.declared.physical.PrimitiveType.TheVariants.{Int8, Int16, Int32, Int64, Int128, Int256, UInt8, UInt16, UInt32, UInt64, Float16, Float32, Float64, DaysMs, MonthDayNano}
-use Rattle.arrow_buffers.specs.Layouts.{is_primitive, primitive_number, is_variable}
+use Rattle.arrow_arrays.specs.RowLaws.{layout_is}
+use Rattle.arrow_buffers.specs.Layouts.{is_primitive, is_variable}
 use Rattle.arrow_buffers.specs.Variable.{Variable, variable_fault}
 use Rattle.arrow_buffers.proofs.VariableParts.{variable_sound}
 use Rattle.ipc_bodies.specs.Fitting.{offset_limit, AllBelow}
@@ -21,31 +19,6 @@ use Rattle.ipc_bodies.specs.Pieces.{in_order, offset_bytes}
 use Rattle.ipc_write_arrays.specs.Pieces.{layout_in_order, width_of_kind, bytes_between, variable_pieces, OffsetsFit}
 
 -- ── numbers ──
-
--- a primitive type is told by its number
-abbrev by_number : ℕ → PrimitiveType
-by_number n = get_or (Int8 ∷ Int16 ∷ Int32 ∷ Int64 ∷ Int128 ∷ Int256 ∷ UInt8 ∷ UInt16 ∷ UInt32 ∷ UInt64 ∷ Float16 ∷ Float32 ∷ Float64 ∷ DaysMs ∷ MonthDayNano ∷ []) n Int8
-
-by_number-number : (p : PrimitiveType) → by_number (primitive_number p) ≡ p
-by_number-number Int8 = refl
-by_number-number Int16 = refl
-by_number-number Int32 = refl
-by_number-number Int64 = refl
-by_number-number Int128 = refl
-by_number-number Int256 = refl
-by_number-number UInt8 = refl
-by_number-number UInt16 = refl
-by_number-number UInt32 = refl
-by_number-number UInt64 = refl
-by_number-number Float16 = refl
-by_number-number Float32 = refl
-by_number-number Float64 = refl
-by_number-number DaysMs = refl
-by_number-number MonthDayNano = refl
-
-layout_is : (p : PrimitiveType) (l : PhysicalType) → is_primitive p l ≡ true → l ≡ physical.Primitive p
-layout_is p (physical.Primitive q) e = ap physical.Primitive (sym (by_number-number q) ∙ ap by_number (eqb-true (primitive_number q) (primitive_number p) e) ∙ by_number-number p)
-layout_is p l e = cc
 
 all_turned : {A : Type 0} (f : List ℕ → List ℕ) (g h : A → List ℕ) → ((x : A) → f (g x) ≡ h x) → (xs : List A) → flat_map f (map g xs) ≡ flat_map h xs
 all_turned f g h e [] = refl

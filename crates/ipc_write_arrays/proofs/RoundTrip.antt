@@ -171,13 +171,7 @@ module _ (order : Order) (d : Dictionaries) (o n : ℕ) where
 
 may_part : (o n : ℕ) (l : LeafParts) (is_little_endian : Bool) → LeafMayHaveOrder l is_little_endian → LeafMayHaveOrder (leaf_part_of o n l) is_little_endian
 may_part o n (nulls x) le may = may
-may_part o n (bits f) le may = may
-may_part o n (numbers f) le may = may
-may_part o n (fixed f) le may = may
-may_part o n (binary x) le may = may
-may_part o n (text x) le may = may
-may_part o n (binary_views x) le may = may
-may_part o n (text_views x) le may = may
+may_part o n l le may = may
 
 length-trim : (c : Cut) (cs : Forest) → length (rows_each (trim_each c cs)) ≡ length (rows_each cs)
 length-trim whole none = refl

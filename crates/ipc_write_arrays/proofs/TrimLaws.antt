@@ -24,7 +24,7 @@ use Rattle.arrow_arrays.specs.Parts.{Parts, Forest, leaf, nested, none, also, ki
 use Rattle.ipc_write_arrays.specs.Trims.{has_no_children, counted_from, head_trim, held_by, trim, trim_each, sent}
 use Rattle.arrow_arrays.proofs.LeafSliced as leaves
 use Rattle.arrow_arrays.proofs.HeadSliced as heads
-use Rattle.arrow_arrays.proofs.HeadSliced.{Sound, first_of-part}
+use Rattle.arrow_arrays.proofs.HeadSliced.{first_of-part}
 use Rattle.arrow_arrays.proofs.Sliced.{top_sound}
 
 get_or-map : {A B : Type 0} (f : A → B) (xs : List A) (i : ℕ) (d : A) → f (get_or xs i d) ≡ get_or (map f xs) i (f d)
@@ -71,11 +71,7 @@ cell-trim o n k (indexed d) ns css e le lt = heads.cell-part o n k (indexed d) c
 
 pub validity-trim : (o n : ℕ) (h : Head) → head_validity (head_trim o n h) ≡ option_map (part o n) (head_validity h)
 validity-trim o n (listed l) = refl
-validity-trim o n (mapped l) = refl
-validity-trim o n (sized c) = refl
-validity-trim o n (structured c) = refl
-validity-trim o n (tagged t) = refl
-validity-trim o n (indexed d) = refl
+validity-trim o n h = refl
 
 list_rows : (o n limit : ℕ) (os : List ℤ) → are_offsets os limit ≡ true → o + n ≤ variable_rows os → variable_rows (counted_from (place_at os o) (part o (n + 1) os)) ≡ n
 list_rows o n limit os e le = omega (arith, length-map (part o (n + 1) os) (λ x. pos (magnitude x - place_at os o)), heads.offsets-part o n limit os e le)
@@ -121,11 +117,7 @@ all_of n xs e = take_all n xs (omega arith)
 
 head_kind-trim : (o n : ℕ) (h : Head) → head_kind (head_trim o n h) ≡ head_kind h
 head_kind-trim o n (listed l) = refl
-head_kind-trim o n (mapped l) = refl
-head_kind-trim o n (sized c) = refl
-head_kind-trim o n (structured c) = refl
-head_kind-trim o n (tagged t) = refl
-head_kind-trim o n (indexed d) = refl
+head_kind-trim o n h = refl
 
 pub kind-trim : (o n : ℕ) (p : Parts) → kind_in (trim o n p) ≡ kind_in p
 kind-trim o n (leaf l) = leaves.kind-part o n l

@@ -93,7 +93,7 @@ batch_taken fs kv c d x rest readable known w =
     }
 
 -- what values that may be written have in their tables fits them
-values_fit : (fs : Fields) (c : Known) (x : WrittenValues) → ValuesMayBeWritten fs c x → TablesFit (node_rows (written_of (x.column ∷ [])).nodes) (written_of (x.column ∷ []))
+pub values_fit : (fs : Fields) (c : Known) (x : WrittenValues) → ValuesMayBeWritten fs c x → TablesFit (node_rows (written_of (x.column ∷ [])).nodes) (written_of (x.column ∷ []))
 values_fit fs c x w =
     let bounds = sent_bounds (values_message x) w.size in
     let all = written_of (x.column ∷ []) in
@@ -109,7 +109,7 @@ values_fit fs c x w =
     }
 
 -- values as they are held that were read
-abbrev held_values : WrittenValues → HeldDictionary
+abbrev pub held_values : WrittenValues → HeldDictionary
 held_values x = record {
   id = x.id;
   is_delta = x.is_delta;
@@ -130,10 +130,10 @@ values_read fs kv c d x rows counted known w =
     rw (counted, w.kind, always_new x.is_delta (is_absent (found d x.id)) DuplicateDictionary, w.readable, cells) refl
 
 -- their message says how long their body is
-abbrev sized_values : WrittenValues → SentMessage
+abbrev pub sized_values : WrittenValues → SentMessage
 sized_values x = message 2 (table (values_slots x.id x.is_delta (written_of (x.column ∷ [])))) (length (body_for (x.column ∷ []))) []
 
-values_same : (x : WrittenValues) → sized_values x ≡ values_message x
+pub values_same : (x : WrittenValues) → sized_values x ≡ values_message x
 values_same x =
     let all = written_of (x.column ∷ []) in
     let same : length (body_for (x.column ∷ [])) ≡ body_of 0 all.lengths = omega (arith, length-body (pieces_of (x.column ∷ [])) 0) in

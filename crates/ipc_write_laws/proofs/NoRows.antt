@@ -39,25 +39,6 @@ leaf_none m p r xs e = ap (λ l. l ++ []) (node_none m p r (no_first (node_fault
 
 mutual
   pub array_none : (m : RecordBatch) (d : Dictionaries) (k : Kind) (p : Place) (r : ℕ) → array_faults m d k p r ≡ [] → array_faults m d k p 0 ≡ []
-  array_none m d null p r e = leaf_none m p r (flat_faults m d null p r) e
-  array_none m d boolean p r e = leaf_none m p r (flat_faults m d boolean p r) e
-  array_none m d (integer t) p r e = leaf_none m p r (flat_faults m d (integer t) p r) e
-  array_none m d (float t) p r e = leaf_none m p r (flat_faults m d (float t) p r) e
-  array_none m d date32 p r e = leaf_none m p r (flat_faults m d date32 p r) e
-  array_none m d date64 p r e = leaf_none m p r (flat_faults m d date64 p r) e
-  array_none m d (time32 u) p r e = leaf_none m p r (flat_faults m d (time32 u) p r) e
-  array_none m d (time64 u) p r e = leaf_none m p r (flat_faults m d (time64 u) p r) e
-  array_none m d (timestamp u tz) p r e = leaf_none m p r (flat_faults m d (timestamp u tz) p r) e
-  array_none m d (duration u) p r e = leaf_none m p r (flat_faults m d (duration u) p r) e
-  array_none m d (interval u) p r e = leaf_none m p r (flat_faults m d (interval u) p r) e
-  array_none m d (decimal a b) p r e = leaf_none m p r (flat_faults m d (decimal a b) p r) e
-  array_none m d (decimal256 a b) p r e = leaf_none m p r (flat_faults m d (decimal256 a b) p r) e
-  array_none m d (binary o) p r e = leaf_none m p r (flat_faults m d (binary o) p r) e
-  array_none m d (utf8 o) p r e = leaf_none m p r (flat_faults m d (utf8 o) p r) e
-  array_none m d binary_view p r e = leaf_none m p r (flat_faults m d binary_view p r) e
-  array_none m d utf8_view p r e = leaf_none m p r (flat_faults m d utf8_view p r) e
-  array_none m d (fixed_size_binary n) p r e = leaf_none m p r (flat_faults m d (fixed_size_binary n) p r) e
-  array_none m d (dictionary t ordered id k) p r e = leaf_none m p r (flat_faults m d (dictionary t ordered id k) p r) e
   array_none m d (extension name metadata k) p r e = array_none m d k p r e
   array_none m d («list» o fs) p zero e = e
   array_none m d («list» o fs) p (suc n) e =
@@ -102,6 +83,7 @@ mutual
       let below = child_faults m d fs at (λ q. magnitude (node_of m q.node).length) in
       let own = no_first (node_faults m p (suc n)) (union_faults m Dense ids fs p (suc n)) (no_first front below e) in
       rw (node_none m p (suc n) own, children_none m d fs at (λ q. magnitude (node_of m q.node).length) (λ q. 0) (λ q. refl) (no_second front below e)) refl
+  array_none m d k p r e = leaf_none m p r (flat_faults m d k p r) e
 
   pub children_none : (m : RecordBatch) (d : Dictionaries) (fs : Fields) (p : Place) (read less : Place → ℕ) → ((q : Place) → less q ≡ 0) → child_faults m d fs p read ≡ [] → child_faults m d fs p less ≡ []
   children_none m d none p read less z e = refl

@@ -8,24 +8,6 @@ use Rattle.ipc_write_laws.specs.Plain.{has_no_ids, have_no_ids}
 
 mutual
   pub kind_stays : (k : Kind) (n : ℕ) → dictionary_count k ≡ 0 → numbered_kind k n ≡ k
-  kind_stays null n h = refl
-  kind_stays boolean n h = refl
-  kind_stays (integer t) n h = refl
-  kind_stays (float t) n h = refl
-  kind_stays date32 n h = refl
-  kind_stays date64 n h = refl
-  kind_stays (time32 u) n h = refl
-  kind_stays (time64 u) n h = refl
-  kind_stays (timestamp u tz) n h = refl
-  kind_stays (duration u) n h = refl
-  kind_stays (interval u) n h = refl
-  kind_stays (decimal p s) n h = refl
-  kind_stays (decimal256 p s) n h = refl
-  kind_stays (binary o) n h = refl
-  kind_stays (utf8 o) n h = refl
-  kind_stays binary_view n h = refl
-  kind_stays utf8_view n h = refl
-  kind_stays (fixed_size_binary w) n h = refl
   kind_stays («list» o fs) n h = ap (λ gs. «list» o gs) (fields_stay fs n h)
   kind_stays (fixed_size_list w fs) n h = ap (λ gs. fixed_size_list w gs) (fields_stay fs n h)
   kind_stays (struct fs) n h = ap struct (fields_stay fs n h)
@@ -33,6 +15,7 @@ mutual
   kind_stays (union mode stated ids fs) n h = ap (λ gs. union mode stated ids gs) (fields_stay fs n h)
   kind_stays (dictionary t ordered id k) n h = absurd (omega (arith, h))
   kind_stays (extension name metadata k) n h = ap (λ l. extension name metadata l) (kind_stays k n h)
+  kind_stays k n h = refl
 
   pub fields_stay : (fs : Fields) (n : ℕ) → dictionary_counts fs ≡ 0 → numbered fs n ≡ fs
   fields_stay none n h = refl
@@ -45,24 +28,6 @@ mutual
 
 mutual
   pub count_none : (k : Kind) → has_no_ids k ≡ true → dictionary_count k ≡ 0
-  count_none null h = refl
-  count_none boolean h = refl
-  count_none (integer t) h = refl
-  count_none (float t) h = refl
-  count_none date32 h = refl
-  count_none date64 h = refl
-  count_none (time32 u) h = refl
-  count_none (time64 u) h = refl
-  count_none (timestamp u tz) h = refl
-  count_none (duration u) h = refl
-  count_none (interval u) h = refl
-  count_none (decimal p s) h = refl
-  count_none (decimal256 p s) h = refl
-  count_none (binary o) h = refl
-  count_none (utf8 o) h = refl
-  count_none binary_view h = refl
-  count_none utf8_view h = refl
-  count_none (fixed_size_binary w) h = refl
   count_none («list» o fs) h = counts_none fs h
   count_none (fixed_size_list w fs) h = counts_none fs h
   count_none (struct fs) h = counts_none fs h
@@ -70,6 +35,7 @@ mutual
   count_none (union mode stated ids fs) h = counts_none fs (and_parts stated (have_no_ids fs) h).1
   count_none (dictionary t ordered id k) h = cc
   count_none (extension name metadata k) h = count_none k h
+  count_none k h = refl
 
   pub counts_none : (fs : Fields) → have_no_ids fs ≡ true → dictionary_counts fs ≡ 0
   counts_none none h = refl
@@ -79,24 +45,6 @@ mutual
 
 mutual
   pub kind_is_bare : (k : Kind) → has_no_ids k ≡ true → bare_kind k ≡ k
-  kind_is_bare null h = refl
-  kind_is_bare boolean h = refl
-  kind_is_bare (integer t) h = refl
-  kind_is_bare (float t) h = refl
-  kind_is_bare date32 h = refl
-  kind_is_bare date64 h = refl
-  kind_is_bare (time32 u) h = refl
-  kind_is_bare (time64 u) h = refl
-  kind_is_bare (timestamp u tz) h = refl
-  kind_is_bare (duration u) h = refl
-  kind_is_bare (interval u) h = refl
-  kind_is_bare (decimal p s) h = refl
-  kind_is_bare (decimal256 p s) h = refl
-  kind_is_bare (binary o) h = refl
-  kind_is_bare (utf8 o) h = refl
-  kind_is_bare binary_view h = refl
-  kind_is_bare utf8_view h = refl
-  kind_is_bare (fixed_size_binary w) h = refl
   kind_is_bare («list» o fs) h = ap (λ gs. «list» o gs) (fields_are_bare fs h)
   kind_is_bare (fixed_size_list w fs) h = ap (λ gs. fixed_size_list w gs) (fields_are_bare fs h)
   kind_is_bare (struct fs) h = ap struct (fields_are_bare fs h)
@@ -106,6 +54,7 @@ mutual
       rw (parts.0, fields_are_bare fs parts.1) refl
   kind_is_bare (dictionary t ordered id k) h = cc
   kind_is_bare (extension name metadata k) h = ap (λ l. extension name metadata l) (kind_is_bare k h)
+  kind_is_bare k h = refl
 
   pub fields_are_bare : (fs : Fields) → have_no_ids fs ≡ true → bare fs ≡ fs
   fields_are_bare none h = refl

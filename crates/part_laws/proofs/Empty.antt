@@ -32,6 +32,7 @@ use Rattle.arrow_arrays.proofs.EmptyParts.{cells-empty, kind-empty, rows-empty, 
 use Rattle.ipc_fields.proofs.SameKinds.{same_itself}
 use Rattle.ipc_bodies.specs.Pieces.{offset_bytes}
 use Rattle.ipc_bodies.specs.Fitting.{offset_limit}
+use Rattle.ipc_read_laws.proofs.PlainTypes.{plain_twice}
 use Rattle.ipc_read_laws.specs.PlainKinds.{plain_kind, plain_fields}
 use Rattle.ipc_read_laws.proofs.PlainKinds.{carried_plain, width_plain}
 use Rattle.ipc_write_laws.specs.Columns.{Means}
@@ -63,21 +64,6 @@ mutual
   plain_numbered_fields none id = refl
   plain_numbered_fields (field name nullable metadata k others) id =
       ap (λ l. field name nullable metadata l (plain_fields (numbered others (id + dictionary_count k)))) (plain_numbered k id) ∙ ap (field name nullable metadata (plain_kind k)) (plain_numbered_fields others (id + dictionary_count k))
-
-mutual
-  pub plain_twice : (k : Kind) → plain_kind (plain_kind k) ≡ plain_kind k
-  plain_twice (kind.«list» o fs) = ap (kind.«list» o) (plain_fields_twice fs)
-  plain_twice (kind.fixed_size_list size fs) = ap (kind.fixed_size_list size) (plain_fields_twice fs)
-  plain_twice (kind.struct fs) = ap kind.struct (plain_fields_twice fs)
-  plain_twice (kind.map sorted fs) = ap (kind.map sorted) (plain_fields_twice fs)
-  plain_twice (kind.union mode stated ids fs) = ap (kind.union mode stated ids) (plain_fields_twice fs)
-  plain_twice (kind.dictionary t ordered old k) = ap (kind.dictionary t ordered (pos 0)) (plain_twice k)
-  plain_twice (kind.extension name metadata k) = ap (kind.extension name metadata) (plain_twice k)
-  plain_twice k = refl
-
-  plain_fields_twice : (fs : Fields) → plain_fields (plain_fields fs) ≡ plain_fields fs
-  plain_fields_twice none = refl
-  plain_fields_twice (field name nullable metadata k others) = ap (λ l. field name nullable metadata l (plain_fields (plain_fields others))) (plain_twice k) ∙ ap (field name nullable metadata (plain_kind k)) (plain_fields_twice others)
 
 -- ── what is written ──
 
@@ -224,16 +210,9 @@ mutual
   bare m p from l (kind.float kind.half) w c = cc
   bare m p from l (kind.float kind.single) w c = cc
   bare m p from l (kind.float kind.double) w c = cc
-  bare m p from l kind.date32 w c = numbers_bare l m p from _ refl
-  bare m p from l kind.date64 w c = numbers_bare l m p from _ refl
-  bare m p from l (kind.time32 u) w c = numbers_bare l m p from _ refl
-  bare m p from l (kind.time64 u) w c = numbers_bare l m p from _ refl
-  bare m p from l (kind.timestamp u z) w c = numbers_bare l m p from _ refl
-  bare m p from l (kind.duration u) w c = numbers_bare l m p from _ refl
   bare m p from l (kind.interval YearMonth) w c = numbers_bare l m p from _ refl
   bare m p from l (kind.interval DayTime) w c = numbers_bare l m p from _ refl
   bare m p from l (kind.interval MonthDayNano) w c = numbers_bare l m p from _ refl
-  bare m p from l (kind.decimal precision scale) w c = numbers_bare l m p from _ refl
   bare m p from l (kind.decimal256 precision scale) w c = cc
   bare m p from l (kind.binary small) w c = binary_bare l small m p from _ w (same_place from (offset m small (p.buffer + 1)))
   bare m p from l (kind.binary large) w c = binary_bare l large m p from _ w (same_place from (offset m large (p.buffer + 1)))
@@ -244,6 +223,7 @@ mutual
   bare m p from l (kind.fixed_size_binary n) w c =
       subst (λ xs. IsBare (leaf (fixed (record { kind = l; values = xs; validity = None }))) (own m p 0 from 0 (n * 0 ∷ []))) (sym (no_part (binary_size l)))
       (leaf_bare (fixed (record { kind = l; values = []; validity = None })) _ tt (ap rows_node (rows-empty l (kind.fixed_size_binary n))) tt (rw (times_none n) refl))
+  bare m p from l k w c = numbers_bare l m p from _ refl
 
   all_bare : (m : RecordBatch) (p : Place) (read : Place → ℕ) (from : ℕ) (rows : Place → ℕ) (fs : Fields) → ((q : Place) → read q ≡ 0) → ((q : Place) → rows q ≡ 0) → are_carried fs ≡ true
       → AreBare (trim_each (run 0 0) (empty_forest (plain_fields fs))) (parts_written m fs p read from rows)

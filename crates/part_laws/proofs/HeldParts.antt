@@ -7,9 +7,9 @@ use Rattle.arrow_spec.specs.Cells.{Cell}
 use Rattle.arrow_spec.specs.Arrays.{Dictionaries, HeldDictionary, cells_before, found}
 use Rattle.arrow_arrays.specs.Heads.{joined}
 use Rattle.arrow_arrays.specs.Parts as parts
-use Rattle.arrow_arrays.specs.Parts.{Parts, Forest, also, cells_each, cells_in, either, fault_each, fault_in}
+use Rattle.arrow_arrays.specs.Parts.{Parts, Forest, also, cells_each, cells_in, fault_each, fault_in}
 use Rattle.arrow_arrays.proofs.Sliced.{neither}
-use Rattle.ipc_fields.proofs.SameKinds.{id_self, id_true}
+use Rattle.arrow_spec.proofs.SameIds.{id_self, id_true}
 use Rattle.ipc_read_laws.specs.Held.{AreValuesOf, HasFields, HasKind, HasKinds, Held, HoldsCells, HoldsFields, HoldsKinds}
 use Rattle.ipc_read_laws.proofs.Trees.{both_none}
 use Rattle.ipc_read.specs.DictionaryBatches.{parts_before, with_part}

@@ -14,7 +14,8 @@ use Rattle.arrow_spec.specs.Files.{block_body, fields_as_asked, fields_asked, re
 use Rattle.arrow_arrays.specs.Heads.{joined}
 use Rattle.arrow_arrays.specs.Parts as parts
 use Rattle.arrow_arrays.specs.Parts.{Parts, Forest, also, cells_each, forest, kind_in}
-use Rattle.ipc_fields.proofs.SameKinds.{id_true, same_itself}
+use Rattle.arrow_spec.proofs.SameIds.{id_true}
+use Rattle.ipc_fields.proofs.SameKinds.{same_itself}
 use Rattle.ipc_dictionaries.specs.Columns.{columns_of}
 use Rattle.ipc_read_laws.specs.Batches.{columns_read}
 use Rattle.ipc_read_laws.specs.Held.{Held, HoldsCells, none_held}

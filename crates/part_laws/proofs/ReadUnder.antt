@@ -5,7 +5,7 @@ use Rattle.std.specs.Str.{bytes_eq}
 use Rattle.std.proofs.lemmas.Bool.{and_parts}
 use Rattle.arrow_spec.specs.declared.types.UnionMode.TheVariants.{Dense, Sparse}
 use Rattle.arrow_spec.specs.Kinds as kind
-use Rattle.arrow_spec.specs.Kinds.{Kind, Fields, Offsets, small, large, are_same_ids, have_same_kinds, is_same_flag, is_same_integer, is_same_kind, is_same_mode, is_same_offsets, is_same_text, same}
+use Rattle.arrow_spec.specs.Kinds.{Kind, Fields, Offsets, small, are_same_ids, have_same_kinds, is_same_flag, is_same_integer, is_same_kind, is_same_mode, is_same_offsets, is_same_text, same}
 use Rattle.arrow_spec.specs.Counts.{RecordBatch, Place, after, inside, union_buffers}
 use Rattle.arrow_spec.specs.Sent.{dense_rows, offset_read}
 use Rattle.arrow_types.specs.Physical.{physical_of}
@@ -14,7 +14,8 @@ use Rattle.arrow_arrays.specs.EmptyParts.{empty_parts}
 use Rattle.arrow_arrays.specs.Parts as parts
 use Rattle.arrow_arrays.specs.Parts.{Parts, Forest, also, kind_in}
 use Rattle.ipc_fields.proofs.KindSteps.{leaf_true}
-use Rattle.ipc_fields.proofs.SameKinds.{id_true, same_itself, same_through}
+use Rattle.arrow_spec.proofs.SameIds.{id_true}
+use Rattle.ipc_fields.proofs.SameKinds.{same_itself, same_through}
 use Rattle.ipc_dictionaries.specs.Tracker.{values_in}
 use Rattle.ipc_read_laws.specs.Held.{Held}
 use Rattle.ipc_read_laws.specs.PartsRead.{forest_read, listed_read, parts_or_empty, parts_read, parts_under}
@@ -22,8 +23,8 @@ use Rattle.ipc_read_laws.specs.PlainKinds.{plain_kind}
 use Rattle.ipc_read_laws.proofs.PlainKinds.{values_plain}
 use Rattle.ipc_read_laws.proofs.SoundLaws.{kind_under}
 use Rattle.ipc_write_arrays.specs.Dictionaries.{is_alike}
-use Rattle.part_laws.proofs.Empty.{plain_twice}
 use Rattle.ipc_files.proofs.HeldUses.{plain_same}
+use Rattle.ipc_read_laws.proofs.PlainTypes.{plain_twice}
 use Rattle.part_laws.specs.ReadUnder.{AreReadUnder, IsReadUnder}
 
 -- ── under a kind that is one with another ──

@@ -1,11 +1,12 @@
 -- Under kinds that are one, names, nullability and metadata aside, the same dictionaries are known and held.
 use Rattle.std.proofs.Common.{◌≡◌, ◌∙◌, ℕ, suc, ◌+◌, true, pos, refl, sym, ap, subst}
 use Rattle.arrow_spec.specs.Kinds as kind
-use Rattle.arrow_spec.specs.Kinds.{Kind, Fields, dictionary_count, dictionary_counts, is_same_kind, numbered, numbered_kind}
+use Rattle.arrow_spec.specs.Kinds.{Kind, Fields, dictionary_count, is_same_kind, numbered, numbered_kind}
 use Rattle.arrow_spec.specs.Arrays.{Dictionaries, found}
 use Rattle.arrow_arrays.specs.Heads.{child_fields, indexed, joined}
 use Rattle.arrow_arrays.specs.Parts.{Parts, Forest, leaf, nested, none, also, cells_each}
-use Rattle.ipc_fields.proofs.SameKinds.{form, forms, form_is_same}
+use Rattle.arrow_spec.proofs.Forms.{count_form, form, forms}
+use Rattle.ipc_fields.proofs.SameKinds.{form_is_same}
 use Rattle.ipc_write_laws.specs.Messages.{Known}
 use Rattle.ipc_write_arrays.specs.Dictionaries.{Begins, HoldsEachAt, HoldsValuesAt, dictionary_id, first_kind, other_fields}
 use Rattle.dictionary_laws.specs.Sending.{AllAreKnown, AreKnown}
@@ -14,21 +15,6 @@ move : {A B : Type 0} → A ≡ B → A → B
 move e a = subst (λ (x : Type 0). x) e a
 
 -- ── what is known ──
-
-mutual
-  count_form : (k : Kind) → dictionary_count (form k) ≡ dictionary_count k
-  count_form (kind.«list» o fs) = counts_form fs
-  count_form (kind.fixed_size_list n fs) = counts_form fs
-  count_form (kind.struct fs) = counts_form fs
-  count_form (kind.map sorted fs) = counts_form fs
-  count_form (kind.union mode stated types fs) = counts_form fs
-  count_form (kind.dictionary t ordered id k) = ap suc (count_form k)
-  count_form (kind.extension name metadata k) = count_form k
-  count_form k = refl
-
-  counts_form : (fs : Fields) → dictionary_counts (forms fs) ≡ dictionary_counts fs
-  counts_form kind.none = refl
-  counts_form (kind.field name nullable metadata k fs) = rw (count_form k, counts_form fs) refl
 
 mutual
   known_form : (e : Dictionaries) (k : Kind) (id : ℕ) (c : Known) → AreKnown e (form k) id c ≡ AreKnown e k id c

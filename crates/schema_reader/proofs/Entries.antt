@@ -14,7 +14,7 @@ use Rattle.ipc_fields.proofs.Widths.{leaf_with, width_with}
 use Rattle.ipc_fields.specs.IpcFields.{Ids, Tree, no_fields, ids, has_no_fields, has_shape, have_shapes, is_encoded, kind_with, fields_with}
 use Rattle.schema_reader.specs.Parts.{child_by, entry_by}
 use Rattle.schema_reader.specs.ReadViews.{child_with, Takes, Named, shape_kind, extended, encoded, encoding_in, is_whole_shape}
-use Rattle.ipc_fields.specs.Leaves.{is_leaf}
+use Rattle.arrow_types.specs.Leaves.{is_leaf}
 use Rattle.schema_reader.specs.declared.data_type.Shape.{Shape}
 use Rattle.schema_reader.specs.declared.data_type.Shape.TheVariants as shape
 use Rattle.schema_reader.specs.declared.head.Encoding.{Encoding}
@@ -41,12 +41,7 @@ leaf_shape k below h none = none
 
 pub shape_with : (n : ℕ) (s : Shape) (fs : Fields) (below : Ids) → Takes n s → kind_with (shape_kind n s fs) None below ≡ shape_kind n s (fields_with fs below)
 shape_with n (shape.Flat t) fs below h = leaf_with (kind_of t) None below h.1
-shape_with n shape.List fs below h = refl
-shape_with n shape.LargeList fs below h = refl
-shape_with n (shape.FixedSizeList size) fs below h = refl
-shape_with n (shape.Map sorted) fs below h = refl
-shape_with n shape.Struct fs below h = refl
-shape_with n (shape.Union mode stated) fs below h = refl
+shape_with n s fs below h = refl
 
 no_child : (cs : List Child) (below : Ids) → length cs ≡ 0 → have_shapes (fields_from cs) below ≡ true → has_no_fields below ≡ true
 no_child [] below none h = h
@@ -54,12 +49,7 @@ no_child (c ∷ cs) below none h = absurd (omega (arith, none))
 
 shape_has : (s : Shape) (cs : List Child) (below : Ids) → Takes (length cs) s → have_shapes (fields_from cs) below ≡ true → has_shape (shape_kind (length cs) s (fields_from cs)) None below ≡ true
 shape_has (shape.Flat t) cs below h f = leaf_shape (kind_of t) below h.1 (no_child cs below h.0 f)
-shape_has shape.List cs below h f = f
-shape_has shape.LargeList cs below h f = f
-shape_has (shape.FixedSizeList size) cs below h f = f
-shape_has (shape.Map sorted) cs below h f = f
-shape_has shape.Struct cs below h f = f
-shape_has (shape.Union mode stated) cs below h f = f
+shape_has s cs below h f = f
 
 extended_with : (x : Option Named) (k : Kind) (id : Option ℤ) (below : Ids) → kind_with (extended x k) id below ≡ extended x (kind_with k id below)
 extended_with None k id below = refl
@@ -115,12 +105,7 @@ first_with (kind.field name nullable metadata k fs) (ids id below others) = two_
 
 shape_whole : (n : ℕ) (s : Shape) (fs : Fields) → Takes n s → is_whole (shape_kind n s fs) ≡ is_whole_shape s fs
 shape_whole n (shape.Flat t) fs h = leaf_whole (kind_of t) h.1
-shape_whole n shape.List fs h = refl
-shape_whole n shape.LargeList fs h = refl
-shape_whole n (shape.FixedSizeList size) fs h = refl
-shape_whole n (shape.Map sorted) fs h = refl
-shape_whole n shape.Struct fs h = refl
-shape_whole n (shape.Union mode stated) fs h = refl
+shape_whole n s fs h = refl
 
 whole_with : (s : Shape) (fs : Fields) (below : Ids) → is_whole_shape s (fields_with fs below) ≡ is_whole_shape s fs
 whole_with (shape.Map sorted) fs below = first_with fs below

@@ -10,7 +10,7 @@ use Rattle.arrow_types.specs.Child.{Child}
 use Rattle.arrow_types.specs.KindOf.{kind_of, child_of, fields_of, texts_of, are_stated, ids_of}
 use Rattle.ipc_fields.specs.IpcFields.{Tree, Ids, kind_with, fields_with, tree_of}
 use Rattle.ipc_fields.specs.IpcFields as trees
-use Rattle.ipc_fields.specs.Leaves.{is_leaf}
+use Rattle.arrow_types.specs.Leaves.{is_leaf}
 use Rattle.schema_reader.specs.Parts.{Form}
 use Rattle.schema_reader.specs.declared.pairs.Pairs.{Pairs}
 use Rattle.schema_reader.specs.declared.data_type.TypeTag.{TypeTag}

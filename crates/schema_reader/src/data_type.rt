@@ -8,7 +8,7 @@ ghost use Rattle.arrow_spec.specs.Schema.{is_nested, choice, natural_slot, schem
 ghost use Rattle.arrow_types.specs.KindOf.{kind_of};
 ghost use Rattle.schema_reader.specs.Parts.{tag_part, size_at, float_at, date_at, interval_at, duration_at};
 ghost use Rattle.schema_reader.specs.ReadViews.{tag_in, shape_kind, Takes};
-ghost use Rattle.ipc_fields.specs.Leaves.{is_leaf};
+ghost use Rattle.arrow_types.specs.Leaves.{is_leaf};
 
 use crate::pairs::read_text;
 use arrow_flat::{ChoiceWidth, Table};

@@ -3,21 +3,15 @@ use Rattle.std.proofs.Common.{◌≡◌, ℕ, zero, suc, ◌+◌, Bool, true, fa
 use Rattle.std.specs.Prelude.{if◌then◌else◌, is_some}
 use Rattle.std.proofs.lemmas.Bool.{and_parts}
 use Rattle.arrow_spec.specs.declared.types.IntegerType.{IntegerType}
-use Rattle.arrow_spec.specs.declared.types.UnionMode.{UnionMode}
 use Rattle.arrow_spec.specs.Kinds as kind
-use Rattle.arrow_spec.specs.Kinds.{Kind, Fields, Offsets, Metadata, dictionary_count, dictionary_counts, numbered_kind, numbered}
-use Rattle.std.proofs.Common.{◌<◌, length, take, get_or, rules, Global}
+use Rattle.arrow_spec.specs.Kinds.{Kind, Fields, dictionary_count, dictionary_counts, numbered_kind, numbered}
+use Rattle.std.proofs.Common.{◌<◌, length, map, take, get_or}
 use Rattle.std.specs.Prelude.{slice_get}
-use Rattle.std.specs.declared.boxed.Box.{Box}
-use Rattle.std.proofs.lemmas.Option.{get_or_from_slice_get, slice_get_cases}
-use Rattle.arrow_types.specs.KindOf.{kind_of, child_of}
 use Rattle.arrow_types.specs.Schemas.{Keyed}
-use Rattle.arrow_types.specs.declared.data_type.ArrowDataType.{ArrowDataType, Dictionary, FixedSizeList, the_lemmas}
-use Rattle.arrow_types.specs.declared.data_type.Field.{Field}
-use Rattle.schema_writer.proofs.Tops.{children}
-use Rattle.arrow_types.specs.Child.{Child, fields_from, one_field}
-use Rattle.ipc_fields.specs.IpcFields.{Ids, no_fields, Tree, ids_from, is_encoded, has_shape, have_shapes, kind_with, fields_with}
-use Rattle.schema_writer.specs.Defaults.{is_apart, are_apart, IsDefault, AreDefault, IsNumbered}
+use Rattle.std.proofs.lemmas.List.{take_more}
+use Rattle.arrow_types.specs.Child.{Child, fields_from}
+use Rattle.ipc_fields.specs.IpcFields.{Ids, Tree, ids_from, is_encoded, has_shape, have_shapes, kind_with, fields_with}
+use Rattle.schema_writer.specs.Defaults.{is_apart, are_apart, IsDefault, AreDefault}
 
 -- ── kinds with fields ──
 
@@ -129,28 +123,11 @@ tree_at id own = record { id = id; children = own }
 pub at_kind : (k l : Kind) (s n : ℕ) (t : Tree) (id : Option ℤ) (own : Ids) → l ≡ k → t ≡ tree_at id own → IsDefault k s n id own → IsDefault l s n t.id t.children
 at_kind k l s n t id own e g h = subst (λ x. IsDefault x s n t.id t.children) (sym e) (subst (λ (x : Tree). IsDefault k s n x.id x.children) (sym g) h)
 
-pub kind_of_FixedSizeList : (f : Box Field Global) (n : ℕ) → kind_of (FixedSizeList f n) ≡ kind.fixed_size_list n (one_field (child_of f.value))
-kind_of_FixedSizeList f n = search (rules, the_lemmas)
-
-pub kind_of_Dictionary : (i : IntegerType) (v : Box ArrowDataType Global) (ordered : Bool) → kind_of (Dictionary i v ordered) ≡ kind.dictionary i ordered (pos 0) (kind_of v.value)
-kind_of_Dictionary i v ordered = search (rules, the_lemmas)
-
 pub one_more : {A : Type 0} (xs : List A) (i : ℕ) (x : A) → i < length xs → x ≡ get_or xs i x → take (i + 1) xs ≡ take i xs ++ x ∷ []
-one_more xs i x h e = ap (λ n. take n xs) (add-one i) ∙ behind xs i x h e
-  where
-    behind : {A : Type 0} (xs : List A) (i : ℕ) (x : A) → i < length xs → x ≡ get_or xs i x → take (suc i) xs ≡ take i xs ++ x ∷ []
-    behind [] i x h e = absurd (omega (arith, h))
-    behind (y ∷ xs) zero x h e = ap (λ z. z ∷ []) (sym e)
-    behind (y ∷ xs) (suc i) x h e = ap (λ zs. y ∷ zs) (behind xs i x (omega (arith, h)) e)
+one_more xs i x h e = take_more xs i x h ∙ ap (λ y. take i xs ++ y ∷ []) (sym e)
 
-take_at : (xs : List Child) (i : ℕ) (x : Child) → slice_get xs i ≡ Some x → take (i + 1) xs ≡ take i xs ++ x ∷ []
-take_at xs i x h = grind (arith, one_more xs i x, get_or_from_slice_get xs i x x h, slice_get_cases xs i)
-
-children_take : (s : List Keyed) (i : ℕ) → children (take i s) ≡ take i (children s)
-children_take [] zero = refl
-children_take [] (suc i) = refl
-children_take (p ∷ s) zero = refl
-children_take (p ∷ s) (suc i) = ap (λ cs. p.1 ∷ cs) (children_take s i)
-
-pub children_more : (s : List Keyed) (i : ℕ) (c : Child) → slice_get (children s) i ≡ Some c → children (take (i + 1) s) ≡ children (take i s) ++ c ∷ []
-children_more s i c h = children_take s (i + 1) ∙ take_at (children s) i c h ∙ ap (λ cs. cs ++ c ∷ []) (sym (children_take s i))
+-- the fields of a schema up to one at a place, and with it
+pub one_taken : (s : List Keyed) (i : ℕ) (c : Child) → slice_get (map (λ p. p.1) s) i ≡ Some c → map (λ p. p.1) (take (i + 1) s) ≡ map (λ p. p.1) (take i s) ++ c ∷ []
+one_taken [] i c h = cc
+one_taken (p ∷ s) zero c h = ap (λ d. d ∷ []) cc
+one_taken (p ∷ s) (suc i) c h = let e : suc i + 1 ≡ suc (i + 1) = omega arith in rw e (ap (λ cs. p.1 ∷ cs) (one_taken s i c h))

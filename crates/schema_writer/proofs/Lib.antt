@@ -5,9 +5,7 @@ pub mod Limits
 pub mod RoundTrip
 pub mod Saying
 pub mod Serializing
-pub mod Shaping
 pub mod SlotValues
 pub mod Tops
 pub mod WrittenPairs
 pub mod Texts
-pub mod SchemaUses

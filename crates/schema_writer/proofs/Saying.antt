@@ -1,19 +1,18 @@
 -- What a schema's tables can say, field after field.
-use Rattle.std.proofs.Common.{◌≡◌, ℕ, zero, suc, ◌+◌, ◌<◌, ◌≤◌, Bool, true, false, ◌&&◌, List, [], ◌∷◌, ◌++◌, map, drop, length, get_or, Option, None, ℤ, refl, sym, ap, ◌∙◌, arith, leb-true}
+use Rattle.std.proofs.Common.{◌≡◌, ℕ, suc, ◌+◌, Bool, true, false, ◌&&◌, List, [], ◌∷◌, ◌++◌, map, drop, length, Option, None, ℤ, refl, sym, ap, ◌∙◌}
+use Rattle.std.proofs.Math.Bool.{and-true}
 use Rattle.std.proofs.lemmas.Bool.{and_parts}
 use Rattle.std.specs.Prelude.{nat_le, nat_lt}
 use Rattle.arrow_spec.specs.Kinds as kind
-use Rattle.arrow_spec.specs.Kinds.{Kind, Fields, width, are_same_ids}
-use Rattle.arrow_spec.specs.Regular.{Standing, fields_below, fields_from, has_right_ids, is_no_dictionary, is_representable_kind, are_representable, representable}
+use Rattle.arrow_spec.specs.Kinds.{Kind, Fields, width}
+use Rattle.arrow_spec.specs.Regular.{Standing, fields_below, fields_from as standing, has_right_ids, is_no_dictionary, is_representable_kind, are_representable, representable}
 use Rattle.arrow_spec.specs.Schema.{counted_ids}
-use Rattle.std.proofs.Common.{rules, Vec, Global}
-use Rattle.std.specs.declared.boxed.Box.{Box}
+use Rattle.std.proofs.Common.{Vec, Global}
 use Rattle.std.proofs.lemmas.List.{length-map}
 use Rattle.arrow_spec.specs.declared.types.UnionMode.{UnionMode}
-use Rattle.arrow_types.specs.Child.{one_field}
-use Rattle.arrow_types.specs.declared.data_type.ArrowDataType.{Map, the_lemmas}
+use Rattle.arrow_types.specs.Child.{Child, fields_from}
 use Rattle.arrow_types.proofs.Sameness.{union_of}
-use Rattle.arrow_types.specs.KindOf.{kind_of, child_of, fields_of, are_stated, ids_of as union_ids}
+use Rattle.arrow_types.specs.KindOf.{child_of, fields_of, are_stated, ids_of as union_ids}
 use Rattle.arrow_types.specs.declared.data_type.Field.{Field}
 use Rattle.ipc_fields.specs.IpcFields.{Ids, no_fields, ids, ids_of, kind_with, fields_with}
 use Rattle.ipc_fields.specs.declared.ipc_field.IpcField.{IpcField}
@@ -21,12 +20,9 @@ use Rattle.schema_writer.specs.Tables.{kind_fits, fits_below, all_fit, sizes_fit
 use Rattle.ipc_fields.specs.Uses.{other_ids, first_ids, first_id}
 use Rattle.arrow_types.specs.UnionIds.{are_right}
 use Rattle.arrow_types.proofs.Children.{width_from}
-use Rattle.arrow_types.proofs.UnionIds.{same_when, counted_few}
-use Rattle.schema_writer.proofs.Building.{rest_at, others_at, none_behind}
-
-and_true : (b : Bool) → (b && true) ≡ b
-and_true true = refl
-and_true false = refl
+use Rattle.arrow_types.proofs.UnionIds.{counted_few}
+use Rattle.arrow_spec.proofs.SameIds.{ids_self}
+use Rattle.ipc_fields.proofs.UseSteps.{others_at}
 
 pub and_more : (a b c : Bool) → (a && (b && c)) ≡ ((a && b) && c)
 and_more true b c = refl
@@ -35,14 +31,10 @@ and_more false b c = refl
 -- ── the ids of unions ──
 
 pub stated_right : (xs : List ℤ) (n : ℕ) (r : Bool) → r ≡ are_right xs n → r ≡ has_right_ids true xs n
-stated_right xs n r h = h ∙ sym (and_true (are_right xs n))
-
-same_all : (xs : List ℤ) → are_same_ids xs xs ≡ true
-same_all [] = refl
-same_all (x ∷ xs) = rw (same_when x x refl, same_all xs) refl
+stated_right xs n r h = h ∙ sym (and-true (are_right xs n))
 
 pub counted_right : (n : ℕ) (r : Bool) → r ≡ (nat_lt 0 n && nat_le n 128) → r ≡ has_right_ids false (counted_ids 0 n) n
-counted_right n r h = counted_few n r h ∙ sym (ap (λ b. are_right (counted_ids 0 n) n && b) (same_all (counted_ids 0 n)) ∙ and_true _)
+counted_right n r h = counted_few n r h ∙ sym (ap (λ b. are_right (counted_ids 0 n) n && b) (ids_self (counted_ids 0 n)) ∙ and-true _)
 
 -- ── fields ──
 
@@ -51,29 +43,26 @@ width_with kind.none own = refl
 width_with (kind.field name nullable metadata k fs) no_fields = ap suc (width_with fs no_fields)
 width_with (kind.field name nullable metadata k fs) (ids id below others) = ap suc (width_with fs others)
 
-abbrev pub here_fits : Field → Ids → Bool
-here_fits c own = kind_fits (kind_with (child_of c).kind (first_id own) (first_ids own))
+abbrev pub here_fits : Child → Ids → Bool
+here_fits c own = kind_fits (kind_with c.kind (first_id own) (first_ids own))
 
-split_fits : (c : Field) (cs : List Field) (own : Ids) → all_fit (fields_with (fields_of (c ∷ cs)) own) ≡ (here_fits c own && all_fit (fields_with (fields_of cs) (other_ids own)))
+split_fits : (c : Child) (cs : List Child) (own : Ids) → all_fit (fields_with (fields_from (c ∷ cs)) own) ≡ (here_fits c own && all_fit (fields_with (fields_from cs) (other_ids own)))
 split_fits c cs no_fields = refl
 split_fits c cs (ids id below others) = refl
 
-abbrev pub left_fit : List Field → List IpcField → ℕ → Bool
-left_fit cs ts i = all_fit (fields_with (fields_of (drop i cs)) (ids_of (drop i ts)))
+-- the fields that are left, of which the first stands at a place, and those behind it
+fits_at : (here behind : List Child) (c : Child) (ts : List IpcField) (i : ℕ) → here ≡ c ∷ behind → all_fit (fields_with (fields_from here) (ids_of (drop i ts))) ≡ (here_fits c (ids_of (drop i ts)) && all_fit (fields_with (fields_from behind) (ids_of (drop (i + 1) ts))))
+fits_at here behind c ts i e =
+    ap (λ cs. all_fit (fields_with (fields_from cs) (ids_of (drop i ts)))) e ∙ split_fits c behind (ids_of (drop i ts)) ∙ ap (λ own. here_fits c (ids_of (drop i ts)) && all_fit (fields_with (fields_from behind) own)) (others_at ts i)
 
-left_at : (cs : List Field) (ts : List IpcField) (i : ℕ) (c : Field) → i < length cs → c ≡ get_or cs i c → left_fit cs ts i ≡ (here_fits c (ids_of (drop i ts)) && left_fit cs ts (i + 1))
-left_at cs ts i c h e =
-    ap (λ xs. all_fit (fields_with (fields_of xs) (ids_of (drop i ts)))) (rest_at cs i c h e) ∙ split_fits c (drop (i + 1) cs) (ids_of (drop i ts))
-    ∙ ap (λ k. here_fits c (ids_of (drop i ts)) && all_fit (fields_with (fields_of (drop (i + 1) cs)) k)) (others_at ts i)
+pub fit_next : (here behind : List Child) (c : Child) (ts : List IpcField) (i : ℕ) (whole : Bool) → here ≡ c ∷ behind → all_fit (fields_with (fields_from here) (ids_of (drop i ts))) ≡ whole → here_fits c (ids_of (drop i ts)) ≡ true → all_fit (fields_with (fields_from behind) (ids_of (drop (i + 1) ts))) ≡ whole
+fit_next here behind c ts i whole e w s = sym (fits_at here behind c ts i e ∙ ap (λ b. b && all_fit (fields_with (fields_from behind) (ids_of (drop (i + 1) ts)))) s) ∙ w
 
-pub fit_next : (cs : List Field) (ts : List IpcField) (i : ℕ) (c : Field) (whole : Bool) → i < length cs → c ≡ get_or cs i c → left_fit cs ts i ≡ whole → here_fits c (ids_of (drop i ts)) ≡ true → left_fit cs ts (i + 1) ≡ whole
-fit_next cs ts i c whole h e w s = sym (left_at cs ts i c h e ∙ ap (λ b. b && left_fit cs ts (i + 1)) s) ∙ w
+pub fit_wrong : (here behind : List Child) (c : Child) (ts : List IpcField) (i : ℕ) (whole : Bool) → here ≡ c ∷ behind → all_fit (fields_with (fields_from here) (ids_of (drop i ts))) ≡ whole → here_fits c (ids_of (drop i ts)) ≡ false → whole ≡ false
+fit_wrong here behind c ts i whole e w s = sym w ∙ fits_at here behind c ts i e ∙ ap (λ b. b && all_fit (fields_with (fields_from behind) (ids_of (drop (i + 1) ts)))) s
 
-pub fit_wrong : (cs : List Field) (ts : List IpcField) (i : ℕ) (c : Field) (whole : Bool) → i < length cs → c ≡ get_or cs i c → left_fit cs ts i ≡ whole → here_fits c (ids_of (drop i ts)) ≡ false → whole ≡ false
-fit_wrong cs ts i c whole h e w s = sym w ∙ left_at cs ts i c h e ∙ ap (λ b. b && left_fit cs ts (i + 1)) s
-
-pub fit_done : (cs : List Field) (ts : List IpcField) (i : ℕ) (whole : Bool) → length cs ≤ i → left_fit cs ts i ≡ whole → whole ≡ true
-fit_done cs ts i whole h w = sym w ∙ ap (λ xs. all_fit (fields_with (fields_of xs) (ids_of (drop i ts)))) (none_behind cs i h) ∙ nothing (ids_of (drop i ts))
+pub fit_done : (here : List Child) (own : Ids) (whole : Bool) → here ≡ [] → all_fit (fields_with (fields_from here) own) ≡ whole → whole ≡ true
+fit_done here own whole e w = sym w ∙ ap (λ cs. all_fit (fields_with (fields_from cs) own)) e ∙ nothing own
   where
     nothing : (own : Ids) → all_fit (fields_with kind.none own) ≡ true
     nothing no_fields = refl
@@ -83,14 +72,7 @@ pub found_fits : (k : Kind) (id jd : Option ℤ) (below own : Ids) (r : Bool) �
 found_fits k id jd below own r h i b = h ∙ ap (λ z. kind_fits (kind_with k z below)) i ∙ ap (λ z. kind_fits (kind_with k jd z)) b
 
 pub no_dictionary_with : (k : Kind) (id : Option ℤ) (below : Ids) → is_no_dictionary (kind_with k id below) ≡ is_no_dictionary k
-no_dictionary_with kind.null id below = refl
-no_dictionary_with (kind.«list» o fs) id below = refl
-no_dictionary_with (kind.fixed_size_list n fs) id below = refl
-no_dictionary_with (kind.struct fs) id below = refl
-no_dictionary_with (kind.map sorted fs) id below = refl
-no_dictionary_with (kind.union mode stated types fs) id below = refl
 no_dictionary_with (kind.dictionary index ordered old k) id below = refl
-no_dictionary_with (kind.extension name metadata k) id below = refl
 no_dictionary_with k id below = refl
 
 -- ── fields of all levels ──
@@ -110,10 +92,10 @@ mutual
   below_said level (kind.extension name metadata k) = below_said level k
   below_said level k = refl
 
-  all_said : (level : ℕ) (fs : Fields) → are_representable (fields_from level fs) ≡ all_fit fs
+  all_said : (level : ℕ) (fs : Fields) → are_representable (standing level fs) ≡ all_fit fs
   all_said level kind.none = refl
   all_said level (kind.field name nullable metadata k fs) =
-      ap (λ b. is_representable_kind k && b) (representable_parts (fields_below level k) (fields_from level fs) ∙ ap (λ b. b && are_representable (fields_from level fs)) (below_said level k) ∙ ap (λ b. fits_below k && b) (all_said level fs)) ∙ and_more (is_representable_kind k) (fits_below k) (all_fit fs)
+      ap (λ b. is_representable_kind k && b) (representable_parts (fields_below level k) (standing level fs) ∙ ap (λ b. b && are_representable (standing level fs)) (below_said level k) ∙ ap (λ b. fits_below k && b) (all_said level fs)) ∙ and_more (is_representable_kind k) (fits_below k) (all_fit fs)
 
 pub representable_is : (fs : Fields) → representable fs ≡ all_fit fs
 representable_is fs = all_said 1 fs
@@ -152,9 +134,6 @@ mutual
       rw (sizes_with k id below mine.0, below_sizes k id below mine.1, all_sizes fs others parts.1) refl
 
 -- ── kinds of types ──
-
-pub kind_of_Map : (f : Box Field Global) (sorted : Bool) → kind_of (Map f sorted) ≡ kind.map sorted (one_field (child_of f.value))
-kind_of_Map f sorted = search (rules, the_lemmas)
 
 pub union_said : (m : UnionMode) (types : Option (Vec ℤ Global)) (fs : List Field) (n : ℕ) (own : Ids) (id : Option ℤ) (h : Bool) → n ≡ length fs → h ≡ has_right_ids (are_stated types) (union_ids types n) n
     → kind_fits (kind_with (union_of m types (map child_of fs)) id own) ≡ (h && all_fit (fields_with (fields_of fs) own))

@@ -16,7 +16,7 @@ use Rattle.arrow_spec.specs.Sent.{schema_node, schema_message}
 use Rattle.arrow_flat.specs.Nodes.{node_of, IsTable, KeepsSlotLimit}
 use Rattle.arrow_flat.specs.declared.node.Node.{Node as Built}
 use Rattle.ipc_fields.specs.IpcFields.{Ids, fields_with, have_shapes}
-use Rattle.schema_writer.specs.Serialized.{serialized, written, belong_to, has_meaning, message_node, IsOfTable, IsOfMessage}
+use Rattle.schema_writer.specs.Serialized.{serialized, written, belong_to, has_meaning, message_node}
 use Rattle.schema_writer.proofs.Limits.{schema_keeps}
 
 abbrev tested : Bool → Bool → Node → Reading Node

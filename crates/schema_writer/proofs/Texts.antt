@@ -1,6 +1,6 @@
 -- The texts of a schema are texts, and its pairs ascend.
-use Rattle.std.proofs.Common.{◌≡◌, ℕ, ◌+◌, ◌<◌, ◌≤◌, List, [], ◌∷◌, length, drop, get_or, Bool, true, Option, Some, None, ℤ, String, Global, string_bytes, string_cmp, rules, refl, sym, subst, ap, ◌∙◌, false, Box, Result, Ok, Err, IfOk}
-use Rattle.std.specs.Prelude.{map, slice_get}
+use Rattle.std.proofs.Common.{◌≡◌, ℕ, List, [], ◌∷◌, Bool, true, Option, Some, None, ℤ, String, Global, string_bytes, string_cmp, rules, sym, subst, ap, ◌∙◌, false, Box, Result, Ok, Err, IfOk}
+use Rattle.std.specs.Prelude.{map}
 use Rattle.std.specs.Option.{option_map}
 use Rattle.std.specs.Str.{is_utf8}
 use Rattle.std.specs.List.Sorted.{IsStrictlySortedBy}
@@ -10,20 +10,18 @@ use Rattle.arrow_spec.specs.Kinds.{Kind, Fields, Metadata, Offsets}
 use Rattle.arrow_spec.specs.declared.types.TimeUnit.{TimeUnit}
 use Rattle.arrow_spec.specs.declared.types.UnionMode.{UnionMode}
 use Rattle.arrow_spec.specs.declared.types.IntegerType.{IntegerType}
-use Rattle.arrow_spec.specs.WrittenSchemas.{Ascend, HaveTexts, KindHasTexts, IsText}
+use Rattle.arrow_spec.specs.WrittenSchemas.{HaveTexts, KindHasTexts, IsText}
 use Rattle.arrow_spec.proofs.SchemaPairs.{AreTexts}
 use Rattle.arrow_spec.proofs.ReadPairs.{sorted_ascend}
 use Rattle.arrow_types.specs.Child.{Child, one_field, fields_from}
-use Rattle.arrow_types.specs.KindOf.{child_of, extension_kind_of, fields_of, kind_of, texts_of}
-use Rattle.arrow_types.specs.Schemas.{Keyed, fields_in}
-use Rattle.arrow_types.specs.declared.data_type.Field.{Field, the_lemmas as field_lemmas}
+use Rattle.arrow_types.specs.KindOf.{child_of, extension_kind_of, kind_of, texts_of}
+use Rattle.arrow_types.specs.declared.data_type.Field.{Field}
 use Rattle.arrow_types.specs.declared.data_type.ArrowDataType.{ArrowDataType, Extension, Timestamp, the_lemmas as type_lemmas}
 use Rattle.arrow_types.specs.declared.data_type.ExtensionType.{ExtensionType, the_lemmas as extension_lemmas}
+use Rattle.arrow_types.proofs.DataTypes.{child_is, kind_of_Extension}
 use Rattle.ipc_fields.proofs.TextOrder.{sorted_texts}
 use Rattle.ipc_fields.specs.IpcFields.{Ids, no_fields, ids, kind_with, fields_with}
 use Rattle.schema_writer.specs.Texts.{PairsAscend, KindSaysTexts, FieldsSayTexts, SchemaSaysTexts}
-use Rattle.schema_writer.proofs.Building.{rest_at, none_behind}
-use Rattle.schema_writer.proofs.Tops.{children, children_at}
 
 pub text : (s : String Global) → is_utf8 (string_bytes s) ≡ true
 text s = is_utf8-from_IsUtf8 (string_bytes s) (IsUtf8-string_bytes s)
@@ -44,9 +42,6 @@ pub no_pairs_ascend : PairsAscend []
 no_pairs_ascend = record { ascend = tt }
 
 -- ── fields ──
-
-child_is : (f : Field) → child_of f ≡ record { name = string_bytes f.name; kind = kind_of f.dtype; nullable = f.is_nullable; metadata = texts_of f.metadata.entries }
-child_is f = search (rules, field_lemmas)
 
 one_texts : (f : Field) (c : Child) → c ≡ record { name = string_bytes f.name; kind = kind_of f.dtype; nullable = f.is_nullable; metadata = texts_of f.metadata.entries } → KindSaysTexts (kind_of f.dtype) → PairsAscend c.metadata
     → FieldsSayTexts (one_field c)
@@ -81,9 +76,6 @@ extension_texts name metadata k h = record { texts = (text name, text_if_any met
 
 timestamp_texts : (unit : TimeUnit) (zone : Option (String Global)) → KindSaysTexts (kind.timestamp unit (option_map string_bytes zone))
 timestamp_texts unit zone = record { texts = text_if_any zone }
-
-kind_of_Extension : (e : Box ExtensionType Global) → kind_of (Extension e) ≡ extension_kind_of e.value
-kind_of_Extension e = search (rules, type_lemmas)
 
 extension_is : (x : ExtensionType) → extension_kind_of x ≡ kind.extension (string_bytes x.name) (option_map string_bytes x.metadata) (kind_of x.inner)
 extension_is x = search (rules, extension_lemmas)
@@ -126,21 +118,12 @@ textless_said k h = record { texts = tt }
 
 -- ── one after another ──
 
-pub texts_more : (cs : List Field) (i : ℕ) (c : Field) (whole : Fields) → i < length cs → c ≡ get_or cs i c → FieldsSayTexts (one_field (child_of c)) → (FieldsSayTexts (fields_of (drop i cs)) → FieldsSayTexts whole)
-    → FieldsSayTexts (fields_of (drop (i + 1) cs)) → FieldsSayTexts whole
-texts_more cs i c whole h e here before rest =
-    before (subst (λ xs. FieldsSayTexts (fields_of xs)) (sym (rest_at cs i c h e)) (record { texts = (here.texts.0, here.texts.1, here.texts.2, rest.texts) }))
+pub texts_more : (here behind : List Child) (c : Child) (whole : Fields) → here ≡ c ∷ behind → FieldsSayTexts (one_field c) → (FieldsSayTexts (fields_from here) → FieldsSayTexts whole)
+    → FieldsSayTexts (fields_from behind) → FieldsSayTexts whole
+texts_more here behind c whole e mine before rest = before (subst (λ cs. FieldsSayTexts (fields_from cs)) (sym e) (record { texts = (mine.texts.0, mine.texts.1, mine.texts.2, rest.texts) }))
 
-pub texts_done : (cs : List Field) (i : ℕ) (whole : Fields) → length cs ≤ i → (FieldsSayTexts (fields_of (drop i cs)) → FieldsSayTexts whole) → FieldsSayTexts whole
-texts_done cs i whole h before = before (subst (λ xs. FieldsSayTexts (fields_of xs)) (sym (none_behind cs i h)) (record { texts = tt }))
-
-pub keyed_more : (s : List Keyed) (i : ℕ) (c : Child) (whole : Fields) → slice_get (children s) i ≡ Some c → FieldsSayTexts (one_field c) → (FieldsSayTexts (fields_in (drop i s)) → FieldsSayTexts whole)
-    → FieldsSayTexts (fields_in (drop (i + 1) s)) → FieldsSayTexts whole
-keyed_more s i c whole e here before rest =
-    before (subst (λ xs. FieldsSayTexts (fields_from xs)) (sym (children_at s i c e)) (record { texts = (here.texts.0, here.texts.1, here.texts.2, rest.texts) }))
-
-pub keyed_done : (s : List Keyed) (i : ℕ) (whole : Fields) → length s ≤ i → (FieldsSayTexts (fields_in (drop i s)) → FieldsSayTexts whole) → FieldsSayTexts whole
-keyed_done s i whole h before = before (subst (λ xs. FieldsSayTexts (fields_in xs)) (sym (none_behind s i h)) (record { texts = tt }))
+pub texts_done : (here : List Child) (whole : Fields) → here ≡ [] → (FieldsSayTexts (fields_from here) → FieldsSayTexts whole) → FieldsSayTexts whole
+texts_done here whole e before = before (subst (λ cs. FieldsSayTexts (fields_from cs)) (sym e) (record { texts = tt }))
 
 -- ── with the ids of IPC fields ──
 

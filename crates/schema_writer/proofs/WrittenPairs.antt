@@ -9,7 +9,7 @@ use Rattle.std.proofs.lemmas.Slice.Eq.{bytes_eq-Decides}
 use Rattle.arrow_spec.specs.Kinds as kind
 use Rattle.arrow_spec.specs.Kinds.{Kind, Metadata}
 use Rattle.arrow_spec.specs.Layout as layout
-use Rattle.arrow_spec.specs.Layout.{Node, Nodes}
+use Rattle.arrow_spec.specs.Layout.{Node}
 use Rattle.arrow_spec.specs.Sent.{custom_slot, pair_nodes, field_pairs}
 use Rattle.arrow_spec.specs.WrittenSchemas.{extension_first, pairs_for}
 use Rattle.arrow_spec.proofs.ExtensionPairs.{pairs_written}

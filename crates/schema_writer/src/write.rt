@@ -18,7 +18,6 @@ mod messages;
 mod pairs;
 mod sayable;
 mod schema;
-mod shape;
 mod types;
 mod uses;
 

@@ -16,7 +16,7 @@ use Rattle.ipc_dictionaries.specs.Tracker.{is_indexed, values_in}
 use Rattle.ipc_read_laws.specs.Held.{Held, none_held}
 use Rattle.ipc_read_laws.specs.PartsRead.{parts_or_empty}
 use Rattle.ipc_read_laws.specs.PlainKinds.{plain_kind, plain_fields}
-use Rattle.part_laws.proofs.Empty.{plain_twice}
+use Rattle.ipc_read_laws.proofs.PlainTypes.{plain_twice}
 use Rattle.part_laws.specs.ReadUnder.{AreReadUnder, IsReadUnder}
 use Rattle.sent_dictionaries.proofs.Forms.{bare_form, bare_forms}
 

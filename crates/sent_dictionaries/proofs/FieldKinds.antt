@@ -9,7 +9,7 @@ use Rattle.arrow_arrays.proofs.Sliced.{top_sound}
 use Rattle.ipc_fields.specs.IpcFields.{Ids, fields_with, kind_with}
 use Rattle.ipc_fields.specs.IpcFields as fields
 use Rattle.ipc_fields.specs.Uses.{first_id, first_ids, other_ids}
-use Rattle.ipc_fields.proofs.SameKinds.{form, forms}
+use Rattle.arrow_spec.proofs.Forms.{form, forms}
 use Rattle.ipc_dictionaries.specs.Tracker.{is_indexed, values_in}
 use Rattle.ipc_read_laws.specs.PlainKinds.{plain_kind, plain_fields}
 use Rattle.ipc_read_laws.proofs.PlainKinds.{fields_plain, values_plain}

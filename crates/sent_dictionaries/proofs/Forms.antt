@@ -5,15 +5,15 @@ use Rattle.arrow_spec.specs.declared.types.IntervalUnit.TheVariants.{YearMonth, 
 use Rattle.arrow_spec.specs.declared.types.UnionMode.TheVariants.{Dense, Sparse}
 use Rattle.std.specs.Int.{byte_len}
 use Rattle.arrow_spec.specs.Kinds as kind
-use Rattle.arrow_spec.specs.Kinds.{Kind, Fields, Offsets, small, large, width}
+use Rattle.arrow_spec.specs.Kinds.{Kind, Fields, small, width}
 use Rattle.arrow_spec.specs.Counts.{RecordBatch, Place, Written, after, first_place, inside, union_buffers}
 use Rattle.arrow_spec.specs.Arrays.{offset, offset_width}
 use Rattle.arrow_spec.specs.Schema.{first_is_struct_of_two, is_struct_of_two}
 use Rattle.arrow_spec.specs.Sent.{also_written, no_source, own, parts_written, written, written_part}
 use Rattle.arrow_arrays.specs.Carried.{is_carried, are_carried}
-use Rattle.ipc_fields.proofs.SameKinds.{form, forms}
+use Rattle.arrow_spec.proofs.Forms.{form, forms}
+use Rattle.ipc_read_laws.proofs.PlainTypes.{form_plain, plain_twice}
 use Rattle.ipc_read_laws.specs.PlainKinds.{plain_kind, plain_fields}
-use Rattle.part_laws.proofs.Empty.{plain_twice}
 
 -- a kind without names, nullability, metadata and ids
 abbrev pub bare_form : Kind → Kind
@@ -21,21 +21,6 @@ bare_form k = form (plain_kind k)
 
 abbrev pub bare_forms : Fields → Fields
 bare_forms fs = forms (plain_fields fs)
-
-mutual
-  form_plain : (k : Kind) → form (plain_kind k) ≡ plain_kind (form k)
-  form_plain (kind.«list» o fs) = ap (kind.«list» o) (forms_plain fs)
-  form_plain (kind.fixed_size_list n fs) = ap (kind.fixed_size_list n) (forms_plain fs)
-  form_plain (kind.struct fs) = ap kind.struct (forms_plain fs)
-  form_plain (kind.map sorted fs) = ap (kind.map sorted) (forms_plain fs)
-  form_plain (kind.union mode stated types fs) = ap (kind.union mode true types) (forms_plain fs)
-  form_plain (kind.dictionary t ordered id k) = ap (kind.dictionary t ordered (pos 0)) (form_plain k)
-  form_plain (kind.extension name metadata k) = ap (kind.extension name metadata) (form_plain k)
-  form_plain k = refl
-
-  forms_plain : (fs : Fields) → forms (plain_fields fs) ≡ plain_fields (forms fs)
-  forms_plain kind.none = refl
-  forms_plain (kind.field name nullable metadata k fs) = rw (form_plain k, forms_plain fs) refl
 
 -- a kind of the form of one without ids has that form without ids too
 pub bare_of : (k l : Kind) → bare_form k ≡ form l → bare_form l ≡ bare_form k

@@ -12,7 +12,9 @@ use Rattle.arrow_arrays.specs.Parts.{Parts, Forest, none, also, cells_in, fault_
 use Rattle.arrow_arrays.proofs.EmptyParts.{kind-empty, rows-empty}
 use Rattle.arrow_arrays.proofs.Sliced.{neither}
 use Rattle.ipc_fields.specs.Uses.{use_as}
-use Rattle.ipc_fields.proofs.SameKinds.{form, form_is_same, id_self, id_true, same_by_form}
+use Rattle.arrow_spec.proofs.Forms.{form}
+use Rattle.arrow_spec.proofs.SameIds.{id_self, id_true}
+use Rattle.ipc_fields.proofs.SameKinds.{form_is_same, same_by_form}
 use Rattle.ipc_read_laws.specs.PartsRead.{parts_or_empty}
 use Rattle.ipc_read_laws.specs.PlainKinds.{plain_kind}
 use Rattle.ipc_write_laws.specs.Streams.{written_of}

@@ -15,7 +15,8 @@ use Rattle.arrow_arrays.specs.Parts.{Parts, forest, kind_in}
 use Rattle.ipc_fields.specs.IpcFields.{Ids, fields_with, has_shape, have_shapes, is_encoded, kind_with}
 use Rattle.ipc_fields.specs.IpcFields as fields
 use Rattle.ipc_fields.specs.Uses.{id_under, use_as}
-use Rattle.ipc_fields.proofs.SameKinds.{form, forms, form_is_same, same_by_form, same_itself}
+use Rattle.arrow_spec.proofs.Forms.{form, forms}
+use Rattle.ipc_fields.proofs.SameKinds.{form_is_same, same_by_form, same_itself}
 use Rattle.ipc_dictionaries.specs.Columns.{columns_of}
 use Rattle.ipc_dictionaries.specs.Shapes.{are_apart, is_apart}
 use Rattle.ipc_read.specs.Batches.{kinds_of}

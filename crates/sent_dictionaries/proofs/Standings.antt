@@ -18,7 +18,7 @@ use Rattle.ipc_dictionaries.specs.Standing.{are_same_cells, by_cells, standing}
 use Rattle.dictionary_laws.specs.Sending.{histories, or_never_read, part_cells}
 use Rattle.dictionary_laws.proofs.Histories.{IsBehind, cells_in, cells_never, grown}
 use Rattle.part_laws.specs.Parts.{PartTree}
-use Rattle.ipc_fields.proofs.SameKinds.{form}
+use Rattle.arrow_spec.proofs.Forms.{form}
 use Rattle.sent_dictionaries.proofs.Forms.{bare_form}
 use Rattle.sent_dictionaries.proofs.Pieces.{AreSome, HasCells, HasForm, cells_shown, forms_shown, kinds_held, shown, trees}
 

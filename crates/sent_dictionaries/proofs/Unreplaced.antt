@@ -13,7 +13,7 @@ use Rattle.arrow_arrays.specs.Parts.{Parts, Forest, leaf, nested, none, also, fa
 use Rattle.arrow_arrays.proofs.Sliced.{neither, top_sound}
 use Rattle.ipc_fields.specs.IpcFields.{Ids, fields_with, kind_with}
 use Rattle.ipc_fields.specs.Uses.{first_id, first_ids, id_under, other_ids}
-use Rattle.ipc_fields.proofs.SameKinds.{form}
+use Rattle.arrow_spec.proofs.Forms.{form}
 use Rattle.ipc_dictionaries.specs.declared.comparison.Standing.{Standing}
 use Rattle.ipc_dictionaries.specs.declared.comparison.Standing.TheVariants.{Absent, Longer, Other, Same}
 use Rattle.ipc_dictionaries.specs.NewDictionaries.{Options, Sending, array_sent, arrays_sent, dictionary_sent, fixing, has_several, holding, message_of, parts_sent, rows_from, scoped, sending, then_by}

@@ -6,7 +6,7 @@ use Rattle.arrow_spec.specs.Arrays.{Dictionaries}
 use Rattle.arrow_spec.specs.Sent.{sent_under}
 use Rattle.arrow_spec.specs.Sent as sent
 use Rattle.arrow_arrays.specs.Parts.{Forest}
-use Rattle.ipc_fields.proofs.SameKinds.{form}
+use Rattle.arrow_spec.proofs.Forms.{form}
 use Rattle.ipc_dictionaries.specs.NewDictionaries.{Sending}
 use Rattle.dictionary_laws.proofs.Histories.{IsBehind, Precedes}
 use Rattle.part_laws.specs.Parts.{PartTree}

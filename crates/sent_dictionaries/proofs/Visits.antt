@@ -18,7 +18,7 @@ use Rattle.arrow_arrays.specs.Parts.{Parts, Forest, fault_each, fault_in, kinds_
 use Rattle.arrow_arrays.proofs.Sliced.{length-cells}
 use Rattle.ipc_fields.specs.IpcFields.{Ids}
 use Rattle.ipc_fields.specs.Uses.{use_as}
-use Rattle.ipc_fields.proofs.SameKinds.{form}
+use Rattle.arrow_spec.proofs.Forms.{form}
 use Rattle.ipc_dictionaries.specs.declared.comparison.Standing.{Standing}
 use Rattle.ipc_dictionaries.specs.declared.comparison.Standing.TheVariants.{Absent, Longer, Same}
 use Rattle.ipc_dictionaries.specs.Standing.{allowed, delta_start, standing}

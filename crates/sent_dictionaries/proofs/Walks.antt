@@ -15,7 +15,7 @@ use Rattle.arrow_arrays.specs.Parts.{Parts, Forest, leaf, nested, none, also, fa
 use Rattle.arrow_arrays.proofs.Sliced.{neither, top_sound}
 use Rattle.ipc_fields.specs.IpcFields.{Ids, fields_with, kind_with}
 use Rattle.ipc_fields.specs.Uses.{first_id, first_ids, id_under, other_ids, use_as}
-use Rattle.ipc_fields.proofs.SameKinds.{form, forms}
+use Rattle.arrow_spec.proofs.Forms.{form, forms}
 use Rattle.ipc_dictionaries.specs.NewDictionaries.{Options, Sending, array_sent, arrays_sent, then_by}
 use Rattle.ipc_dictionaries.specs.Tracker.{is_indexed, values_in}
 use Rattle.ipc_read_laws.specs.PlainKinds.{plain_fields}

@@ -8,7 +8,7 @@ use Rattle.arrow_spec.specs.Regular.{is_no_dictionary}
 use Rattle.arrow_types.specs.Schemas.{Keyed, fields_in}
 use Rattle.ipc_dictionaries.specs.Shapes.{are_apart, is_apart}
 use Rattle.ipc_fields.specs.IpcFields.{Ids, no_fields, ids, fields_with, kind_with}
-use Rattle.ipc_read.proofs.ColumnIds.{plain_fields_with}
+use Rattle.ipc_read_laws.proofs.PlainTypes.{plain_fields_with}
 use Rattle.ipc_read_laws.specs.PlainKinds.{plain_fields, plain_kind}
 use Rattle.transcode_laws.specs.Files.{ArePicked, AreAsked}
 

@@ -12,27 +12,14 @@ use Rattle.arrow_arrays.specs.Parts.{Parts, Forest, leaf, nested, none, also, fa
 use Rattle.arrow_arrays.proofs.Sliced.{neither, top_sound}
 use Rattle.ipc_fields.specs.IpcFields.{Ids, fields_with, ids, kind_with, no_fields}
 use Rattle.ipc_fields.specs.Uses.{first_id, first_ids, id_under, other_ids, use_as}
-use Rattle.ipc_fields.proofs.SameKinds.{form, form_is_same, forms, id_true, same_as_other}
+use Rattle.arrow_spec.proofs.Forms.{count_form, form, forms}
+use Rattle.arrow_spec.proofs.SameIds.{id_true}
+use Rattle.ipc_fields.proofs.SameKinds.{form_is_same, same_as_other}
 use Rattle.ipc_dictionaries.specs.Columns.{columns_of}
 use Rattle.ipc_files.proofs.HeldUses.{Agrees, split, uses_one}
 use Rattle.stream_laws.specs.Heard.{AreApart, IsApart, PartsAreApart, stands_in, stands_in_each, stands_in_parts}
 
 -- ── forms ──
-
-mutual
-  count_form : (k : Kind) → dictionary_count (form k) ≡ dictionary_count k
-  count_form (kind.«list» o fs) = counts_form fs
-  count_form (kind.fixed_size_list n fs) = counts_form fs
-  count_form (kind.struct fs) = counts_form fs
-  count_form (kind.map sorted fs) = counts_form fs
-  count_form (kind.union mode stated types fs) = counts_form fs
-  count_form (kind.dictionary t ordered id k) = ap suc (count_form k)
-  count_form (kind.extension name metadata k) = count_form k
-  count_form k = refl
-
-  counts_form : (fs : Fields) → dictionary_counts (forms fs) ≡ dictionary_counts fs
-  counts_form kind.none = refl
-  counts_form (kind.field name nullable metadata k fs) = rw (count_form k, counts_form fs) refl
 
 values_form : (k : Kind) → values_kind (form k) ≡ form (values_kind k)
 values_form (kind.dictionary t ordered id k) = refl

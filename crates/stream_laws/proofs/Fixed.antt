@@ -10,7 +10,7 @@ use Rattle.arrow_arrays.specs.Heads.{Indexed, indexed, joined, listed, mapped, s
 use Rattle.arrow_arrays.specs.Parts.{Parts, Forest, leaf, nested, none, also, cells_each, rows_in}
 use Rattle.ipc_fields.specs.IpcFields.{Ids}
 use Rattle.ipc_fields.specs.Uses.{id_under, first_id, first_ids, other_ids}
-use Rattle.ipc_fields.proofs.SameKinds.{id_self, id_true}
+use Rattle.arrow_spec.proofs.SameIds.{id_self, id_true}
 use Rattle.ipc_dictionaries.specs.Standing.{allowed, delta_start, standing}
 use Rattle.ipc_dictionaries.specs.NewDictionaries.{Options, Sending, array_sent, arrays_sent, dictionary_sent, fixing, has_several, holding, message_of, parts_sent, rows_from, scoped, sending, then_by}
 use Rattle.stream_laws.specs.Heard.{AllAreFixed, AreFixed, GoesOn, cells_held}

@@ -77,7 +77,7 @@ kept_same false false (Longer n) e = cc
 kept_same true deltas Other e = cc
 kept_same false deltas Other e = cc
 
-never_absent : (old parts : Forest) (k : Kind) → standing (Some old) k parts ≡ Absent → ⊥
+pub never_absent : (old parts : Forest) (k : Kind) → standing (Some old) k parts ≡ Absent → ⊥
 never_absent old parts k e = by (each_of k (kinds_each old)) (are_same_cells xs (take (length xs) ys)) (nat_lt (length xs) (length ys)) e
   where
     xs : List Cell

@@ -5,17 +5,18 @@ use Rattle.std.proofs.lemmas.Bool.{and_parts}
 use Rattle.std.proofs.lemmas.List.{append_cancel_left}
 use Rattle.arrow_spec.specs.declared.types.IntegerType.{IntegerType}
 use Rattle.arrow_spec.specs.Kinds as kind
-use Rattle.arrow_spec.specs.Kinds.{Kind, Fields, Use, is_same_kind, uses_in}
+use Rattle.arrow_spec.specs.Kinds.{Kind, Fields, Use, uses_in}
 use Rattle.arrow_spec.specs.Cells.{Cell}
 use Rattle.arrow_arrays.specs.Heads.{are_of, child_fields, each_of, indexed, is_dictionary, joined, listed, mapped, sized, structured, suits, tagged, values_kind}
 use Rattle.arrow_arrays.specs.Parts.{Parts, Forest, leaf, nested, none, also, cells_each, fault_each, fault_in, kind_in, kinds_each}
 use Rattle.arrow_arrays.proofs.Sliced.{neither, top_sound}
 use Rattle.ipc_fields.specs.IpcFields.{Ids, fields_with, ids, kind_with, no_fields}
 use Rattle.ipc_fields.specs.Uses.{first_id, first_ids, id_under, other_ids, use_as}
-use Rattle.ipc_fields.proofs.SameKinds.{form, form_is_same, forms, same_by_form}
+use Rattle.arrow_spec.proofs.Forms.{form, forms}
+use Rattle.ipc_fields.proofs.SameKinds.{form_is_same, same_by_form}
 use Rattle.ipc_dictionaries.specs.NewDictionaries.{ToSend}
 use Rattle.ipc_read_laws.specs.PlainKinds.{plain_kind}
-use Rattle.ipc_read.proofs.ColumnIds.{plain_with}
+use Rattle.ipc_read_laws.proofs.PlainTypes.{plain_with}
 use Rattle.ipc_write_arrays.specs.Dictionaries.{dictionary_id, first_kind, other_fields}
 use Rattle.ipc_files.proofs.HeldUses.{Agrees, plain_same, uses_one}
 use Rattle.stream_laws.specs.Heard.{AllHaveValues, AllHaveValuesAt, AllMayStand, AllStand, GoesOn, HasValues, HasValuesAt, IsAmong, MayStand, Stands, heard, with_part}

@@ -14,7 +14,7 @@ use Rattle.arrow_arrays.specs.Parts.{Parts, Forest, none, also, cells_in, cells_
 use Rattle.arrow_arrays.proofs.Sliced.{cells-part, length-cells}
 use Rattle.ipc_fields.specs.IpcFields.{Ids, kind_with}
 use Rattle.ipc_fields.specs.Uses.{use_as}
-use Rattle.ipc_fields.proofs.SameKinds.{id_self, id_true}
+use Rattle.arrow_spec.proofs.SameIds.{id_self, id_true}
 use Rattle.ipc_dictionaries.specs.NewDictionaries.{Options, Sending, ToSend, array_sent, dictionary_sent, fixing, has_several, holding, message_of, parts_sent, rows_from, scoped, sending, then_by}
 use Rattle.stream_laws.specs.Heard.{AllStand, AreFixed, IsAmong, cells_held, heard, stands_in, stands_in_parts, with_part}
 use Rattle.stream_laws.proofs.Steps.{either_left, either_right, stepped, unless_err}

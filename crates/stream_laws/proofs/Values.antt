@@ -7,7 +7,7 @@ use Rattle.arrow_arrays.specs.Parts.{Parts, Forest, leaf, nested, none, also, ce
 use Rattle.arrow_arrays.proofs.Sliced.{fault-part, kind-part}
 use Rattle.ipc_fields.specs.IpcFields.{Ids}
 use Rattle.ipc_fields.specs.Uses.{id_under, first_id, first_ids, other_ids}
-use Rattle.ipc_fields.proofs.SameKinds.{id_self}
+use Rattle.arrow_spec.proofs.SameIds.{id_self}
 use Rattle.ipc_dictionaries.specs.NewDictionaries.{Sending, rows_from}
 use Rattle.stream_laws.specs.Heard.{AllAreFixed, AllHaveValues, AreFixed, GoesOn, HasValues, cells_held, stands_in, stands_in_each, stands_in_parts}
 use Rattle.stream_laws.proofs.Steps.{either_left, either_right}

@@ -13,7 +13,8 @@ use Rattle.arrow_arrays.specs.Parts.{Parts, Forest, leaf, nested, none, also, ce
 use Rattle.arrow_arrays.proofs.Sliced.{neither, top_sound}
 use Rattle.ipc_fields.specs.IpcFields.{Ids, fields_with, kind_with}
 use Rattle.ipc_fields.specs.Uses.{id_under, first_id, first_ids, other_ids, use_as}
-use Rattle.ipc_fields.proofs.SameKinds.{form, same_by_form}
+use Rattle.arrow_spec.proofs.Forms.{form}
+use Rattle.ipc_fields.proofs.SameKinds.{same_by_form}
 use Rattle.ipc_dictionaries.specs.Standing.{allowed, delta_start, standing}
 use Rattle.ipc_dictionaries.specs.NewDictionaries.{Options, Sending, array_sent, arrays_sent, parts_sent, scoped}
 use Rattle.ipc_files.proofs.HeldUses.{split}

@@ -1,5 +1,5 @@
 -- How many bytes an array's buffers take: as many in either order, and what a message held is short.
-use Rattle.std.proofs.Common.{◌≡◌, ℕ, ◌+◌, ◌^◌, ◌≤◌, ◌<◌, List, [], ◌∷◌, ◌++◌, length, take, drop, map, reverse, refl, sym, ap, ◌∙◌, arith, subst, Bool, true, false, length-append, length-take, length-drop, append-nil, ℤ}
+use Rattle.std.proofs.Common.{◌≡◌, ℕ, ◌^◌, ◌≤◌, ◌<◌, List, [], ◌∷◌, ◌++◌, length, take, drop, map, reverse, refl, sym, ap, ◌∙◌, arith, subst, Bool, true, false, length-append, length-take, length-drop, append-nil, ℤ}
 use Rattle.std.specs.Prelude.{◌&&◌, min, nat_le}
 use Rattle.std.specs.List.{flat_map}
 use Rattle.std.proofs.lemmas.Bool.{and_parts, leb-true}
@@ -19,7 +19,7 @@ use Rattle.arrow_types.specs.declared.physical.PhysicalType.TheVariants as physi
 use Rattle.arrow_types.specs.declared.physical.PrimitiveType.{PrimitiveType}
 use Rattle.arrow_types.specs.declared.physical.PrimitiveType.TheVariants as primitive
 use Rattle.arrow_buffers.specs.Variable.{Variable}
-use Rattle.arrow_arrays.specs.LeafParts.{LeafParts, nulls, bits, numbers, fixed, binary, text, binary_views, text_views}
+use Rattle.arrow_arrays.specs.LeafParts.{LeafParts, numbers, binary, text, binary_views, text_views}
 use Rattle.arrow_arrays.specs.Parts.{Forest, Parts, also, leaf, nested, none}
 use Rattle.arrow_arrays.specs.Batches.{Batch}
 use Rattle.ipc_bodies.specs.Pieces.{in_order, rebased, offset_bytes}
@@ -56,14 +56,10 @@ variable_turned : (p : Variable) → map length (variable_pieces big p) ≡ map 
 variable_turned p = ap (λ n. length (validity_bytes p.validity) ∷ n ∷ length (bytes_between p.offsets p.values) ∷ []) (length-offsets (width_of_kind p.kind) p.offsets)
 
 lengths_turned : (p : LeafParts) → map length (leaf_pieces big p) ≡ map length (leaf_pieces little p)
-lengths_turned (nulls n) = refl
-lengths_turned (bits f) = refl
 lengths_turned (numbers f) = ap (λ n. length (validity_bytes f.validity) ∷ n ∷ []) (length-each (layout_in_order big (physical_of f.kind)) (layout_in_order little (physical_of f.kind)) f.values (length-turned (physical_of f.kind)))
-lengths_turned (fixed f) = refl
 lengths_turned (binary p) = variable_turned p
 lengths_turned (text p) = variable_turned p
-lengths_turned (binary_views p) = refl
-lengths_turned (text_views p) = refl
+lengths_turned p = refl
 
 -- an array is of no views, and so is written as it is, in either order
 plain_top : (p : LeafParts) → LeafMayHaveOrder p false → top (leaf p) ≡ leaf p

@@ -19,7 +19,8 @@ use Rattle.arrow_spec.proofs.Standing.{stands_left}
 use Rattle.ipc_write_laws.specs.Streams.{batch_bytes, body_for, table_batch, written_batch}
 use Rattle.ipc_write_laws.specs.Messages.{IsKnown, Known, WrittenMessage, WrittenValues, batch, batch_in, bytes_of, values, values_bytes, values_message, with_messages, with_values}
 use Rattle.written_files.specs.Files.{AllBatchesMayBeWritten, AllValuesMayBeWritten, GoesOn, IsDeltaOrFirst, all_of, batch_blocks, behind, front_size, read_meta, values_blocks}
-use Rattle.written_files.proofs.Messages.{batch_there, held_values, values_known, values_long, values_there}
+use Rattle.ipc_write_laws.proofs.Messages.{held_values}
+use Rattle.written_files.proofs.Messages.{batch_there, values_known, values_long, values_there}
 
 -- ── places ──
 

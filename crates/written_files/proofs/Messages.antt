@@ -1,36 +1,33 @@
 -- Values and batches that stand at their blocks' places are read there.
 use Rattle.std.proofs.Common.{◌≡◌, ℕ, ◌^◌, ◌<◌, ◌≤◌, List, [], ◌∷◌, length, Option, None, Ok, Bool, refl, sym, ap, subst, ◌∙◌, arith, true, false}
 use Rattle.std.specs.Prelude.{nat_eq, nat_le, ◌||◌}
-use Rattle.std.specs.List.{AllByRecursion}
 use Rattle.std.proofs.lemmas.Bool.{le-leb, leb-true}
 use Rattle.arrow_spec.specs.declared.error.OutOfSpecKind.{OutOfSpecKind}
 use Rattle.arrow_spec.specs.declared.error.OutOfSpecKind.TheVariants.{DuplicateDictionary, InvalidBuffersLength}
 use Rattle.arrow_spec.specs.declared.message.MetadataVersion.{MetadataVersion}
 use Rattle.arrow_spec.specs.declared.message.MetadataVersion.TheVariants.{V5}
-use Rattle.arrow_spec.specs.Bodies.{NodeFits}
 use Rattle.arrow_spec.specs.Readings.{bind, is_absent, only_if}
-use Rattle.arrow_spec.specs.Flat.{little}
 use Rattle.arrow_spec.specs.Held.{Stands}
 use Rattle.arrow_spec.specs.Kinds.{Fields, field, none, Metadata}
 use Rattle.arrow_spec.specs.Cells.{Cell}
-use Rattle.arrow_spec.specs.Counts.{Written, first_place}
-use Rattle.arrow_spec.specs.Arrays.{Dictionaries, HeldDictionary, found}
-use Rattle.arrow_spec.specs.Layout.{table}
+use Rattle.arrow_spec.specs.Counts.{Written}
+use Rattle.arrow_spec.specs.Arrays.{Dictionaries, found}
 use Rattle.arrow_spec.specs.Messages.{BatchHeader, batch_at, dictionary_at, message_of, message_pairs, version_of}
-use Rattle.arrow_spec.specs.Files.{Asked, FileBlock, TableBatch, batch_of, batch_of_tables, dictionaries_of, dictionary_of, lengths_sum, record_batch_of, to_read}
+use Rattle.arrow_spec.specs.Files.{Asked, FileBlock, TableBatch, batch_of, batch_of_tables, dictionaries_of, dictionary_of, lengths_sum, to_read}
 use Rattle.arrow_spec.specs.Framing.{padded, padded_size}
 use Rattle.arrow_spec.specs.Laws.{TablesFit, header_of}
-use Rattle.arrow_spec.specs.Sent.{SentMessage, body_of, message, node_rows, written}
+use Rattle.arrow_spec.specs.Sent.{SentMessage, node_rows}
 use Rattle.arrow_spec.proofs.BatchTables.{batch_message_back}
 use Rattle.arrow_spec.proofs.Bodies.{length-body}
 use Rattle.arrow_spec.proofs.Projection.{on}
 use Rattle.arrow_spec.proofs.ReadPairs.{is_true, through}
 use Rattle.arrow_spec.proofs.SentMessages.{sent_bounds}
 use Rattle.ipc_write_laws.specs.Streams.{WrittenBatch, batch_bytes, body_for, pieces_of, table_batch, written_batch, written_of}
-use Rattle.ipc_write_laws.specs.Messages.{BatchMayBeWritten, IsKnown, Known, ValuesMayBeWritten, WrittenValues, values_bytes, values_message, values_slots, with_values}
+use Rattle.ipc_write_laws.specs.Messages.{BatchMayBeWritten, IsKnown, Known, ValuesMayBeWritten, WrittenValues, values_bytes, values_message, with_values}
 use Rattle.ipc_write_laws.proofs.Batches.{batch_read}
-use Rattle.ipc_write_laws.proofs.Counts.{batch_counts, values_counts}
+use Rattle.ipc_write_laws.proofs.Counts.{batch_counts}
 use Rattle.ipc_write_laws.proofs.SentBatches.{written_of_one}
+use Rattle.ipc_write_laws.proofs.Messages.{held_values, sized_values, values_fit, values_same}
 use Rattle.ipc_write_laws.proofs.ValuesMessages.{values_message_back}
 use Rattle.written_files.specs.Files.{IsDeltaOrFirst, all_of, block_of, read_meta, read_schema}
 use Rattle.written_files.proofs.Framed.{body_long, body_taken, message_there, metadata_is}
@@ -81,31 +78,6 @@ batch_there b at fs c d x h known w =
 
 -- ── values ──
 
--- what values that may be written have in their tables fits them
-values_fit : (fs : Fields) (c : Known) (x : WrittenValues) → ValuesMayBeWritten fs c x → TablesFit (node_rows (written_of (x.column ∷ [])).nodes) (written_of (x.column ∷ []))
-values_fit fs c x w =
-    let bounds = sent_bounds (values_message x) w.size in
-    let all = written_of (x.column ∷ []) in
-    let counts = values_counts x.id x.is_delta all (body_of 0 all.lengths) bounds.0 in
-    let one = sym (written_of_one x.column) in
-    record {
-      few = subst (λ (a : Written). node_rows a.nodes < 2 ^ 63) one (omega (arith, w.rows, w.few));
-      nodes = subst (λ (a : Written). AllByRecursion NodeFits a.nodes) one w.nodes;
-      node_count = counts.0;
-      buffers = bounds.1;
-      buffer_count = counts.1;
-      views = subst (λ (a : Written). AllByRecursion (λ n. n < 2 ^ 63) a.views) one w.views;
-    }
-
--- values as they are held that were read
-abbrev pub held_values : WrittenValues → HeldDictionary
-held_values x = record {
-  id = x.id;
-  is_delta = x.is_delta;
-  cells = x.column.cells;
-  written = written (record_batch_of little V5 (header_of x.rows (written_of (x.column ∷ []))) (body_for (x.column ∷ []))) x.column.kind first_place x.rows 0 x.rows;
-}
-
 -- they are a delta, or the first of their id
 may_stand : (is_delta : Bool) (cells : Option (List Cell)) (k : OutOfSpecKind) → (is_delta ≡ false → cells ≡ None) → only_if (is_delta || false || is_absent cells) k ≡ Ok tt
 may_stand true cells k h = refl
@@ -119,15 +91,8 @@ values_read fs kv c d x rows most counted long known w first =
     let new : only_if (x.is_delta || false || is_absent (found d x.id)) DuplicateDictionary ≡ Ok tt = may_stand x.is_delta (found d x.id) DuplicateDictionary (λ e. known x.id ∙ first e) in
     rw (counted, w.kind, new, w.readable, cells) refl
 
--- their message says how long their body is
-abbrev sized_values : WrittenValues → SentMessage
-sized_values x = message 2 (table (values_slots x.id x.is_delta (written_of (x.column ∷ [])))) (length (body_for (x.column ∷ []))) []
-
 pub values_long : (x : WrittenValues) → length (body_for (x.column ∷ [])) ≡ (values_message x).body
 values_long x = omega (arith, length-body (pieces_of (x.column ∷ [])) 0)
-
-values_same : (x : WrittenValues) → sized_values x ≡ values_message x
-values_same x = ap (λ n. message 2 (table (values_slots x.id x.is_delta (written_of (x.column ∷ [])))) n []) (values_long x)
 
 pub values_there : (b : List ℕ) (at : ℕ) (fs : Fields) (kv : Metadata) (c : Known) (d : Dictionaries) (x : WrittenValues) (records dictionaries blocks : List FileBlock) → Stands b at (values_bytes x) → IsKnown c d → ValuesMayBeWritten fs c x → IsDeltaOrFirst c x
     → dictionaries_of b (read_meta fs kv records dictionaries) d (block_of at (values_message x) ∷ blocks) ≡ dictionaries_of b (read_meta fs kv records dictionaries) (held_values x ∷ d) blocks

@@ -7,16 +7,16 @@ use Rattle.arrow_spec.specs.declared.error.IpcError.TheVariants.{OutOfSpec}
 use Rattle.arrow_spec.specs.declared.error.OutOfSpecKind.TheVariants as kinds
 use Rattle.arrow_spec.specs.declared.types.UnionMode.{UnionMode}
 use Rattle.arrow_spec.specs.declared.types.UnionMode.TheVariants.{Dense, Sparse}
-use Rattle.arrow_spec.specs.declared.types.IntervalUnit.TheVariants.{YearMonth, DayTime, MonthDayNano}
+use Rattle.arrow_spec.specs.declared.types.IntervalUnit.TheVariants.{YearMonth}
 use Rattle.arrow_spec.specs.declared.types.IntegerType.{IntegerType}
-use Rattle.arrow_spec.specs.Kinds.{Kind, Fields, none, field, null, boolean, integer, float, date32, date64, time32, time64, timestamp, duration, interval, decimal, decimal256, binary, utf8, binary_view, utf8_view, fixed_size_binary, «list», fixed_size_list, struct, map as map_of, union, dictionary, extension, Offsets, small}
+use Rattle.arrow_spec.specs.Kinds.{Kind, Fields, none, field, null, interval, «list», fixed_size_list, struct, map as map_of, union, dictionary, extension, small}
 use Rattle.arrow_spec.specs.Counts.{RecordBatch, Place, magnitude, is_negative, inside, after, union_buffers}
 use Rattle.arrow_spec.specs.Cells as cells
 use Rattle.arrow_spec.specs.Cells.{Cell, cells_of}
 use Rattle.arrow_spec.specs.Arrays.{Dictionaries, cell_or_null, found, from_on, id_place, if_valid, integer_in, integer_width, keyed, node_of, offset, or_0, signed_in, types_buffer, valid}
 use Rattle.arrow_spec.specs.ArrayCells.{cell, cell_in, row_of}
 use Rattle.arrow_spec.specs.Faults.{array_faults, cause, child_faults, dense_faults, fixed_faults, flat_faults, is_bad_row, is_no_id, key_faults, node_faults, offsets_buffer_faults, offsets_faults, place_in, some_row, some_valid_row, union_faults, validity_faults, view_count_faults}
-use Rattle.arrow_spec.proofs.Fewer.{along, along_sound, cause-false, cause-none, none_first, none_second, offset-fewer, offsets_faults-fewer, some_row-all, some_row-none, sound_second}
+use Rattle.arrow_spec.proofs.Fewer.{dense_row, fixed_row, row_offset, along, along_sound, cause-false, cause-none, none_first, none_second, some_row-all, some_row-none, sound_second}
 use Rattle.written_files.specs.Files.{GoesOn}
 
 -- ── keys ──
@@ -84,22 +84,6 @@ pub from_on-same : {A : Type 0} (f g : ℕ → A) (i n : ℕ) → ((j : ℕ) →
 from_on-same f g i zero h = refl
 from_on-same f g i (suc n) h = ap (λ x. x ∷ from_on f (suc i) n) (h i (omega arith) (omega arith)) ∙ ap (λ xs. g i ∷ xs) (from_on-same f g (suc i) n (λ j above below. h j (omega (arith, above)) (omega (arith, below))))
 
--- rows between two offsets lie below the last one
-row_offset : (m : RecordBatch) (o : Offsets) (i n row most : ℕ) → row < n → offsets_faults m o i n most ≡ [] → (j : ℕ) → j < offset m o i row + (offset m o i (suc row) - offset m o i row) → j < offset m o i n
-row_offset m o i n row most below h j j_below =
-    let step : offset m o i row ≤ offset m o i (suc row) = offset-fewer m o i (suc row) row most (omega arith) (offsets_faults-fewer m o i n (suc row) most (omega (arith, below)) h) in
-    let last : offset m o i (suc row) ≤ offset m o i n = offset-fewer m o i n (suc row) most (omega (arith, below)) h in
-    omega (arith, step, last, j_below)
-
--- a row of a fixed-size list lies below the last one
-fixed_row : (size n row j : ℕ) → row < n → j < size * row + size → j < size * n
-fixed_row size n row j below j_below = let whole : size * suc row ≤ size * n = grind (arith, below) in let one : size * suc row ≡ size * row + size = grind arith in omega (arith, whole, one, j_below)
-
--- where a type is an id, the child's row is one of its rows
-dense_row : (m : RecordBatch) (fs : Fields) (p : Place) (i : Option ℕ) (at : ℤ) → is_no_id i ≡ false → is_bad_row m fs p i at ≡ false → magnitude at < magnitude (node_of m (place_in m fs (or_0 i) p).node).length
-dense_row m fs p None at h k = cc
-dense_row m fs p (Some i) at h k = leb-false (magnitude (node_of m (place_in m fs i p).node).length) (magnitude at) (or_parts _ _ k).1
-
 union_tests : (m : RecordBatch) (mode : UnionMode) (ids : List ℤ) (fs : Fields) (p : Place) (n : ℕ) → union_faults m mode ids fs p n ≡ [] → cause (some_row (λ row. is_no_id (id_place ids (signed_in m w8 (types_buffer m p) row))) n) (OutOfSpec kinds.InvalidUnion) ++ dense_faults m mode ids fs p n ≡ []
 unfolding union_faults
 union_tests m mode ids fs p n h = sound_second _ _ (none_second _ _ h)
@@ -109,55 +93,12 @@ union_tests m mode ids fs p n h = sound_second _ _ (none_second _ _ h)
 module _ (m : RecordBatch) (d d' : Dictionaries) (goes : GoesOn (λ id. found d id) (λ id. found d' id)) where
   flat_faults-more : (k : Kind) (p : Place) (n : ℕ) → flat_faults m d k p n ≡ [] → flat_faults m d' k p n ≡ []
   flat_faults-more k p zero h = refl
-  flat_faults-more null p (suc n) h = h
-  flat_faults-more boolean p (suc n) h = h
-  flat_faults-more (integer t) p (suc n) h = h
-  flat_faults-more (float t) p (suc n) h = h
-  flat_faults-more date32 p (suc n) h = h
-  flat_faults-more date64 p (suc n) h = h
-  flat_faults-more (time32 u) p (suc n) h = h
-  flat_faults-more (time64 u) p (suc n) h = h
-  flat_faults-more (timestamp u tz) p (suc n) h = h
-  flat_faults-more (duration u) p (suc n) h = h
   flat_faults-more (interval YearMonth) p (suc n) h = h
-  flat_faults-more (interval DayTime) p (suc n) h = h
-  flat_faults-more (interval MonthDayNano) p (suc n) h = h
-  flat_faults-more (decimal precision scale) p (suc n) h = h
-  flat_faults-more (decimal256 precision scale) p (suc n) h = h
-  flat_faults-more (binary o) p (suc n) h = h
-  flat_faults-more (utf8 o) p (suc n) h = h
-  flat_faults-more binary_view p (suc n) h = h
-  flat_faults-more utf8_view p (suc n) h = h
-  flat_faults-more (fixed_size_binary size) p (suc n) h = h
-  flat_faults-more («list» o fs) p (suc n) h = h
-  flat_faults-more (fixed_size_list size fs) p (suc n) h = h
-  flat_faults-more (struct fs) p (suc n) h = h
-  flat_faults-more (map_of sorted fs) p (suc n) h = h
-  flat_faults-more (union mode stated ids fs) p (suc n) h = h
-  flat_faults-more (extension name metadata k) p (suc n) h = h
   flat_faults-more (dictionary t ordered id k) p (suc n) h = along_sound _ _ _ _ (λ x. x) (key_faults-more m (found d id) (found d' id) (goes id) t id p (suc n)) h
+  flat_faults-more k p (suc n) h = h
 
   mutual
     pub array_faults-more : (k : Kind) (p : Place) (n : ℕ) → array_faults m d k p n ≡ [] → array_faults m d' k p n ≡ []
-    array_faults-more null p n h = along _ _ _ _ (λ x. x) (flat_faults-more null p n) h
-    array_faults-more boolean p n h = along _ _ _ _ (λ x. x) (flat_faults-more boolean p n) h
-    array_faults-more (integer t) p n h = along _ _ _ _ (λ x. x) (flat_faults-more (integer t) p n) h
-    array_faults-more (float t) p n h = along _ _ _ _ (λ x. x) (flat_faults-more (float t) p n) h
-    array_faults-more date32 p n h = along _ _ _ _ (λ x. x) (flat_faults-more date32 p n) h
-    array_faults-more date64 p n h = along _ _ _ _ (λ x. x) (flat_faults-more date64 p n) h
-    array_faults-more (time32 u) p n h = along _ _ _ _ (λ x. x) (flat_faults-more (time32 u) p n) h
-    array_faults-more (time64 u) p n h = along _ _ _ _ (λ x. x) (flat_faults-more (time64 u) p n) h
-    array_faults-more (timestamp u tz) p n h = along _ _ _ _ (λ x. x) (flat_faults-more (timestamp u tz) p n) h
-    array_faults-more (duration u) p n h = along _ _ _ _ (λ x. x) (flat_faults-more (duration u) p n) h
-    array_faults-more (interval u) p n h = along _ _ _ _ (λ x. x) (flat_faults-more (interval u) p n) h
-    array_faults-more (decimal precision scale) p n h = along _ _ _ _ (λ x. x) (flat_faults-more (decimal precision scale) p n) h
-    array_faults-more (decimal256 precision scale) p n h = along _ _ _ _ (λ x. x) (flat_faults-more (decimal256 precision scale) p n) h
-    array_faults-more (binary o) p n h = along _ _ _ _ (λ x. x) (flat_faults-more (binary o) p n) h
-    array_faults-more (utf8 o) p n h = along _ _ _ _ (λ x. x) (flat_faults-more (utf8 o) p n) h
-    array_faults-more binary_view p n h = along _ _ _ _ (λ x. x) (flat_faults-more binary_view p n) h
-    array_faults-more utf8_view p n h = along _ _ _ _ (λ x. x) (flat_faults-more utf8_view p n) h
-    array_faults-more (fixed_size_binary size) p n h = along _ _ _ _ (λ x. x) (flat_faults-more (fixed_size_binary size) p n) h
-    array_faults-more (dictionary t ordered id k) p n h = along _ _ _ _ (λ x. x) (flat_faults-more (dictionary t ordered id k) p n) h
     array_faults-more (extension name metadata k) p n h = array_faults-more k p n h
     array_faults-more (fixed_size_list size fs) p n h = along _ _ _ _ (λ x. x) (child_faults-more fs (inside 1 p) (λ q. size * n)) h
     array_faults-more (struct fs) p n h = along _ _ _ _ (λ x. x) (child_faults-more fs (inside 1 p) (λ q. n)) h
@@ -169,6 +110,7 @@ module _ (m : RecordBatch) (d d' : Dictionaries) (goes : GoesOn (λ id. found d 
     array_faults-more (union Sparse stated ids fs) p (suc n) h = along _ _ _ _ (λ x. x) (child_faults-more fs (inside (union_buffers m.version Sparse) p) (λ q. suc n)) h
     array_faults-more (union Dense stated ids fs) p zero h = along _ _ _ _ (λ x. x) (child_faults-more fs (inside (union_buffers m.version Dense) p) (λ q. 0)) h
     array_faults-more (union Dense stated ids fs) p (suc n) h = along _ _ _ _ (λ x. x) (child_faults-more fs (inside (union_buffers m.version Dense) p) (λ q. magnitude (node_of m q.node).length)) h
+    array_faults-more k p n h = along _ _ _ _ (λ x. x) (flat_faults-more k p n) h
 
     child_faults-more : (fs : Fields) (p : Place) (rows : Place → ℕ) → child_faults m d fs p rows ≡ [] → child_faults m d' fs p rows ≡ []
     child_faults-more none p rows h = refl
@@ -176,26 +118,7 @@ module _ (m : RecordBatch) (d d' : Dictionaries) (goes : GoesOn (λ id. found d 
 
   mutual
     pub cell-more : (k : Kind) (p : Place) (n row : ℕ) → row < n → array_faults m d k p n ≡ [] → cell m d' k p row ≡ cell m d k p row
-    cell-more null p n row below h = refl
-    cell-more boolean p n row below h = refl
-    cell-more (integer t) p n row below h = refl
-    cell-more (float t) p n row below h = refl
-    cell-more date32 p n row below h = refl
-    cell-more date64 p n row below h = refl
-    cell-more (time32 u) p n row below h = refl
-    cell-more (time64 u) p n row below h = refl
-    cell-more (timestamp u tz) p n row below h = refl
-    cell-more (duration u) p n row below h = refl
     cell-more (interval YearMonth) p n row below h = refl
-    cell-more (interval DayTime) p n row below h = refl
-    cell-more (interval MonthDayNano) p n row below h = refl
-    cell-more (decimal precision scale) p n row below h = refl
-    cell-more (decimal256 precision scale) p n row below h = refl
-    cell-more (binary o) p n row below h = refl
-    cell-more (utf8 o) p n row below h = refl
-    cell-more binary_view p n row below h = refl
-    cell-more utf8_view p n row below h = refl
-    cell-more (fixed_size_binary size) p n row below h = refl
     cell-more («list» o fs) p zero row below h = absurd (omega (arith, below))
     cell-more («list» o fs) p (suc n) row below h =
         let inner : offsets_faults m o (p.buffer + 1) (suc n) (magnitude (node_of m (suc p.node)).length) ++ child_faults m d fs (inside 2 p) (λ q. offset m o (p.buffer + 1) (suc n)) ≡ [] = sound_second (offsets_buffer_faults m o (p.buffer + 1) (suc n)) _ (none_second (node_faults m p (suc n) ++ validity_faults m p (suc n)) _ h) in
@@ -228,6 +151,7 @@ module _ (m : RecordBatch) (d d' : Dictionaries) (goes : GoesOn (λ id. found d 
     cell-more (dictionary t ordered id k) p zero row below h = absurd (omega (arith, below))
     cell-more (dictionary t ordered id k) p (suc n) row below h = keyed-more m (found d id) (found d' id) (goes id) t id p (suc n) row below (sound_second (fixed_faults m p (byte_len (integer_width t)) (suc n)) _ (none_second _ _ h))
     cell-more (extension name metadata k) p n row below h = cell-more k p n row below h
+    cell-more k p n row below h = refl
 
     cell_in-more : (fs : Fields) (i : ℕ) (p : Place) (rows : Place → ℕ) (row : ℕ) → row < rows (place_in m fs i p) → child_faults m d fs p rows ≡ [] → cell_in m d' fs i p row ≡ cell_in m d fs i p row
     cell_in-more none i p rows row below h = refl

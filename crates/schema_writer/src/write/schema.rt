@@ -16,10 +16,10 @@ ghost use Rattle.schema_writer.specs.Texts.{PairsAscend, FieldsSayTexts, SchemaS
 use super::fields::field_node;
 use super::pairs::schema_pairs;
 use super::sayable::field_fits;
-use super::shape::field_has_shape;
 use arrow_flat::{Node, Slot};
 use arrow_types::{ArrowSchema, Field, Metadata};
 use ipc_fields::IpcField;
+use ipc_fields::shapes::field_has_shape;
 use ipc_fields::uses::{fields_at, id_at};
 use std::alloc::{AllocError, Global};
 

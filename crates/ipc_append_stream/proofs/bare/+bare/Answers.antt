@@ -6,7 +6,7 @@ use Rattle.arrow_types.specs.KindOf.{kind_of, child_of}
 use Rattle.arrow_types.specs.Child.{fields_from}
 use Rattle.arrow_types.proofs.Sameness.{fields_from_same, same_at}
 use Rattle.arrow_types.specs.declared.data_type.UnionType.{out-UnionType}
-use Rattle.ipc_fields.specs.Leaves.{is_leaf}
+use Rattle.arrow_types.specs.Leaves.{is_leaf}
 use Rattle.ipc_append_stream.specs.Bare.{bare_child}
 use Rattle.ipc_append_stream.proofs.BareKinds.{bare_field, kind_of_Struct, leaves_same, other_fields, other_mode, unions_same}
 use Rattle.ipc_append_stream.proofs.bare.+bare.Goals as goal
@@ -52,4 +52,4 @@ pub is_same_union-returns : goal.is_same_union-returns
 is_same_union-returns t c =
     let u : map bare_field c.as_slice.result.now ≡ map bare_field (out-UnionType c.args.a.now).fields.items = ap (map bare_field) c.as_slice.ensures.value in
     let v : map bare_field c.as_slice-2.result.now ≡ map bare_field (out-UnionType c.args.b.now).fields.items = ap (map bare_field) c.as_slice-2.ensures.value in
-    unions_same c.args.a.now c.args.b.now _ _ (c.len.ensures ∙ (out-UnionType c.args.a.now).fields.ok.0) (c.if-not-is_same_mode.ensures.0 refl) (sym u ∙ c.if-not-are_same_fields.ensures.0 refl ∙ v) c.have_same_ids.ensures
+    unions_same c.args.a.now c.args.b.now _ _ (c.len-children.ensures ∙ (out-UnionType c.args.a.now).fields.ok.0) (c.if-not-is_same_mode.ensures.0 refl) (sym u ∙ c.if-not-are_same_fields.ensures.0 refl ∙ v) c.are_same_ids.ensures

@@ -2,7 +2,7 @@ use Rattle.std.proofs.Common.{◌≡◌, sym, ◌∙◌, arith, true, length, �
 use Rattle.arrow_types.specs.KindCode.{kind_eq_is}
 use Rattle.arrow_types.specs.KindOf.{kind_of}
 use Rattle.ipc_fields.specs.IpcFields.{ids_of}
-use Rattle.ipc_fields.specs.Leaves.{is_leaf}
+use Rattle.arrow_types.specs.Leaves.{is_leaf}
 use Rattle.ipc_fields.proofs.KindSteps.{lengths_differ, kinds_more, kinds_wrong, leaf_same}
 use Rattle.ipc_fields.proofs.kinds.+kinds.Goals as goal
 

@@ -4,7 +4,9 @@ use Rattle.arrow_types.specs.Child.{one_field}
 use Rattle.arrow_types.specs.KindOf.{kind_of, child_of}
 use Rattle.ipc_fields.specs.IpcFields.{ids_of, kind_with, fields_with}
 use Rattle.ipc_fields.specs.Uses.{use_in, use_as, id_under}
-use Rattle.ipc_fields.proofs.UseSteps.{kind_of_FixedSizeList, kind_of_Map, kind_of_Dictionary, one_use, grown_as, grown_twice, next_uses}
+use Rattle.arrow_types.proofs.DataTypes.{kind_of_FixedSizeList, kind_of_Map, kind_of_Dictionary}
+use Rattle.ipc_fields.proofs.Steps.{mapped_item}
+use Rattle.ipc_fields.proofs.UseSteps.{one_use, grown_as, grown_twice, next_uses}
 use Rattle.ipc_fields.proofs.uses.+uses.Goals as goal
 
 pub push_uses-returns-in-FixedSizeList-clause-ok : goal.push_uses-returns-in-FixedSizeList-clause-ok
@@ -34,4 +36,6 @@ push_uses-returns-in_ok-push_use-in-Dictionary-clause-ok t c =
     (grown_twice c.push_uses.result _ mid old (use_as (id_under c.args.id) inner) (uses_of inner) first second)
 
 pub push_children-loop-i-preserved : goal.push_children-loop-i-preserved
-push_children-loop-i-preserved t c = next_uses c.args.children.now c.args.fields.now c.loop-i.i c.index-children-i.result (map use_in c.loop-i.uses.items) _ _ c.loop-i-test.true c.index-children-i.is c.loop-i.invariant c.in_ok-push_child.ensures.ok
+push_children-loop-i-preserved t c =
+    let x = c.index-children-i.result in
+    next_uses _ _ (child_of x) c.args.fields.now c.loop-i.i (map use_in c.loop-i.uses.items) _ _ (mapped_item child_of c.args.children.now c.loop-i.i x c.loop-i-test.true c.index-children-i.is) c.loop-i.invariant c.in_ok-push_child.ensures.ok

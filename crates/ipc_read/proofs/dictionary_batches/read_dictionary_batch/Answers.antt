@@ -17,13 +17,12 @@ use Rattle.ipc_fields.specs.Uses.{use_in}
 use Rattle.ipc_fields.proofs.SameKinds.{same_itself}
 use Rattle.ipc_schema.specs.Views.{header_of}
 use Rattle.ipc_read_laws.specs.PlainKinds.{plain_kind}
-use Rattle.ipc_read_laws.proofs.PlainTypes.{plain_of}
+use Rattle.ipc_read_laws.proofs.PlainTypes.{plain_of, plain_with}
 use Rattle.ipc_read.specs.Batches.{batch_reading, kinds_of, schema_fields, table_of}
 use Rattle.ipc_read.specs.DictionaryBatches.{message_of, values_of_id, one_column, parts_before, dictionary_reading}
 use Rattle.ipc_read.specs.Held.{held_in}
 use Rattle.ipc_read.specs.Sources.{bytes_in}
 use Rattle.ipc_read.proofs.Chosen.{all_chosen}
-use Rattle.ipc_read.proofs.ColumnIds.{plain_with}
 use Rattle.ipc_read.proofs.DictionaryReads.{free_as, kind_held, values_column, values_kinds, one_is, only_part, no_place, message_refused, message_held, adds_refused, adds_batch, adds_held, use_refused, use_found, fetched_as, if_held, part_held}
 use Rattle.ipc_read.proofs.Passing.{is_err}
 use Rattle.ipc_read.proofs.Refusals.{memory_refuses}

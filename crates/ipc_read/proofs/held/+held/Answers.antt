@@ -1,4 +1,4 @@
-use Rattle.std.proofs.Common.{◌≡◌, ◌↔◌, IsTrue, to_z, of_z, w64, ◌+◌, ◌<◌, ◌≤◌, None, suc, length, sym, ◌∙◌, ap, arith, rules, subst}
+use Rattle.std.proofs.Common.{◌≡◌, ◌↔◌, IsTrue, to_z, of_z, w64, ◌+◌, ◌<◌, ◌≤◌, None, suc, length, sym, ◌∙◌, arith, rules, subst}
 use Rattle.std.proofs.lemmas.Int.{to_z-of_z}
 use Rattle.arrow_types.specs.declared.data_type.Field.{Field}
 use Rattle.arrow_types.specs.KindOf.{kind_of, child_of, fields_of}
@@ -6,7 +6,8 @@ use Rattle.ipc_fields.specs.IpcFields.{ids_of, kind_with}
 use Rattle.ipc_fields.specs.Uses.{id_under}
 use Rattle.ipc_read_laws.specs.Held.{HasKind, HasKinds}
 use Rattle.ipc_read.specs.Held.{held_in, column_kind, column_fields, ordered_in}
-use Rattle.ipc_read.proofs.ColumnIds.{plain_with, counted_with, union_with, dictionary_with}
+use Rattle.ipc_read_laws.proofs.PlainTypes.{plain_with}
+use Rattle.ipc_read.proofs.ColumnIds.{counted_with, union_with, dictionary_with}
 use Rattle.ipc_read.proofs.HeldKinds.{SeenHeld, counted_held, held_counted, list_held, held_list, union_held, held_union, dictionary_held, held_dictionary, field_held, none_seen, one_seen, all_seen, told_as, told_false, told_true, held_as, childless_held}
 use Rattle.ipc_read.proofs.LeftFields.{child_as, child_stands, list_column, width_by}
 use Rattle.ipc_read.proofs.Nested.{kind_size, fields_size, counted_tree, list_tree, union_tree, child_size}

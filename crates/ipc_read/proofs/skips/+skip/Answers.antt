@@ -5,7 +5,8 @@ use Rattle.arrow_spec.specs.Counts.{buffers_of, union_buffers}
 use Rattle.arrow_types.specs.KindOf.{kind_of, fields_of}
 use Rattle.arrow_types.specs.declared.data_type.UnionType.{out-UnionType}
 use Rattle.arrow_types.specs.declared.data_type.ExtensionType.{out-ExtensionType}
-use Rattle.ipc_read.proofs.DataTypes.{kind_of_List, kind_of_LargeList, kind_of_Map, kind_of_FixedSizeList, kind_of_Struct, kind_of_Union, union_kind, kind_of_Extension, extension_kind}
+use Rattle.arrow_types.proofs.DataTypes.{kind_of_List, kind_of_LargeList, kind_of_Map, kind_of_FixedSizeList, kind_of_Union, kind_of_Extension, extension_kind}
+use Rattle.arrow_types.proofs.Sameness.{kind_of_Struct, union_kind_of_is}
 use Rattle.ipc_read.proofs.Passed.{none_passed, next_passed, all_passed, passed_until, own_refused, refused_as, several_children, one_child, inner_passes, flat_passes}
 use Rattle.ipc_read.proofs.skips.+skip.Goals as goal
 
@@ -37,7 +38,7 @@ skip-returns-in-Extension t c =
 
 pub skip-returns-in-Union : goal.skip-returns-in-Union
 skip-returns-in-Union t c =
-    let k = ap kind_of c.in-Union.is ∙ kind_of_Union c.in-Union.union ∙ union_kind c.in-Union.union.value in
+    let k = ap kind_of c.in-Union.is ∙ kind_of_Union c.in-Union.union ∙ union_kind_of_is c.in-Union.union.value in
     let own : c.union_buffers-own.result ≡ union_buffers c.args.version (out-UnionType c.in-Union.union.value).mode = c.union_buffers-own.ensures ∙ ap (λ x. union_buffers c.args.version (out-UnionType x).mode) c.deref-in-Union.ensures in
     several_children c.union_buffers-own.result c.as_slice-in-Union.result.now (out-UnionType c.in-Union.union.value).fields.items _ _ c.args.version _ _ _ _ _ _ c.skip_children-in-Union.result k (c.as_slice-in-Union.ensures.value ∙ ap (λ x. (out-UnionType x).fields.items) c.deref-in-Union-2.ensures) (record { nodes = refl; buffers = λ vs v. ap (λ n. n + buffers_of c.args.version vs (fields_of (out-UnionType c.in-Union.union.value).fields.items) v) (sym own); views = refl }) c.skip_children-in-Union.ensures
 

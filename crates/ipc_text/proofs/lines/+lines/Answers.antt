@@ -2,9 +2,11 @@ use Rattle.std.proofs.Common.{ap, sym, ◌∙◌}
 use Rattle.arrow_spec.specs.SchemaText.{child_lines, field_lines}
 use Rattle.arrow_types.specs.Child.{one_field}
 use Rattle.arrow_types.specs.KindOf.{kind_of, child_of}
+use Rattle.arrow_types.proofs.DataTypes.{kind_of_List, kind_of_LargeList, kind_of_FixedSizeList, kind_of_Map}
+use Rattle.ipc_fields.proofs.Steps.{mapped_item}
 use Rattle.ipc_fields.specs.IpcFields.{ids_of, kind_with, fields_with}
 use Rattle.ipc_text.proofs.Growing.{grown_as}
-use Rattle.ipc_text.proofs.LineSteps.{kind_of_List, kind_of_LargeList, kind_of_FixedSizeList, kind_of_Map, one_line, next_lines}
+use Rattle.ipc_text.proofs.LineSteps.{one_line, next_lines}
 use Rattle.ipc_text.proofs.lines.+lines.Goals as goal
 
 pub push_children-returns-in-List : goal.push_children-returns-in-List
@@ -44,4 +46,6 @@ push_children-returns-in-Map t c =
     grown_as r.result c.args.out.now.items r.new.out.items _ _ (one_line level (child_of d.result.now) own ∙ ap (λ x. field_lines level (fields_with (one_field (child_of x)) own)) d.ensures ∙ ap (λ x. child_lines level (kind_with x c.args.id own)) (sym k)) r.ensures
 
 pub push_fields-loop-i-preserved : goal.push_fields-loop-i-preserved
-push_fields-loop-i-preserved t c = next_lines c.args.level c.args.children.now c.args.ipc_fields.now c.loop-i.i c.index-children-i.result c.loop-i.out.items c.push_field.new.out.items _ c.loop-i-test.true c.index-children-i.is c.in_ok-push_field.ensures c.loop-i.invariant
+push_fields-loop-i-preserved t c =
+    let x = c.index-children-i.result in
+    next_lines c.args.level _ _ (child_of x) c.args.ipc_fields.now c.loop-i.i c.loop-i.out.items c.push_field.new.out.items _ (mapped_item child_of c.args.children.now c.loop-i.i x c.loop-i-test.true c.index-children-i.is) c.in_ok-push_field.ensures c.loop-i.invariant

@@ -3,7 +3,7 @@ use Rattle.arrow_spec.specs.SchemaText.{indent, quoted, nullable_text}
 use Rattle.arrow_types.specs.KindOf.{child_of}
 use Rattle.ipc_text.specs.Types.{type_text_with}
 use Rattle.ipc_text.proofs.Growing.{grown_on, grown_last}
-use Rattle.ipc_text.proofs.LineSteps.{child_is}
+use Rattle.arrow_types.proofs.DataTypes.{child_is}
 use Rattle.ipc_text.proofs.lines.push_field_line.Goals as goal
 
 pub returns : goal.returns

@@ -1,5 +1,4 @@
 use Rattle.std.proofs.Common.{sym, ◌∙◌}
-use Rattle.arrow_flat.specs.Nodes.{node_of}
 use Rattle.arrow_types.specs.Schemas.{fields_in}
 use Rattle.ipc_fields.specs.IpcFields.{ids_of, metadata_in}
 use Rattle.arrow_spec.specs.Flat.{order_by}

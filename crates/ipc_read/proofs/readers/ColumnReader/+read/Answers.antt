@@ -31,7 +31,8 @@ use Rattle.ipc_read.proofs.LeftFields.{dropped, StandsIn, next_in, last_in, drop
 use Rattle.ipc_read.proofs.ListReads.{list_fetched, list_well, list_parts, list_shortened, list_child_refused, list_parts_refused, list_bytes, list_fields, list_suits, list_shape, list_after, last_read, parts_behind, list_parts_shortened, list_rows_of}
 use Rattle.ipc_read.proofs.Nested.{kind_size, fields_size, counted_carried, counted_tree, union_tree, list_carried, list_tree, counted_is, counted_suits, counted_size, counted_one, counted_shape, child_size, child_carried, ChildrenDone, BytesDone, RowsDone, KindsDone, none_children, none_bytes, no_rows_done, next_child, next_bytes, child_refused, all_children, all_bytes, next_rows_done, all_rows_done, all_same, next_kind, all_kinds, next_sound, children_taken, children_until, left_fetched, counted_after, counted_head_refused, counted_children_refused, counted_well, counted_parts, counted_bytes, counted_shortened, head_shortened, head_behind, counted_fetched}
 use Rattle.ipc_read.proofs.Passing.{at_all}
-use Rattle.ipc_read.proofs.Places.{first_place_in, kind_of_child}
+use Rattle.arrow_types.proofs.DataTypes.{kind_of_child}
+use Rattle.ipc_read.proofs.Places.{first_place_in}
 use Rattle.ipc_read.proofs.ReaderSteps.{known_on, readable_on, batch_on, queues_then, shortened_on, all_shortened_on, made, if_ok}
 use Rattle.ipc_read.proofs.Refusals.{err_from}
 use Rattle.ipc_read.proofs.UnionReads.{union_right, union_suits, union_is, union_after, top_behind, union_shortened, union_top_shortened, union_parts_refused, union_children_refused, union_made, union_bytes, union_rows, union_fetches}

@@ -11,10 +11,10 @@ use Rattle.ipc_fields.specs.IpcFields.{no_fields, kind_with}
 use Rattle.ipc_read_laws.specs.Held.{AreValuesOf, HasKind}
 use Rattle.ipc_read_laws.specs.PartsRead.{indexed_read, parts_or_empty}
 use Rattle.ipc_read_laws.specs.PlainKinds.{plain_kind}
-use Rattle.ipc_read_laws.proofs.PlainTypes.{plain_of}
+use Rattle.ipc_read_laws.proofs.PlainTypes.{plain_of, plain_with}
 use Rattle.ipc_read.specs.Held.{held_in, ordered_in, id_in}
 use Rattle.ipc_read.proofs.Arrays.{if_any}
-use Rattle.ipc_read.proofs.ColumnIds.{dictionary_with, plain_with, carried_with}
+use Rattle.ipc_read.proofs.ColumnIds.{dictionary_with, carried_with}
 use Rattle.ipc_read.proofs.HeldKinds.{dictionary_held, held_dictionary}
 use Rattle.ipc_read.proofs.KeysRead.{keys_refused, keys_made, keys_taken, keys_shortened, keys_fetched_by, dictionary_keys, dictionary_values, dictionary_carried, parts_kind, parts_same, held_sound, absent_is}
 use Rattle.ipc_read.proofs.ReaderSteps.{if_ok}

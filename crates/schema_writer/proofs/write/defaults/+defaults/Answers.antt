@@ -5,8 +5,8 @@ use Rattle.arrow_types.specs.Child.{one_field}
 use Rattle.arrow_types.specs.KindOf.{kind_of, child_of}
 use Rattle.ipc_fields.specs.IpcFields.{ids_of, tree_of}
 use Rattle.schema_writer.specs.Defaults.{IsDefault, AreDefault}
-use Rattle.schema_writer.proofs.Saying.{kind_of_Map}
-use Rattle.schema_writer.proofs.Counting.{tree_at, at_kind, fixed_default, map_default, dictionary_default, default_step, kind_of_FixedSizeList, kind_of_Dictionary, one_more}
+use Rattle.arrow_types.proofs.DataTypes.{kind_of_FixedSizeList, kind_of_Map, kind_of_Dictionary}
+use Rattle.schema_writer.proofs.Counting.{tree_at, at_kind, fixed_default, map_default, dictionary_default, default_step, one_more}
 use Rattle.schema_writer.proofs.write.defaults.+defaults.Goals as goal
 
 pub default_of-returns-in_ok-only_default-in-FixedSizeList : goal.default_of-returns-in_ok-only_default-in-FixedSizeList

@@ -1,9 +1,8 @@
-use Rattle.std.proofs.Common.{◌≡◌, ◌+◌, [], ◌∷◌, ◌++◌, map, take, ap, ◌∙◌}
+use Rattle.std.proofs.Common.{◌≡◌, [], ◌∷◌, ◌++◌, map, ap, ◌∙◌}
 use Rattle.std.proofs.lemmas.List.{map-append}
 use Rattle.arrow_types.specs.KindOf.{child_of}
 use Rattle.ipc_fields.specs.IpcFields.{tree_of}
-use Rattle.schema_writer.proofs.Tops.{children}
-use Rattle.schema_writer.proofs.Counting.{default_step, children_more}
+use Rattle.schema_writer.proofs.Counting.{default_step, one_taken}
 use Rattle.schema_writer.proofs.write.defaults.schema_defaults.Goals as goal
 
 pub loop-i-preserved : goal.loop-i-preserved
@@ -12,4 +11,4 @@ loop-i-preserved c =
     let f = c.in_ok-default_field.field-0 in
     let i = c.loop-i.i in
     let pushed : map tree_of c.push.new.self.items ≡ map tree_of c.loop-i.ipc_fields.items ++ tree_of f ∷ [] = ap (map tree_of) c.in_ok-push.ensures.items ∙ map-append tree_of c.loop-i.ipc_fields.items (f ∷ []) in
-    default_step (children (take i c.args.schema.now)) (children (take (i + 1) c.args.schema.now)) (map tree_of c.loop-i.ipc_fields.items) (map tree_of c.push.new.self.items) x (tree_of f) c.args.next.now c.loop-i.next c.default_field.new.next (children_more c.args.schema.now i x c.field_at.ensures) pushed c.loop-i.invariant c.in_ok-default_field.ensures
+    default_step _ _ (map tree_of c.loop-i.ipc_fields.items) (map tree_of c.push.new.self.items) x (tree_of f) c.args.next.now c.loop-i.next c.default_field.new.next (one_taken c.args.schema.now i x c.field_at.ensures) pushed c.loop-i.invariant c.in_ok-default_field.ensures

@@ -1,4 +1,4 @@
-use Rattle.std.proofs.Common.{rules, ◌≡◌, ◌++◌, ℕ, map, length, nat_eq, sym, ap, ◌∙◌, arith}
+use Rattle.std.proofs.Common.{rules, ◌≡◌, ◌++◌, map, length, nat_eq, sym, ap, ◌∙◌, arith}
 use Rattle.arrow_spec.specs.Layout.{child, no_more, tables}
 use Rattle.arrow_spec.specs.Sent.{custom_slot}
 use Rattle.arrow_flat.specs.Nodes.{node_of, nodes_of}

@@ -1,32 +1,35 @@
-use Rattle.std.proofs.Common.{◌≡◌, ◌<◌, ◌≤◌, ◌&&◌, length, sym, ap, ◌∙◌, arith}
+use Rattle.std.proofs.Common.{◌≡◌, ◌≤◌, ◌&&◌, drop, map, length, sym, ap, ◌∙◌, arith}
+use Rattle.std.proofs.lemmas.List.{at_drop_all}
 use Rattle.arrow_spec.specs.Kinds as kind
 use Rattle.arrow_types.specs.Child.{one_field}
 use Rattle.arrow_types.specs.KindOf.{kind_of, child_of, fields_of}
 use Rattle.arrow_types.specs.declared.data_type.UnionType.{out-UnionType}
+use Rattle.arrow_types.proofs.DataTypes.{kind_of_Map}
 use Rattle.arrow_types.proofs.Sameness.{union_kind_of_is}
 use Rattle.ipc_fields.specs.IpcFields.{ids_of, kind_with, fields_with}
+use Rattle.ipc_fields.proofs.Steps.{mapped_item}
 use Rattle.schema_writer.specs.Tables.{kind_fits, all_fit}
-use Rattle.schema_writer.proofs.Saying.{fit_next, fit_wrong, fit_done, found_fits, kind_of_Map, union_said}
+use Rattle.schema_writer.proofs.Saying.{fit_next, fit_wrong, fit_done, found_fits, union_said}
 use Rattle.schema_writer.proofs.write.sayable.+fits.Goals as goal
 
 pub all_fit-returns-then-not-field_fits : goal.all_fit-returns-then-not-field_fits
 all_fit-returns-then-not-field_fits t c =
     let x = c.index-fields-i.result in
     let here = found_fits (child_of x).kind _ _ _ _ _ c.field_fits.ensures c.id_at.ensures.id c.fields_at.ensures in
-    let lt : c.loop-i.i < length c.args.fields.now = omega (arith, c.loop-i-test.true) in
-    sym (fit_wrong c.args.fields.now c.args.below.now c.loop-i.i x _ lt c.index-fields-i.is c.loop-i.invariant (sym here ∙ c.if-not-field_fits.true))
+    let first = mapped_item child_of c.args.fields.now c.loop-i.i x c.loop-i-test.true c.index-fields-i.is in
+    sym (fit_wrong _ _ (child_of x) c.args.below.now c.loop-i.i _ first c.loop-i.invariant (sym here ∙ c.if-not-field_fits.true))
 
 pub all_fit-loop-i-preserved : goal.all_fit-loop-i-preserved
 all_fit-loop-i-preserved t c =
     let x = c.index-fields-i.result in
     let here = found_fits (child_of x).kind _ _ _ _ _ c.field_fits.ensures c.id_at.ensures.id c.fields_at.ensures in
-    let lt : c.loop-i.i < length c.args.fields.now = omega (arith, c.loop-i-test.true) in
-    fit_next c.args.fields.now c.args.below.now c.loop-i.i x _ lt c.index-fields-i.is c.loop-i.invariant (sym here ∙ c.if-not-field_fits.false)
+    let first = mapped_item child_of c.args.fields.now c.loop-i.i x c.loop-i-test.true c.index-fields-i.is in
+    fit_next _ _ (child_of x) c.args.below.now c.loop-i.i _ first c.loop-i.invariant (sym here ∙ c.if-not-field_fits.false)
 
 pub all_fit-returns : goal.all_fit-returns
 all_fit-returns t c =
     let le : length c.args.fields.now ≤ c.loop-i.i = omega (arith, c.loop-i-test.false) in
-    sym (fit_done c.args.fields.now c.args.below.now c.loop-i.i _ le c.loop-i.invariant)
+    sym (fit_done _ (ids_of (drop c.loop-i.i c.args.below.now)) _ (at_drop_all (map child_of) c.args.fields.now c.loop-i.i le) c.loop-i.invariant)
 
 pub fits-returns-in-Map : goal.fits-returns-in-Map
 fits-returns-in-Map t c =

@@ -13,3 +13,17 @@ is_leaf (kind.union mode stated ids fs) = false
 is_leaf (kind.dictionary index ordered id k) = false
 is_leaf (kind.extension name metadata k) = false
 is_leaf k = true
+
+-- the same without parameters
+abbrev pub is_plain : Kind → Bool
+is_plain kind.null = true
+is_plain kind.boolean = true
+is_plain (kind.integer t) = true
+is_plain (kind.float t) = true
+is_plain kind.date32 = true
+is_plain kind.date64 = true
+is_plain (kind.binary o) = true
+is_plain (kind.utf8 o) = true
+is_plain kind.binary_view = true
+is_plain kind.utf8_view = true
+is_plain k = false
