@@ -1,107 +1,13 @@
 //! The shelf over a folder of files. Files tell no content.
-ghost use Rattle.std.specs.Prelude.{◌≡◌, ◌<◌, ◌≤◌, ◌^◌, length, None, IfOk};
+ghost use Rattle.std.specs.Prelude.{◌≡◌, None};
 ghost use Rattle.ipc_io.specs.Outside.{OpenHasCause};
 
 use ipc_disk::{FileDisk, PlaceShelf};
-use ipc_schema::{Failed, Got, Shelf, ShelfError, Source};
-use std::fs::{self, OpenFile, OpenOptions};
+use ipc_schema::{Shelf, ShelfError};
+use std::fs::{self, OpenOptions};
 use std::io::{self, ErrorKind};
 use std::os::unix::fs::FileExt;
 use std::rt::Files;
-
-/// A file that is read at places, and never whole. It tells no content, and has fetched what was asked of it.
-#[derive(Drop)]
-pub struct FileSource<F> {
-    file: F,
-    faults: u64,
-    fetched: u64,
-}
-
-impl<F> FileSource<F> {
-    /// Takes no memory.
-    pub fn new(file: F) -> Self
-        ensures file { result.file ≡ file }
-        ensures faults { result.faults ≡ 0 }
-        ensures fetched { result.fetched ≡ 0 }
-    {
-        FileSource {
-            file,
-            faults: 0,
-            fetched: 0,
-        }
-    }
-}
-
-// Reads once at a place. A read that was interrupted is begun again.
-fn read_once<F: FileExt>(file: &F, at: u64, out: &mut [u8]) -> Result<usize, Failed>
-    ensures { IfOk result (λ n. n ≤ length out.new) }
-{
-    for _ in 0..u64::MAX {
-        match file.read_at(out, at) {
-            Ok(count) => return Ok(count),
-            Err(error) if error.kind() == ErrorKind::Interrupted => {}
-            Err(_) => return Err(Failed),
-        }
-    }
-    Err(Failed)
-}
-
-// Fills `out` with the bytes from a place on, or finds the end before.
-fn read_each<F: FileExt>(file: &F, at: u64, out: &mut [u8]) -> Result<Got, Failed> {
-    let mut done = 0;
-    while done < out.len() {
-        let Some(place) = at.checked_add(done as u64) else {
-            return Ok(Got::Short);
-        };
-        let count = read_once(file, place, &mut out[done..])?;
-        if count == 0 {
-            return Ok(Got::Short);
-        }
-        done += count;
-    }
-    Ok(Got::Full)
-}
-
-// The size that the system tells of a file.
-fn size_of<F: OpenFile>(file: &F) -> Result<u64, Failed>
-    ensures { IfOk result (λ n. n < 2 ^ 63) }
-{
-    let Ok(metadata) = file.metadata() else {
-        return Err(Failed);
-    };
-    let size = metadata.len();
-    if size < 1 << 63 {
-        Ok(size)
-    } else {
-        Err(Failed)
-    }
-}
-
-impl<F: FileExt + OpenFile> Source for FileSource<F> {
-    ghost content = { λ s. None };
-
-    ghost faults = { λ s. s.faults };
-
-    ghost fetched = { λ s. s.fetched };
-
-    fn size(&mut self) -> Result<u64, Failed> {
-        let size = size_of(&self.file);
-        if size.is_err() {
-            self.faults = self.faults.saturating_add(1);
-        }
-        size
-    }
-
-    /// One read at the place, and more where the system gives less than was asked for.
-    fn read_at(&mut self, at: u64, out: &mut [u8]) -> Result<Got, Failed> {
-        self.fetched = self.fetched.saturating_add(out.len() as u64);
-        let got = read_each(&self.file, at, out);
-        if got.is_err() {
-            self.faults = self.faults.saturating_add(1);
-        }
-        got
-    }
-}
 
 /// The files of the current folder, by their paths from there. What stands under a name is not told.
 #[derive(Drop)]
@@ -138,21 +44,21 @@ impl<'a, R: Files> Shelf for FolderShelf<'a, R>
 where
     R::File: FileExt,
 {
-    type File = FileSource<R::File>;
+    type File = FileDisk<R::File>;
 
     ghost held = { λ s. None };
 
     ghost faults = { λ s. s.faults };
 
     /// `Unknown` where the system finds no file under the path.
-    fn open_file(&mut self, name: &str) -> Result<FileSource<R::File>, ShelfError> {
+    fn open_file(&mut self, name: &str) -> Result<FileDisk<R::File>, ShelfError> {
         let answer = fs::open(self.rt, name);
         let file = self.opened(answer)?;
-        Ok(FileSource::new(file))
+        Ok(FileDisk::new(file))
     }
 
-    fn close_file(&mut self, file: FileSource<R::File>) {
-        if file.faults > 0 {
+    fn close_file(&mut self, file: FileDisk<R::File>) {
+        if file.has_failed() {
             self.faults = self.faults.saturating_add(1);
         }
     }

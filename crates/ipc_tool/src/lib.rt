@@ -16,7 +16,7 @@ mod text_output;
 
 pub use adapters::{InputFeed, OutputSink};
 pub use command_line::{answer, status_of_process};
-pub use folder::{FileSource, FolderShelf};
+pub use folder::FolderShelf;
 pub use ipc_transcode::{Summary, transcode};
 pub use note::note_refusal;
 pub use program::run;

@@ -23,6 +23,7 @@ fn a_file_is_a_disk(rt: HostRuntime) -> Result<(), Fail> {
     let mut out = [0; 5];
     assert!(rt; disk.read_at(0, &mut out) == Ok(Got::Full) && out == *b"Qbckl");
     assert!(rt; disk.read_at(1, &mut out) == Ok(Got::Short));
+    assert!(rt; disk.read_at(u64::MAX, &mut out) == Err(Failed));
     assert!(rt; disk.cut(u64::MAX) == Err(Failed));
     fs::remove_file(&rt, path)?;
     Ok(())
