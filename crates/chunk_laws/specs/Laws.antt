@@ -31,7 +31,8 @@ ChunkMayBeWritten = (options : WriteOptions) (o : Options) (fs : Fields) (below 
 -- The message of a schema that can be said may be written, and no batch stands behind it. Nothing is known where nothing is held.
 abbrev pub SchemaIsPut : Type 0
 SchemaIsPut = (options : WriteOptions) (fs : Fields) (below : Ids) (pairs : StreamPairs) (held : Held) (bytes : List ℕ)
-    → stream_text options fs below pairs ≡ Ok bytes → SchemaIsSaid (fields_with fs below) (metadata_of pairs.schema) → CustomMayBeWritten (metadata_of pairs.message)
+    → stream_text options fs below pairs ≡ Ok bytes → SchemaIsSaid (fields_with fs below) (metadata_of pairs.schema)
+    → CustomMayBeWritten (metadata_of pairs.message)
     → ((id : ℤ) → held id ≡ None)
     → ArePut (said_fields fs below) (metadata_of pairs.schema) (metadata_of pairs.message) held [] []
     × (bytes ≡ stream_so_far (said_fields fs below) (metadata_of pairs.schema) (metadata_of pairs.message) [])
@@ -40,7 +41,8 @@ SchemaIsPut = (options : WriteOptions) (fs : Fields) (below : Ids) (pairs : Stre
 abbrev pub ChunkIsPut : Type 0
 ChunkIsPut = (options : WriteOptions) (o : Options) (fs : Fields) (below : Ids) (b : Batch) (s t : Sending) (sent : List ToSend)
     (pairs custom : Metadata) (bs : List TableBatch) (ms : List WrittenMessage)
-    → arrays_sent o (forest b.arrays) below s ≡ Ok t → t.sent ≡ s.sent ++ sent → MayBeSent options sent b → have_same_kinds fs (columns_of (forest b.arrays)) ≡ true
+    → arrays_sent o (forest b.arrays) below s ≡ Ok t → t.sent ≡ s.sent ++ sent → MayBeSent options sent b
+    → have_same_kinds fs (columns_of (forest b.arrays)) ≡ true
     → ArePut (said_fields fs below) pairs custom s.held bs ms
     → ArePut (said_fields fs below) pairs custom t.held (bs ++ cells_of b ∷ []) (ms ++ chunk_of (said_fields fs below) sent b)
     × (flat_map bytes_of (chunk_of (said_fields fs below) sent b) ≡ chunk_text sent b)

@@ -40,7 +40,8 @@ WrittenAsColumn = (p : Parts) → fault_in p ≡ None → written_in p ≡ writt
 
 -- What is to be written of a top column that is not refused is what its parts are written with.
 abbrev pub TopIsSent : Type 0
-TopIsSent = (m : RecordBatch) (d : Dictionaries) (h : Held) (k : Kind) (p : Place) (rows : ℕ) → HoldsCells d h → HoldsKinds h k → is_carried k ≡ true → array_faults m d k p rows ≡ []
+TopIsSent = (m : RecordBatch) (d : Dictionaries) (h : Held) (k : Kind) (p : Place) (rows : ℕ) → HoldsCells d h → HoldsKinds h k → is_carried k ≡ true
+    → array_faults m d k p rows ≡ []
     → top_written m k p rows ≡ written_of (top_column (parts_read m h k p rows) ∷ [])
 
 -- A batch of the columns that were read is sent where its message may be: of some columns of the record batch, each once, in the order asked.
@@ -59,7 +60,8 @@ batch_under fs b = record { rows = b.height; columns = columns_under fs b.arrays
 
 -- Where its columns mean their cells as they are written, under the kinds of the stream's fields, it may be written where its message may be sent.
 abbrev pub ReadBatchIsSendable : Type 0
-ReadBatchIsSendable = (a : Asked) (c : Known) (v : MetadataVersion) (tables : BatchHeader) (body : List ℕ) (left : Option ℕ) (h : Held) (b : Batch) → HeaderFits tables
+ReadBatchIsSendable = (a : Asked) (c : Known) (v : MetadataVersion) (tables : BatchHeader) (body : List ℕ) (left : Option ℕ) (h : Held) (b : Batch)
+    → HeaderFits tables
     → HoldsCells a.dictionaries h → HoldsFields h a.fields → are_carried (asked_fields a) ≡ true → columns_right a.columns (width a.fields) ≡ Ok tt
     → AllAreKnown a.dictionaries (asked_fields a) 0 c
     → batch_of_tables to_read a v b.custom tables body left ≡ Ok (record { rows = b.height; columns = map cells_in b.arrays; custom = b.custom })
@@ -74,16 +76,20 @@ ReadBatchIsSendable = (a : Asked) (c : Known) (v : MetadataVersion) (tables : Ba
 
 -- A batch that was read of columns by rising numbers is, in the order asked, what the columns asked for mean. The numbers are the same.
 abbrev pub RisingBatchIsAsked : Type 0
-RisingBatchIsAsked = (a : Asked) (rising : List ℕ) (asked : List ℕ) (v : MetadataVersion) (custom : Metadata) (tables : BatchHeader) (body : List ℕ) (left : Option ℕ) (h : Held) (rows : ℕ) (read given : List Parts)
+RisingBatchIsAsked = (a : Asked) (rising : List ℕ) (asked : List ℕ) (v : MetadataVersion) (custom : Metadata) (tables : BatchHeader) (body : List ℕ)
+    (left : Option ℕ) (h : Held) (rows : ℕ) (read given : List Parts)
     → ((c : ℕ) → stands_in rising c ≡ stands_in asked c) → columns_right (Some asked) (width a.fields) ≡ Ok tt
-    → batch_of_tables to_read (with_columns (Some rising) a) v custom tables body left ≡ Ok (record { rows = rows; columns = map cells_in read; custom = custom })
+    → batch_of_tables to_read (with_columns (Some rising) a) v custom tables body left
+    ≡ Ok (record { rows = rows; columns = map cells_in read; custom = custom })
     → ArePicked (columns_read (record_batch_of a.order v tables body) h a.fields first_place rows) rising read
     → ArePicked (columns_read (record_batch_of a.order v tables body) h a.fields first_place rows) asked given
-    → batch_of_tables to_read (with_columns (Some asked) a) v custom tables body left ≡ Ok (record { rows = rows; columns = map cells_in given; custom = custom })
+    → batch_of_tables to_read (with_columns (Some asked) a) v custom tables body left
+    ≡ Ok (record { rows = rows; columns = map cells_in given; custom = custom })
 
 -- What refuses a batch of columns by rising numbers refuses that of the columns asked for, in whatever order.
 abbrev pub RisingBatchRefuses : Type 0
-RisingBatchRefuses = (a : Asked) (rising : List ℕ) (asked : List ℕ) (v : MetadataVersion) (custom : Metadata) (tables : BatchHeader) (body : List ℕ) (left : Option ℕ) (es : List IpcError)
+RisingBatchRefuses = (a : Asked) (rising : List ℕ) (asked : List ℕ) (v : MetadataVersion) (custom : Metadata) (tables : BatchHeader) (body : List ℕ)
+    (left : Option ℕ) (es : List IpcError)
     → ((c : ℕ) → stands_in rising c ≡ stands_in asked c)
     → batch_of_tables to_read (with_columns (Some rising) a) v custom tables body left ≡ Err es
     → batch_of_tables to_read (with_columns (Some asked) a) v custom tables body left ≡ Err es

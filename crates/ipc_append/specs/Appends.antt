@@ -54,7 +54,8 @@ pub record Continues (asked : WriteOptions) (m : FileMetadata) (place : ℕ) (c 
 
 -- what it holds of dictionaries is what the file's blocks say
 abbrev pub HoldsFile : Option (List ℕ) → FileMetadata → FileCore → Type 0
-HoldsFile content m c = IfSome content (λ b. (d : Dictionaries) × (dictionaries_of b (meta_view m) [] (meta_view m).dictionaries ≡ Ok d) × HoldsCells d (held_in c.tracker.dictionaries))
+HoldsFile content m c = IfSome content (λ b. (d : Dictionaries) × (dictionaries_of b (meta_view m) [] (meta_view m).dictionaries ≡ Ok d)
+    × HoldsCells d (held_in c.tracker.dictionaries))
 
 -- a file goes on behind a place: it may be cut there, and ended as it stands
 pub record IsContinued (content : Option (List ℕ)) (asked : WriteOptions) (m : FileMetadata) (place : ℕ) (c : FileCore) : Type 0 where

@@ -1,6 +1,7 @@
 -- Kinds and fields without dictionary ids.
 use Rattle.std.proofs.Common.{◌≡◌, ◌∙◌, ℕ, zero, suc, ◌+◌, ◌≤◌, List, [], ◌∷◌, map, length, take, slice_get, Bool, true, Option, None, Vec, Global, ℤ, pos, IsTrue, ◌↔◌, refl, sym, ap, rules, arith, add-one}
 use Rattle.std.proofs.lemmas.List.{length-map, take_all}
+use Rattle.std.proofs.lemmas.Option.{slice_get-map}
 use Rattle.std.specs.Option.{option_map}
 use Rattle.arrow_spec.specs.declared.types.UnionMode.{UnionMode}
 use Rattle.arrow_spec.specs.Kinds as kind
@@ -114,11 +115,6 @@ unions_same u v n r count mode fields is =
 
 -- ── fields at places ──
 
-mapped_get : {A B : Type 0} (f : A → B) (xs : List A) (i : ℕ) → slice_get (map f xs) i ≡ option_map f (slice_get xs i)
-mapped_get f [] i = refl
-mapped_get f (x ∷ xs) zero = refl
-mapped_get f (x ∷ xs) (suc i) = mapped_get f xs i
-
 one_more : {A : Type 0} (xs ys : List A) (i : ℕ) → take i xs ≡ take i ys → slice_get xs i ≡ slice_get ys i → take (suc i) xs ≡ take (suc i) ys
 one_more [] [] i e h = refl
 one_more [] (y ∷ ys) zero e h = cc
@@ -133,7 +129,7 @@ one_more (x ∷ xs) (y ∷ ys) (suc i) e h =
     cc
 
 pub entries_more : (a b : List Keyed) (i : ℕ) → take i (map bare_entry a) ≡ take i (map bare_entry b) → option_map bare_entry (slice_get a i) ≡ option_map bare_entry (slice_get b i) → take (i + 1) (map bare_entry a) ≡ take (i + 1) (map bare_entry b)
-entries_more a b i e h = rw add-one (one_more (map bare_entry a) (map bare_entry b) i e (mapped_get bare_entry a i ∙ h ∙ sym (mapped_get bare_entry b i)))
+entries_more a b i e h = rw add-one (one_more (map bare_entry a) (map bare_entry b) i e (slice_get-map bare_entry a i ∙ h ∙ sym (slice_get-map bare_entry b i)))
 
 pub entries_whole : (a b : List Keyed) (i : ℕ) → length a ≤ i → length b ≤ i → take i (map bare_entry a) ≡ take i (map bare_entry b) → bare (fields_in a) ≡ bare (fields_in b)
 entries_whole a b i h k e =
@@ -145,7 +141,7 @@ entries_of : (a b : List Keyed) → bare (fields_in a) ≡ bare (fields_in b) �
 entries_of a b h = fields_from_same _ _ (sym (bare_in a) ∙ h ∙ bare_in b)
 
 pub entries_at : (a b : List Keyed) (i : ℕ) → bare (fields_in a) ≡ bare (fields_in b) → option_map bare_entry (slice_get a i) ≡ option_map bare_entry (slice_get b i)
-entries_at a b i h = sym (mapped_get bare_entry a i) ∙ ap (λ xs. slice_get xs i) (entries_of a b h) ∙ mapped_get bare_entry b i
+entries_at a b i h = sym (slice_get-map bare_entry a i) ∙ ap (λ xs. slice_get xs i) (entries_of a b h) ∙ slice_get-map bare_entry b i
 
 pub entries_count : (a b : List Keyed) → bare (fields_in a) ≡ bare (fields_in b) → length a ≡ length b
 entries_count a b h = sym (length-map a bare_entry) ∙ ap length (entries_of a b h) ∙ length-map b bare_entry

@@ -50,7 +50,8 @@ pub record BatchesRefused (content : Option (List ℕ)) (e : IpcError) (asked : 
 
 -- why nothing is prepared, step by step
 abbrev pub NotPrepared : Option (List ℕ) → IpcError → WriteOptions → WholeStream → ℕ → ℕ → Type 0
-NotPrepared content e asked s faults faults' = DoesNotTake content e s.metadata faults faults' ⊎ (DictionariesRefused content e s faults faults' ⊎ BatchesRefused content e asked s)
+NotPrepared content e asked s faults faults' = DoesNotTake content e s.metadata faults faults'
+    ⊎ (DictionariesRefused content e s faults faults' ⊎ BatchesRefused content e asked s)
 
 -- a file does not go on
 pub record NotContinued (content : Option (List ℕ)) (e : IpcError) (asked : WriteOptions) (s : WholeStream) (faults faults' : ℕ) : Type 0 where
@@ -74,10 +75,12 @@ pub record NotCut (old new : Option (List ℕ)) (e : IpcError) (asked : WriteOpt
 
 -- the writer of a file that was cut there stops: at a batch, or at the file's end, or where the disk is cut behind that
 abbrev pub Stops : IpcError → FileCore → List EncodedChunk → Type 0
-Stops e core chunks = (last : FileCore) × (OneNotGiven e core last chunks ⊎ (NotEnded e core last chunks ⊎ ((e ≡ errors.WriteFault) × AreGiven core last chunks)))
+Stops e core chunks = (last : FileCore) × (OneNotGiven e core last chunks
+    ⊎ (NotEnded e core last chunks ⊎ ((e ≡ errors.WriteFault) × AreGiven core last chunks)))
 
 -- the disk was cut, and what was to stand behind the cut is not all there
-pub record StopsWriting (old new : Option (List ℕ)) (e : IpcError) (asked : WriteOptions) (m : FileMetadata) (chunks : List EncodedChunk) (faults faults' : ℕ) : Type 0 where
+pub record StopsWriting (old new : Option (List ℕ)) (e : IpcError) (asked : WriteOptions) (m : FileMetadata) (chunks : List EncodedChunk)
+    (faults faults' : ℕ) : Type 0 where
   pub place : ℕ
   pub core : FileCore
   pub continued : IsContinued old asked m place core
@@ -155,4 +158,5 @@ pub record StopsOnDisk (old new : Option (List ℕ)) (e : IpcError) (core : File
 -- a file does not go on, or it could not be cut, or what was to stand behind the cut is not all there
 abbrev pub WritesNot : Option (List ℕ) → Option (List ℕ) → IpcError → WriteOptions → FileMetadata → List EncodedChunk → ℕ → ℕ → Type 0
 WritesNot old new e asked m chunks faults faults' =
-    (StopsBefore old e asked m faults faults' × (new ≡ old)) ⊎ (CutFails old new e asked m faults faults' ⊎ StopsWriting old new e asked m chunks faults faults')
+    (StopsBefore old e asked m faults faults' × (new ≡ old))
+    ⊎ (CutFails old new e asked m faults faults' ⊎ StopsWriting old new e asked m chunks faults faults')

@@ -69,7 +69,8 @@ pub record IsEncoded (options : WriteOptions) (below : Ids) (old new : Dictionar
 -- batches were encoded, each by what was held behind those before it
 pub data AreEncoded (options : WriteOptions) (below : Ids) : DictionaryTracker → DictionaryTracker → List Batch → List EncodedChunk → Type 0 where
   none_encoded : {t : DictionaryTracker} → AreEncoded options below t t [] []
-  one_encoded : {t u v : DictionaryTracker} {b : Batch} {bs : List Batch} {c : EncodedChunk} {cs : List EncodedChunk} → IsEncoded options below t u b c → AreEncoded options below u v bs cs → AreEncoded options below t v (b ∷ bs) (c ∷ cs)
+  one_encoded : {t u v : DictionaryTracker} {b : Batch} {bs : List Batch} {c : EncodedChunk} {cs : List EncodedChunk}
+      → IsEncoded options below t u b c → AreEncoded options below u v bs cs → AreEncoded options below t v (b ∷ bs) (c ∷ cs)
 
 -- a batch is refused, behind others that were encoded
 pub record OneRefused (options : WriteOptions) (below : Ids) (e : IpcError) (t : DictionaryTracker) (bs : List Batch) : Type 0 where

@@ -58,7 +58,8 @@ DoesNotTake content e s faults faults' = LacksMetadata content e faults faults' 
 pub record HoldsDictionaries (content : Option (List ℕ)) (asked : WriteOptions) (m : FileMetadata) (t : DictionaryTracker) : Type 0 where
   pub fixed : t.cannot_replace ≡ true
   pub deltas : t.deltas ≡ asked.deltas
-  pub values : IfSome content (λ b. (d : Dictionaries) × (dictionaries_of b (meta_view m) [] (meta_view m).dictionaries ≡ Ok d) × HoldsCells d (held_in t.dictionaries))
+  pub values : IfSome content (λ b. (d : Dictionaries) × (dictionaries_of b (meta_view m) [] (meta_view m).dictionaries ≡ Ok d)
+      × HoldsCells d (held_in t.dictionaries))
   pub uses : HoldsUses (meta_view m) (held_in t.dictionaries)
 
 -- they are refused

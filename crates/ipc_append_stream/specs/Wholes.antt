@@ -38,7 +38,9 @@ reader_of schema = record { schema = schema; columns = None }
 -- Behind some record batches, one after another, what stands next is refused.
 pub data StopsBehind (s : Reader) (e : IpcError) : Dictionaries → List ℕ → List TableBatch → Type 0 where
   stops_here : {d : Dictionaries} {b : List ℕ} → Refuses e (refusals (next_in most_dictionaries s d b)) → StopsBehind s e d b []
-  stops_later : {d d' : Dictionaries} {b rest : List ℕ} {x : TableBatch} {xs : List TableBatch} → next_in most_dictionaries s d b ≡ Ok (record { found = a_batch x; dictionaries = d'; rest = rest }) → StopsBehind s e d' rest xs → StopsBehind s e d b (x ∷ xs)
+  stops_later : {d d' : Dictionaries} {b rest : List ℕ} {x : TableBatch} {xs : List TableBatch}
+      → next_in most_dictionaries s d b ≡ Ok (record { found = a_batch x; dictionaries = d'; rest = rest }) → StopsBehind s e d' rest xs
+      → StopsBehind s e d b (x ∷ xs)
 
 -- behind some record batches of a stream more dictionaries stand before the next one than may
 pub record HasTooMany (e : IpcError) (b : List ℕ) : Type 0 where
@@ -90,7 +92,9 @@ batch_found (states.Some x) = Some x
 
 -- a call gives the next batch of all columns, behind which there may be more, or none at the end, or it is refused
 abbrev pub NextGiven : Reader → Dictionaries → List ℕ → Option (List ℕ) → StreamCursor → Result (Option Batch) IpcError → Type 0
-NextGiven s d b rest' c' (Ok (Some x)) = (e : Dictionaries) × (rest : List ℕ) × (next_in most_dictionaries s d b ≡ Ok (record { found = a_batch (table_of x); dictionaries = e; rest = rest })) × (rest' ≡ Some rest) × HoldsCells e (held_in c'.dictionaries)
+NextGiven s d b rest' c' (Ok (Some x)) = (e : Dictionaries) × (rest : List ℕ)
+    × (next_in most_dictionaries s d b ≡ Ok (record { found = a_batch (table_of x); dictionaries = e; rest = rest })) × (rest' ≡ Some rest)
+    × HoldsCells e (held_in c'.dictionaries)
 NextGiven s d b rest' c' (Ok None) = Nexts s d b []
 NextGiven s d b rest' c' (Err e) = Refuses e (refusals (next_in most_dictionaries s d b))
 

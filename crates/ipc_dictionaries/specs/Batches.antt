@@ -20,7 +20,8 @@ begun t = record { held = held_by t; used = λ q. false; sent = [] }
 -- a batch's columns send what is found, and what was held can be given back
 abbrev pub Sends : Result NewDictionaries IpcError → DictionaryTracker → DictionaryTracker → Forest → Ids → Type 0
 Sends (Ok found) old new columns below =
-    ((used : ℤ → Bool) × (columns_sent (options_of old) columns below (begun old) ≡ Ok (record { held = held_by new; used = used; sent = map to_send found.messages.items })))
+    ((used : ℤ → Bool) × (columns_sent (options_of old) columns below (begun old)
+    ≡ Ok (record { held = held_by new; used = used; sent = map to_send found.messages.items })))
     × Restores found.changes.items (held_by new) (held_by old)
 Sends (Err e) old new columns below = ((e ≡ Memory) ⊎ (columns_sent (options_of old) columns below (begun old) ≡ Err e)) × IsKept (held_by old) (held_by new)
 

@@ -42,7 +42,8 @@ with_added t p added sent = record { held = held_by t; used = λ q. used_by p.us
 
 -- a part: the dictionaries in it, and a message of its own
 abbrev pub PartSent : Result (Unit {0}) IpcError → DictionaryTracker → Progress → Progress → ToSend → Result Sending IpcError → Type 0
-PartSent (Ok u) new was is message step = (added : List ℤ) × (sent : List ToSend) × (step ≡ Ok (with_added new was added sent)) × (map to_send is.messages.items ≡ sent ++ message ∷ []) × Releases was is added
+PartSent (Ok u) new was is message step = (added : List ℤ) × (sent : List ToSend) × (step ≡ Ok (with_added new was added sent))
+    × (map to_send is.messages.items ≡ sent ++ message ∷ []) × Releases was is added
 PartSent (Err e) new was is message step = (e ≡ Memory) ⊎ (step ≡ Err e)
 
 -- several parts

@@ -36,7 +36,8 @@ abbrev pub Stops : IpcError → Result Sending IpcError → (List ToSend → Typ
 Stops e step refused = (e ≡ Memory) ⊎ ((step ≡ Err e) ⊎ ((s : Sending) × (step ≡ Ok s) × refused s.sent))
 
 -- what of a column's dictionaries is to be sent was added behind a list, or what is held and the list are left
-abbrev pub AddsNew : Result (Unit {0}) IpcError → WriteOptions → DictionaryTracker → DictionaryTracker → Forest → Ids → List EncodedData → List EncodedData → Type 0
+abbrev pub AddsNew : Result (Unit {0}) IpcError → WriteOptions → DictionaryTracker → DictionaryTracker → Forest → Ids → List EncodedData
+    → List EncodedData → Type 0
 AddsNew (Ok u) options old new columns below was is = (more : List EncodedData) × (is ≡ was ++ more) × IsSentBy options old new columns below more
 AddsNew (Err e) options old new columns below was is =
     Stops e (found old columns below) (λ sent. RefusesOne e options sent) × IsKept (held_by old) (held_by new) × (is ≡ was)
@@ -50,7 +51,8 @@ abbrev pub AddsDictionary : Result (Unit {0}) IpcError → WriteOptions → ℤ 
 AddsDictionary (Ok u) options id parts was is =
     (lacks_deltas options parts ≡ false) × (more : List EncodedData) × (is ≡ was ++ more) × AreMessagesOf options (messages_of id false parts) more
 AddsDictionary (Err e) options id parts was is =
-    (((e ≡ NotRepresentable) × (lacks_deltas options parts ≡ true)) ⊎ ((lacks_deltas options parts ≡ false) × ((e ≡ Memory) ⊎ RefusesOne e options (messages_of id false parts)))) × (is ≡ was)
+    (((e ≡ NotRepresentable) × (lacks_deltas options parts ≡ true))
+    ⊎ ((lacks_deltas options parts ≡ false) × ((e ≡ Memory) ⊎ RefusesOne e options (messages_of id false parts)))) × (is ≡ was)
 
 -- a message is that of a batch
 pub record IsOfBatch (options : WriteOptions) (b : Batch) (m : EncodedData) : Type 0 where
@@ -69,12 +71,15 @@ EncodesFound (Ok v) options sent b was is = AreMessagesOf options sent v.items �
 EncodesFound (Err e) options sent b was is = RefusesChunk e options sent b × Same was is
 
 -- a batch's dictionaries and the batch, in place of another message, or what is held and that message are left
-abbrev pub EncodesChunkInto : Result (Vec EncodedData Global) IpcError → WriteOptions → DictionaryTracker → DictionaryTracker → Forest → Ids → Batch → EncodedData → EncodedData → Type 0
+abbrev pub EncodesChunkInto : Result (Vec EncodedData Global) IpcError → WriteOptions → DictionaryTracker → DictionaryTracker → Forest → Ids → Batch
+    → EncodedData → EncodedData → Type 0
 EncodesChunkInto (Ok v) options old new columns below b was is = IsSentBy options old new columns below v.items × IsOfBatch options b is
 EncodesChunkInto (Err e) options old new columns below b was is =
     Stops e (found old columns below) (λ sent. RefusesChunk e options sent b) × IsKept (held_by old) (held_by new) × Same was is
 
 -- a batch's dictionaries and the batch, or what is held is left
-abbrev pub EncodesChunk : Result (Vec EncodedData Global × EncodedData) IpcError → WriteOptions → DictionaryTracker → DictionaryTracker → Forest → Ids → Batch → Type 0
+abbrev pub EncodesChunk : Result (Vec EncodedData Global × EncodedData) IpcError → WriteOptions → DictionaryTracker → DictionaryTracker → Forest
+    → Ids → Batch → Type 0
 EncodesChunk (Ok p) options old new columns below b = IsSentBy options old new columns below p.0.items × IsOfBatch options b p.1
-EncodesChunk (Err e) options old new columns below b = Stops e (found old columns below) (λ sent. RefusesChunk e options sent b) × IsKept (held_by old) (held_by new)
+EncodesChunk (Err e) options old new columns below b =
+    Stops e (found old columns below) (λ sent. RefusesChunk e options sent b) × IsKept (held_by old) (held_by new)

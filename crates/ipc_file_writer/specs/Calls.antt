@@ -157,7 +157,8 @@ pub record MayBeAdded (c : FileCore) (sent : List ToSend) (b : Batch) : Type 0 w
 
 -- why not: a message is refused, or its place
 abbrev pub RefusesMore : IpcError → FileCore → List ToSend → Batch → Type 0
-RefusesMore e c sent b = RefusesChunk e c.options sent b ⊎ ((e ≡ TooLarge) × MayBeSent c.options sent b × (are_placed c.blocks.end (chunk_sizes sent b) ≡ false))
+RefusesMore e c sent b = RefusesChunk e c.options sent b
+    ⊎ ((e ≡ TooLarge) × MayBeSent c.options sent b × (are_placed c.blocks.end (chunk_sizes sent b) ≡ false))
 
 -- it was sent: what of its dictionaries was not sent yet, and the batch behind it, and the file has their blocks
 pub record HasSent (m : Moved) (old new : FileCore) (b : Batch) : Type 0 where

@@ -31,7 +31,8 @@ pub record BlockRead (b : List ℕ) (h : Held) (a : Asked) (block : FileBlock) (
   pub ordered : CustomMayBeWritten message.custom
   pub custom : x.custom ≡ message.custom
   pub read : batch_of_tables to_read a message.version message.custom message.tables (block_body b block) left ≡ Ok (table_of x)
-  pub columns : AreAsked (columns_read (record_batch_of a.order message.version message.tables (block_body b block)) h a.fields first_place x.height) a.columns x.arrays
+  pub columns : AreAsked (columns_read (record_batch_of a.order message.version message.tables
+      (block_body b block)) h a.fields first_place x.height) a.columns x.arrays
 
 -- a batch that was read of a block by a request, under the parts that are held
 abbrev pub BatchRead : List ℕ → Held → Meta → Request → FileBlock → Batch → Type 0

@@ -51,7 +51,8 @@ pub record HoldsBlock (b : List ℕ) (meta : Meta) (block : FileBlock) (old new 
 -- Dictionary blocks that were read one after another: what they said, the last one first, and what is held behind them.
 pub data AreHeld (b : List ℕ) (meta : Meta) : Dictionaries → Held → Type 0 where
   no_block : {h : Held} → ((id : ℤ) → h id ≡ None) → AreHeld b meta [] h
-  one_block : {d : Dictionaries} {h h' : Held} {x : HeldDictionary} {block : FileBlock} {id : ℤ} → AreHeld b meta d h → HoldsUses meta h → block_values b meta d block ≡ Ok x → HoldsBlock b meta block h h' id → HoldsCells (x ∷ d) h' → AreHeld b meta (x ∷ d) h'
+  one_block : {d : Dictionaries} {h h' : Held} {x : HeldDictionary} {block : FileBlock} {id : ℤ} → AreHeld b meta d h → HoldsUses meta h
+      → block_values b meta d block ≡ Ok x → HoldsBlock b meta block h h' id → HoldsCells (x ∷ d) h' → AreHeld b meta (x ∷ d) h'
 
 -- that something was done, or why not
 abbrev pub done : {A : Type 0} → Result A IpcError → Result (Unit {0}) IpcError
@@ -76,12 +77,14 @@ dictionaries_cost b meta blocks = sum_by (dictionary_cost b meta) blocks
 -- of a dictionary block that can be read, at most what it costs
 abbrev pub DictionaryFetched : Option (List ℕ) → Meta → FileBlock → ℕ → ℕ → Type 0
 DictionaryFetched None meta block fetched fetched' = ⊤
-DictionaryFetched (Some b) meta block fetched fetched' = (d : Dictionaries) (x : HeldDictionary) → block_values b meta d block ≡ Ok x → fetched' ≤ fetched + dictionary_cost b meta block
+DictionaryFetched (Some b) meta block fetched fetched' =
+    (d : Dictionaries) (x : HeldDictionary) → block_values b meta d block ≡ Ok x → fetched' ≤ fetched + dictionary_cost b meta block
 
 -- of the dictionary blocks of a file that can all be read, at most what they cost
 abbrev pub DictionariesFetched : Option (List ℕ) → Meta → ℕ → ℕ → Type 0
 DictionariesFetched None meta fetched fetched' = ⊤
-DictionariesFetched (Some b) meta fetched fetched' = (d : Dictionaries) → dictionaries_of b meta [] meta.dictionaries ≡ Ok d → fetched' ≤ fetched + dictionaries_cost b meta meta.dictionaries
+DictionariesFetched (Some b) meta fetched fetched' =
+    (d : Dictionaries) → dictionaries_of b meta [] meta.dictionaries ≡ Ok d → fetched' ≤ fetched + dictionaries_cost b meta meta.dictionaries
 
 -- of a file's dictionaries and of a block that means a batch under them, at most what they cost
 abbrev pub FirstFetched : Option (List ℕ) → Meta → Request → FileBlock → Option ℕ → ℕ → ℕ → Type 0

@@ -2,7 +2,7 @@
 ghost use Rattle.std.specs.Prelude.{◌≡◌, ◌≤◌, length};
 ghost use Rattle.std.specs.List.{flat_map};
 ghost use Rattle.ipc_bodies.specs.Puts.{moved, PutsText};
-ghost use Rattle.ipc_write_messages.specs.Puts.{PutsBehind, PutsOrStops, stop_behind};
+ghost use Rattle.ipc_write_messages.specs.Puts.{PutsBehind, PutsOrStops};
 ghost use Rattle.ipc_framed_messages.specs.Framed.{framed_text, padded_body};
 
 use crate::framed::FramedMessage;
@@ -10,20 +10,7 @@ use arrow_spec::IpcError;
 use ipc_bodies::{Encoding, put_bytes_as};
 use ipc_io::Sink;
 use ipc_write::pad_to_64;
-use ipc_write_messages::{Stop, put_whole};
-
-/// The same behind others, of which a byte may have been put.
-fn behind(stop: Stop, has_begun: bool) -> Stop
-    ensures { result ≡ stop_behind has_begun stop }
-{
-    if has_begun {
-        return Stop {
-            error: stop.error,
-            has_begun: true,
-        };
-    }
-    stop
-}
+use ipc_write_messages::{Stop, behind_begun, put_whole};
 
 /// Puts a body with zeros up to a multiple of 64.
 fn put_padded<W: Sink>(sink: &mut W, body: &[u8], scratch: &mut [u8]) -> Result<(), IpcError>
@@ -44,13 +31,7 @@ fn put_behind<W: Sink>(sink: &mut W, body: &[u8], scratch: &mut [u8]) -> Result<
     ensures same_references { W.references sink.new ≡ W.references sink.old }
     ensures scratch { length scratch.new ≡ length scratch.old }
 {
-    match put_padded(sink, body, scratch) {
-        Ok(()) => Ok(()),
-        Err(error) => Err(Stop {
-            error,
-            has_begun: true,
-        }),
-    }
+    behind_begun(put_padded(sink, body, scratch))
 }
 
 /// Puts a message, its front in one piece.
@@ -87,7 +68,7 @@ pub fn put_framed<W: Sink>(
     for message in messages {
         match put_message(sink, message, scratch) {
             Ok(()) => has_begun = true,
-            Err(stop) => return Err(behind(stop, has_begun)),
+            Err(stop) => return Err(stop.behind(has_begun)),
         }
     }
     Ok(())

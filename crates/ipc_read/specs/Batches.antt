@@ -103,7 +103,8 @@ columns_asked columns order fs d most = record { order = order; fields = fs; col
 -- what the columns asked for of a batch mean, as far as its first rows go, where a limit is set; their kinds are looked at first
 abbrev pub batch_reading : Option (List ℕ) → Option ℕ → Bool → Fields → Dictionaries → ℕ → MetadataVersion → BatchHeader → List ℕ → Reading TableBatch
 batch_reading columns limit is_little_endian fs d most version tables body =
-    free_of (chosen_floats columns fs 0) >>= λ readable. batch_of_tables to_read (columns_asked columns (order_by is_little_endian) fs d most) version [] tables body limit
+    free_of (chosen_floats columns fs 0) >>= λ readable. batch_of_tables to_read
+    (columns_asked columns (order_by is_little_endian) fs d most) version [] tables body limit
 
 -- a batch without pairs as a table has it
 abbrev pub table_in : ℕ → List Parts → TableBatch

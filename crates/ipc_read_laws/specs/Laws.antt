@@ -69,7 +69,8 @@ keys_buffers_faults m t p zero = []
 keys_buffers_faults m t p (suc n) = fixed_faults m p (byte_len (integer_width t)) (suc n)
 
 -- What is wrong with the keys of a dictionary whose node and buffers are right is found in its parts: a key of a row that is not null is none of their rows.
-pub record KeysFound (m : RecordBatch) (d : Dictionaries) (h : Held) (t : IntegerType) (ordered : Bool) (id : ℤ) (k : Kind) (p : Place) (rows : ℕ) : Type 0 where
+pub record KeysFound (m : RecordBatch) (d : Dictionaries) (h : Held) (t : IntegerType) (ordered : Bool) (id : ℤ) (k : Kind) (p : Place)
+    (rows : ℕ) : Type 0 where
   pub none : fault_in (parts_read m h (dictionary t ordered id k) p rows) ≡ None → array_faults m d (dictionary t ordered id k) p rows ≡ []
   pub some : (e : ArrayError) → fault_in (parts_read m h (dictionary t ordered id k) p rows) ≡ Some e
       → (e ≡ Key) × IsAmong (array_faults m d (dictionary t ordered id k) p rows) (key_refusal (is_absent (h id)) id)

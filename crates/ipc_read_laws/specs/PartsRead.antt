@@ -178,7 +178,8 @@ abbrev mutual
 
   pub forest_read : RecordBatch → Held → Fields → Place → (Place → ℕ) → Forest
   forest_read m h kind.none p rows = none
-  forest_read m h (field name nullable metadata k others) p rows = also (parts_under (plain_kind k) m h k p (rows p)) (forest_read m h others (after m k p) rows)
+  forest_read m h (field name nullable metadata k others) p rows =
+      also (parts_under (plain_kind k) m h k p (rows p)) (forest_read m h others (after m k p) rows)
 
 -- the parts of an array
 abbrev pub parts_read : RecordBatch → Held → Kind → Place → ℕ → Parts

@@ -93,7 +93,8 @@ abbrev pub KeptAfter : {X : Type 0} → Option (List ℕ) → Meta → Option (L
 KeptAfter content meta columns (Held m) kept result = kept ≡ Held m
 KeptAfter content meta columns Refused kept result = kept ≡ Refused
 KeptAfter content meta columns NotRead (Held m) result = IfSome content (λ b. GivesHeld (Ok m) (dictionaries_in columns b meta))
-KeptAfter content meta columns NotRead Refused result = IsRefusedBy result (λ e. IfSome content (λ b. Refuses e (refusals (dictionaries_of b meta [] meta.dictionaries))))
+KeptAfter content meta columns NotRead Refused result =
+    IsRefusedBy result (λ e. IfSome content (λ b. Refuses e (refusals (dictionaries_of b meta [] meta.dictionaries))))
 KeptAfter content meta columns NotRead NotRead result = IsRefusedBy result (λ e. Refuses e (chosen_floats columns meta.schema.fields 0))
 
 -- the same where there may be no batch to read
@@ -103,13 +104,16 @@ KeptBehind content meta columns kept kept' (Some result) = KeptAfter content met
 
 -- ── calls that read dictionaries, behind which the kept ones are k' ──
 
-module _ {S : Type 0} (content_of : S → Option (List ℕ)) (faults_of fetched_of : S → ℕ) (references_of : S → List ℕ) (s s' : S) (file : FileMetadata) (projection : Option ProjectionInfo) where
+module _ {S : Type 0} (content_of : S → Option (List ℕ)) (faults_of fetched_of : S → ℕ) (references_of : S → List ℕ) (s s' : S) (file : FileMetadata)
+    (projection : Option ProjectionInfo) where
   -- those of the file are read, which were not before
   pub record ReadsHeld (k' : KeptDictionaries) (result : Result HeldParts IpcError) : Type 0 where
-    pub gives : (columns : Option (List ℕ)) → MayProject (rc_value file.schema) columns projection → IfSome (content_of s) (λ b. GivesHeld result (dictionaries_in columns b (meta_view file)))
+    pub gives : (columns : Option (List ℕ)) → MayProject (rc_value file.schema) columns projection
+        → IfSome (content_of s) (λ b. GivesHeld result (dictionaries_in columns b (meta_view file)))
     pub held : IfOk result (λ m. IfSome (content_of s) (λ b. HoldsFile b (meta_view file) m))
     pub left : (m : HeldParts) → k' ≡ Held m → ⊥
-    pub behind : (columns : Option (List ℕ)) → MayProject (rc_value file.schema) columns projection → IfErr result (λ e. KeptAfter (content_of s) (meta_view file) columns NotRead k' result)
+    pub behind : (columns : Option (List ℕ)) → MayProject (rc_value file.schema) columns projection
+        → IfErr result (λ e. KeptAfter (content_of s) (meta_view file) columns NotRead k' result)
     pub uses : IfOk result (λ m. HoldsUses (meta_view file) (held_in m))
     pub keeps : KeepsUses (meta_view file) k'
     pub cause : IfErr result (λ e. FileCause e (faults_of s) (faults_of s'))
@@ -119,10 +123,12 @@ module _ {S : Type 0} (content_of : S → Option (List ℕ)) (faults_of fetched_
   -- they are taken: those that are held, or those of the file
   pub record TakesHeld (k k' : KeptDictionaries) (result : Result HeldParts IpcError) : Type 0 where
     pub held : (m : HeldParts) → k ≡ Held m → result ≡ Ok m
-    pub gives : (columns : Option (List ℕ)) → k ≡ NotRead → MayProject (rc_value file.schema) columns projection → IfSome (content_of s) (λ b. GivesHeld result (dictionaries_in columns b (meta_view file)))
+    pub gives : (columns : Option (List ℕ)) → k ≡ NotRead → MayProject (rc_value file.schema) columns projection
+        → IfSome (content_of s) (λ b. GivesHeld result (dictionaries_in columns b (meta_view file)))
     pub first : k ≡ NotRead → IfOk result (λ m. IfSome (content_of s) (λ b. HoldsFile b (meta_view file) m))
     pub left : (m : HeldParts) → k' ≡ Held m → ⊥
-    pub behind : (columns : Option (List ℕ)) → k ≡ NotRead → MayProject (rc_value file.schema) columns projection → IfErr result (λ e. KeptAfter (content_of s) (meta_view file) columns NotRead k' result)
+    pub behind : (columns : Option (List ℕ)) → k ≡ NotRead → MayProject (rc_value file.schema) columns projection
+        → IfErr result (λ e. KeptAfter (content_of s) (meta_view file) columns NotRead k' result)
     pub uses : IfOk result (λ m. HoldsUses (meta_view file) (held_in m))
     pub keeps : KeepsUses (meta_view file) k'
     pub cause : IfErr result (λ e. FileCause e (faults_of s) (faults_of s'))

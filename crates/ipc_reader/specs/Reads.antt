@@ -24,43 +24,54 @@ use Rattle.ipc_reader.specs.declared.kept.KeptDictionaries.TheVariants.{NotRead}
 module _ {S : Type 0} (content_of : S → Option (List ℕ)) (faults_of fetched_of : S → ℕ) (references_of : S → List ℕ) (s s' : S) (c c' : FileCursor) where
   -- the batch of the current block
   pub record ReadsCurrent (result : Result Batch IpcError) : Type 0 where
-    pub gives : (columns : Option (List ℕ)) (block : FileBlock) → MayProject (rc_value c.metadata.schema) columns c.projection → slice_get (meta_view c.metadata).blocks c.block ≡ Some block
+    pub gives : (columns : Option (List ℕ)) (block : FileBlock) → MayProject (rc_value c.metadata.schema) columns c.projection
+        → slice_get (meta_view c.metadata).blocks c.block ≡ Some block
         → IfSome (content_of s) (λ b. GivesBy c.dictionaries (asked columns c.left) b (meta_view c.metadata) block result)
-    pub read : (columns : Option (List ℕ)) (block : FileBlock) → MayProject (rc_value c.metadata.schema) columns c.projection → slice_get (meta_view c.metadata).blocks c.block ≡ Some block
+    pub read : (columns : Option (List ℕ)) (block : FileBlock) → MayProject (rc_value c.metadata.schema) columns c.projection
+        → slice_get (meta_view c.metadata).blocks c.block ≡ Some block
         → IfOk result (ReadUnderKept (content_of s) (meta_view c.metadata) (asked columns c.left) block c'.dictionaries)
     pub first : c.dictionaries ≡ NotRead → KeepsFile (content_of s) (meta_view c.metadata) c'.dictionaries
-    pub dictionaries : (columns : Option (List ℕ)) → MayProject (rc_value c.metadata.schema) columns c.projection → KeptAfter (content_of s) (meta_view c.metadata) columns c.dictionaries c'.dictionaries result
-    pub schema : (columns : Option (List ℕ)) → MayProject (rc_value c.metadata.schema) columns c.projection → IfOk result (λ x. HasFields x (schema_shown (rc_value c.metadata.schema) c.projection))
+    pub dictionaries : (columns : Option (List ℕ)) → MayProject (rc_value c.metadata.schema) columns c.projection
+        → KeptAfter (content_of s) (meta_view c.metadata) columns c.dictionaries c'.dictionaries result
+    pub schema : (columns : Option (List ℕ)) → MayProject (rc_value c.metadata.schema) columns c.projection
+        → IfOk result (λ x. HasFields x (schema_shown (rc_value c.metadata.schema) c.projection))
     pub left : c'.left ≡ c.left
     pub block : c'.block ≡ c.block
     pub projection : c'.projection ≡ c.projection
     pub metadata : c'.metadata ≡ c.metadata
     pub cause : IfErr result (λ e. FileCause e (faults_of s) (faults_of s'))
-    pub fetched : (columns : Option (List ℕ)) (block : FileBlock) → MayProject (rc_value c.metadata.schema) columns c.projection → slice_get (meta_view c.metadata).blocks c.block ≡ Some block
+    pub fetched : (columns : Option (List ℕ)) (block : FileBlock) → MayProject (rc_value c.metadata.schema) columns c.projection
+        → slice_get (meta_view c.metadata).blocks c.block ≡ Some block
         → FetchedBy c.dictionaries (content_of s) (meta_view c.metadata) (asked columns c.left) block c.left (fetched_of s) (fetched_of s')
     pub kept : SourceKept content_of faults_of references_of s s'
 
   -- the next record batch
   pub record NextBatch (result : Option (Result Batch IpcError)) : Type 0 where
     -- there is none exactly at or past the last block, or where a call before answered that the dictionaries are refused
-    pub ended : MatchOption result ((length c.metadata.blocks.items ≤ c.block) ⊎ (is_refused c.dictionaries ≡ true)) (λ x. (c.block < length c.metadata.blocks.items) × (is_refused c.dictionaries ≡ false))
+    pub ended : MatchOption result ((length c.metadata.blocks.items ≤ c.block) ⊎ (is_refused c.dictionaries ≡ true))
+        (λ x. (c.block < length c.metadata.blocks.items) × (is_refused c.dictionaries ≡ false))
     -- it is what the block means under the dictionaries, the columns that were asked for and what was left of the limit, or a refusal of its
-    pub gives : (columns : Option (List ℕ)) (block : FileBlock) → MayProject (rc_value c.metadata.schema) columns c.projection → slice_get (meta_view c.metadata).blocks c.block ≡ Some block
+    pub gives : (columns : Option (List ℕ)) (block : FileBlock) → MayProject (rc_value c.metadata.schema) columns c.projection
+        → slice_get (meta_view c.metadata).blocks c.block ≡ Some block
         → IfSome result (λ r. IfSome (content_of s) (λ b. GivesBy c.dictionaries (asked columns c.left) b (meta_view c.metadata) block r))
     -- its columns stand in the block's body, under the dictionaries that are kept behind the call
-    pub read : (columns : Option (List ℕ)) (block : FileBlock) → MayProject (rc_value c.metadata.schema) columns c.projection → slice_get (meta_view c.metadata).blocks c.block ≡ Some block
+    pub read : (columns : Option (List ℕ)) (block : FileBlock) → MayProject (rc_value c.metadata.schema) columns c.projection
+        → slice_get (meta_view c.metadata).blocks c.block ≡ Some block
         → IfSome result (λ r. IfOk r (ReadUnderKept (content_of s) (meta_view c.metadata) (asked columns c.left) block c'.dictionaries))
     -- those that a call reads are the file's, as they came of its blocks
     pub first : c.dictionaries ≡ NotRead → KeepsFile (content_of s) (meta_view c.metadata) c'.dictionaries
-    pub dictionaries : (columns : Option (List ℕ)) → MayProject (rc_value c.metadata.schema) columns c.projection → KeptBehind (content_of s) (meta_view c.metadata) columns c.dictionaries c'.dictionaries result
-    pub schema : (columns : Option (List ℕ)) → MayProject (rc_value c.metadata.schema) columns c.projection → IfSome result (λ r. IfOk r (λ x. HasFields x (schema_shown (rc_value c.metadata.schema) c.projection)))
+    pub dictionaries : (columns : Option (List ℕ)) → MayProject (rc_value c.metadata.schema) columns c.projection
+        → KeptBehind (content_of s) (meta_view c.metadata) columns c.dictionaries c'.dictionaries result
+    pub schema : (columns : Option (List ℕ)) → MayProject (rc_value c.metadata.schema) columns c.projection
+        → IfSome result (λ r. IfOk r (λ x. HasFields x (schema_shown (rc_value c.metadata.schema) c.projection)))
     pub left : c'.left ≡ left_after c.left result
     pub block : c'.block ≡ block_after c.block result
     pub projection : c'.projection ≡ c.projection
     pub metadata : c'.metadata ≡ c.metadata
     pub cause : IfSome result (λ r. IfErr r (λ e. FileCause e (faults_of s) (faults_of s')))
     -- no more is fetched than these columns of the block cost, and at the first batch the dictionaries; and nothing where there is none
-    pub fetched : (columns : Option (List ℕ)) (block : FileBlock) → MayProject (rc_value c.metadata.schema) columns c.projection → slice_get (meta_view c.metadata).blocks c.block ≡ Some block
+    pub fetched : (columns : Option (List ℕ)) (block : FileBlock) → MayProject (rc_value c.metadata.schema) columns c.projection
+        → slice_get (meta_view c.metadata).blocks c.block ≡ Some block
         → IfSome result (λ r. FetchedBy c.dictionaries (content_of s) (meta_view c.metadata) (asked columns c.left) block c.left (fetched_of s) (fetched_of s'))
     pub stays : result ≡ None → fetched_of s' ≡ fetched_of s
     pub kept : SourceKept content_of faults_of references_of s s'
@@ -68,7 +79,8 @@ module _ {S : Type 0} (content_of : S → Option (List ℕ)) (faults_of fetched_
   -- the message of the next record batch, whatever pairs it has; no rows are counted
   pub record NextMessage (result : Option (Result RecordMessage IpcError)) : Type 0 where
     pub ended : MatchOption result (length c.metadata.blocks.items ≤ c.block) (λ x. c.block < length c.metadata.blocks.items)
-    pub gives : (block : FileBlock) → slice_get (meta_view c.metadata).blocks c.block ≡ Some block → IfSome result (λ r. GivesIn (content_of s) message_of r (λ b. block_header b block))
+    pub gives : (block : FileBlock) → slice_get (meta_view c.metadata).blocks c.block ≡ Some block
+        → IfSome result (λ r. GivesIn (content_of s) message_of r (λ b. block_header b block))
     pub left : c'.left ≡ c.left
     pub dictionaries : c'.dictionaries ≡ c.dictionaries
     pub block : c'.block ≡ block_after c.block result
@@ -76,7 +88,8 @@ module _ {S : Type 0} (content_of : S → Option (List ℕ)) (faults_of fetched_
     pub metadata : c'.metadata ≡ c.metadata
     pub cause : IfSome result (λ r. IfErr r (λ e. FileCause e (faults_of s) (faults_of s')))
     -- no more is fetched than the block's prefix and metadata, and nothing past the last block
-    pub fetched : (block : FileBlock) → slice_get (meta_view c.metadata).blocks c.block ≡ Some block → IfSome result (λ r. MetadataFetched (content_of s) block (fetched_of s) (fetched_of s'))
+    pub fetched : (block : FileBlock) → slice_get (meta_view c.metadata).blocks c.block ≡ Some block
+        → IfSome result (λ r. MetadataFetched (content_of s) block (fetched_of s) (fetched_of s'))
     pub stays : result ≡ None → fetched_of s' ≡ fetched_of s
     pub kept : SourceKept content_of faults_of references_of s s'
 
@@ -94,5 +107,6 @@ module _ {S : Type 0} (content_of : S → Option (List ℕ)) (faults_of fetched_
     pub metadata : c'.metadata ≡ c.metadata
     pub cause : IfErr result (λ e. FileCause e (faults_of s) (faults_of s'))
     -- of each block, at most its prefix and its metadata are fetched
-    pub fetched : MessagesFetched (content_of s) (meta_view c.metadata).blocks (λ b. blocks_passed b (meta_view c.metadata).blocks 0 offset) (fetched_of s) (fetched_of s')
+    pub fetched : MessagesFetched (content_of s) (meta_view c.metadata).blocks (λ b. blocks_passed b (meta_view c.metadata).blocks 0 offset)
+        (fetched_of s) (fetched_of s')
     pub kept : SourceKept content_of faults_of references_of s s'

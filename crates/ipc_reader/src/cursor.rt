@@ -17,8 +17,12 @@ use ipc_projection::{ProjectionInfo, prepare_projection};
 use std::alloc::Global;
 use std::mem;
 
-/// The projection of the numbers that are asked for, if any are.
-fn project(
+/// The projection onto the columns of these numbers, in their order, if any are asked for.
+///
+/// # Errors
+///
+/// As of `prepare_projection` of `ipc_projection`.
+pub fn projection_of(
     alloc: Global,
     schema: &ArrowSchema,
     columns: Option<Vec<usize>>,
@@ -74,7 +78,7 @@ impl FileCursor {
         ensures block { IfOk result (λ c. c.block ≡ 0) }
         ensures dictionaries { IfOk result (λ c. c.dictionaries ≡ NotRead) }
     {
-        let projection = project(alloc, &metadata.schema, projection)?;
+        let projection = projection_of(alloc, &metadata.schema, projection)?;
         Ok(FileCursor::new_with_projection_info(alloc, metadata, projection, limit))
     }
 

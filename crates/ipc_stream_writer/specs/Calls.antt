@@ -170,7 +170,8 @@ pub record HasWritten (encode : List ℕ → List ℕ) (m : Moved) (old new : St
   pub suits : SuitsStream old b given
   pub sends : HasSent encode m old new b
   -- the table that the bytes mean has the batch behind those before it
-  pub written : (pairs : StreamPairs) (x : List ℕ) (bs : List TableBatch) → IsWritten pairs old x bs → IsWritten pairs new (x ++ chunk_text sends.sent b) (bs ++ cells_of b ∷ [])
+  pub written : (pairs : StreamPairs) (x : List ℕ) (bs : List TableBatch) → IsWritten pairs old x bs
+      → IsWritten pairs new (x ++ chunk_text sends.sent b) (bs ++ cells_of b ∷ [])
 
 -- why none was: the stream is not begun, or is ended, or a put has failed before; the batch is none of its; or it is not sent
 abbrev pub WriteCause : IpcError → StreamCore → Batch → Option Ids → Type 0

@@ -193,9 +193,15 @@ first_is b f h = by (next_message b) refl h
     by (Ok None) is k = cc
     by (Ok (Some g)) is k = let same : g ≡ f = cc in is ∙ ap (λ x. Ok (Some x)) same
 
-pub nexts_are_the_stream : NextsAreTheStream
-unfolding start_in stream_reading stream_table
-nexts_are_the_stream b columns start rest xs begun right nexts =
+-- what is read behind a stream's start
+abbrev pub behind_start : Option (List ℕ) → Start → List ℕ → Reading ArrowTable
+behind_start columns start rest = columns_right columns (width start.schema.fields) >>= λ right. stream_batches (length rest) (record { schema = start.schema; columns = columns }) [] rest >>= λ batches.
+    Ok (record { metadata = start.schema.metadata; custom = start.custom; fields = bare (fields_as_asked columns start.schema.fields); batches = batches })
+
+-- a stream is what stands behind its start
+pub begins_so : (b : List ℕ) (columns : Option (List ℕ)) (start : Start) (rest : List ℕ) → start_in b ≡ Ok (start, rest) → stream_reading b columns ≡ behind_start columns start rest
+unfolding start_in stream_reading
+begins_so b columns start rest begun =
     through _ _ (start, rest) begun λ f f_is h1. through _ _ (start, rest) h1 λ first first_found h2. through _ _ (start, rest) h2 λ version _ h3. through _ _ (start, rest) h3 λ body body_found h4.
     let same = same_read _ (start, rest) h4 in
     let schema : first.2 ≡ start.schema = ap (λ (p : Start × List ℕ). p.0.schema) same in
@@ -203,11 +209,21 @@ nexts_are_the_stream b columns start rest xs begun right nexts =
     let left : drop first.0.body f.behind ≡ rest = ap (λ (p : Start × List ℕ). p.1) same in
     let less : length rest ≤ length b = omega (arith, behind_less b f (first_is b f f_is), length-drop first.0.body f.behind, ap length left) in
     let reader : Reader = record { schema = start.schema; columns = columns } in
-    let batches : stream_batches (length b) reader [] rest ≡ Ok xs = stream_fuel_is_enough reader [] rest (length b) less ∙ all_nexts reader [] rest xs nexts in
+    let fuel : stream_batches (length b) reader [] rest ≡ stream_batches (length rest) reader [] rest = stream_fuel_is_enough reader [] rest (length b) less in
     let table : Schema → Metadata → List ℕ → Reading ArrowTable = λ schema custom behind. columns_right columns (width schema.fields) >>= λ right. stream_batches (length b) (record { schema = schema; columns = columns }) [] behind >>= λ batches.
     Ok (record { metadata = schema.metadata; custom = custom; fields = bare (fields_as_asked columns schema.fields); batches = batches }) in
     let read : stream_reading b columns ≡ table first.2 first.1 (drop first.0.body f.behind) = on (next_message b >>= first_message) _ f f_is ∙ on (stream_head f.metadata) _ first first_found ∙ on (body_in f first.0) _ body body_found in
     let same_table : table first.2 first.1 (drop first.0.body f.behind) ≡ table start.schema start.custom rest = ap (λ x. table x first.1 (drop first.0.body f.behind)) schema ∙ ap (λ x. table start.schema x (drop first.0.body f.behind)) custom ∙ ap (table start.schema start.custom) left in
-    let whole = on (columns_right columns (width start.schema.fields)) (λ right. stream_batches (length b) reader [] rest >>= λ batches. Ok (record { metadata = start.schema.metadata; custom = start.custom; fields = bare (fields_as_asked columns start.schema.fields); batches = batches })) tt right
-    ∙ on (stream_batches (length b) reader [] rest) (λ batches. Ok (record { metadata = start.schema.metadata; custom = start.custom; fields = bare (fields_as_asked columns start.schema.fields); batches = batches })) xs batches in
-    ap meaning (read ∙ same_table ∙ whole)
+    let enough : table start.schema start.custom rest ≡ behind_start columns start rest = ap (λ (x : Reading (List TableBatch)). columns_right columns (width start.schema.fields) >>= λ right. x >>= λ batches.
+    Ok (record { metadata = start.schema.metadata; custom = start.custom; fields = bare (fields_as_asked columns start.schema.fields); batches = batches })) fuel in
+    read ∙ same_table ∙ enough
+
+pub nexts_are_the_stream : NextsAreTheStream
+unfolding stream_table
+nexts_are_the_stream b columns start rest xs begun right nexts =
+    let reader : Reader = record { schema = start.schema; columns = columns } in
+    let table : List TableBatch → ArrowTable = λ batches. record { metadata = start.schema.metadata; custom = start.custom; fields = bare (fields_as_asked columns start.schema.fields); batches = batches } in
+    let whole : behind_start columns start rest ≡ Ok (table xs) =
+    on (columns_right columns (width start.schema.fields)) (λ right. stream_batches (length rest) reader [] rest >>= λ batches. Ok (table batches)) tt right
+    ∙ on (stream_batches (length rest) reader [] rest) (λ batches. Ok (table batches)) xs (all_nexts reader [] rest xs nexts) in
+    ap meaning (begins_so b columns start rest begun ∙ whole)

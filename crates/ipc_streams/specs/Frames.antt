@@ -18,7 +18,8 @@ prefix_length b = if is_mark (take 4 b) then 8 else 4
 abbrev pub IsFront : List ℕ → Option (List ℕ) → Frame → Type 0
 IsFront b rest' frames.Waiting = (next_message b ≡ Ok None) × (nat_lt (length b) 4 ≡ true) × (rest' ≡ Some [])
 IsFront b rest' frames.Ended = (next_message b ≡ Ok None) × (nat_lt (length b) 4 ≡ false) × (rest' ≡ Some (drop (prefix_length b) b))
-IsFront b rest' (frames.Message metadata) = (behind : List ℕ) × (next_message b ≡ Ok (Some (record { metadata = metadata.items; behind = behind }))) × (rest' ≡ Some behind)
+IsFront b rest' (frames.Message metadata) = (behind : List ℕ) × (next_message b ≡ Ok (Some (record { metadata = metadata.items; behind = behind })))
+    × (rest' ≡ Some behind)
 
 -- the same of what a call answers, where the bytes are told
 abbrev pub GivesFront : Option (List ℕ) → Option (List ℕ) → Result Frame IpcError → Type 0

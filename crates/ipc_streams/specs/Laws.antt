@@ -25,6 +25,12 @@ abbrev pub NextIsOfTheStream : Type 0
 NextIsOfTheStream = (s : Reader) (d : Dictionaries) (b : List ℕ) → AreOf s (next_in most_dictionaries s d b) (stream_batches (length b) s d b)
 
 abbrev pub NextsAreTheStream : Type 0
-NextsAreTheStream = (b : List ℕ) (columns : Option (List ℕ)) (start : Start) (rest : List ℕ) (xs : List TableBatch) → start_in b ≡ Ok (start, rest) → columns_right columns (width start.schema.fields) ≡ Ok tt
+NextsAreTheStream = (b : List ℕ) (columns : Option (List ℕ)) (start : Start) (rest : List ℕ) (xs : List TableBatch) → start_in b ≡ Ok (start, rest)
+    → columns_right columns (width start.schema.fields) ≡ Ok tt
     → Nexts (record { schema = start.schema; columns = columns }) [] rest xs
-    → stream_table b columns ≡ Some (record { metadata = start.schema.metadata; custom = start.custom; fields = bare (fields_as_asked columns start.schema.fields); batches = xs })
+    → stream_table b columns ≡ Some (record {
+      metadata = start.schema.metadata;
+      custom = start.custom;
+      fields = bare (fields_as_asked columns start.schema.fields);
+      batches = xs;
+    })

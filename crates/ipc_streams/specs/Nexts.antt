@@ -39,7 +39,8 @@ GivesBatch rest rest' (Err e) reading = Refuses e (refusals reading)
 
 -- a call gives what a message leaves: its batch, the dictionaries whose cells are held, and the bytes behind its body
 abbrev pub GivesStep : Option (List ℕ) → Held → Result (Option Batch) IpcError → Reading Step → Type 0
-GivesStep rest' h (Ok o) reading = (d : Dictionaries) × (rest : List ℕ) × (reading ≡ Ok (record { dictionaries = d; batch = batches_in o; rest = rest })) × (rest' ≡ Some rest) × HoldsCells d h
+GivesStep rest' h (Ok o) reading = (d : Dictionaries) × (rest : List ℕ)
+    × (reading ≡ Ok (record { dictionaries = d; batch = batches_in o; rest = rest })) × (rest' ≡ Some rest) × HoldsCells d h
 GivesStep rest' h (Err e) reading = Refuses e (refusals reading)
 
 -- what was found, by a reader's state; none at the end
@@ -50,7 +51,8 @@ found_of (Some (states.Some x)) = a_batch (table_of x)
 
 -- a call gives what stands next, the dictionaries whose cells are held, and the bytes behind it
 abbrev pub GivesNext : Option (List ℕ) → Held → Result (Option StreamState) IpcError → Reading Next → Type 0
-GivesNext rest' h (Ok o) reading = (d : Dictionaries) × (rest : List ℕ) × (reading ≡ Ok (record { found = found_of o; dictionaries = d; rest = rest })) × (rest' ≡ Some rest) × HoldsCells d h
+GivesNext rest' h (Ok o) reading = (d : Dictionaries) × (rest : List ℕ)
+    × (reading ≡ Ok (record { found = found_of o; dictionaries = d; rest = rest })) × (rest' ≡ Some rest) × HoldsCells d h
 GivesNext rest' h (Err e) reading = Refuses e (refusals reading)
 
 -- a batch has these fields, and columns of their kinds
@@ -85,14 +87,17 @@ module _ {F : Type 0} (rest_of : F → Option (List ℕ)) (faults_of : F → ℕ
 
   -- a dictionary message is taken, by its metadata and the length of its body
   pub record TakesDictionary (metadata : List ℕ) (count : ℕ) (result : Result (Unit {0}) IpcError) : Type 0 where
-    pub gives : (s : Reader) (d : Dictionaries) (m : Message) → IsReader c.columns s → HoldsCells d (held_in c.dictionaries) → message_of metadata is_taken ≡ Ok m → nat_eq m.tag 2 ≡ true → m.body ≡ count
-        → IfSome (rest_of f) (λ b. GivesValues d (drop count b) (rest_of f') (held_in c'.dictionaries) result (stream_dictionary s d (record { metadata = metadata; behind = b }) m))
+    pub gives : (s : Reader) (d : Dictionaries) (m : Message) → IsReader c.columns s → HoldsCells d (held_in c.dictionaries)
+        → message_of metadata is_taken ≡ Ok m → nat_eq m.tag 2 ≡ true → m.body ≡ count
+        → IfSome (rest_of f) (λ b. GivesValues d (drop count b) (rest_of f') (held_in c'.dictionaries) result
+        (stream_dictionary s d (record { metadata = metadata; behind = b }) m))
     pub cause : IfErr result (λ e. FileCause e (faults_of f) (faults_of f'))
     pub kept : KeepsColumns
 
   -- a record batch message is taken, by its metadata and the length of its body
   pub record TakesBatch (metadata : List ℕ) (count : ℕ) (result : Result Batch IpcError) : Type 0 where
-    pub gives : (s : Reader) (d : Dictionaries) (m : Message) → IsReader c.columns s → HoldsCells d (held_in c.dictionaries) → chosen_floats s.columns s.schema.fields 0 ≡ [] → message_of metadata is_taken ≡ Ok m → nat_eq m.tag 2 ≡ false → m.body ≡ count
+    pub gives : (s : Reader) (d : Dictionaries) (m : Message) → IsReader c.columns s → HoldsCells d (held_in c.dictionaries)
+        → chosen_floats s.columns s.schema.fields 0 ≡ [] → message_of metadata is_taken ≡ Ok m → nat_eq m.tag 2 ≡ false → m.body ≡ count
         → IfSome (rest_of f) (λ b. GivesBatch (drop count b) (rest_of f') result (stream_batch s d (record { metadata = metadata; behind = b }) m))
     pub dictionaries : c'.dictionaries ≡ c.dictionaries
     pub schema : (s : Reader) → IsReader c.columns s → IfOk result (λ x. HasFields x (fields_shown c.columns))
@@ -110,7 +115,8 @@ module _ {F : Type 0} (rest_of : F → Option (List ℕ)) (faults_of : F → ℕ
 
   -- what stands next is read
   pub record ReadsNext (result : Result (Option StreamState) IpcError) : Type 0 where
-    pub gives : (s : Reader) (d : Dictionaries) → IsReader c.columns s → HoldsCells d (held_in c.dictionaries) → IfSome (rest_of f) (λ b. GivesNext (rest_of f') (held_in c'.dictionaries) result (next_in most_dictionaries s d b))
+    pub gives : (s : Reader) (d : Dictionaries) → IsReader c.columns s → HoldsCells d (held_in c.dictionaries)
+        → IfSome (rest_of f) (λ b. GivesNext (rest_of f') (held_in c'.dictionaries) result (next_in most_dictionaries s d b))
     pub schema : (s : Reader) → IsReader c.columns s → IfOk result (λ o. HasSchemaIfAny o (fields_shown c.columns))
     pub cause : IfErr result (λ e. FileCause e (faults_of f) (faults_of f'))
     pub kept : KeepsColumns

@@ -47,4 +47,5 @@ pub record IsRising (c : StreamColumns) (s : Reader) : Type 0 where
 -- a batch that was read of columns in the schema's order, with the columns that its tables and its body mean, or a refusal of it
 pub record ReadsRising (s : Reader) (d : Dictionaries) (h : Held) (message : RecordMessage) (body : List ℕ) (result : Result Batch IpcError) : Type 0 where
   pub gives : Gives table_of result (batch_read s d message.version [] message.tables body)
-  pub columns : IfOk result (λ x. AreAsked (columns_read (record_batch_of s.schema.order message.version message.tables body) h s.schema.fields first_place x.height) s.columns x.arrays)
+  pub columns : IfOk result (λ x. AreAsked (columns_read
+      (record_batch_of s.schema.order message.version message.tables body) h s.schema.fields first_place x.height) s.columns x.arrays)

@@ -62,7 +62,8 @@ HoldsValues s h = (id : ℤ) → HasKindOf s.fields h id
 -- a call gives the metadata of the first message, and leaves the bytes behind it
 abbrev pub GivesFirst : Option (List ℕ) → Option (List ℕ) → Result (Vec ℕ Global) IpcError → Type 0
 GivesFirst None rest' result = ⊤
-GivesFirst (Some b) rest' (Ok metadata) = (behind : List ℕ) × ((next_message b >>= first_message) ≡ Ok (record { metadata = metadata.items; behind = behind })) × (rest' ≡ Some behind)
+GivesFirst (Some b) rest' (Ok metadata) = (behind : List ℕ)
+    × ((next_message b >>= first_message) ≡ Ok (record { metadata = metadata.items; behind = behind })) × (rest' ≡ Some behind)
 GivesFirst (Some b) rest' (Err e) = Refuses e (refusals (next_message b >>= first_message))
 
 -- a call gives what a stream begins with, and leaves the bytes behind it

@@ -25,7 +25,11 @@ pub record Next : Type 0 where
 -- no message begins where fewer than four bytes are left, which are passed over, or an end mark stands
 abbrev pub no_message : Dictionaries → List ℕ → Next
 no_message d b =
-    if nat_lt (length b) 4 then record { found = waiting; dictionaries = d; rest = [] } else record { found = ended; dictionaries = d; rest = drop (prefix_length b) b }
+    if nat_lt (length b) 4 then record { found = waiting; dictionaries = d; rest = [] } else record {
+      found = ended;
+      dictionaries = d;
+      rest = drop (prefix_length b) b;
+    }
 
 -- how many dictionary messages may stand before a batch
 abbrev pub most_dictionaries : ℕ
@@ -67,6 +71,9 @@ next_in (suc left) s d b = do
 
 -- A stream's batches, one after another, up to where it ends or waits.
 pub data Nexts (s : Reader) : Dictionaries → List ℕ → List TableBatch → Type 0 where
-  none_left : {d e : Dictionaries} {b rest : List ℕ} → next_in most_dictionaries s d b ≡ Ok (record { found = ended; dictionaries = e; rest = rest }) → Nexts s d b []
-  none_yet : {d e : Dictionaries} {b rest : List ℕ} → next_in most_dictionaries s d b ≡ Ok (record { found = waiting; dictionaries = e; rest = rest }) → Nexts s d b []
-  one_more : {d e : Dictionaries} {b rest : List ℕ} {x : TableBatch} {xs : List TableBatch} → next_in most_dictionaries s d b ≡ Ok (record { found = a_batch x; dictionaries = e; rest = rest }) → Nexts s e rest xs → Nexts s d b (x ∷ xs)
+  none_left : {d e : Dictionaries} {b rest : List ℕ} → next_in most_dictionaries s d b ≡ Ok (record { found = ended; dictionaries = e; rest = rest })
+      → Nexts s d b []
+  none_yet : {d e : Dictionaries} {b rest : List ℕ}
+      → next_in most_dictionaries s d b ≡ Ok (record { found = waiting; dictionaries = e; rest = rest }) → Nexts s d b []
+  one_more : {d e : Dictionaries} {b rest : List ℕ} {x : TableBatch} {xs : List TableBatch}
+      → next_in most_dictionaries s d b ≡ Ok (record { found = a_batch x; dictionaries = e; rest = rest }) → Nexts s e rest xs → Nexts s d b (x ∷ xs)

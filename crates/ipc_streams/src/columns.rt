@@ -9,28 +9,9 @@ ghost use Rattle.ipc_streams.specs.Starts.{IsReadable};
 
 use crate::metadata::StreamMetadata;
 use arrow_spec::IpcError;
-use arrow_types::ArrowSchema;
-use ipc_projection::{ProjectionInfo, prepare_projection};
+use ipc_projection::ProjectionInfo;
+use ipc_reader::projection_of;
 use std::alloc::Global;
-
-/// The projection of the numbers that are asked for, if any are.
-fn project(
-    alloc: Global,
-    schema: &ArrowSchema,
-    columns: Option<Vec<usize>>,
-) -> Result<Option<ProjectionInfo>, IpcError>
-    ensures projected { IfOk result (λ p. MayProject schema.now (numbers_in columns) p) }
-    ensures right { IfOk result (λ _. columns_right (numbers_in columns) (length schema.now) ≡ Ok tt) }
-    ensures err { IfErr result (λ e. (e ≡ Memory) ⊎ (columns_right (numbers_in columns) (length schema.now) ≡ Err (e ∷ []))) }
-{
-    match columns {
-        None => Ok(None),
-        Some(columns) => {
-            let projection = prepare_projection(alloc, schema, columns)?;
-            Ok(Some(projection))
-        }
-    }
-}
 
 /// The metadata of a stream, and what is read for the columns that are asked for; without a projection all are.
 #[derive(Drop)]
@@ -54,7 +35,7 @@ impl StreamColumns {
         ensures err { IfErr result (λ e. (e ≡ Memory) ⊎ (columns_right (numbers_in columns) (length (rc_value metadata.schema)) ≡ Err (e ∷ []))) }
         ensures metadata { IfOk result (λ c. c.metadata ≡ metadata) }
     {
-        let projection = project(alloc, &metadata.schema, columns)?;
+        let projection = projection_of(alloc, &metadata.schema, columns)?;
         Ok(StreamColumns {
             metadata,
             projection,

@@ -71,7 +71,8 @@ pub record PlaceNotAppended (target : List ℕ) (e : IpcError) (old new : Option
 
 -- why nothing is appended under the name
 abbrev pub PlaceRefused : List ℕ → Refusal → Option Held → Option Held → WholeStream → ℕ → ℕ → Type 0
-PlaceRefused target e old new s faults faults' = NotOpened target e old new faults faults' ⊎ ((x : IpcError) × (e ≡ Ipc x) × PlaceNotAppended target x old new s faults faults')
+PlaceRefused target e old new s faults faults' = NotOpened target e old new faults faults'
+    ⊎ ((x : IpcError) × (e ≡ Ipc x) × PlaceNotAppended target x old new s faults faults')
 
 -- each name but one keeps its bytes, where they are told
 abbrev pub KeepsOthers : List ℕ → Option Held → Option Held → Type 0

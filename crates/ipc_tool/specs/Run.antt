@@ -31,7 +31,8 @@ pub record Outside : Type 0 where
   pub output_wants : ℕ
 
 -- by the members of their bounds
-abbrev pub outside_of : {H I W : Type 0} → (H → Option Held) → (H → ℕ) → (I → Option (List ℕ)) → (I → ℕ) → (W → Option (List ℕ)) → (W → ℕ) → (W → ℕ) → H → I → W → Outside
+abbrev pub outside_of : {H I W : Type 0} → (H → Option Held) → (H → ℕ) → (I → Option (List ℕ)) → (I → ℕ) → (W → Option (List ℕ)) → (W → ℕ) → (W → ℕ)
+    → H → I → W → Outside
 outside_of held shelf_faults rest input_faults written output_faults output_wants shelf input output = record {
   held = held shelf;
   shelf_faults = shelf_faults shelf;
@@ -125,7 +126,8 @@ AddsBefore _ wants wants' b r raw old new = Keeps old new
 
 abbrev pub AddsPartOf : Refusal → StreamAsked → Outside → Outside → Type 0
 AddsPartOf e s old new =
-    IfSome (source_in s.name old) (λ bytes. MatchOption bytes (Keeps old.written new.written) (λ b. AddsBefore e old.output_wants new.output_wants b s.request s.raw old.written new.written))
+    IfSome (source_in s.name old) (λ bytes. MatchOption bytes (Keeps old.written new.written)
+    (λ b. AddsBefore e old.output_wants new.output_wants b s.request s.raw old.written new.written))
 
 -- the source's bytes may be refused so
 abbrev pub MayBe : IpcError → StreamAsked → Outside → Type 0

@@ -23,5 +23,6 @@ shown_as raw x = shown x raw
 abbrev pub AddsStreamPart : IpcError → ℕ → ℕ → List ℕ → Request → Bool → Option (List ℕ) → Option (List ℕ) → Type 0
 AddsStreamPart errors.WriteFault wants wants' b r raw old new = AddsPiece b r (shown_as raw) (text_of (encoding_of raw)) old new
 AddsStreamPart errors.Memory wants wants' b r raw old new =
-    AddsFrontOrNone errors.Memory b r (text_of (encoding_of raw)) old new ⊎ (Rose wants wants' × AddsPiece b r (shown_as raw) (text_of (encoding_of raw)) old new)
+    AddsFrontOrNone errors.Memory b r (text_of (encoding_of raw)) old new
+    ⊎ (Rose wants wants' × AddsPiece b r (shown_as raw) (text_of (encoding_of raw)) old new)
 AddsStreamPart e wants wants' b r raw old new = AddsFrontOrNone e b r (text_of (encoding_of raw)) old new

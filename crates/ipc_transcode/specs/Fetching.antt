@@ -24,7 +24,8 @@ cost_up_to b meta r xs (suc n) = dictionaries_cost b meta meta.dictionaries + bl
 -- of a file that means batches, no more is fetched between two of its blocks than those between them cost
 abbrev pub FetchesBlocks : Sending → ℕ → ℕ → ℕ → ℕ → Type 0
 FetchesBlocks x from to fetched fetched' =
-    (d : Dictionaries) (xs : List TableBatch) → HasRead x.bytes (meta_in x) d → batches_of to_read x.bytes (asked_in x d) true (meta_in x).blocks x.request.limit ≡ Ok xs
+    (d : Dictionaries) (xs : List TableBatch) → HasRead x.bytes (meta_in x) d
+    → batches_of to_read x.bytes (asked_in x d) true (meta_in x).blocks x.request.limit ≡ Ok xs
     → fetched' + cost_up_to x.bytes (meta_in x) x.request xs from ≤ fetched + cost_up_to x.bytes (meta_in x) x.request xs to
 
 -- up to a block of it

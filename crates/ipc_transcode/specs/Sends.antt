@@ -115,7 +115,8 @@ pub record DictionariesSent (x : Sending) (c : FileCursor) (w : StreamCore) (d :
 -- Before the first block nothing is read of the dictionaries, and nothing known of them; behind it they were sent, and the blocks so far were read and sent as batches.
 pub data BatchesSoFar (x : Sending) (c : FileCursor) (w : StreamCore) : List TableBatch → Type 0 where
   none_yet : c.block ≡ 0 → c.dictionaries ≡ NotRead → ((id : ℤ) → held_by w.tracker id ≡ None) → BatchesSoFar x c w []
-  some_sent : {d : Dictionaries} {bs : List TableBatch} → DictionariesSent x c w d → BatchesSent x.bytes (asked_in x d) (take c.block (meta_in x).blocks) x.request.limit bs → 0 < c.block → BatchesSoFar x c w bs
+  some_sent : {d : Dictionaries} {bs : List TableBatch} → DictionariesSent x c w d
+      → BatchesSent x.bytes (asked_in x d) (take c.block (meta_in x).blocks) x.request.limit bs → 0 < c.block → BatchesSoFar x c w bs
 
 -- so many bytes of the stream were put, which mean the batches so far
 pub record SentSoFar (x : Sending) (c : FileCursor) (w : StreamCore) (now : Option (List ℕ)) (bytes : List ℕ) (bs : List TableBatch) : Type 0 where

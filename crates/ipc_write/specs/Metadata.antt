@@ -42,7 +42,8 @@ content_custom (DictionaryBatch id is_delta) = []
 
 -- its message
 abbrev pub metadata_node : Content → ℕ → List FieldNode → List IpcBuffer → List ℤ → ℕ → Node
-metadata_node content rows nodes buffers counts body = table (message_slots (content_tag content) (content_node content (header_node rows nodes buffers counts)) body (content_custom content))
+metadata_node content rows nodes buffers counts body =
+    table (message_slots (content_tag content) (content_node content (header_node rows nodes buffers counts)) body (content_custom content))
 
 -- the flatbuffer of a node, or it passes 2^31 - 1 bytes
 abbrev pub Builds : Result (Vec ℕ Global) BuildError → Node → Type 0

@@ -18,7 +18,10 @@ body_length o = body_of 0 (map length o.pieces)
 
 -- the message of so many rows of them
 abbrev pub planned_message : Content → ℕ → Outputs → SentMessage
-planned_message content rows o = record { node = metadata_node content rows o.nodes (placed 0 (map length o.pieces)) o.views (body_length o); body = body_length o }
+planned_message content rows o = record {
+  node = metadata_node content rows o.nodes (placed 0 (map length o.pieces)) o.views (body_length o);
+  body = body_length o;
+}
 
 -- a message whose padded metadata is within a limit, and whose rows and body are below 2^63
 abbrev pub is_short : ℕ → ℕ → SentMessage → Bool
@@ -26,7 +29,8 @@ is_short limit rows m = nat_le (up_to 8 (size m.node)) (min limit 2147483647) &&
 
 -- a message and the buffers of its body, or it is too large, or memory was wanted
 abbrev pub MakesMessage : Result BodyPlan IpcError → ℕ → ℕ → SentMessage → List (List ℕ) → Type 0
-MakesMessage (Ok p) limit rows m pieces = (is_short limit rows m ≡ true) × (p.ipc_message.items ≡ layout m.node) × (p.buffers.items ≡ pieces) × (p.body_length ≡ m.body)
+MakesMessage (Ok p) limit rows m pieces = (is_short limit rows m ≡ true) × (p.ipc_message.items ≡ layout m.node) × (p.buffers.items ≡ pieces)
+    × (p.body_length ≡ m.body)
 MakesMessage (Err errors.TooLarge) limit rows m pieces = is_short limit rows m ≡ false
 MakesMessage (Err errors.Memory) limit rows m pieces = ⊤
 MakesMessage (Err e) limit rows m pieces = ⊥

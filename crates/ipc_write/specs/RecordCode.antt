@@ -58,7 +58,12 @@ whole_from g = record {
 }
 
 pub whole_from-whole_to : (w : Whole) → whole_from (whole_to w) ≡ w
-whole_from-whole_to w = rw (keyed_from-keyed_to w.schema, contents_from-contents_to w.columns, pairs_from-pairs_to w.custom, optional_from-optional_to w.fields) refl
+whole_from-whole_to w = rw (
+  keyed_from-keyed_to w.schema,
+  contents_from-contents_to w.columns,
+  pairs_from-pairs_to w.custom,
+  optional_from-optional_to w.fields,
+) refl
 
 -- whether two records are the same
 unfoldable pub whole_eq : Whole → Whole → Bool

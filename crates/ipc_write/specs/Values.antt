@@ -23,9 +23,11 @@ values_message id is_delta p = message_of_values id is_delta (written_of (column
 -- it was planned: its flatbuffer and the buffers of its body; or it is refused
 abbrev pub PlansValues : Result BodyPlan IpcError → WriteOptions → ℤ → Bool → Parts → Type 0
 PlansValues (Ok p) options id is_delta x = (options.compression ≡ None) × (is_short options.metadata_limit (rows_in x) (values_message id is_delta x) ≡ true)
-    × (p.ipc_message.items ≡ layout (values_message id is_delta x).node) × (p.buffers.items ≡ pieces_in little x) × (p.body_length ≡ (values_message id is_delta x).body)
+    × (p.ipc_message.items ≡ layout (values_message id is_delta x).node) × (p.buffers.items ≡ pieces_in little x)
+    × (p.body_length ≡ (values_message id is_delta x).body)
 PlansValues (Err (errors.Unsupported features.Compression)) options id is_delta x = IsSome options.compression
-PlansValues (Err errors.TooLarge) options id is_delta x = (options.compression ≡ None) × (is_short options.metadata_limit (rows_in x) (values_message id is_delta x) ≡ false)
+PlansValues (Err errors.TooLarge) options id is_delta x =
+    (options.compression ≡ None) × (is_short options.metadata_limit (rows_in x) (values_message id is_delta x) ≡ false)
 PlansValues (Err errors.Memory) options id is_delta x = options.compression ≡ None
 PlansValues (Err e) options id is_delta x = ⊥
 

@@ -129,7 +129,8 @@ with_kind k c = record { kind = k; nodes = c.nodes; pieces = c.pieces; views = c
 
 -- what is written of an array means its cells under each kind that is alike to its own, where the values of its dictionaries were read under that kind's ids
 abbrev pub IsMeant : Order → Parts → Type 0
-IsMeant order p = (k : Kind) (d : Dictionaries) → is_alike (kind_in p) k ≡ true → HoldsValuesAt d k p → Means order d (rows_in p) (with_kind k (column_in order p))
+IsMeant order p = (k : Kind) (d : Dictionaries) → is_alike (kind_in p) k ≡ true → HoldsValuesAt d k p
+    → Means order d (rows_in p) (with_kind k (column_in order p))
 
 -- ── numbers that fit ──
 

@@ -15,6 +15,8 @@ pub use batches::is_of_schema;
 pub use fields::fields_for;
 pub use messages::{PlannedMessage, chunk_messages};
 pub use pairs::{StreamPairs, lent};
-pub use puts::{Stop, put_messages, put_messages_as, put_whole, put_whole_as, send_chunk_as};
+pub use puts::{
+    Stop, behind_begun, put_messages, put_messages_as, put_whole, put_whole_as, send_chunk_as,
+};
 pub use schema::{StreamStart, schema_text, stream_start};
 pub use state::WriterState;

@@ -26,17 +26,19 @@ pub struct Stop {
     pub has_begun: bool,
 }
 
-/// The same behind others, of which a byte may have been put.
-fn behind(stop: Stop, has_begun: bool) -> Stop
-    ensures { result ≡ stop_behind has_begun stop }
-{
-    if has_begun {
-        return Stop {
-            error: stop.error,
-            has_begun: true,
-        };
+impl Stop {
+    /// The same behind others, of which a byte may have been put.
+    pub fn behind(self, has_begun: bool) -> Stop
+        ensures { result ≡ stop_behind has_begun self }
+    {
+        if has_begun {
+            return Stop {
+                error: self.error,
+                has_begun: true,
+            };
+        }
+        self
     }
-    stop
 }
 
 /// Puts bytes in one piece: for want of memory nothing is put.
@@ -62,7 +64,7 @@ pub fn put_whole<W: Sink>(sink: &mut W, bytes: &[u8]) -> Result<(), Stop>
 }
 
 /// What a put comes to behind bytes that were put.
-fn behind_begun(put: Result<(), IpcError>) -> Result<(), Stop>
+pub fn behind_begun(put: Result<(), IpcError>) -> Result<(), Stop>
     ensures { (m : Moved) (bytes : List ℕ) → PutsText m put bytes → PutsBehind m result bytes }
 {
     match put {
@@ -172,7 +174,7 @@ pub fn put_messages_as<W: Sink>(
     for message in messages {
         match put_message(sink, message, encoding, scratch) {
             Ok(()) => has_begun = true,
-            Err(stop) => return Err(behind(stop, has_begun)),
+            Err(stop) => return Err(stop.behind(has_begun)),
         }
     }
     Ok(())

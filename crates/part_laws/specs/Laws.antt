@@ -38,14 +38,17 @@ NoPartsAreRead = (fs : Fields) → ArePartsRead fs [] none_held []
 
 -- The values of a dictionary block are one part more: the last one that is held under their id.
 abbrev pub OneMorePartIsRead : Type 0
-OneMorePartIsRead = (b : List ℕ) (meta : Meta) (block : FileBlock) (d : Dictionaries) (h h' : Held) (x : HeldDictionary) (ps : List PartTree) (id : ℤ) (p : Parts)
-    → are_column_fields meta.schema.fields ≡ true → uses_agree [] (uses_in meta.schema.fields) ≡ Ok tt → HoldsUses meta h → ArePartsRead meta.schema.fields d h ps
+OneMorePartIsRead = (b : List ℕ) (meta : Meta) (block : FileBlock) (d : Dictionaries) (h h' : Held) (x : HeldDictionary) (ps : List PartTree)
+    (id : ℤ) (p : Parts)
+    → are_column_fields meta.schema.fields ≡ true → uses_agree [] (uses_in meta.schema.fields) ≡ Ok tt → HoldsUses meta h
+    → ArePartsRead meta.schema.fields d h ps
     → block_values b meta d block ≡ Ok x → HoldsCells (x ∷ d) h' → HoldsBlock b meta block h h' id → IfSome (h' id) (λ held. IsLast held p)
     → ArePartsRead meta.schema.fields (x ∷ d) h' (ps ++ record { id = id; tree = p } ∷ [])
 
 -- Parts of the dictionaries in fields are parts of those in the fields that are asked for.
 abbrev pub PartsAreOfAsked : Type 0
-PartsAreOfAsked = (fs : Fields) (columns : Option (List ℕ)) (d : Dictionaries) (ps : List PartTree) → AreFileParts fs d ps → AreFileParts (fields_as_asked columns fs) d ps
+PartsAreOfAsked = (fs : Fields) (columns : Option (List ℕ)) (d : Dictionaries) (ps : List PartTree) → AreFileParts fs d ps
+    → AreFileParts (fields_as_asked columns fs) d ps
 
 -- ── what was read before it ──
 
@@ -62,13 +65,15 @@ NothingIsRead = (fs : Fields) → AreReadParts fs [] none_held []
 -- The values of a dictionary block are one part more, which was read under those before it.
 abbrev pub NextPartIsRead : Type 0
 NextPartIsRead = (b : List ℕ) (meta : Meta) (block : FileBlock) (d : Dictionaries) (h h' : Held) (x : HeldDictionary) (ps : List PartTree) (id : ℤ)
-    → are_column_fields meta.schema.fields ≡ true → uses_agree [] (uses_in meta.schema.fields) ≡ Ok tt → HoldsUses meta h → AreReadParts meta.schema.fields d h ps
+    → are_column_fields meta.schema.fields ≡ true → uses_agree [] (uses_in meta.schema.fields) ≡ Ok tt → HoldsUses meta h
+    → AreReadParts meta.schema.fields d h ps
     → block_values b meta d block ≡ Ok x → HoldsCells (x ∷ d) h' → HoldsBlock b meta block h h' id
     → (p : Parts) × AreReadParts meta.schema.fields (x ∷ d) h' (ps ++ record { id = id; tree = p } ∷ [])
 
 -- What is held behind dictionary blocks are parts that were read in order.
 abbrev pub HeldPartsAreRead : Type 0
-HeldPartsAreRead = (b : List ℕ) (meta : Meta) (d : Dictionaries) (h : Held) → are_column_fields meta.schema.fields ≡ true → uses_agree [] (uses_in meta.schema.fields) ≡ Ok tt → AreHeld b meta d h
+HeldPartsAreRead = (b : List ℕ) (meta : Meta) (d : Dictionaries) (h : Held) → are_column_fields meta.schema.fields ≡ true
+    → uses_agree [] (uses_in meta.schema.fields) ≡ Ok tt → AreHeld b meta d h
     → (ps : List PartTree) × AreReadParts meta.schema.fields d h ps
 
 -- Parts that were read in order under the uses in fields were so under those of the fields that are asked for.

@@ -33,7 +33,8 @@ abbrev mutual
   IsReadUnder h (kind.struct fs) p = (is_indexed p ≡ false) × AreReadUnder h fs (values_in p)
   IsReadUnder h (kind.map sorted fs) p = (is_indexed p ≡ false) × AreReadUnder h fs (values_in p)
   IsReadUnder h (kind.union mode stated ids fs) p = (is_indexed p ≡ false) × AreReadUnder h fs (values_in p)
-  IsReadUnder h (kind.dictionary t ordered id k) p = (is_indexed p ≡ true) × (is_alike (values_kind (kind_in p)) k ≡ true) × (values_in p ≡ parts_or_empty (h id) (values_kind (kind_in p)))
+  IsReadUnder h (kind.dictionary t ordered id k) p =
+      (is_indexed p ≡ true) × (is_alike (values_kind (kind_in p)) k ≡ true) × (values_in p ≡ parts_or_empty (h id) (values_kind (kind_in p)))
   IsReadUnder h (kind.extension name metadata k) p = IsReadUnder h k p
   IsReadUnder h k p = (is_indexed p ≡ false) × (values_in p ≡ none)
 
@@ -45,7 +46,8 @@ abbrev mutual
 -- each of some parts was read under those before it, as the values of each use of its dictionary in fields
 abbrev pub EachIsReadUnder : Fields → List PartTree → List PartTree → Type 0
 EachIsReadUnder fs before [] = Unit {0}
-EachIsReadUnder fs before (p ∷ ps) = AllByRecursion (λ u. same u.id p.id ≡ true → IsReadUnder (held_of before) u.values p.tree) (uses_in fs) × EachIsReadUnder fs (before ++ p ∷ []) ps
+EachIsReadUnder fs before (p ∷ ps) = AllByRecursion (λ u. same u.id p.id ≡ true → IsReadUnder (held_of before) u.values p.tree) (uses_in fs)
+    × EachIsReadUnder fs (before ++ p ∷ []) ps
 
 -- the parts of a file's dictionaries, each read under those before it
 abbrev pub AreReadInOrder : Fields → List PartTree → Type 0

@@ -18,7 +18,7 @@ use Rattle.sent_dictionaries.specs.Laws.{AreFileColumns, FileDictionariesAreSent
 use Rattle.part_laws.specs.ReadUnder.{AreReadUnder, held_of}
 use Rattle.sent_dictionaries.proofs.Again.{fields_same}
 use Rattle.sent_dictionaries.proofs.Empty.{all_as_read}
-use Rattle.sent_dictionaries.proofs.Lists.{all_both}
+use Rattle.part_laws.proofs.Lists.{all_both}
 use Rattle.sent_dictionaries.proofs.Pieces.{IsReadAs, all_read}
 use Rattle.sent_dictionaries.proofs.Visited.{IsBefore, none_visited, state}
 use Rattle.sent_dictionaries.proofs.Walks.{AreArrays, IsUse, fields_sent}

@@ -1,4 +1,3 @@
-pub mod Lists
 pub mod Forms
 pub mod Empty
 pub mod FieldKinds

@@ -26,7 +26,7 @@ use Rattle.part_laws.proofs.Empty.{empty_column}
 use Rattle.part_laws.specs.ReadUnder.{AreReadInOrder, EachIsReadUnder, IsReadUnder, held_if_any, held_of, parts_under}
 use Rattle.sent_dictionaries.proofs.Empty.{HasHeld, as_read, empty_held, no_cells}
 use Rattle.sent_dictionaries.proofs.Forms.{bare_form, bare_of, carried_as, none_written_as}
-use Rattle.sent_dictionaries.proofs.Lists.{all_both, all_first}
+use Rattle.part_laws.proofs.Lists.{all_both, all_first}
 
 -- ── the parts that were held ──
 

@@ -31,7 +31,7 @@ use Rattle.part_laws.specs.ReadUnder.{held_of}
 use Rattle.sent_dictionaries.proofs.Empty.{HasHeld}
 use Rattle.sent_dictionaries.proofs.FieldKinds.{IsOfKind, of_form}
 use Rattle.sent_dictionaries.proofs.Forms.{bare_form, bare_of}
-use Rattle.sent_dictionaries.proofs.Lists.{all_both, all_first, all_second}
+use Rattle.part_laws.proofs.Lists.{all_both, all_first, all_second}
 use Rattle.sent_dictionaries.proofs.Pieces.{AreSome, HasForm, IsPiece, IsReadAs, IsSound, behind_some, forms_shown, pieces_shown, shown, sound_shown, tree, trees}
 use Rattle.sent_dictionaries.proofs.Standings.{longer_or_same, stands_so, total, total_more}
 use Rattle.sent_dictionaries.proofs.Visited.{HasSeen, IsBefore, OfVisit, Place, SeenAt, State, Visited, seen_before, state, visited_as}

@@ -25,7 +25,7 @@ use Rattle.part_laws.specs.ReadUnder.{held_of}
 use Rattle.sent_dictionaries.proofs.Empty.{HaveHeld}
 use Rattle.sent_dictionaries.proofs.FieldKinds.{children_of, ids_split, of_form}
 use Rattle.sent_dictionaries.proofs.Forms.{bare_form}
-use Rattle.sent_dictionaries.proofs.Lists.{all_first, all_second}
+use Rattle.part_laws.proofs.Lists.{all_first, all_second}
 use Rattle.sent_dictionaries.proofs.Pieces.{AreSome, IsReadAs, are_shown, shown, trees}
 use Rattle.sent_dictionaries.proofs.Visited.{AllVisited, HasSeen, IsBefore, State, Visited, all_visited_as, state, visited_as}
 use Rattle.sent_dictionaries.proofs.Visits.{Fits, Inside, IsArray, IsSent, are_parts, moved, visit, visit_sent}

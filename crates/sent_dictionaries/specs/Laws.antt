@@ -34,7 +34,8 @@ sent_message s = values_message s.id s.is_delta s.part
 
 -- where so much is held, a walk over columns of the file's dictionaries sends nothing
 abbrev pub SendsNoMore : Fields → Dictionaries → List PartTree → Ids → Held → Type 0
-SendsNoMore fs d ps below held = (o : Options) (columns : Forest) (now : Sending) → o.deltas ≡ true → AreFileColumns fs d ps below columns → ((q : ℤ) → now.held q ≡ held q)
+SendsNoMore fs d ps below held = (o : Options) (columns : Forest) (now : Sending) → o.deltas ≡ true → AreFileColumns fs d ps below columns
+    → ((q : ℤ) → now.held q ≡ held q)
     → (t : Sending) × (arrays_sent o columns below now ≡ Ok t) × (t.sent ≡ now.sent) × ((q : ℤ) → t.held q ≡ now.held q)
 
 -- a walk sends the messages of the dictionaries, and behind it none of them is sent again
@@ -57,5 +58,6 @@ ColumnsAreRight = (fs : Fields) (below : Ids) (columns : Forest) → have_same_k
 
 -- Where the ids count from 0 in preorder and values may be replaced, no dictionary of such columns is refused for values under its id: none has the id of another, so that the batch has fixed none before.
 abbrev pub NoneIsReplaced : Type 0
-NoneIsReplaced = (o : Options) (fs : Fields) (below : Ids) (columns : Forest) (s : Sending) (id : ℤ) → o.cannot_replace ≡ false → fields_with fs below ≡ numbered fs 0 → have_same_kinds fs (columns_of columns) ≡ true
+NoneIsReplaced = (o : Options) (fs : Fields) (below : Ids) (columns : Forest) (s : Sending) (id : ℤ) → o.cannot_replace ≡ false
+    → fields_with fs below ≡ numbered fs 0 → have_same_kinds fs (columns_of columns) ≡ true
     → fault_each columns ≡ None → ((q : ℤ) → s.used q ≡ false) → arrays_sent o columns below s ≡ Err (DictionaryReplaced id) → ⊥

@@ -23,7 +23,8 @@ use Rattle.sent_schemas.specs.SentFields.{AreReadable, AreSentFields, fields_of}
 
 -- The columns that are asked for are right and can be read, and a schema of them has ids that count from 0 where they can: then it is what is sent of them.
 abbrev pub FieldsAreSent : Type 0
-FieldsAreSent = (file : FileMetadata) (columns : Option (List ℕ)) (s : List Keyed) (own : Ids) → WasRead file → columns_right columns (width (meta_view file).schema.fields) ≡ Ok tt
+FieldsAreSent = (file : FileMetadata) (columns : Option (List ℕ)) (s : List Keyed) (own : Ids) → WasRead file
+    → columns_right columns (width (meta_view file).schema.fields) ≡ Ok tt
     → AreReadable (meta_view file) columns → AreAsked (rc_value file.schema) columns s → IsNumbered (fields_in s) own → AreSentFields file columns s own
 
 -- the bytes of a message without a body, if it may be sent
@@ -44,7 +45,8 @@ MessageIsSent = (options : WriteOptions) (file : FileMetadata) (columns : Option
 
 -- A stream of columns is begun only where they can be read.
 abbrev pub BegunAreReadable : Type 0
-BegunAreReadable = (options : WriteOptions) (file : FileMetadata) (columns : Option (List ℕ)) (s : List Keyed) (own : Ids) (pairs : StreamPairs) (bytes : List ℕ)
+BegunAreReadable = (options : WriteOptions) (file : FileMetadata) (columns : Option (List ℕ)) (s : List Keyed) (own : Ids) (pairs : StreamPairs)
+    (bytes : List ℕ)
     → AreAsked (rc_value file.schema) columns s → stream_text options (fields_in s) own pairs ≡ Ok bytes → AreReadable (meta_view file) columns
 
 -- Where they cannot, it is refused for a kind in them that is never read.
@@ -54,7 +56,8 @@ UnreadAreRefused = (options : WriteOptions) (file : FileMetadata) (columns : Opt
     → IsAmong (refusals (stream_text options (fields_in s) own pairs)) e → IsAmong (chosen_floats columns (meta_view file).schema.fields 0) e
 
 -- how a file's columns are sent: nothing is compressed and metadata is as long as it may be, the columns are right, and a schema of them has ids that count from 0, and such pairs
-pub record AreStarted (options : WriteOptions) (file : FileMetadata) (columns : Option (List ℕ)) (s : List Keyed) (own : Ids) (pairs : StreamPairs) : Type 0 where
+pub record AreStarted (options : WriteOptions) (file : FileMetadata) (columns : Option (List ℕ)) (s : List Keyed) (own : Ids)
+    (pairs : StreamPairs) : Type 0 where
   pub plain : options.compression ≡ None
   pub most : options.metadata_limit ≡ 2147483647
   pub read : WasRead file
@@ -73,4 +76,5 @@ BegunIsSent = (b : List ℕ) (r : Request) (options : WriteOptions) (file : File
 -- Where they are not, the file is refused so.
 abbrev pub RefusedAsFile : Type 0
 RefusedAsFile = (b : List ℕ) (r : Request) (options : WriteOptions) (file : FileMetadata) (s : List Keyed) (own : Ids) (pairs : StreamPairs) (e : IpcError)
-    → FileSays b (meta_view file) (file_custom file) → AreStarted options file r.columns s own pairs → IsAmong (refusals (stream_text options (fields_in s) own pairs)) e → may b r e
+    → FileSays b (meta_view file) (file_custom file) → AreStarted options file r.columns s own pairs
+    → IsAmong (refusals (stream_text options (fields_in s) own pairs)) e → may b r e

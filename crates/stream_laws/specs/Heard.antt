@@ -65,7 +65,8 @@ GoesOn (Some cells) false now = now ≡ Some cells
 abbrev mutual
   pub AreFixed : Bool → Sending → Parts → Option ℤ → Ids → Type 0
   AreFixed deltas t (leaf l) id below = Unit {0}
-  AreFixed deltas t (nested (indexed d) parts) id below = (t.used (id_under id) ≡ true) × GoesOn (Some (joined (cells_each parts))) deltas (cells_held (t.held (id_under id)))
+  AreFixed deltas t (nested (indexed d) parts) id below =
+      (t.used (id_under id) ≡ true) × GoesOn (Some (joined (cells_each parts))) deltas (cells_held (t.held (id_under id)))
   AreFixed deltas t (nested h children) id below = AllAreFixed deltas t children below
 
   pub AllAreFixed : Bool → Sending → Forest → Ids → Type 0
