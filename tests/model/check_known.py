@@ -1,4 +1,4 @@
-"""The model gives the worked files and streams of crates/tests_files/src/files.rt, byte by byte."""
+"""The model gives the worked files and streams of crates/tests_files/src/parts.rt, byte by byte."""
 import re
 import struct
 from pathlib import Path
@@ -8,8 +8,8 @@ from arrow import Column
 from nested import Array
 from layout import Structs, Table, Tables, Value, lay, number
 
-TEXT = (Path(__file__).parents[2] / "crates/tests_files/src/files.rt").read_text()
-PARTS = {m[0]: bytes.fromhex(m[1]) for m in re.findall(r"Part::(\w+) =>\s*b\"((?:[0-9a-f][0-9a-f])+)\"", TEXT)}
+TEXT = (Path(__file__).parents[2] / "crates/tests_files/src/parts.rt").read_text()
+PARTS = {m[0].title().replace("_", ""): bytes.fromhex(m[1]) for m in re.findall(r"const (\w+): &\[u8\] =\s*b\"((?:[0-9a-f][0-9a-f])+)\"", TEXT)}
 A = [("a", ("int32",), True)]
 
 

@@ -15,26 +15,26 @@ def literal(data):
     return '"' + "\\\n      ".join(lines) + '"'
 
 
+def quoted(text):
+    return '"' + text.replace("\\", "\\\\").replace('"', '\\"') + '"'
+
+
 def row(title, read, text, written):
-    text = text.replace("\\", "\\\\").replace('"', '\\"')
     return f"""    Row {{
         title: "{title}",
         read: {read},
-        text: "{text}",
+        text: {text},
         written: {written},
     }},
 """
 
 
 def messages():
-    every = schema_text(EVERY, EVERY_PAIRS)
-    nested = message(schema_table(NESTED, NESTED_PAIRS, "big"))
-    one = message(schema_table(ONE, {}))
     return [
-        row("one column", literal(one), schema_text(ONE, {}), literal(one)),
-        row("every type", "EVERY", every, "EVERY"),
-        row("every type as another writer lays it out", "OTHER_WRITER", every, "EVERY"),
-        row("big-endian, with ids of its own", literal(nested), schema_text(NESTED, NESTED_PAIRS, "big"), literal(nested)),
+        row("one column", "ONE", quoted(schema_text(ONE, {})), "ONE"),
+        row("every type", "EVERY", "EVERY_TEXT", "EVERY"),
+        row("every type as another writer lays it out", "OTHER_WRITER", "EVERY_TEXT", "EVERY"),
+        row("big-endian, with ids of its own", "NESTED", quoted(schema_text(NESTED, NESTED_PAIRS, "big")), "NESTED"),
     ]
 
 
@@ -43,9 +43,9 @@ def tables():
                 field("k", ("dictionary", "int32", False, 7, ("utf8",)))]
     pairs = [field("x", ("extension", "e", None, ("boolean",)), False, {"k": "2"})]
     return [
-        row("absent slots have their defaults", "DEFAULTS", schema_text(defaults, {}), literal(lay(schema_table(defaults, {})))),
+        row("absent slots have their defaults", "DEFAULTS", quoted(schema_text(defaults, {})), literal(lay(schema_table(defaults, {})))),
         row("the last value of a key stands, and a reserved key makes an extension", "PAIRS",
-            schema_text(pairs, {"a": "b"}, "big"), literal(lay(schema_table(pairs, {"a": "b"})))),
+            quoted(schema_text(pairs, {"a": "b"}, "big")), literal(lay(schema_table(pairs, {"a": "b"})))),
     ]
 
 
@@ -65,6 +65,17 @@ pub(crate) struct Row {{
 /// The message of a schema with a field of every type, whose dictionaries are numbered 0, 1, ...
 pub(crate) const EVERY: &str =
     {literal(message(schema_table(EVERY, EVERY_PAIRS)))};
+
+/// The text of that schema.
+const EVERY_TEXT: &str = {quoted(schema_text(EVERY, EVERY_PAIRS))};
+
+/// The message of a schema of one column.
+const ONE: &str =
+    {literal(message(schema_table(ONE, {})))};
+
+/// The message of a big-endian schema with children and ids of its own.
+const NESTED: &str =
+    {literal(message(schema_table(NESTED, NESTED_PAIRS, "big")))};
 
 /// Messages of schemas, written again with their ids and in their byte order.
 pub(crate) const MESSAGES: &[Row] = &[

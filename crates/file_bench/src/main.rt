@@ -60,22 +60,13 @@ fn number(text: &str) -> Result<u32, &'static str> {
     }
 }
 
-/// The words behind the program's name.
-fn words(rt: &HostRuntime) -> Result<Vec<String>, &'static str> {
+fn run(rt: &HostRuntime) -> Result<(), &'static str> {
     let Ok(arguments) = env::args(rt) else {
         return Err("no words");
     };
-    let mut words = Vec::new(rt.alloc());
-    for word in arguments.skip(1) {
-        if words.push(word).is_err() {
-            return Err("no memory");
-        }
-    }
-    Ok(words)
-}
-
-fn run(rt: &HostRuntime) -> Result<(), &'static str> {
-    let words = words(rt)?;
+    let Ok(words) = arguments.skip(1).collect::<Vec<String>>(rt.alloc()) else {
+        return Err("no memory");
+    };
     let [word, name, batches, rows] = words.as_slice() else {
         return Err("file, stream or append, a name, a number of batches, and one of rows");
     };

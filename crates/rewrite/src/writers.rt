@@ -26,18 +26,42 @@ pub(crate) struct Heading {
 
 /// What record batches are written to, one behind another.
 pub(crate) trait BatchWriter {
+    ghost use Rattle.std.specs.Prelude.{◌≤◌, length};
+
     fn write_batch(&mut self, batch: &RecordBatch) -> Result<(), IpcError>;
+
+    fn set_schema_pairs(&mut self, pairs: Metadata);
+
+    /// Gives the footer or the schema's message pairs.
+    fn set_own_pairs(&mut self, pairs: Metadata) -> Result<(), IpcError>
+        requires { length pairs.entries ≤ 1048576 };
 }
 
 impl BatchWriter for FileWriter<MemorySink> {
     fn write_batch(&mut self, batch: &RecordBatch) -> Result<(), IpcError> {
         self.write(batch, None)
     }
+
+    fn set_schema_pairs(&mut self, pairs: Metadata) {
+        self.set_custom_schema_metadata(pairs);
+    }
+
+    fn set_own_pairs(&mut self, pairs: Metadata) -> Result<(), IpcError> {
+        self.set_footer_metadata(pairs)
+    }
 }
 
 impl BatchWriter for StreamWriter<MemorySink> {
     fn write_batch(&mut self, batch: &RecordBatch) -> Result<(), IpcError> {
         self.write(batch, None)
+    }
+
+    fn set_schema_pairs(&mut self, pairs: Metadata) {
+        self.set_custom_schema_metadata(pairs);
+    }
+
+    fn set_own_pairs(&mut self, pairs: Metadata) -> Result<(), IpcError> {
+        self.set_message_metadata(pairs)
     }
 }
 
@@ -72,25 +96,22 @@ fn new_stream(alloc: Global) -> Result<StreamWriter<MemorySink>, IpcError> {
     }
 }
 
-fn give_footer_pairs(
-    writer: &mut FileWriter<MemorySink>,
-    pairs: Option<Metadata>,
-) -> Result<(), IpcError> {
+fn give_schema_pairs<W: BatchWriter>(writer: &mut W, pairs: Option<Metadata>) {
+    match pairs {
+        None => {}
+        Some(pairs) => writer.set_schema_pairs(pairs),
+    }
+}
+
+fn give_own_pairs<W: BatchWriter>(writer: &mut W, pairs: Option<Metadata>) -> Result<(), IpcError> {
     match pairs {
         None => Ok(()),
         Some(pairs) => {
             if pairs.len() > MOST_PAIRS {
                 return Err(IpcError::TooMany(Counted::Pairs));
             }
-            writer.set_footer_metadata(pairs)
+            writer.set_own_pairs(pairs)
         }
-    }
-}
-
-fn give_file_schema_pairs(writer: &mut FileWriter<MemorySink>, pairs: Option<Metadata>) {
-    match pairs {
-        None => {}
-        Some(pairs) => writer.set_custom_schema_metadata(pairs),
     }
 }
 
@@ -100,32 +121,10 @@ pub(crate) fn file_writer(
     heading: Heading,
 ) -> Result<FileWriter<MemorySink>, IpcError> {
     let mut writer = new_file(alloc, heading.schema, heading.fields)?;
-    give_file_schema_pairs(&mut writer, heading.pairs.schema);
-    give_footer_pairs(&mut writer, heading.pairs.own)?;
+    give_schema_pairs(&mut writer, heading.pairs.schema);
+    give_own_pairs(&mut writer, heading.pairs.own)?;
     writer.start()?;
     Ok(writer)
-}
-
-fn give_message_pairs(
-    writer: &mut StreamWriter<MemorySink>,
-    pairs: Option<Metadata>,
-) -> Result<(), IpcError> {
-    match pairs {
-        None => Ok(()),
-        Some(pairs) => {
-            if pairs.len() > MOST_PAIRS {
-                return Err(IpcError::TooMany(Counted::Pairs));
-            }
-            writer.set_message_metadata(pairs)
-        }
-    }
-}
-
-fn give_stream_schema_pairs(writer: &mut StreamWriter<MemorySink>, pairs: Option<Metadata>) {
-    match pairs {
-        None => {}
-        Some(pairs) => writer.set_custom_schema_metadata(pairs),
-    }
 }
 
 /// The fields whose ids a stream has, or none for ids that count from 0.
@@ -140,8 +139,8 @@ pub(crate) fn stream_writer(
     keeps_ids: bool,
 ) -> Result<StreamWriter<MemorySink>, IpcError> {
     let mut writer = new_stream(alloc)?;
-    give_stream_schema_pairs(&mut writer, heading.pairs.schema);
-    give_message_pairs(&mut writer, heading.pairs.own)?;
+    give_schema_pairs(&mut writer, heading.pairs.schema);
+    give_own_pairs(&mut writer, heading.pairs.own)?;
     let fields = chosen(heading.fields.as_slice(), keeps_ids);
     writer.start(&heading.schema, fields)?;
     Ok(writer)

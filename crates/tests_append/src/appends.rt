@@ -1,7 +1,7 @@
 //! Streams that are read whole and appended.
 use crate::parts::{
-    END, MAGIC, OLDER_BLOCK, OLDER_END, OLDER_ONE_NULL, OLDER_SCHEMA, OLDER_TWO_BLOCKS, ONE_BLOCK,
-    ONE_NULL, SCHEMA, THREE, THREE_FOOTER, TWO_BLOCKS,
+    OLDER_BLOCK, OLDER_END, OLDER_ONE_NULL, OLDER_SCHEMA, OLDER_TWO_BLOCKS, THREE, THREE_FOOTER,
+    TWO_BLOCKS,
 };
 use arrow_spec::{IpcError, OutOfSpecKind};
 use ipc_append_stream::{WholeStream, append_stream, read_whole};
@@ -10,21 +10,23 @@ use ipc_io::MemoryFeed;
 use ipc_write::WriteOptions;
 use std::alloc::Global;
 use std::test::Fail;
+use tests_tables::parts::{END, FILE, FOOTER, MAGIC, ONE_NULL, SCHEMA, STREAM, bytes_of};
 
-/// A file of a batch of the rows 1, null and 3.
-pub(crate) const FILE: &[&str] = &[MAGIC, SCHEMA, ONE_NULL, END, ONE_BLOCK];
-
-/// The same with prefixes of four bytes.
-const OLDER_FILE: &[&str] = &[MAGIC, OLDER_SCHEMA, OLDER_ONE_NULL, END, OLDER_BLOCK];
+/// A file of a batch of the rows 1, null and 3, with prefixes of four bytes.
+const OLDER_FILE: &[&str] = &[
+    MAGIC,
+    OLDER_SCHEMA,
+    OLDER_ONE_NULL,
+    END,
+    FOOTER,
+    OLDER_BLOCK,
+];
 
 /// A file of three columns.
 pub(crate) const THREE_FILE: &[&str] = &[MAGIC, THREE, END, THREE_FOOTER];
 
-/// A stream of a batch of the rows 1, null and 3.
-pub(crate) const STREAM: &[&str] = &[SCHEMA, ONE_NULL, END];
-
-/// A file with that batch behind its own.
-pub(crate) const APPENDED: &[&str] = &[MAGIC, SCHEMA, ONE_NULL, ONE_NULL, END, TWO_BLOCKS];
+/// A file of that batch twice.
+pub(crate) const APPENDED: &[&str] = &[MAGIC, SCHEMA, ONE_NULL, ONE_NULL, END, FOOTER, TWO_BLOCKS];
 
 /// A file, a stream, and the file with the stream's batches.
 struct Case {
@@ -58,19 +60,11 @@ const CASES: &[Case] = &[
             OLDER_ONE_NULL,
             ONE_NULL,
             END,
+            FOOTER,
             OLDER_TWO_BLOCKS,
         ],
     },
 ];
-
-/// The bytes of hex texts, one behind the other.
-pub(crate) fn bytes_of(alloc: Global, parts: &[&str]) -> Result<Vec<u8>, Fail> {
-    let mut text = Vec::new(alloc);
-    for part in parts {
-        text.extend_from_slice(part.as_bytes())?;
-    }
-    Ok(hex::decode(alloc, text.as_slice())?)
-}
 
 /// A disk whose calls do not fail.
 fn disk_of(alloc: Global, parts: &[&str]) -> Result<MemoryDisk, Fail> {

@@ -1,11 +1,12 @@
 //! Disks that fail at one call.
-use crate::appends::{FILE, STREAM, bytes_of, stream_of};
+use crate::appends::stream_of;
 use arrow_spec::IpcError;
 use ipc_append_stream::{WholeStream, append_stream};
 use ipc_disk::MemoryDisk;
 use ipc_write::WriteOptions;
 use std::alloc::Global;
 use std::test::Fail;
+use tests_tables::parts::{FILE, STREAM, bytes_of};
 
 /// Where the file is cut.
 const CUT: usize = 424;

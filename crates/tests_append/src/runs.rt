@@ -1,10 +1,11 @@
 //! Runs that append the input's stream to a file on a shelf.
-use crate::appends::{APPENDED, FILE, STREAM, THREE_FILE, bytes_of};
+use crate::appends::{APPENDED, THREE_FILE};
 use ipc_disk::{Entry, MemoryShelf};
 use ipc_io::{MemoryFeed, MemorySink};
 use ipc_tool::run;
 use std::alloc::Global;
 use std::test::Fail;
+use tests_tables::parts::{FILE, STREAM, bytes_of};
 
 /// The file that stands under the name `a`, the words, the input's text, and what the run leaves.
 struct Case {

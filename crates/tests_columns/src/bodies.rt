@@ -1,8 +1,7 @@
 //! Columns with children as they are written (Arrow Columnar Format, "Variable-size List Layout").
-use crate::steps::{Written, encoded};
+use crate::steps::{Written, encoded, lies};
 use arrow_arrays::{Array, ListArray, ListOffsets};
 use arrow_buffers::{ArrayError, Bitmap, Buffer, PrimitiveArray};
-use arrow_spec::{FieldNode, IpcBuffer};
 use arrow_types::{ArrowDataType, Field};
 use std::alloc::{AllocError, Global};
 use std::test::Fail;
@@ -36,34 +35,6 @@ fn written(alloc: Global, array: Array) -> Result<Written, Fail> {
     let written = encoded(alloc, &array);
     drop(array);
     written
-}
-
-/// Whether the nodes and the buffers are these.
-fn lies(written: &Written, nodes: &[(i64, i64)], places: &[(i64, i64)]) -> bool {
-    if written.nodes.len() != nodes.len() || written.buffers.len() != places.len() {
-        return false;
-    }
-    for i in 0..nodes.len() {
-        let (length, null_count) = nodes[i];
-        if written.nodes[i] != (FieldNode { length, null_count }) {
-            return false;
-        }
-    }
-    are_places(&written.buffers, places)
-}
-
-/// Whether the buffers are at these places, of these lengths.
-fn are_places(buffers: &[IpcBuffer], places: &[(i64, i64)]) -> bool {
-    if buffers.len() != places.len() {
-        return false;
-    }
-    for i in 0..places.len() {
-        let (offset, length) = places[i];
-        if buffers[i] != (IpcBuffer { offset, length }) {
-            return false;
-        }
-    }
-    true
 }
 
 /// Whether the body is a validity of one byte, offsets and one-byte items, each followed by zeros up to a multiple of 64.

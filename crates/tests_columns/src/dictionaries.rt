@@ -4,10 +4,10 @@ ghost use Rattle.ipc_write.specs.Additions.{has_one};
 
 use crate::arrays::utf8;
 use crate::round_trips::may_have_views;
-use crate::steps::{Written, encoded, nothing_written};
+use crate::steps::{Written, encoded, lies, nothing_written};
 use arrow_arrays::{Array, DictionaryArray, DictionaryKeys, ListArray, ListOffsets};
 use arrow_buffers::{ArrayError, Bitmap, Buffer, PrimitiveArray};
-use arrow_spec::{FieldNode, IntegerType, IpcBuffer};
+use arrow_spec::IntegerType;
 use arrow_types::{ArrowDataType, Field};
 use ipc_write::write_dictionary;
 use std::alloc::{AllocError, Global};
@@ -54,33 +54,6 @@ fn lists_by_key(alloc: Global) -> Result<Array, ArrayError> {
     let offsets = ListOffsets::Small(Buffer::from_vec([0i32, 1, 3].to_vec(alloc)?)?);
     let values = texts_by_key(alloc)?;
     Ok(Array::List(ListArray::try_new(alloc, dtype, offsets, values, None)?))
-}
-
-/// Whether these are the nodes, and the places and lengths of the buffers.
-fn lies(written: &Written, nodes: &[(i64, i64)], places: &[(i64, i64)]) -> bool {
-    if written.nodes.len() != nodes.len() || written.buffers.len() != places.len() {
-        return false;
-    }
-    for i in 0..nodes.len() {
-        let (length, null_count) = nodes[i];
-        if written.nodes[i] != (FieldNode { length, null_count }) {
-            return false;
-        }
-    }
-    have_places(written, places)
-}
-
-fn have_places(written: &Written, places: &[(i64, i64)]) -> bool {
-    if written.buffers.len() != places.len() {
-        return false;
-    }
-    for i in 0..places.len() {
-        let (offset, length) = places[i];
-        if written.buffers[i] != (IpcBuffer { offset, length }) {
-            return false;
-        }
-    }
-    true
 }
 
 /// Whether a body of this length has these bytes at a place.

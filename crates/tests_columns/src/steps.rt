@@ -68,6 +68,39 @@ pub(crate) fn write_alone(
     Ok(written)
 }
 
+/// Whether these are the numbers of rows and of nulls.
+fn are_counts(nodes: &[FieldNode], counts: &[(i64, i64)]) -> bool {
+    if nodes.len() != counts.len() {
+        return false;
+    }
+    for i in 0..counts.len() {
+        let (length, null_count) = counts[i];
+        if nodes[i] != (FieldNode { length, null_count }) {
+            return false;
+        }
+    }
+    true
+}
+
+/// Whether these are the places and lengths of the buffers.
+fn are_places(buffers: &[IpcBuffer], places: &[(i64, i64)]) -> bool {
+    if buffers.len() != places.len() {
+        return false;
+    }
+    for i in 0..places.len() {
+        let (offset, length) = places[i];
+        if buffers[i] != (IpcBuffer { offset, length }) {
+            return false;
+        }
+    }
+    true
+}
+
+/// Whether an array is written as these nodes, and its buffers at these places.
+pub(crate) fn lies(written: &Written, nodes: &[(i64, i64)], places: &[(i64, i64)]) -> bool {
+    are_counts(&written.nodes, nodes) && are_places(&written.buffers, places)
+}
+
 /// The batch of one column.
 fn batch_of(alloc: Global, array: &Array) -> Result<RecordBatch, Fail>
     ensures arrays { IfOk result (λ b. b.arrays ≡ parts_of array.now ∷ []) }

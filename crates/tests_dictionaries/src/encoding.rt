@@ -1,20 +1,17 @@
 //! Messages of what is to be sent before a batch, and of the batch.
 ghost use Rattle.std.specs.Prelude.{◌≡◌, true};
 
-use crate::arrays::{dictionary, rows_of, texts};
-use arrow_arrays::RecordBatch;
 use arrow_buffers::ArrayError;
 use arrow_spec::IpcError;
-use arrow_types::{ArrowDataType, ArrowSchema, Field, IntegerType};
 use ipc_dictionaries::DictionaryTracker;
 use ipc_encode::{
     encode_chunk, encode_chunk_amortized, encode_dictionary, encode_new_dictionaries,
 };
 use ipc_fields::IpcField;
 use ipc_write::{EncodedData, WriteOptions, encode_values};
-use std::alloc::{AllocError, Global};
-use std::rc::Rc;
+use std::alloc::Global;
 use std::test::Fail;
+use tests_tables::{dictionary, text_batch, texts, with_limit};
 
 /// The IPC field of a dictionary 0.
 fn field(alloc: Global) -> IpcField {
@@ -28,11 +25,7 @@ fn field(alloc: Global) -> IpcField {
 fn with_deltas() -> WriteOptions
     ensures { result.deltas ≡ true }
 {
-    WriteOptions {
-        compression: None,
-        metadata_limit: 0x7fff_ffff,
-        deltas: true,
-    }
+    with_limit(0x7fff_ffff)
 }
 
 /// What one column of a dictionary is encoded to.
@@ -129,25 +122,10 @@ fn several_parts_take_deltas(rt: HostRuntime) -> Result<(), Fail> {
     Ok(())
 }
 
-/// A column of a dictionary of texts.
-fn one_column(alloc: Global) -> Result<Rc<ArrowSchema>, AllocError> {
-    let values = Box::new(alloc, ArrowDataType::Utf8)?;
-    let dtype = ArrowDataType::Dictionary(IntegerType::Int32, values, false);
-    let field = Field::new(alloc, String::from_str(alloc, "d")?, dtype, true);
-    let schema = ArrowSchema::from_fields(alloc, vec![in alloc; field]?)?;
-    Ok(Rc::new(alloc, schema)?)
-}
-
-/// A batch of one row of that column.
-fn one_batch(alloc: Global) -> Result<RecordBatch, Fail> {
-    let arrays = vec![in alloc; rows_of(alloc, &[b"x"], 1)?]?;
-    Ok(RecordBatch::try_new(1, one_column(alloc)?, arrays)?)
-}
-
 #[test]
 fn a_refused_batch_leaves_what_is_held(rt: HostRuntime) -> Result<(), Fail> {
     let alloc = rt.alloc();
-    let batch = one_batch(alloc)?;
+    let batch = text_batch(alloc, b"x", 1)?;
     let fields = vec![in alloc; field(alloc)]?;
     let options = WriteOptions {
         compression: None,
@@ -166,7 +144,7 @@ fn a_refused_batch_leaves_what_is_held(rt: HostRuntime) -> Result<(), Fail> {
 #[test]
 fn a_batch_stands_behind_its_dictionaries(rt: HostRuntime) -> Result<(), Fail> {
     let alloc = rt.alloc();
-    let batch = one_batch(alloc)?;
+    let batch = text_batch(alloc, b"x", 1)?;
     let fields = vec![in alloc; field(alloc)]?;
     let fields = fields.as_slice();
     let options = WriteOptions::default();

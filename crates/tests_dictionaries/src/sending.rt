@@ -1,5 +1,4 @@
 //! What is to be sent before a batch.
-use crate::arrays::{dictionary, outer, texts};
 use arrow_arrays::Array;
 use arrow_spec::IpcError;
 use ipc_dictionaries::{
@@ -8,6 +7,7 @@ use ipc_dictionaries::{
 use ipc_fields::IpcField;
 use std::alloc::{AllocError, Global};
 use std::test::Fail;
+use tests_tables::{dictionary, outer};
 
 /// The IPC field of a dictionary whose values have no children.
 fn under(alloc: Global, id: i64) -> IpcField {

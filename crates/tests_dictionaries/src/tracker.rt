@@ -1,10 +1,10 @@
 //! What is put under an id.
-use crate::arrays::dictionary;
 use arrow_buffers::ArrayError;
 use arrow_spec::IpcError;
 use ipc_dictionaries::DictionaryTracker;
 use std::alloc::Global;
 use std::test::Fail;
+use tests_tables::dictionary;
 
 /// Whether a dictionary of these parts is new under id 0; none where it is refused.
 fn insert(

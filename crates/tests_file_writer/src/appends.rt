@@ -1,6 +1,5 @@
 //! Files on a disk that go on behind their last batch.
-use crate::batches::numbers_batch;
-use crate::parts::{BEGIN, END, NO_BLOCK, ONE_BLOCK, ONE_NULL, ONE_ROW, TWO_BLOCKS_APPENDED};
+use crate::parts::{NO_BLOCK, ONE_ROW, TWO_BLOCKS_APPENDED};
 use arrow_spec::{IpcError, OutOfSpecKind};
 use ipc_append::try_from_file;
 use ipc_disk::{DiskTail, MemoryDisk};
@@ -10,15 +9,8 @@ use ipc_reader::Refused;
 use ipc_write::WriteOptions;
 use std::alloc::Global;
 use std::test::Fail;
-
-/// The bytes of hex texts, one behind the other.
-fn bytes_of(alloc: Global, parts: &[&str]) -> Result<Vec<u8>, Fail> {
-    let mut text = Vec::new(alloc);
-    for part in parts {
-        text.extend_from_slice(part.as_bytes())?;
-    }
-    Ok(hex::decode(alloc, text.as_slice())?)
-}
+use tests_tables::number_batch;
+use tests_tables::parts::{END, FILE, FOOTER, MAGIC, ONE_NULL, SCHEMA, bytes_of};
 
 /// The file of the rows 1, null and 3 goes on with the row 5.
 fn go_on(
@@ -33,15 +25,26 @@ fn go_on(
 #[test]
 fn a_file_goes_on_behind_its_last_block(rt: HostRuntime) -> Result<(), Fail> {
     let alloc = rt.alloc();
-    let Ok(mut writer) = go_on(alloc, &[BEGIN, ONE_NULL, END, ONE_BLOCK])? else {
+    let Ok(mut writer) = go_on(alloc, FILE)? else {
         return Err("refused".into());
     };
-    let batch = numbers_batch(alloc, &[5])?;
+    let batch = number_batch(alloc, &[5], None)?;
     writer.write(&batch, None)?;
     drop(batch);
     writer.finish()?;
     let disk = writer.into_inner().into_inner();
-    let expected = bytes_of(alloc, &[BEGIN, ONE_NULL, ONE_ROW, END, TWO_BLOCKS_APPENDED])?;
+    let expected = bytes_of(
+        alloc,
+        &[
+            MAGIC,
+            SCHEMA,
+            ONE_NULL,
+            ONE_ROW,
+            END,
+            FOOTER,
+            TWO_BLOCKS_APPENDED,
+        ],
+    )?;
     assert!(rt; disk.bytes().len() == 858);
     assert!(rt; disk.bytes() == expected.as_slice());
     Ok(())
@@ -50,7 +53,7 @@ fn a_file_goes_on_behind_its_last_block(rt: HostRuntime) -> Result<(), Fail> {
 #[test]
 fn a_file_without_a_batch_does_not_go_on(rt: HostRuntime) -> Result<(), Fail> {
     let alloc = rt.alloc();
-    let parts = [BEGIN, END, NO_BLOCK];
+    let parts = [MAGIC, SCHEMA, END, FOOTER, NO_BLOCK];
     let Err(refused) = go_on(alloc, &parts)? else {
         return Err("taken".into());
     };

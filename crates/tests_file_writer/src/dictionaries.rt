@@ -1,9 +1,10 @@
 //! Dictionaries of batches: put before the first that needs them, and never replaced.
-use crate::batches::{of_texts, with_limit, write_texts, writer};
+use crate::batches::{write_texts, writer};
 use arrow_spec::IpcError;
 use ipc_files::read_file_metadata;
 use ipc_io::MemorySource;
 use std::test::Fail;
+use tests_tables::{of_texts, with_limit};
 
 #[test]
 fn a_dictionary_goes_on_and_is_not_replaced(rt: HostRuntime) -> Result<(), Fail> {

@@ -1,11 +1,13 @@
 //! Calls out of turn, and behind a put that failed.
-use crate::batches::{give_pair, of_numbers, write_numbers, writer};
+use crate::batches::{give_pair, write_numbers, writer};
 use arrow_spec::IpcError;
 use ipc_file_writer::FileWriter;
 use ipc_io::MemorySink;
 use ipc_write::WriteOptions;
 use std::alloc::Global;
+use std::rc::Rc;
 use std::test::Fail;
+use tests_tables::of_numbers;
 
 fn is_out_of_turn(answer: Result<(), IpcError>) -> bool {
     matches!(answer, Err(IpcError::State))
@@ -69,14 +71,10 @@ fn a_put_that_fails_is_the_last(rt: HostRuntime) -> Result<(), Fail> {
 #[test]
 fn a_file_may_be_begun_where_it_is_made(rt: HostRuntime) -> Result<(), Fail> {
     let alloc = rt.alloc();
+    let schema = Rc::new(alloc, of_numbers(alloc)?)?;
     let sink = MemorySink::new(alloc, Some(100), Vec::new(alloc));
-    match FileWriter::try_new(
-        alloc,
-        sink,
-        of_numbers(alloc)?,
-        None,
-        WriteOptions::default(),
-    ) {
+    let options = WriteOptions::default();
+    match FileWriter::try_new(alloc, sink, schema, None, options) {
         Ok(_) => return Err("no room".into()),
         Err(refused) => {
             assert!(rt; matches!(refused.error, IpcError::WriteFault));

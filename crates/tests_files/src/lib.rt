@@ -8,6 +8,8 @@ mod kinds;
 #[cfg(test)]
 mod names;
 #[cfg(test)]
+mod parts;
+#[cfg(test)]
 mod readers;
 #[cfg(test)]
 mod runs;

@@ -1,64 +1,10 @@
 //! Streams with dictionaries, deltas of them, and others in their place.
 use crate::parts::Part;
-use arrow_arrays::{Array, DictionaryArray, RecordBatch};
 use ipc_schema::{IpcError, MemoryFeed, OutOfSpecKind};
 use ipc_streams::{StreamReader, StreamState, read_stream_metadata};
 use std::alloc::Global;
 use std::test::Fail;
-
-/// The key of a row.
-fn key_of(array: &DictionaryArray, row: usize) -> Option<usize> {
-    if row >= array.len() {
-        return None;
-    }
-    let key = array.key_value(row);
-    if key < 0 || key > 9 {
-        return None;
-    }
-    Some(key as usize)
-}
-
-/// The text of a key into parts of texts.
-fn text_at(parts: &[Array], key: usize) -> Option<&[u8]> {
-    let mut row = key;
-    for part in parts {
-        let Array::Utf8(texts) = part else {
-            return None;
-        };
-        if row < texts.len() {
-            return Some(texts.value(row));
-        }
-        row -= texts.len();
-    }
-    None
-}
-
-/// The text of a row of dictionaries whose values are structs of a dictionary of texts.
-fn text_of(column: &Array, row: usize) -> Option<&[u8]> {
-    let Array::Dictionary(outer) = column else {
-        return None;
-    };
-    let [Array::Struct(values)] = outer.parts() else {
-        return None;
-    };
-    let [Array::Dictionary(texts)] = values.values() else {
-        return None;
-    };
-    text_at(texts.parts(), key_of(texts, key_of(outer, row)?)?)
-}
-
-/// Whether a batch's column has exactly these texts.
-fn has_texts(batch: &RecordBatch, texts: &[&[u8]]) -> bool {
-    let [column] = batch.arrays() else {
-        return false;
-    };
-    for (row, text) in texts.iter().enumerate() {
-        if text_of(column, row) != Some(*text) {
-            return false;
-        }
-    }
-    batch.height() == texts.len()
-}
+use tests_tables::has_texts;
 
 /// A reader of the parts, one behind the other.
 fn reader_of(alloc: Global, parts: &[Part]) -> Result<StreamReader<MemoryFeed>, Fail> {

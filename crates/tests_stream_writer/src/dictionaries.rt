@@ -1,7 +1,8 @@
 //! Dictionaries of batches, sent before the first that needs them.
-use crate::batches::{of_texts, with_limit, write_texts, writer};
+use crate::batches::{write_texts, writer};
 use std::alloc::Global;
 use std::test::Fail;
+use tests_tables::{of_texts, with_limit};
 
 /// How many bytes a stream of batches of texts has.
 fn length_of(alloc: Global, batches: &[&[u8]]) -> Result<usize, Fail> {

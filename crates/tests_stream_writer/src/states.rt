@@ -1,13 +1,13 @@
 //! Calls out of turn, and behind a put that failed.
-use crate::batches::{of_numbers, of_texts, write_numbers, writer};
+use crate::batches::{write_numbers, writer};
 use arrow_spec::IpcError;
-use arrow_types::Metadata;
 use ipc_fields::IpcField;
 use ipc_io::MemorySink;
 use ipc_stream_writer::StreamWriter;
 use ipc_write::WriteOptions;
 use std::alloc::Global;
 use std::test::Fail;
+use tests_tables::{of_numbers, of_texts, one_pair};
 
 fn is_out_of_turn(answer: Result<(), IpcError>) -> bool {
     matches!(answer, Err(IpcError::State))
@@ -81,11 +81,7 @@ fn give_pair(
     alloc: Global,
     writer: &mut StreamWriter<MemorySink>,
 ) -> Result<Result<(), IpcError>, Fail> {
-    let mut pairs = Metadata::new(alloc);
-    drop(pairs.insert(String::from_str(alloc, "k")?, String::from_str(alloc, "v")?)?);
-    if pairs.len() > 1_048_576 {
-        return Err("one pair".into());
-    }
+    let pairs = one_pair(alloc)?;
     Ok(writer.set_message_metadata(pairs))
 }
 

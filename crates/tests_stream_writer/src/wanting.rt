@@ -1,11 +1,12 @@
 //! Sinks that want memory.
-use crate::batches::{of_numbers, write_numbers};
+use crate::batches::write_numbers;
 use arrow_spec::IpcError;
 use ipc_io::{MemorySink, PutError, Sink};
 use ipc_stream_writer::StreamWriter;
 use ipc_write::WriteOptions;
 use std::alloc::Global;
 use std::test::Fail;
+use tests_tables::of_numbers;
 
 /// A sink over memory that wants memory at the put of a number.
 #[derive(Drop)]

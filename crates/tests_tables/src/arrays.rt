@@ -1,12 +1,23 @@
-//! Dictionaries of texts, in one part or in several.
+//! Numbers, and dictionaries of texts, in one part or in several.
 ghost use Rattle.std.specs.Prelude.{◌≡◌, true, IfOk};
 ghost use Rattle.arrow_arrays.specs.PartsOf.{parts_of};
 ghost use Rattle.ipc_dictionaries.specs.Tracker.{is_indexed};
 
 use arrow_arrays::{Array, DictionaryArray, DictionaryKeys, StructArray};
-use arrow_buffers::{ArrayError, Buffer, PrimitiveArray, Utf8Array};
+use arrow_buffers::{ArrayError, Bitmap, Buffer, PrimitiveArray, Utf8Array};
 use arrow_types::{ArrowDataType, Field, IntegerType};
 use std::alloc::{AllocError, Global};
+
+/// Numbers of 32 bits, of which those of which the bit is 0 are null.
+pub fn numbers(alloc: Global, rows: &[i32], valid: Option<u8>) -> Result<Array, ArrayError> {
+    let values = Buffer::from_vec(rows.to_vec(alloc)?)?;
+    let validity = match valid {
+        Some(bits) => Some(Bitmap::from_vec([bits].to_vec(alloc)?, rows.len().min(8))?),
+        None => None,
+    };
+    let array = PrimitiveArray::try_new(ArrowDataType::Int32, values, validity)?;
+    Ok(Array::Int32(array))
+}
 
 /// The offsets of texts of one byte each.
 fn offsets(alloc: Global, rows: &[u8]) -> Result<Vec<i32>, AllocError> {
@@ -38,7 +49,8 @@ fn add(arrays: &mut Vec<Array>, array: Array) -> Result<(), AllocError> {
     Ok(())
 }
 
-fn type_of(alloc: Global, values: ArrowDataType) -> Result<ArrowDataType, AllocError> {
+/// The type of dictionaries of such values, with keys of 32 bits.
+pub(crate) fn type_of(alloc: Global, values: ArrowDataType) -> Result<ArrowDataType, AllocError> {
     let values = Box::new(alloc, values)?;
     Ok(ArrowDataType::Dictionary(IntegerType::Int32, values, false))
 }
