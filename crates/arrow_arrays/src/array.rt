@@ -21,31 +21,57 @@ use std::marker::Model;
 #[cycle(array)]
 #[derive(Drop)]
 pub enum Array {
+    /// Nulls.
     Null(NullArray),
+    /// Truth values.
     Boolean(BooleanArray),
+    /// Integers of 8 bits.
     Int8(PrimitiveArray<i8>),
+    /// Integers of 16 bits.
     Int16(PrimitiveArray<i16>),
+    /// Integers of 32 bits, days, times of day, and intervals of months.
     Int32(PrimitiveArray<i32>),
+    /// Integers of 64 bits, dates, times, timestamps and durations.
     Int64(PrimitiveArray<i64>),
+    /// Integers of 128 bits, and decimals.
     Int128(PrimitiveArray<i128>),
+    /// Unsigned integers of 8 bits.
     UInt8(PrimitiveArray<u8>),
+    /// Unsigned integers of 16 bits.
     UInt16(PrimitiveArray<u16>),
+    /// Unsigned integers of 32 bits.
     UInt32(PrimitiveArray<u32>),
+    /// Unsigned integers of 64 bits.
     UInt64(PrimitiveArray<u64>),
+    /// Intervals of days and milliseconds.
     DaysMs(PrimitiveArray<days_ms>),
+    /// Intervals of months, days and nanoseconds.
     MonthsDaysNs(PrimitiveArray<months_days_ns>),
+    /// Byte strings between offsets of 32 bits.
     Binary(BinaryArray<i32>),
+    /// Byte strings between offsets of 64 bits.
     LargeBinary(BinaryArray<i64>),
+    /// Texts between offsets of 32 bits.
     Utf8(Utf8Array<i32>),
+    /// Texts between offsets of 64 bits.
     LargeUtf8(Utf8Array<i64>),
+    /// Views of byte strings.
     BinaryView(BinaryViewArray),
+    /// Views of texts.
     Utf8View(Utf8ViewArray),
+    /// Byte strings of one size.
     FixedSizeBinary(FixedSizeBinaryArray),
+    /// Lists between offsets of either width.
     List(ListArray),
+    /// Lists of one size.
     FixedSizeList(FixedSizeListArray),
+    /// Maps of keys and values.
     Map(MapArray),
+    /// Rows across several columns.
     Struct(StructArray),
+    /// Rows of one of several columns each.
     Union(UnionArray),
+    /// Rows of a dictionary.
     Dictionary(DictionaryArray),
 }
 

@@ -173,6 +173,7 @@ impl DictionaryArray {
         }
     }
 
+    /// How many rows there are.
     pub fn len(&self) -> usize
         ensures rows { result ≡ length self.now.head.keys }
         ensures cells { result ≡ length (cells_in (nested (indexed self.now.head) self.now.children)) }
@@ -181,12 +182,14 @@ impl DictionaryArray {
         self.keys.len()
     }
 
+    /// The type.
     pub fn dtype(&self) -> &ArrowDataType
         ensures { kind_of result.now ≡ self.now.head.kind }
     {
         &self.dtype
     }
 
+    /// The key of each row, which counts the rows of all parts.
     pub fn keys(&self) -> &DictionaryKeys
         ensures keys { keys_in result.now ≡ self.now.head.keys }
         ensures index { index_in result.now ≡ self.now.head.index }
@@ -221,6 +224,7 @@ impl DictionaryArray {
         place_in(self.parts.as_slice(), row_at(self.keys.number(row)))
     }
 
+    /// Which rows are not null; all, where there is no bitmap.
     pub fn validity(&self) -> Option<&Bitmap>
         ensures bits { option_map (λ b. b.now) result ≡ self.now.head.validity }
         ensures rows { has_rows self.now.head.validity (length self.now.head.keys) ≡ true }

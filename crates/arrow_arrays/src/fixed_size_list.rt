@@ -87,6 +87,7 @@ impl FixedSizeListArray {
         }
     }
 
+    /// How many rows there are.
     pub fn len(&self) -> usize
         ensures rows { result ≡ self.now.head.rows }
         ensures cells { result ≡ length (cells_in (nested (sized self.now.head) self.now.children)) }
@@ -95,6 +96,7 @@ impl FixedSizeListArray {
         self.rows
     }
 
+    /// The type.
     pub fn dtype(&self) -> &ArrowDataType
         ensures { kind_of result.now ≡ self.now.head.kind }
     {
@@ -125,6 +127,7 @@ impl FixedSizeListArray {
         items_of(self.size(), row, 1, self.rows, self.values.len())
     }
 
+    /// Which rows are not null; all, where there is no bitmap.
     pub fn validity(&self) -> Option<&Bitmap>
         ensures bits { option_map (λ b. b.now) result ≡ self.now.head.validity }
         ensures rows { has_rows self.now.head.validity self.now.head.rows ≡ true }

@@ -12,14 +12,23 @@ use std::alloc::{AllocError, Global};
 /// The row of a dictionary that each row is, in any integer type.
 #[derive(Drop)]
 pub enum DictionaryKeys {
+    /// Signed keys of 8 bits.
     Int8(PrimitiveArray<i8>),
+    /// Signed keys of 16 bits.
     Int16(PrimitiveArray<i16>),
+    /// Signed keys of 32 bits.
     Int32(PrimitiveArray<i32>),
+    /// Signed keys of 64 bits.
     Int64(PrimitiveArray<i64>),
+    /// Signed keys of 128 bits.
     Int128(PrimitiveArray<i128>),
+    /// Unsigned keys of 8 bits.
     UInt8(PrimitiveArray<u8>),
+    /// Unsigned keys of 16 bits.
     UInt16(PrimitiveArray<u16>),
+    /// Unsigned keys of 32 bits.
     UInt32(PrimitiveArray<u32>),
+    /// Unsigned keys of 64 bits.
     UInt64(PrimitiveArray<u64>),
 }
 

@@ -94,6 +94,7 @@ impl ListArray {
         }
     }
 
+    /// How many rows there are.
     pub fn len(&self) -> usize
         ensures rows { result ≡ variable_rows self.now.head.offsets }
         ensures cells { result ≡ length (cells_in (nested (listed self.now.head) self.now.children)) }
@@ -102,12 +103,14 @@ impl ListArray {
         self.offsets.len().saturating_sub(1)
     }
 
+    /// The type.
     pub fn dtype(&self) -> &ArrowDataType
         ensures { kind_of result.now ≡ self.now.head.kind }
     {
         &self.dtype
     }
 
+    /// Where each row begins among the values, and where the last one ends; one more than rows.
     pub fn offsets(&self) -> &ListOffsets
         ensures offsets { offsets_in result.now ≡ self.now.head.offsets }
         ensures width { width_in result.now ≡ self.now.head.width }
@@ -133,6 +136,7 @@ impl ListArray {
         self.offsets.range(row, self.values.len())
     }
 
+    /// Which rows are not null; all, where there is no bitmap.
     pub fn validity(&self) -> Option<&Bitmap>
         ensures bits { option_map (λ b. b.now) result ≡ self.now.head.validity }
         ensures rows { has_rows self.now.head.validity (variable_rows self.now.head.offsets) ≡ true }

@@ -75,6 +75,7 @@ impl MapArray {
         }
     }
 
+    /// How many rows there are.
     pub fn len(&self) -> usize
         ensures rows { result ≡ variable_rows self.now.head.offsets }
         ensures cells { result ≡ length (cells_in (nested (mapped self.now.head) self.now.children)) }
@@ -83,12 +84,14 @@ impl MapArray {
         self.offsets.len().saturating_sub(1)
     }
 
+    /// The type.
     pub fn dtype(&self) -> &ArrowDataType
         ensures { kind_of result.now ≡ self.now.head.kind }
     {
         &self.dtype
     }
 
+    /// Where each row begins among the entries, and where the last one ends; one more than rows.
     pub fn offsets(&self) -> &Buffer<i32>
         ensures { result.now ≡ self.now.head.offsets }
     {
@@ -113,6 +116,7 @@ impl MapArray {
         range_of(&self.offsets, row, self.field.len())
     }
 
+    /// Which rows are not null; all, where there is no bitmap.
     pub fn validity(&self) -> Option<&Bitmap>
         ensures bits { option_map (λ b. b.now) result ≡ self.now.head.validity }
         ensures rows { has_rows self.now.head.validity (variable_rows self.now.head.offsets) ≡ true }

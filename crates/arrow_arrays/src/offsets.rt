@@ -10,7 +10,9 @@ use std::alloc::AllocError;
 /// Where each list begins, and where the last one ends.
 #[derive(Drop)]
 pub enum ListOffsets {
+    /// Offsets of 32 bits.
     Small(Buffer<i32>),
+    /// Offsets of 64 bits.
     Large(Buffer<i64>),
 }
 

@@ -78,6 +78,7 @@ impl StructArray {
         })
     }
 
+    /// How many rows there are.
     pub fn len(&self) -> usize
         ensures rows { result ≡ self.now.head.rows }
         ensures cells { result ≡ length (cells_in (nested (structured self.now.head) self.now.children)) }
@@ -86,6 +87,7 @@ impl StructArray {
         self.rows
     }
 
+    /// The type.
     pub fn dtype(&self) -> &ArrowDataType
         ensures { kind_of result.now ≡ self.now.head.kind }
     {
@@ -99,6 +101,7 @@ impl StructArray {
         self.values.as_slice()
     }
 
+    /// Which rows are not null; all, where there is no bitmap.
     pub fn validity(&self) -> Option<&Bitmap>
         ensures bits { option_map (λ b. b.now) result ≡ self.now.head.validity }
         ensures rows { has_rows self.now.head.validity self.now.head.rows ≡ true }

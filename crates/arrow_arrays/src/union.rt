@@ -224,6 +224,7 @@ impl UnionArray {
         })
     }
 
+    /// How many rows there are.
     pub fn len(&self) -> usize
         ensures rows { result ≡ length self.now.head.types }
         ensures cells { result ≡ length (cells_in (nested (tagged self.now.head) self.now.children)) }
@@ -232,6 +233,7 @@ impl UnionArray {
         self.types.len()
     }
 
+    /// The type.
     pub fn dtype(&self) -> &ArrowDataType
         ensures { kind_of result.now ≡ self.now.head.kind }
     {

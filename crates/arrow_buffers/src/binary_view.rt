@@ -101,6 +101,7 @@ impl<V: ViewType> BinaryViewArrayGeneric<V> {
         }
     }
 
+    /// How many rows there are.
     pub fn len(&self) -> usize
         ensures rows { result ≡ view_rows self.now.views }
         ensures cells { result ≡ length (view_cells V.IS_TEXT self.now) }
@@ -109,24 +110,28 @@ impl<V: ViewType> BinaryViewArrayGeneric<V> {
         self.views.len() / VIEW_SIZE
     }
 
+    /// The type.
     pub fn dtype(&self) -> &ArrowDataType
         ensures { kind_of result.now ≡ self.now.kind }
     {
         &self.dtype
     }
 
+    /// The views of the rows, 16 bytes each.
     pub fn views(&self) -> &Buffer<u8>
         ensures { result.now ≡ self.now.views }
     {
         &self.views
     }
 
+    /// The buffers that hold rows of more than 12 bytes.
     pub fn data_buffers(&self) -> &[Buffer<u8>]
         ensures { result.now ≡ self.now.buffers }
     {
         self.data_buffers.as_slice()
     }
 
+    /// Which rows are not null; all, where there is no bitmap.
     pub fn validity(&self) -> Option<&Bitmap>
         ensures bits { option_map (λ b. b.now) result ≡ self.now.validity }
         ensures rows { has_rows self.now.validity (view_rows self.now.views) ≡ true }

@@ -102,12 +102,14 @@ impl Bitmap {
         }
     }
 
+    /// How many bits there are.
     pub fn len(&self) -> usize
         ensures { result ≡ length self.now }
     {
         self.count
     }
 
+    /// Whether the bit at a place is 1.
     pub fn get(&self, i: usize) -> bool
         requires { i < length self.now }
         ensures { slice_get self.now i ≡ Some result }

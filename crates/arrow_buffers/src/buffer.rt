@@ -90,18 +90,21 @@ impl<T: NativeType> Buffer<T> {
         }
     }
 
+    /// How many items there are.
     pub fn len(&self) -> usize
         ensures { result ≡ length self.now }
     {
         self.count
     }
 
+    /// Whether there is no item.
     pub fn is_empty(&self) -> bool
         ensures { IsTrue result ↔ (self.now ≡ []) }
     {
         self.count == 0
     }
 
+    /// The item at a place.
     pub fn get(&self, i: usize) -> T
         requires { i < length self.now }
         ensures { slice_get self.now i ≡ Some result }
@@ -200,6 +203,7 @@ impl Buffer<u8> {
         })
     }
 
+    /// The bytes.
     pub fn as_slice(&self) -> &[u8]
         ensures { result.now ≡ self.now }
     {

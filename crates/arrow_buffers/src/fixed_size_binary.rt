@@ -60,6 +60,7 @@ impl FixedSizeBinaryArray {
         })
     }
 
+    /// How many rows there are.
     pub fn len(&self) -> usize
         ensures rows { result ≡ fixed_rows self.now }
         ensures cells { result ≡ length (fixed_cells self.now) }
@@ -76,18 +77,21 @@ impl FixedSizeBinaryArray {
         layout::binary_size(&self.dtype)
     }
 
+    /// The type.
     pub fn dtype(&self) -> &ArrowDataType
         ensures { kind_of result.now ≡ self.now.kind }
     {
         &self.dtype
     }
 
+    /// The bytes of all rows, one after another.
     pub fn values(&self) -> &Buffer<u8>
         ensures { result.now ≡ self.now.values }
     {
         &self.values
     }
 
+    /// Which rows are not null; all, where there is no bitmap.
     pub fn validity(&self) -> Option<&Bitmap>
         ensures bits { option_map (λ b. b.now) result ≡ self.now.validity }
         ensures rows { has_rows self.now.validity (fixed_rows self.now) ≡ true }

@@ -50,6 +50,7 @@ impl NullArray {
         })
     }
 
+    /// How many rows there are.
     pub fn len(&self) -> usize
         ensures rows { result ≡ self.now.rows }
         ensures cells { result ≡ length (null_cells self.now) }
@@ -58,6 +59,7 @@ impl NullArray {
         self.count
     }
 
+    /// The type.
     pub fn dtype(&self) -> &ArrowDataType
         ensures { kind_of result.now ≡ self.now.kind }
     {

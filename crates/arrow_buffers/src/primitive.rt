@@ -62,6 +62,7 @@ impl<T: NativeType> PrimitiveArray<T> {
         })
     }
 
+    /// How many rows there are.
     pub fn len(&self) -> usize
         ensures values { result ≡ length self.now.values }
         ensures cells { result ≡ length (leaf_cells T.cell self.now) }
@@ -70,18 +71,21 @@ impl<T: NativeType> PrimitiveArray<T> {
         self.values.len()
     }
 
+    /// The type.
     pub fn dtype(&self) -> &ArrowDataType
         ensures { kind_of result.now ≡ self.now.kind }
     {
         &self.dtype
     }
 
+    /// The numbers of the rows, which mean nothing where a row is null.
     pub fn values(&self) -> &Buffer<T>
         ensures { result.now ≡ self.now.values }
     {
         &self.values
     }
 
+    /// Which rows are not null; all, where there is no bitmap.
     pub fn validity(&self) -> Option<&Bitmap>
         ensures bits { option_map (λ b. b.now) result ≡ self.now.validity }
         ensures rows { has_rows self.now.validity (length self.now.values) ≡ true }

@@ -82,6 +82,7 @@ impl<O: Offset, V: ViewType> VariableArray<O, V> {
         })
     }
 
+    /// How many rows there are.
     pub fn len(&self) -> usize
         ensures rows { result ≡ variable_rows self.now.offsets }
         ensures cells { result ≡ length (variable_cells V.IS_TEXT self.now) }
@@ -90,24 +91,28 @@ impl<O: Offset, V: ViewType> VariableArray<O, V> {
         self.offsets.len().saturating_sub(1)
     }
 
+    /// The type.
     pub fn dtype(&self) -> &ArrowDataType
         ensures { kind_of result.now ≡ self.now.kind }
     {
         &self.dtype
     }
 
+    /// Where each row begins among the values, and where the last one ends; one more than rows.
     pub fn offsets(&self) -> &Buffer<O>
         ensures { map O.number result.now ≡ self.now.offsets }
     {
         &self.offsets
     }
 
+    /// The bytes that the offsets lie in.
     pub fn values(&self) -> &Buffer<u8>
         ensures { result.now ≡ self.now.values }
     {
         &self.values
     }
 
+    /// Which rows are not null; all, where there is no bitmap.
     pub fn validity(&self) -> Option<&Bitmap>
         ensures bits { option_map (λ b. b.now) result ≡ self.now.validity }
         ensures rows { has_rows self.now.validity (variable_rows self.now.offsets) ≡ true }

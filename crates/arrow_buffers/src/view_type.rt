@@ -7,6 +7,7 @@ pub trait ViewType {
     /// Whether they are texts, and not byte strings.
     ghost IS_TEXT: { Bool };
 
+    /// Whether they are texts, and not byte strings.
     const IS_TEXT: bool;
 }
 

@@ -16,6 +16,7 @@ pub enum BuildError {
     /// The layout passes 2^31 - 1 bytes.
     #[error("too large")]
     TooLarge,
+    /// Memory ran out.
     #[error("out of memory")]
     Memory,
 }

@@ -18,6 +18,7 @@ fn before_eight(place: u128) -> u128
     place.saturating_add((12 - place % 8) % 8)
 }
 
+/// Whether a slot is left out.
 pub fn is_absent(slot: &Slot) -> bool
     ensures { result ≡ is_nothing (slot_of slot.now) }
 {

@@ -9,10 +9,13 @@ ghost use Rattle.arrow_flat.specs.Nodes.{nothing, number, slot_of};
 pub enum Node {
     /// A table, by its slots in order.
     Table(Vec<Slot>),
+    /// A text, laid with a 0 behind it that is not counted.
     Text(String),
     /// A vector of structs of 8 byte alignment: how many they are, and their bytes.
     Structs(u32, Vec<u8>),
+    /// A vector of numbers of 32 bits.
     I32s(Vec<i32>),
+    /// A vector of numbers of 64 bits.
     I64s(Vec<i64>),
     /// A vector of tables.
     Tables(Vec<Node>),
@@ -22,13 +25,21 @@ pub enum Node {
 #[cycle(node)]
 #[derive(Debug, Drop)]
 pub enum Slot {
+    /// Nothing: the slot has its default.
     Absent,
+    /// An unsigned number of 8 bits.
     U8(u8),
+    /// A signed number of 8 bits.
     I8(i8),
+    /// A truth value, in a byte.
     Bool(bool),
+    /// A signed number of 16 bits.
     I16(i16),
+    /// A signed number of 32 bits.
     I32(i32),
+    /// A signed number of 64 bits.
     I64(i64),
+    /// An offset of 32 bits, and the part that it leads to.
     Child(Node),
 }
 

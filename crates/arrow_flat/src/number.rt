@@ -18,6 +18,7 @@ pub fn part(bytes: &[u8], at: usize, count: usize) -> Option<&[u8]>
     Some(found)
 }
 
+/// The number of 8 bits at a place; `Range` where it passes the end.
 pub fn u8_at(bytes: &[u8], at: usize) -> Result<u8, FlatError>
     ensures value { result ≡ unsigned_at w8 bytes.now at }
     ensures within { OnOk result (at + 1 ≤ length bytes.now) }
@@ -28,6 +29,7 @@ pub fn u8_at(bytes: &[u8], at: usize) -> Result<u8, FlatError>
     }
 }
 
+/// The number of 16 bits at a place; `Range` where it passes the end.
 pub fn u16_at(bytes: &[u8], at: usize) -> Result<u16, FlatError>
     ensures value { result ≡ unsigned_at w16 bytes.now at }
     ensures within { OnOk result (at + 2 ≤ length bytes.now) }
@@ -38,6 +40,7 @@ pub fn u16_at(bytes: &[u8], at: usize) -> Result<u16, FlatError>
     }
 }
 
+/// The number of 32 bits at a place; `Range` where it passes the end.
 pub fn u32_at(bytes: &[u8], at: usize) -> Result<u32, FlatError>
     ensures value { result ≡ unsigned_at w32 bytes.now at }
     ensures within { OnOk result (at + 4 ≤ length bytes.now) }
@@ -48,6 +51,7 @@ pub fn u32_at(bytes: &[u8], at: usize) -> Result<u32, FlatError>
     }
 }
 
+/// The number of 64 bits at a place; `Range` where it passes the end.
 pub fn u64_at(bytes: &[u8], at: usize) -> Result<u64, FlatError>
     ensures value { result ≡ unsigned_at w64 bytes.now at }
     ensures within { OnOk result (at + 8 ≤ length bytes.now) }

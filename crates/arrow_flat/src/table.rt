@@ -252,6 +252,8 @@ impl<'a> Table<'a> {
 /// How many bytes a choice takes.
 #[derive(Clone, Copy, Debug, PartialEq, Eq)]
 pub enum ChoiceWidth {
+    /// One byte.
     One,
+    /// Two bytes.
     Two,
 }

@@ -33,6 +33,7 @@ fn put_u16(out: &mut Vec<u8>, number: u16) -> Result<(), AllocError>
     out.extend_from_slice(&number.to_le_bytes())
 }
 
+/// Puts a number of 32 bits at the end, the lowest byte first.
 pub fn put_u32(out: &mut Vec<u8>, number: u32) -> Result<(), AllocError>
     ensures ok { OnOk result (out.new.items ≡ out.old.items ++ u32 number) }
     ensures len { OnOk result (length out.new.items ≡ length out.old.items + 4) }

@@ -14,19 +14,33 @@ pub type Metadata = BTreeMap<String, String>;
 #[cycle(datatype)]
 #[derive(Drop)]
 pub enum ArrowDataType {
+    /// Rows that are all null.
     Null,
+    /// Truth values, a bit each.
     Boolean,
+    /// Signed integers of 8 bits.
     Int8,
+    /// Signed integers of 16 bits.
     Int16,
+    /// Signed integers of 32 bits.
     Int32,
+    /// Signed integers of 64 bits.
     Int64,
+    /// Signed integers of 128 bits.
     Int128,
+    /// Unsigned integers of 8 bits.
     UInt8,
+    /// Unsigned integers of 16 bits.
     UInt16,
+    /// Unsigned integers of 32 bits.
     UInt32,
+    /// Unsigned integers of 64 bits.
     UInt64,
+    /// Floats of 16 bits: a name only, of which no array is read or written.
     Float16,
+    /// Floats of 32 bits: a name only, of which no array is read or written.
     Float32,
+    /// Floats of 64 bits: a name only, of which no array is read or written.
     Float64,
     /// Days since the Unix epoch.
     Date32,
@@ -36,32 +50,45 @@ pub enum ArrowDataType {
     Time32(TimeUnit),
     /// Microseconds or nanoseconds since midnight.
     Time64(TimeUnit),
+    /// Lengths of time, in 64 bits.
     Duration(TimeUnit),
     /// Time since the Unix epoch, and the time zone.
     Timestamp(TimeUnit, Option<String>),
+    /// Intervals of the calendar.
     Interval(IntervalUnit),
+    /// Byte strings between offsets of 32 bits.
     Binary,
+    /// Byte strings between offsets of 64 bits.
     LargeBinary,
+    /// UTF-8 texts between offsets of 32 bits.
     Utf8,
+    /// UTF-8 texts between offsets of 64 bits.
     LargeUtf8,
+    /// Byte strings, each behind a view of 16 bytes.
     BinaryView,
+    /// UTF-8 texts, each behind a view of 16 bytes.
     Utf8View,
     /// Byte strings of this length.
     FixedSizeBinary(usize),
     /// Decimals of 128 bits: their precision and scale.
     Decimal(usize, usize),
-    /// Decimals of 256 bits: their precision and scale.
+    /// Decimals of 256 bits, by precision and scale: a name only, of which no array is read or written.
     Decimal256(usize, usize),
+    /// Lists between offsets of 32 bits.
     List(Box<Field>),
+    /// Lists between offsets of 64 bits.
     LargeList(Box<Field>),
     /// Lists of this many items.
     FixedSizeList(Box<Field>, usize),
     /// Lists of entries, a struct of a key and a value, and whether the keys are sorted.
     Map(Box<Field>, bool),
+    /// Rows across a child for each field.
     Struct(Vec<Field>),
+    /// Rows of one of several children each.
     Union(Box<UnionType>),
     /// Keys of this type into values of that type, and whether the values are in order.
     Dictionary(IntegerType, Box<ArrowDataType>, bool),
+    /// A type under a name of its own.
     Extension(Box<ExtensionType>),
 }
 
@@ -69,9 +96,13 @@ pub enum ArrowDataType {
 #[cycle(datatype)]
 #[derive(Drop)]
 pub struct Field {
+    /// Its name.
     pub name: String,
+    /// Its type.
     pub dtype: ArrowDataType,
+    /// Whether its rows may be null; no array is held to it.
     pub is_nullable: bool,
+    /// Its pairs.
     pub metadata: Metadata,
 }
 
@@ -79,8 +110,11 @@ pub struct Field {
 #[cycle(datatype)]
 #[derive(Drop)]
 pub struct UnionType {
+    /// The children, in order.
     pub fields: Vec<Field>,
+    /// The id of each child, in 0 to 127.
     pub ids: Option<Vec<i32>>,
+    /// How a row finds its row of the child.
     pub mode: UnionMode,
 }
 
@@ -88,8 +122,11 @@ pub struct UnionType {
 #[cycle(datatype)]
 #[derive(Drop)]
 pub struct ExtensionType {
+    /// Its name.
     pub name: String,
+    /// The type as which it is stored.
     pub inner: ArrowDataType,
+    /// What else is said of it, where anything is.
     pub metadata: Option<String>,
 }
 
@@ -123,6 +160,7 @@ impl Field {
         }
     }
 
+    /// The type of the field.
     pub fn dtype(&self) -> &ArrowDataType
         ensures dtype { result.now ≡ self.now.dtype }
         ensures kind { kind_of result.now ≡ (child_of self.now).kind }

@@ -9,42 +9,74 @@ use arrow_spec::{IntegerType, IntervalUnit};
 /// The numbers of a column of fixed width.
 #[derive(Clone, Copy, Debug, PartialEq, Eq)]
 pub enum PrimitiveType {
+    /// Signed integers of 1 byte.
     Int8,
+    /// Signed integers of 2 bytes.
     Int16,
+    /// Signed integers of 4 bytes.
     Int32,
+    /// Signed integers of 8 bytes.
     Int64,
+    /// Signed integers of 16 bytes.
     Int128,
+    /// Signed integers of 32 bytes, of which there is no array.
     Int256,
+    /// Unsigned integers of 1 byte.
     UInt8,
+    /// Unsigned integers of 2 bytes.
     UInt16,
+    /// Unsigned integers of 4 bytes.
     UInt32,
+    /// Unsigned integers of 8 bytes.
     UInt64,
+    /// Floats of 2 bytes, of which there is no array.
     Float16,
+    /// Floats of 4 bytes, of which there is no array.
     Float32,
+    /// Floats of 8 bytes, of which there is no array.
     Float64,
+    /// Days and milliseconds, of 4 bytes each.
     DaysMs,
+    /// Months and days of 4 bytes each, and nanoseconds of 8.
     MonthDayNano,
 }
 
 /// The layout of a column.
 #[derive(Clone, Copy, Debug, PartialEq, Eq)]
 pub enum PhysicalType {
+    /// No memory.
     Null,
+    /// A bit for each row.
     Boolean,
+    /// A number of fixed width for each row.
     Primitive(PrimitiveType),
+    /// Bytes between offsets of 32 bits.
     Binary,
+    /// Bytes between offsets of 64 bits.
     LargeBinary,
+    /// Bytes, as many for each row.
     FixedSizeBinary,
+    /// UTF-8 bytes between offsets of 32 bits.
     Utf8,
+    /// UTF-8 bytes between offsets of 64 bits.
     LargeUtf8,
+    /// Views of 16 bytes, and bytes that they lead to.
     BinaryView,
+    /// Views of 16 bytes, and UTF-8 bytes that they lead to.
     Utf8View,
+    /// A child between offsets of 32 bits.
     List,
+    /// A child between offsets of 64 bits.
     LargeList,
+    /// A child, as many rows of it for each row.
     FixedSizeList,
+    /// Children of as many rows.
     Struct,
+    /// Children, the type of each row, and in a dense union its offset.
     Union,
+    /// A child of keys and values between offsets of 32 bits.
     Map,
+    /// Keys of this type into values that are sent apart.
     Dictionary(IntegerType),
 }
 

@@ -65,6 +65,7 @@ impl ArrowSchema {
         Ok(self.fields.insert(key, field)?)
     }
 
+    /// How many fields there are.
     pub fn len(&self) -> usize
         ensures count { result ≡ length self.now }
         ensures distinct { IsDistinct bytes_eq (keys_in self.now) }
@@ -72,12 +73,14 @@ impl ArrowSchema {
         self.fields.len()
     }
 
+    /// Whether there is no field.
     pub fn is_empty(&self) -> bool
         ensures { result ≡ (length self.now == 0) }
     {
         self.fields.is_empty()
     }
 
+    /// Whether there is a field under a key.
     pub fn contains(&self, key: &str) -> bool
         ensures { result ≡ is_some (field_under key.now self.now) }
     {

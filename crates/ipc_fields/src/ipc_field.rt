@@ -12,6 +12,7 @@ use std::alloc::{AllocError, Global};
 pub struct IpcField {
     /// An IPC field for each child.
     pub fields: Vec<IpcField>,
+    /// The id of its dictionary, where its type is one.
     pub dictionary_id: Option<i64>,
 }
 
@@ -20,6 +21,7 @@ pub struct IpcField {
 pub struct IpcSchema {
     /// An IPC field for each field.
     pub fields: Vec<IpcField>,
+    /// Whether numbers in bodies have the lowest byte first.
     pub is_little_endian: bool,
 }
 

@@ -17,8 +17,11 @@ use std::alloc::Global;
 /// A dictionary's id, the type of its values, and the IPC fields of that type's children.
 #[derive(Drop)]
 pub struct Use {
+    /// The id, 0 where none was there.
     pub id: i64,
+    /// The type of the values.
     pub values: ArrowDataType,
+    /// The IPC fields of that type's children.
     pub fields: Vec<IpcField>,
 }
 

@@ -28,8 +28,10 @@ pub enum PutError {
 /// Why a file could not be opened.
 #[derive(Clone, Copy, Debug, PartialEq, Eq, Error)]
 pub enum ShelfError {
+    /// The shelf failed, and its count of faults has risen.
     #[error("the shelf failed")]
     Failed,
+    /// Memory ran out.
     #[error("out of memory")]
     Memory,
     /// Nothing stands under the name.

@@ -7,15 +7,20 @@ use crate::numbers::native::NativeType;
 /// Days and milliseconds.
 #[derive(Clone, Copy, Debug, PartialEq, Eq, Hash)]
 pub struct days_ms {
+    /// Days.
     pub days: i32,
+    /// Milliseconds.
     pub milliseconds: i32,
 }
 
 /// Months, days and nanoseconds.
 #[derive(Clone, Copy, Debug, PartialEq, Eq, Hash)]
 pub struct months_days_ns {
+    /// Months.
     pub months: i32,
+    /// Days.
     pub days: i32,
+    /// Nanoseconds.
     pub ns: i64,
 }
 

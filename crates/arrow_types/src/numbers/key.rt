@@ -14,6 +14,7 @@ pub trait DictionaryKey: NativeType {
     /// The type of the keys.
     ghost KEY_TYPE: { IntegerType };
 
+    /// The type of the keys.
     const KEY_TYPE: IntegerType;
 
     /// The number that a key is.

@@ -17,11 +17,13 @@ pub trait NativeType: Copy {
     /// The bytes of a number.
     ghost WIDTH: { ℕ };
 
+    /// How many bytes a number has.
     const WIDTH: usize;
 
     /// The layout of a column of such numbers.
     ghost PRIMITIVE: { PrimitiveType };
 
+    /// The layout of a column of such numbers.
     const PRIMITIVE: PrimitiveType;
 
     /// An array of `WIDTH` bytes.
@@ -41,18 +43,22 @@ pub trait NativeType: Copy {
     /// What a row that holds the number holds.
     ghost cell: { Self → Cell };
 
+    /// The bytes of the number, the lowest first.
     fn to_le_bytes(self) -> Self::Bytes
         ensures bytes { Self.Bytes.items result ≡ written little self }
         ensures fits { fits self };
 
+    /// The bytes of the number, the highest first.
     fn to_be_bytes(self) -> Self::Bytes
         ensures bytes { Self.Bytes.items result ≡ written big self }
         ensures fits { fits self };
 
+    /// The number of `WIDTH` bytes, the lowest first.
     fn from_le_bytes(bytes: &[u8]) -> Self
         requires { length bytes.now ≡ WIDTH }
         ensures { result ≡ read little bytes.now };
 
+    /// The number of `WIDTH` bytes, the highest first.
     fn from_be_bytes(bytes: &[u8]) -> Self
         requires { length bytes.now ≡ WIDTH }
         ensures { result ≡ read big bytes.now };

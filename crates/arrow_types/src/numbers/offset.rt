@@ -13,6 +13,7 @@ pub trait Offset: NativeType {
     /// Whether the offsets have 64 bits, as in the layouts named large.
     ghost IS_LARGE: { Bool };
 
+    /// Whether the offsets have 64 bits.
     const IS_LARGE: bool;
 
     /// The number that an offset is.
