@@ -93,7 +93,8 @@ fn cut_behind<D: Disk>(disk: D, file: Appending) -> Result<FileWriter<DiskTail<D
 
 /// A writer that goes on with a file on a disk, whose footer was read: with its schema, its ids and its pairs, behind its farthest
 /// block, a record batch's or a dictionary's. What stands behind that block is cut off, and zeros are put up to a multiple of 8. `finish`
-/// puts a footer with the file's blocks and those of what was written.
+/// puts a footer with the file's blocks and those of what was written. What is written is what stands on the disk below the tail's end:
+/// `cut_off` of the tail, which `into_inner` gives behind `finish`, ends the disk there.
 ///
 /// # Errors
 ///

@@ -130,6 +130,7 @@ impl BodyBuffer {
         })
     }
 
+    /// How many bytes there are.
     pub fn len(&self) -> usize
         ensures { result ≡ length self.now }
     {
@@ -142,6 +143,7 @@ impl BodyBuffer {
         }
     }
 
+    /// Whether there is no byte.
     pub fn is_empty(&self) -> bool
         ensures { IsTrue result ↔ (self.now ≡ []) }
     {

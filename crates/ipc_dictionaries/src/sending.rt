@@ -21,6 +21,7 @@ use std::slice;
 /// The dictionary batches that are to be encoded before a batch, in order, and what the tracker held before them.
 #[derive(Drop)]
 pub struct NewDictionaries {
+    /// The dictionary batches, in the order in which they are to be sent.
     pub messages: Vec<ToEncode>,
     changes: Vec<Change>,
 }

@@ -24,6 +24,7 @@ use std::slice;
 /// A dictionary batch that is to be encoded.
 #[derive(Drop)]
 pub struct ToEncode {
+    /// The id of the dictionary.
     pub id: i64,
     /// The values: a part of the dictionary's.
     pub values: Array,

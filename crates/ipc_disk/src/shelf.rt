@@ -13,9 +13,13 @@ use std::marker::Model;
 /// A name, the bytes under it, and where reading or writing them fails.
 #[derive(Drop)]
 pub struct Entry {
+    /// The name.
     pub name: String,
+    /// What stands under it.
     pub bytes: Vec<u8>,
+    /// The numbers of the calls that fail, counted from 0 at each opening.
     pub failing: Vec<u64>,
+    /// The places that cannot be read.
     pub places: Vec<u64>,
 }
 

@@ -13,7 +13,9 @@ use ipc_io::{PutError, Sink, Source};
 /// A disk that could not be taken, and why.
 #[derive(Drop)]
 pub struct RefusedDisk<D> {
+    /// Why.
     pub error: IpcError,
+    /// The disk, which is handed back.
     pub disk: D,
 }
 

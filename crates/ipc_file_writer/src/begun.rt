@@ -24,12 +24,19 @@ use std::collections::BTreeMap;
 /// dictionaries, and the blocks of its messages.
 #[derive(Drop)]
 pub struct BegunFile {
+    /// The schema.
     pub schema: ArrowSchemaRef,
+    /// An IPC field for each field, with the ids of its dictionaries.
     pub ipc_fields: Vec<IpcField>,
+    /// The schema's pairs, where it has any.
     pub custom_schema_metadata: Option<Metadata>,
+    /// The footer's own pairs, where it has any.
     pub custom_metadata: Option<Metadata>,
+    /// The parts that the file has of each dictionary, by its id, in order.
     pub dictionaries: BTreeMap<i64, Vec<Array>>,
+    /// The blocks of dictionary batches, in order.
     pub dictionary_blocks: Vec<Block>,
+    /// The blocks of record batches, in order.
     pub record_blocks: Vec<Block>,
 }
 

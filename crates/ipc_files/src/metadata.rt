@@ -28,12 +28,19 @@ use std::rc::Rc;
 /// in the footer's order, and the file's size in bytes.
 #[derive(Drop)]
 pub struct FileMetadata {
+    /// The schema.
     pub schema: ArrowSchemaRef,
+    /// The ids of its dictionaries, and the byte order.
     pub ipc_schema: IpcSchema,
+    /// The schema's pairs, where it has any.
     pub custom_schema_metadata: Option<Metadata>,
+    /// The footer's own pairs, where it has any and they were read.
     pub custom_metadata: Option<Metadata>,
+    /// The blocks of record batches, in the order of the footer.
     pub blocks: Vec<Block>,
+    /// The blocks of dictionary batches, in the order of the footer.
     pub dictionaries: Vec<Block>,
+    /// The bytes of the file.
     pub size: u64,
 }
 
@@ -129,6 +136,10 @@ fn metadata_in(alloc: Global, footer: &FooterBytes) -> Result<FileMetadata, IpcE
 }
 
 /// Reads the footer of a file. Its own pairs are not looked at, and none are given.
+///
+/// # Errors
+///
+/// `OutOfSpec` with the kind of the part that is not as the format says, what `read_schema` answers, `ReadFault` and `Memory`.
 pub fn read_file_schema<S: Source>(alloc: Global, source: &mut S) -> Result<FileMetadata, IpcError>
     ensures gives { IfSome (S.content source.old) (λ b. Gives meta_view result (meta_of b)) }
     ensures size { IfOk result (λ m. IsSize (S.content source.old) m.size) }

@@ -9,7 +9,9 @@ use std::iter::Iterator;
 /// An item, selected or not.
 #[derive(Drop)]
 pub enum ProjectionResult<A> {
+    /// An item whose number is asked for.
     Selected(A),
+    /// An item whose number is not asked for.
     NotSelected(A),
 }
 

@@ -258,8 +258,8 @@ pub(crate) fn read_next<S: Source>(
 ///
 /// # Errors
 ///
-/// `Unsupported(ViewBigEndian)` for views in big-endian order, `Unsupported(UnionNulls)` for unions before V5 that have nulls
-/// of their own; `OutOfSpec` where the node, a buffer or a view count is missing or damaged, `InvalidKey` and `InvalidId` as
+/// `Unsupported(ViewBigEndian)` for rows of views in big-endian order, `Unsupported(UnionNulls)` for rows of unions before V5 that
+/// have nulls of their own; `OutOfSpec` where the node, a buffer or a view count is missing or damaged, `InvalidKey` and `InvalidId` as
 /// `read_dictionary` has them; `ReadFault`, `Memory`.
 pub fn read<S: Source>(
     alloc: Global,

@@ -137,7 +137,8 @@ impl<'n, 'a, S: Source> ColumnReader<'n, 'a, S> {
 ///
 /// # Errors
 ///
-/// `Unsupported(ViewBigEndian)` in big-endian order; `OutOfSpec` where the node, the count or a buffer is missing or damaged, or on a row that is not null the view does not agree with its buffer or the text is no UTF-8; `ReadFault`, `Memory`.
+/// `Unsupported(ViewBigEndian)` for rows in big-endian order, where there are any; `OutOfSpec` where the node, the count or a buffer is
+/// missing or damaged, or on a row that is not null the view does not agree with its buffer or the text is no UTF-8; `ReadFault`, `Memory`.
 pub fn read_binview<V: ViewType, S: Source>(
     alloc: Global,
     nodes: &mut VecDeque<FieldNode>,

@@ -23,7 +23,9 @@ use std::alloc::Global;
 /// A refusal, with the object that the call had taken.
 #[derive(Drop)]
 pub struct Refused<T> {
+    /// Why.
     pub error: IpcError,
+    /// The object, which is handed back.
     pub object: T,
 }
 

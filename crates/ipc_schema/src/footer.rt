@@ -20,11 +20,17 @@ use std::alloc::Global;
 /// The schema of a file with its IPC schema and its metadata, the footer's own pairs, and the file's blocks of record batches and of dictionaries in the footer's order.
 #[derive(Drop)]
 pub struct Footer {
+    /// The schema.
     pub schema: ArrowSchema,
+    /// The ids of its dictionaries, and the byte order.
     pub ipc_schema: IpcSchema,
+    /// The schema's pairs, where it has any.
     pub custom_schema_metadata: Option<Metadata>,
+    /// The footer's own pairs, where it has any and they were read.
     pub custom_metadata: Option<Metadata>,
+    /// The blocks of record batches, in order.
     pub blocks: Vec<Block>,
+    /// The blocks of dictionary batches, in order.
     pub dictionaries: Vec<Block>,
 }
 

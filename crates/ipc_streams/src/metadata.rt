@@ -20,10 +20,15 @@ use std::rc::Rc;
 /// The schema with its IPC schema and its metadata, the metadata of the schema's message, and the message's version.
 #[derive(Drop)]
 pub struct StreamMetadata {
+    /// The schema.
     pub schema: ArrowSchemaRef,
+    /// The ids of its dictionaries, and the byte order.
     pub ipc_schema: IpcSchema,
+    /// The schema's pairs, where it has any.
     pub custom_schema_metadata: Option<Metadata>,
+    /// The pairs of the schema's message, where it has any.
     pub custom_metadata: Option<Metadata>,
+    /// The version of the schema's message.
     pub version: MetadataVersion,
 }
 

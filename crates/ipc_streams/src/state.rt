@@ -7,12 +7,14 @@ use arrow_arrays::RecordBatch;
 /// The next record batch, or that the feed has too few bytes for a message to begin.
 #[derive(Drop)]
 pub enum StreamState {
+    /// The feed has too few bytes for a message to begin.
     Waiting,
+    /// The next record batch.
     Some(RecordBatch),
 }
 
 impl StreamState {
-    /// The record batch.
+    /// The record batch of a state that has one. Of `Waiting` the call may not be made.
     pub fn unwrap(self) -> RecordBatch
         requires { IsBatch self }
         ensures { self ≡ StreamState.Some result }

@@ -13,14 +13,19 @@ use thiserror::Error;
 /// Why a run is refused: an error of the library, or what is wrong with the words, the input or a name.
 #[derive(Clone, Copy, Debug, PartialEq, Eq, Error)]
 pub enum Refusal {
+    /// An error of the library.
     #[error("{0}")]
     Ipc(IpcError),
+    /// The words are no request.
     #[error("the words are no request")]
     Words,
+    /// The input has another sign than hex digits and white space, or an odd number of digits.
     #[error("the input is no hex text")]
     NotHex,
+    /// The input has more than 134,217,728 bytes.
     #[error("the input is longer than 134,217,728 bytes")]
     InputTooLong,
+    /// Nothing stands under the name.
     #[error("nothing stands under the name")]
     NoName,
 }

@@ -35,16 +35,21 @@ pub enum FileText {
 pub enum Command<'a> {
     /// Its table as a stream.
     Stream {
+        /// What of the table, and how.
         options: StreamOptions,
+        /// The name; none where the input is read.
         name: Option<&'a str>,
     },
     /// A text that is said of it.
     Text {
+        /// Which text.
         what: FileText,
+        /// The name; none where the input is read.
         name: Option<&'a str>,
     },
     /// That the batches of the stream whose hex text is the input are appended to the file under a name.
     Append {
+        /// The name of the file that is changed.
         target: &'a str,
     },
 }

@@ -17,12 +17,19 @@ use std::alloc::Global;
 /// What was written: the number of record batches, the sum of their rows, and the number of bytes of the stream.
 #[derive(Clone, Copy, Debug, PartialEq, Eq)]
 pub struct Summary {
+    /// The record batches.
     pub batches: u128,
+    /// Their rows together.
     pub rows: u128,
+    /// The bytes of the stream, whatever the encoding.
     pub bytes: u128,
 }
 
 /// As `transcode`, with the bytes of the stream put in an encoding.
+///
+/// # Errors
+///
+/// Those of `transcode`.
 pub fn transcode_as<S: Source, W: Sink>(
     alloc: Global,
     source: &mut S,
@@ -54,6 +61,14 @@ pub fn transcode_as<S: Source, W: Sink>(
 /// `columns` are the numbers of the columns that are kept, in their order in the stream; without them all are. `limit`
 /// is the greatest number of rows in all: each batch is cut to what those before it leave, and a batch behind it has
 /// none. Of a column that is not kept, and of a batch of which no row is, no buffer is fetched.
+///
+/// # Errors
+///
+/// As of `read_file_metadata`; `Projection` by the first number that is no column's or that stood before; `Unsupported(Float)` and
+/// `Unsupported(Decimal256)` by the kinds of the columns; as of `read_file_dictionaries`, and as of `read_batch` for each block;
+/// `TooLarge` where the metadata of a message of the stream would pass 2^31 - 1 bytes; `ReadFault`, `WriteFault` and `Memory`.
+/// Behind a refusal the sink has nothing more than before, or whole messages from the stream's front without its end mark; behind
+/// `WriteFault`, and `Memory` of the sink, a part of a message may stand behind them.
 pub fn transcode<S: Source, W: Sink>(
     alloc: Global,
     source: &mut S,

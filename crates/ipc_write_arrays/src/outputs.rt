@@ -10,8 +10,11 @@ use std::alloc::Global;
 /// The nodes, the buffers and the view counts of arrays, one array behind another.
 #[derive(Drop)]
 pub struct Outputs {
+    /// A node for each array, in preorder.
     pub nodes: Vec<FieldNode>,
+    /// The buffers, in preorder.
     pub buffers: Vec<BodyBuffer>,
+    /// For each array of views, in preorder, how many data buffers it has.
     pub views: Vec<i64>,
 }
 

@@ -10,8 +10,11 @@ use arrow_spec::{Feature, FlatError, IpcError, MetadataVersion, OutOfSpecKind};
 /// The headers that are taken at a place.
 #[derive(Clone, Copy)]
 pub enum Expected {
+    /// A schema.
     Schema,
+    /// A dictionary batch.
     Dictionary,
+    /// A record batch.
     Batch,
     /// One of these three.
     Any,
@@ -20,9 +23,13 @@ pub enum Expected {
 /// A message: its root table, the tag and the table of its header, and the length of its body in bytes.
 #[derive(Drop)]
 pub struct Message<'a> {
+    /// Its root table.
     pub table: Table<'a>,
+    /// The tag of its header.
     pub tag: u8,
+    /// The table of its header.
     pub header: Table<'a>,
+    /// The bytes of its body.
     pub body: u64,
 }
 

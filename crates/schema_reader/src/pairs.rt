@@ -19,8 +19,11 @@ use std::alloc::Global;
 /// What has the pairs: a fault in them is told by it.
 #[derive(Clone, Copy, Debug, PartialEq, Eq)]
 pub enum PairsOwner {
+    /// A schema, or a field of it.
     Schema,
+    /// A footer itself.
     Footer,
+    /// A message itself.
     Message,
 }
 

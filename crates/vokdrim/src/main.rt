@@ -1,4 +1,6 @@
-//! An Arrow file as hex text on standard input; on standard output an Arrow stream as hex text, or the text of its schema; or the text of help or of the version.
+//! Of an Arrow file, by its name or as hex text on standard input, to standard output: a stream that means the same, as hex text or as its
+//! bytes, the text of its schema, or how many rows it has. Or a stream, as hex text on standard input, whose record batches are appended to a
+//! file by its name. Or the text of help or of the version.
 #![tactic(auto)]
 
 ghost use Rattle.std.specs.Process.{exit_status};
