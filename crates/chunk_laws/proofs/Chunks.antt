@@ -30,8 +30,9 @@ use Rattle.ipc_write.specs.declared.options.WriteOptions.{WriteOptions}
 use Rattle.ipc_write.proofs.DictionaryValues.{first_rows}
 use Rattle.ipc_write.proofs.Meanings.{columns_mean, columns_under_are_of}
 use Rattle.ipc_write.proofs.Written.{same_message}
-use Rattle.ipc_encode.specs.Messages.{all_fit, fits}
-use Rattle.ipc_write_messages.specs.Messages.{AllMayBeValues, MayBeValues, chunk_text, values_text}
+use Rattle.ipc_encode.specs.Messages.{AllMayBeValues, all_fit, fits}
+use Rattle.ipc_write.specs.Values.{MayBeValues}
+use Rattle.ipc_write_messages.specs.Messages.{chunk_text, values_text}
 use Rattle.column_laws.specs.Laws.{batch_under}
 use Rattle.column_laws.proofs.ReadColumns.{written_under}
 use Rattle.stream_laws.specs.Heard.{AllHaveValuesAt, AllMayStand, MayStand, heard, with_part}
@@ -139,12 +140,12 @@ pub may_follow : ChunkMayBeWritten
 may_follow options o fs below b s t sent c e more known may same ids_may floats =
     let gs = fields_with fs below in
     let ps = forest b.arrays in
-    let stand = sent_may_stand o fs ps below s t sent c e more known may.batch_whole.sound same ids_may.agree in
-    let told = sent_is_known o fs ps below s t e may.batch_whole.sound same ids_may.agree in
+    let stand = sent_may_stand o fs ps below s t sent c e more known may.batch.whole.sound same ids_may.agree in
+    let told = sent_is_known o fs ps below s t e may.batch.whole.sound same ids_may.agree in
     let is : told.more ≡ sent = append_cancel_left s.sent told.more sent (sym told.sent ∙ more) in
     let alike = columns_alike b.arrays fs below (columns_of_kinds ps fs same) in
     record {
-      may = all_may options o.deltas gs b ids_may floats sent c stand.0 may.values may.fit (λ z known_then. batch_may options o.deltas gs z b may.within may.batch_means may.batch_nodes alike known_then may.batch_whole.custom) stand.1;
+      may = all_may options o.deltas gs b ids_may floats sent c stand.0 may.values may.fit (λ z known_then. batch_may options o.deltas gs z b may.within may.batch.means may.batch.nodes alike known_then may.batch.whole.custom) stand.1;
       bytes_are = chunk_bytes gs sent b;
       known = λ q. chunk_known gs sent b c q ∙ ap (λ ms. heard q ms (c q)) (sym is) ∙ ap (heard q told.more) (known q) ∙ told.known q;
     }

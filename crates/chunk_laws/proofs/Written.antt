@@ -100,7 +100,7 @@ chunk_is_put options o fs below b s t sent pairs custom bs ms e more may same pu
           messages = all_and_more gs none_known ms (chunk_of gs sent b) put.may.messages follow.may;
         };
         known = λ q. with_more ms (chunk_of gs sent b) none_known q ∙ follow.known q;
-        batches = flat_map-append batch_in ms (chunk_of gs sent b) ∙ ap (λ xs. xs ++ flat_map batch_in (chunk_of gs sent b)) put.batches ∙ ap (λ xs. bs ++ xs) (chunk_batches gs sent b may.batch_means);
+        batches = flat_map-append batch_in ms (chunk_of gs sent b) ∙ ap (λ xs. xs ++ flat_map batch_in (chunk_of gs sent b)) put.batches ∙ ap (λ xs. bs ++ xs) (chunk_batches gs sent b may.batch.means);
       },
       follow.bytes_are,
     )

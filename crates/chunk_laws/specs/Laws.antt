@@ -13,7 +13,8 @@ use Rattle.ipc_dictionaries.specs.NewDictionaries.{Options, Sending, ToSend, arr
 use Rattle.ipc_dictionaries.specs.Tracker.{Held}
 use Rattle.ipc_write_laws.specs.Messages.{Known, WrittenMessage, bytes_of, stream_so_far}
 use Rattle.ipc_write.specs.declared.options.WriteOptions.{WriteOptions}
-use Rattle.ipc_write_messages.specs.Messages.{MayBeSent, chunk_text}
+use Rattle.ipc_encode.specs.Chunks.{MayBeSent}
+use Rattle.ipc_write_messages.specs.Messages.{chunk_text}
 use Rattle.ipc_write_messages.specs.Schemas.{SchemaIsSaid, stream_text}
 use Rattle.ipc_write_messages.specs.declared.pairs.StreamPairs.{StreamPairs}
 use Rattle.stream_laws.specs.Heard.{cells_held}

@@ -41,13 +41,13 @@ chunk_goes options o fs below b s t sent x bs kept e more may same ids_may free 
     let floats : chosen_floats None (fields_with (own_fields fs) below) 0 ≡ [] = ap (λ xs. chosen_floats None xs 0) is ∙ free in
     let follow : MayFollow gs c (λ q. cells_held (t.held q)) (chunk_of gs sent b) (chunk_text sent b)
     = subst (λ xs. MayFollow xs c (λ q. cells_held (t.held q)) (chunk_of xs sent b) (chunk_text sent b)) is (may_follow options o (own_fields fs) below b s t sent c e more (λ q. refl) may kinds ids floats) in
-    let apart = agreeing_are_apart ps (own_fields fs) below may.batch_whole.sound (columns_of_kinds ps (own_fields fs) kinds) ids.agree in
+    let apart = agreeing_are_apart ps (own_fields fs) below may.batch.whole.sound (columns_of_kinds ps (own_fields fs) kinds) ids.agree in
     let walk = arrays_firsts o kept ps below s t e apart in
     let told : walk.more ≡ sent = append_cancel_left s.sent walk.more sent (sym walk.sent ∙ more) in
     let first : AreFirst c sent = subst (AreFirst c) told (walk.first c (λ q g none. ap cells_held none)) in
     let ms = chunk_of gs sent b in
     let added = may_be_added gs c ms follow.may (first_chunk gs sent b c first) in
     let on = front_goes_on gs x c bs ms front added in
-    let batches : bs ++ flat_map batch_in ms ≡ bs ++ cells_of b ∷ [] = ap (λ ys. bs ++ ys) (chunk_batches gs sent b may.batch_means) in
+    let batches : bs ++ flat_map batch_in ms ≡ bs ++ cells_of b ∷ [] = ap (λ ys. bs ++ ys) (chunk_batches gs sent b may.batch.means) in
     let said = subst (λ ys. FrontMeans gs (with_more x ms) (with_messages ms c) ys) batches on in
     (front_same gs (with_more x ms) (with_messages ms c) (λ q. cells_held (t.held q)) (bs ++ cells_of b ∷ []) follow.known said, follow.bytes_are)

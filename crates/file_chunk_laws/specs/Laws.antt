@@ -12,7 +12,8 @@ use Rattle.ipc_dictionaries.specs.Columns.{columns_of}
 use Rattle.ipc_dictionaries.specs.NewDictionaries.{Options, Sending, ToSend, arrays_sent}
 use Rattle.ipc_write_laws.specs.Messages.{bytes_of}
 use Rattle.ipc_write.specs.declared.options.WriteOptions.{WriteOptions}
-use Rattle.ipc_write_messages.specs.Messages.{MayBeSent, chunk_text}
+use Rattle.ipc_encode.specs.Chunks.{MayBeSent}
+use Rattle.ipc_write_messages.specs.Messages.{chunk_text}
 use Rattle.stream_laws.specs.Heard.{cells_held}
 use Rattle.chunk_laws.specs.Chunks.{chunk_of}
 use Rattle.chunk_laws.specs.Written.{cells_of, said_fields}

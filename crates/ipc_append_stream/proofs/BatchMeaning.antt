@@ -30,8 +30,9 @@ use Rattle.ipc_dictionaries.specs.NewDictionaries.{Options, Sending, ToSend, arr
 use Rattle.ipc_dictionaries.specs.Tracker.{held_by}
 use Rattle.ipc_dictionaries.specs.Walks.{options_of}
 use Rattle.ipc_dictionaries.specs.declared.tracker.DictionaryTracker.{DictionaryTracker}
-use Rattle.ipc_encode.specs.Chunks.{IsOfBatch}
+use Rattle.ipc_encode.specs.Chunks.{IsOfBatch, MayBeSent}
 use Rattle.ipc_encode.specs.Messages.{AreMessagesOf, IsMessageOf}
+use Rattle.ipc_encode.proofs.ChunkSteps.{may_be_sent}
 use Rattle.ipc_fields.specs.IpcFields.{Ids, fields_with, ids_of}
 use Rattle.ipc_fields.specs.declared.ipc_field.IpcSchema.{IpcSchema}
 use Rattle.ipc_file_writer.specs.Calls.{file_ids, file_schema}
@@ -51,7 +52,7 @@ use Rattle.ipc_write.proofs.Written.{framed_is_batch, framed_whole, same_message
 use Rattle.ipc_write_arrays.specs.Pieces.{pieces_in}
 use Rattle.ipc_write_laws.specs.Messages.{Known, WrittenMessage, batch, values, values_bytes, values_message, with_messages, with_values}
 use Rattle.ipc_write_laws.specs.Streams.{WrittenBatch, batch_bytes, body_for, table_batch, written_batch}
-use Rattle.ipc_write_messages.specs.Messages.{MayBeSent, Sizes, chunk_text, message_of, sizes_of, values_text}
+use Rattle.ipc_write_messages.specs.Messages.{Sizes, chunk_text, message_of, sizes_of, values_text}
 use Rattle.stream_laws.specs.Heard.{cells_held}
 use Rattle.stream_laws.proofs.Apart.{agreeing_are_apart, columns_of_kinds}
 use Rattle.written_files.specs.Files.{AreDeltasOrFirst, MayBeAdded}
@@ -134,7 +135,7 @@ may_go_on options o fs below b s t sent k kept e more known may same ids_may fre
     let floats : chosen_floats None (fields_with (own_fields fs) below) 0 ≡ [] = ap (λ xs. chosen_floats None xs 0) is ∙ free in
     let follow : MayFollow gs k (λ q. cells_held (t.held q)) (chunk_of gs sent b) (chunk_text sent b)
     = subst (λ xs. MayFollow xs k (λ q. cells_held (t.held q)) (chunk_of xs sent b) (chunk_text sent b)) is (may_follow options o (own_fields fs) below b s t sent k e more known may kinds ids floats) in
-    let apart = agreeing_are_apart ps (own_fields fs) below may.batch_whole.sound (columns_of_kinds ps (own_fields fs) kinds) ids.agree in
+    let apart = agreeing_are_apart ps (own_fields fs) below may.batch.whole.sound (columns_of_kinds ps (own_fields fs) kinds) ids.agree in
     let walk = arrays_firsts o kept ps below s t e apart in
     let told : walk.more ≡ sent = append_cancel_left s.sent walk.more sent (sym walk.sent ∙ more) in
     let first : AreFirst k sent = subst (AreFirst k) told (walk.first k (λ q g none. known q ∙ ap cells_held none)) in
@@ -166,11 +167,12 @@ one_means options below t u b y old new x bs put e ids fixed types w =
     let v : Sending = record { held = held_by u; used = e.sent.used; sent = sent } in
     let same : file_fields old ≡ gs = ap (said_fields fs) (sym ids) in
     let found = found_so (columns_fault (columns_of (forest b.arrays)) below) _ v e.sent.is_found in
-    let go = may_go_on options (options_of t) fs below b (begun t) v sent w.known fixed found refl w.held e.may types (subst IdsMayBeWritten same w.file.ids) (subst (λ xs. chosen_floats None xs 0 ≡ []) same w.file.floats) in
+    let may = may_be_sent options sent y.dictionaries.items b y.batch e.sent.messages e.batch in
+    let go = may_go_on options (options_of t) fs below b (begun t) v sent w.known fixed found refl w.held may types (subst IdsMayBeWritten same w.file.ids) (subst (λ xs. chosen_floats None xs 0 ≡ []) same w.file.floats) in
     let is : written_chunk (map (values_of gs) sent) (batch_under gs b) ≡ ms = chunk_is gs sent b in
     let added : MayBeAdded (file_fields old) w.known (written_chunk (map (values_of gs) sent) (batch_under gs b)) = subst (λ xs. MayBeAdded xs w.known (written_chunk (map (values_of gs) sent) (batch_under gs b))) (sym same) (subst (MayBeAdded gs w.known) (sym is) go.added) in
     let on = put.given.means w.known x bs (map (values_of gs) sent) (batch_under gs b) (all_given options gs sent y.dictionaries.items e.sent.messages) (batch_given options gs b y.batch e.batch) added w.file in
-    let table : table_batch (batch_under gs b) ≡ table_of b = ap (λ columns. record { rows = b.height; columns = columns; custom = b.custom }) (cells_under gs b.height b.arrays e.may.batch_means) in
+    let table : table_batch (batch_under gs b) ≡ table_of b = ap (λ columns. record { rows = b.height; columns = columns; custom = b.custom }) (cells_under gs b.height b.arrays e.batch.may.means) in
     record {
       known = with_messages ms w.known;
       held = go.known;

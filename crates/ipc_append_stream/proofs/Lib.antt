@@ -3,7 +3,6 @@ pub mod BareKinds
 pub mod StreamKinds
 pub mod StreamRefusals
 pub mod WholeSteps
-pub mod MessageSteps
 pub mod EncodeSteps
 pub mod PrepareSteps
 pub mod PutSteps

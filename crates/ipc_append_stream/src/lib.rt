@@ -5,7 +5,6 @@
 mod append;
 mod bare;
 mod encode;
-mod messages;
 mod prepare;
 mod put;
 mod stream;

@@ -13,20 +13,25 @@ use Rattle.ipc_dictionaries.specs.Tracker.{held_by, IsKept}
 use Rattle.ipc_dictionaries.specs.Walks.{options_of, to_send}
 use Rattle.ipc_dictionaries.specs.declared.sending.NewDictionaries.{NewDictionaries}
 use Rattle.ipc_dictionaries.specs.declared.tracker.DictionaryTracker.{DictionaryTracker}
+use Rattle.ipc_write.specs.Encoding.{MayBeBatch}
 use Rattle.ipc_write.specs.Outcomes.{Encodes, Plans, Same}
 use Rattle.ipc_write.specs.declared.encoded.EncodedData.{EncodedData}
 use Rattle.ipc_write.specs.declared.options.WriteOptions.{WriteOptions}
 use Rattle.ipc_encode.specs.Messages.{AreMessagesOf, AddsEach, RefusesOne, messages_of}
-use Rattle.ipc_encode.specs.Chunks.{found, IsSentBy, Stops, AddsDictionary, IsOfBatch, RefusesChunk, lacks_deltas}
-use Rattle.ipc_encode.proofs.MessageSteps.{encoded_fit}
+use Rattle.ipc_encode.specs.Chunks.{found, IsSentBy, Stops, AddsDictionary, IsOfBatch, MayBeSent, RefusesChunk, lacks_deltas}
+use Rattle.ipc_encode.proofs.MessageSteps.{encoded_fit, encoded_may}
 
 -- ── a batch ──
 
 pub same_message : (m : EncodedData) → Same m m
 same_message m = record { message = refl; body = refl }
 
-pub batch_encoded : (options : WriteOptions) (b : Batch) (old new : EncodedData) → Encodes (Ok tt) options b old new → IsOfBatch options b new
-batch_encoded options b old new h = record { uncompressed = h.0; within = h.1; message = h.2; body = h.3 }
+pub batch_encoded : (options : WriteOptions) (b : Batch) (old new : EncodedData) → Encodes (Ok tt) options b old new → MayBeBatch b → IsOfBatch options b new
+batch_encoded options b old new h may = record { uncompressed = h.0; within = h.1; message = h.2; body = h.3; may = may }
+
+-- with what of its dictionaries is sent before it
+pub may_be_sent : (options : WriteOptions) (sent : List ToSend) (ms : List EncodedData) (b : Batch) (m : EncodedData) → AreMessagesOf options sent ms → IsOfBatch options b m → MayBeSent options sent b
+may_be_sent options sent ms b m h k = record { fit = encoded_fit options sent ms h; within = k.within; values = encoded_may options sent ms h; batch = k.may }
 
 refused_batch : (e : IpcError) (options : WriteOptions) (b : Batch) (old new : EncodedData) → Encodes (Err e) options b old new → Plans (Err e) options b × Same old new
 refused_batch (errors.Unsupported features.Compression) options b old new h = (h.0, h.1)

@@ -11,7 +11,7 @@ use Rattle.ipc_dictionaries.specs.Walks.{to_send}
 use Rattle.ipc_dictionaries.specs.declared.walk.ToEncode.{ToEncode}
 use Rattle.ipc_write.specs.declared.encoded.EncodedData.{EncodedData}
 use Rattle.ipc_write.specs.declared.options.WriteOptions.{WriteOptions}
-use Rattle.ipc_encode.specs.Messages.{messages_of, IsMessageOf, AreMessagesOf, fits, all_fit, Refuses, RefusesOne, AddsOne}
+use Rattle.ipc_encode.specs.Messages.{AddsOne, AllMayBeValues, AreMessagesOf, IsMessageOf, Refuses, RefusesOne, all_fit, fits, messages_of}
 
 -- ── lists of messages ──
 
@@ -35,6 +35,12 @@ pub encoded_fit : (options : WriteOptions) (ss : List ToSend) (ms : List Encoded
 encoded_fit options [] ms h = refl
 encoded_fit options (s ∷ ss) [] h = absurd h
 encoded_fit options (s ∷ ss) (m ∷ ms) h = both_true (fits options s) (all_fit options ss) h.0.encoded.short (encoded_fit options ss ms h.1)
+
+-- and may be sent
+pub encoded_may : (options : WriteOptions) (ss : List ToSend) (ms : List EncodedData) → AreMessagesOf options ss ms → AllMayBeValues ss
+encoded_may options [] ms h = tt
+encoded_may options (s ∷ ss) [] h = absurd h
+encoded_may options (s ∷ ss) (m ∷ ms) h = (h.0.may, encoded_may options ss ms h.1)
 
 -- ── the loops ──
 

@@ -15,10 +15,11 @@ use Rattle.ipc_dictionaries.specs.NewDictionaries.{Sending, ToSend, has_several}
 use Rattle.ipc_dictionaries.specs.Tracker.{held_by, IsKept}
 use Rattle.ipc_dictionaries.specs.Walks.{options_of}
 use Rattle.ipc_write.specs.Batches.{batch_message, batch_body, is_within}
+use Rattle.ipc_write.specs.Encoding.{MayBeBatch}
 use Rattle.ipc_write.specs.Outcomes.{Plans, Same}
 use Rattle.ipc_write.specs.declared.encoded.EncodedData.{EncodedData}
 use Rattle.ipc_write.specs.declared.options.WriteOptions.{WriteOptions}
-use Rattle.ipc_encode.specs.Messages.{AreMessagesOf, RefusesOne, all_fit, messages_of}
+use Rattle.ipc_encode.specs.Messages.{AllMayBeValues, AreMessagesOf, RefusesOne, all_fit, messages_of}
 
 -- what of the dictionaries of columns is to be sent, by what was sent before
 abbrev pub found : DictionaryTracker → Forest → Ids → Result Sending IpcError
@@ -54,12 +55,20 @@ AddsDictionary (Err e) options id parts was is =
     (((e ≡ NotRepresentable) × (lacks_deltas options parts ≡ true))
     ⊎ ((lacks_deltas options parts ≡ false) × ((e ≡ Memory) ⊎ RefusesOne e options (messages_of id false parts)))) × (is ≡ was)
 
--- a message is that of a batch
+-- a message is that of a batch, which may be sent
 pub record IsOfBatch (options : WriteOptions) (b : Batch) (m : EncodedData) : Type 0 where
   pub uncompressed : options.compression ≡ None
   pub within : is_within options.metadata_limit b ≡ true
   pub message : m.ipc_message.items ≡ layout (batch_message b).node
   pub body : m.arrow_data.items ≡ batch_body b
+  pub may : MayBeBatch b
+
+-- values may be sent, and the batch behind them
+pub record MayBeSent (options : WriteOptions) (sent : List ToSend) (b : Batch) : Type 0 where
+  pub fit : all_fit options sent ≡ true
+  pub within : is_within options.metadata_limit b ≡ true
+  pub values : AllMayBeValues sent
+  pub batch : MayBeBatch b
 
 -- why the messages of what is found, or the batch's behind them, are refused
 abbrev pub RefusesChunk : IpcError → WriteOptions → List ToSend → Batch → Type 0

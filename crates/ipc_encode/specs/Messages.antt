@@ -1,15 +1,14 @@
 -- The messages of dictionaries' values, one after another. (Arrow Columnar Format, "Dictionary Messages".)
 use Rattle.std.specs.Prelude.{◌≡◌, ◌⊎◌, ◌++◌, ◌&&◌, ℤ, List, [], ◌∷◌, Bool, true, Result, Ok, Err}
+use Rattle.std.specs.List.{AllByRecursion}
 use Rattle.std.specs.declared.alloc.Global.{Global}
 use Rattle.std.specs.declared.vec.Vec.{Vec}
 use Rattle.arrow_spec.specs.declared.error.IpcError.{IpcError}
 use Rattle.arrow_spec.specs.declared.error.IpcError.TheVariants.{Memory}
-use Rattle.arrow_spec.specs.Flat.{little}
 use Rattle.arrow_arrays.specs.Parts.{Forest, none, also, rows_in}
 use Rattle.ipc_dictionaries.specs.NewDictionaries.{ToSend, message_of}
-use Rattle.ipc_write_arrays.specs.Pieces.{IsMeant}
 use Rattle.ipc_write.specs.Planned.{is_short}
-use Rattle.ipc_write.specs.Values.{PlansValues, IsOfValues, values_message}
+use Rattle.ipc_write.specs.Values.{IsOfValues, MayBeValues, PlansValues, values_message}
 use Rattle.ipc_write.specs.declared.encoded.EncodedData.{EncodedData}
 use Rattle.ipc_write.specs.declared.options.WriteOptions.{WriteOptions}
 
@@ -18,10 +17,10 @@ abbrev pub messages_of : ℤ → Bool → Forest → List ToSend
 messages_of id is_delta none = []
 messages_of id is_delta (also p ps) = message_of id is_delta p ∷ messages_of id true ps
 
--- it is the message of what is sent, and means its cells, under any ids of dictionaries under which their values were read
+-- it is the message of what is sent, which may be sent
 pub record IsMessageOf (options : WriteOptions) (s : ToSend) (m : EncodedData) : Type 0 where
   pub encoded : IsOfValues options s.id s.is_delta s.part m
-  pub means : IsMeant little s.part
+  pub may : MayBeValues s.part
 
 -- the messages are those of what is sent, one by one
 abbrev pub AreMessagesOf : WriteOptions → List ToSend → List EncodedData → Type 0
@@ -29,6 +28,10 @@ AreMessagesOf options [] [] = Unit {0}
 AreMessagesOf options [] (m ∷ ms) = ⊥
 AreMessagesOf options (s ∷ ss) [] = ⊥
 AreMessagesOf options (s ∷ ss) (m ∷ ms) = IsMessageOf options s m × AreMessagesOf options ss ms
+
+-- what is sent may be, one by one
+abbrev pub AllMayBeValues : List ToSend → Type 0
+AllMayBeValues sent = AllByRecursion (λ s. MayBeValues s.part) sent
 
 -- a message is within the limits
 abbrev pub fits : WriteOptions → ToSend → Bool

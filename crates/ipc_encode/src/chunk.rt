@@ -1,9 +1,8 @@
 //! A batch and what of its dictionaries is sent before it, as messages (Arrow Columnar Format, "Dictionary Messages").
-ghost use Rattle.std.specs.Prelude.{◌≡◌, map, IfOk};
+ghost use Rattle.std.specs.Prelude.{◌≡◌, map};
 ghost use Rattle.arrow_arrays.specs.Parts.{forest};
 ghost use Rattle.ipc_fields.specs.IpcFields.{ids_of};
 ghost use Rattle.ipc_dictionaries.specs.Walks.{to_send};
-ghost use Rattle.ipc_write.specs.Encoding.{AllMean};
 ghost use Rattle.ipc_encode.specs.Chunks.{EncodesChunk, EncodesChunkInto, EncodesFound};
 
 use crate::messages::encode_messages;
@@ -22,8 +21,7 @@ fn encode_found(
     options: &WriteOptions,
     encoded: &mut EncodedData,
 ) -> Result<Vec<EncodedData>, IpcError>
-    ensures encodes { EncodesFound result options.now (map to_send messages.now) batch.now encoded.old encoded.new }
-    ensures means { IfOk result (λ _. AllMean batch.now.height batch.now.arrays) }
+    ensures { EncodesFound result options.now (map to_send messages.now) batch.now encoded.old encoded.new }
 {
     let dictionaries = encode_messages(alloc, messages, options)?;
     encode_record_batch(alloc, batch, options, encoded)?;
@@ -48,8 +46,6 @@ pub fn encode_chunk_amortized(
     requires deltas { tracker.old.deltas ≡ options.now.deltas }
     ensures encodes { EncodesChunkInto result options.now tracker.old tracker.new (forest batch.now.arrays) (ids_of fields.now) batch.now encoded.old encoded.new }
     ensures options { (tracker.new.cannot_replace ≡ tracker.old.cannot_replace) × (tracker.new.deltas ≡ tracker.old.deltas) }
-    // What was written means the cells of the batch, under any ids of dictionaries under which their values were read.
-    ensures means { IfOk result (λ _. AllMean batch.now.height batch.now.arrays) }
 {
     let new = new_dictionaries(alloc, fields, batch.arrays(), tracker)?;
     match encode_found(alloc, new.messages.as_slice(), batch, options, encoded) {
@@ -76,8 +72,6 @@ pub fn encode_chunk(
     requires deltas { tracker.old.deltas ≡ options.now.deltas }
     ensures encodes { EncodesChunk result options.now tracker.old tracker.new (forest batch.now.arrays) (ids_of fields.now) batch.now }
     ensures options { (tracker.new.cannot_replace ≡ tracker.old.cannot_replace) × (tracker.new.deltas ≡ tracker.old.deltas) }
-    // What was written means the cells of the batch, under any ids of dictionaries under which their values were read.
-    ensures means { IfOk result (λ _. AllMean batch.now.height batch.now.arrays) }
 {
     let mut encoded = EncodedData::new(alloc);
     match encode_chunk_amortized(alloc, batch, fields, tracker, options, &mut encoded) {

@@ -18,11 +18,11 @@ use Rattle.ipc_dictionaries.specs.Walks.{to_send}
 use Rattle.ipc_dictionaries.specs.declared.sending.NewDictionaries.{NewDictionaries}
 use Rattle.ipc_dictionaries.specs.declared.tracker.DictionaryTracker.{DictionaryTracker}
 use Rattle.ipc_dictionaries.specs.declared.walk.ToEncode.{ToEncode}
-use Rattle.ipc_encode.specs.Chunks.{RefusesChunk, found}
+use Rattle.ipc_encode.specs.Chunks.{MayBeSent, RefusesChunk, found}
 use Rattle.ipc_encode.proofs.ChunkSteps.{kept_again, stops_behind, stops_found}
 use Rattle.ipc_write_messages.specs.declared.messages.PlannedMessage.{PlannedMessage}
 use Rattle.ipc_write_messages.specs.declared.puts.Stop.{Stop}
-use Rattle.ipc_write_messages.specs.Messages.{IsChunkPlanned, MayBeSent, Sizes, chunk_text, planned_sizes, planned_text}
+use Rattle.ipc_write_messages.specs.Messages.{IsChunkPlanned, Sizes, chunk_text, planned_sizes, planned_text}
 use Rattle.ipc_write_messages.specs.Puts.{StopsIn, Untouched}
 use Rattle.ipc_write_messages.specs.States.{state_behind}
 use Rattle.ipc_file_writer.specs.declared.blocks.ChunkBlocks.{ChunkBlocks}

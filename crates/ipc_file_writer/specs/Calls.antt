@@ -19,11 +19,11 @@ use Rattle.ipc_dictionaries.specs.NewDictionaries.{Sending, ToSend}
 use Rattle.ipc_dictionaries.specs.Tracker.{IsKept, held_by}
 use Rattle.ipc_dictionaries.specs.Walks.{options_of}
 use Rattle.ipc_write.specs.declared.options.WriteOptions.{WriteOptions}
-use Rattle.ipc_encode.specs.Chunks.{RefusesChunk, Stops, found}
+use Rattle.ipc_encode.specs.Chunks.{MayBeSent, RefusesChunk, Stops, found}
 use Rattle.ipc_write_messages.specs.declared.state.WriterState.TheVariants.{New, Started, Finished, Failed}
 use Rattle.ipc_write_messages.specs.Batches.{Suits}
 use Rattle.ipc_write_messages.specs.Fields.{AreIdsFor}
-use Rattle.ipc_write_messages.specs.Messages.{MayBeSent, chunk_text}
+use Rattle.ipc_write_messages.specs.Messages.{chunk_text}
 use Rattle.ipc_write_messages.specs.Puts.{Untouched}
 use Rattle.ipc_write_messages.specs.Schemas.{IsRefusedAs}
 use Rattle.ipc_write_messages.specs.States.{is_new, is_started}

@@ -13,7 +13,8 @@ use Rattle.ipc_dictionaries.specs.NewDictionaries.{Sending}
 use Rattle.ipc_dictionaries.specs.Walks.{options_of}
 use Rattle.ipc_write_laws.specs.Messages.{ended_stream, stream_so_far}
 use Rattle.ipc_write_laws.proofs.Messages.{messages_front_means, messages_stream_means}
-use Rattle.ipc_write_messages.specs.Messages.{MayBeSent, chunk_text}
+use Rattle.ipc_encode.specs.Chunks.{MayBeSent}
+use Rattle.ipc_write_messages.specs.Messages.{chunk_text}
 use Rattle.ipc_write_messages.specs.declared.pairs.StreamPairs.{StreamPairs}
 use Rattle.chunk_laws.specs.Chunks.{chunk_of}
 use Rattle.chunk_laws.specs.Written.{cells_of}

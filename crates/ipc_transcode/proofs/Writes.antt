@@ -21,7 +21,7 @@ use Rattle.ipc_bodies.specs.Puts.{Moved, PutsPart}
 use Rattle.ipc_dictionaries.specs.Columns.{columns_of}
 use Rattle.ipc_dictionaries.specs.NewDictionaries.{Sending as Walk}
 use Rattle.ipc_dictionaries.specs.Tracker.{held_by}
-use Rattle.ipc_encode.specs.Chunks.{RefusesChunk, Stops}
+use Rattle.ipc_encode.specs.Chunks.{MayBeSent, RefusesChunk, Stops}
 use Rattle.ipc_encode.specs.Messages.{all_fit}
 use Rattle.ipc_read.specs.Batches.{table_of}
 use Rattle.ipc_read.specs.Held.{held_in}
@@ -33,7 +33,7 @@ use Rattle.ipc_write.specs.Batches.{is_within, written_batch_of}
 use Rattle.ipc_write.specs.Outcomes.{Plans}
 use Rattle.ipc_write.proofs.Written.{beyond_is_not_sent, same_message, within_is_sent}
 use Rattle.ipc_write_laws.specs.Streams.{written_batch}
-use Rattle.ipc_write_messages.specs.Messages.{MayBeSent, chunk_text}
+use Rattle.ipc_write_messages.specs.Messages.{chunk_text}
 use Rattle.ipc_write_messages.specs.States.{is_started}
 use Rattle.chunk_laws.specs.Written.{cells_of, said_fields}
 use Rattle.ipc_stream_writer.specs.Calls.{HasWritten, LeavesAll, WriteCause, WriteFailed, found_before}

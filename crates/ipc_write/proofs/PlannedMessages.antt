@@ -16,11 +16,6 @@ use Rattle.ipc_write.specs.declared.body.PlannedBody.{PlannedBody}
 use Rattle.ipc_write.specs.declared.encoded.BodyPlan.{BodyPlan}
 use Rattle.ipc_write.specs.declared.metadata.Content.{Content}
 
--- what holds anyway holds of a result
-pub whatever : {A E : Type 0} (r : Result A E) (P : Type 0) → P → IfOk r (λ _. P)
-whatever (Ok x) P p = p
-whatever (Err e) P p = tt
-
 -- the metadata that is built is the message's
 pub node_same : (content : Content) (rows : ℕ) (o : Outputs) (p : PlannedBody) (nodes : List FieldNode) (places : List IpcBuffer) → IsPlanOf o p → nodes ≡ p.nodes.items → places ≡ p.places.items
     → metadata_node content rows nodes places p.views.items p.length ≡ (planned_message content rows o).node

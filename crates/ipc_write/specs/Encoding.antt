@@ -7,14 +7,16 @@ use Rattle.arrow_spec.specs.Flat.{little}
 use Rattle.arrow_spec.specs.Kinds.{Kind, Fields, none, field}
 use Rattle.arrow_spec.specs.Arrays.{Dictionaries}
 use Rattle.arrow_spec.specs.Layout.{layout}
+use Rattle.arrow_spec.specs.WrittenSchemas.{CustomMayBeWritten}
 use Rattle.arrow_arrays.specs.Batches.{Batch}
-use Rattle.arrow_arrays.specs.Parts.{Parts, kind_in, rows_in, cells_in}
+use Rattle.arrow_arrays.specs.Parts.{Parts, cells_in, fault_each, forest, kind_in, rows_in}
 use Rattle.ipc_write_laws.specs.Columns.{WrittenColumn, Means}
 use Rattle.ipc_write_arrays.specs.Dictionaries.{is_alike, first_kind, other_fields, HoldsValuesAt}
 use Rattle.ipc_write_arrays.specs.Pieces.{with_kind}
 use Rattle.ipc_write_arrays.specs.Outputs.{Outputs, outputs, written_behind}
 use Rattle.ipc_write.specs.Batches.{columns_written, columns_pieces, batch_message, batch_body, is_within, top_column}
 use Rattle.ipc_write.specs.Compaction.{top}
+use Rattle.ipc_write.specs.Planned.{NodesFit}
 use Rattle.ipc_write.specs.declared.encoded.BodyPlan.{BodyPlan}
 
 -- nothing
@@ -43,6 +45,17 @@ pub record TopMeans (rows : ℕ) (p : Parts) : Type 0 where
 -- the same of each of several
 abbrev pub AllMean : ℕ → List Parts → Type 0
 AllMean rows ps = AllByRecursion (λ p. TopMeans rows p) ps
+
+-- a batch's arrays are sound, and its pairs are texts that ascend by their keys
+pub record IsWhole (b : Batch) : Type 0 where
+  pub sound : fault_each (forest b.arrays) ≡ None
+  pub custom : CustomMayBeWritten b.custom
+
+-- a batch's message means its cells, under any ids of dictionaries under which their values were read, and can say its nodes
+pub record MayBeBatch (b : Batch) : Type 0 where
+  pub means : AllMean b.height b.arrays
+  pub nodes : NodesFit (columns_written b.arrays)
+  pub whole : IsWhole b
 
 -- top columns under the kinds of fields, one by one
 abbrev pub columns_under : Fields → List Parts → List WrittenColumn

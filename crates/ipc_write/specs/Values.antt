@@ -10,8 +10,8 @@ use Rattle.arrow_spec.specs.Sent.{SentMessage}
 use Rattle.arrow_arrays.specs.Parts.{Parts, rows_in}
 use Rattle.ipc_write_laws.specs.Streams.{written_of}
 use Rattle.ipc_write_laws.specs.Messages.{message_of_values}
-use Rattle.ipc_write_arrays.specs.Pieces.{column_in, pieces_in}
-use Rattle.ipc_write.specs.Planned.{is_short}
+use Rattle.ipc_write_arrays.specs.Pieces.{IsMeant, column_in, pieces_in}
+use Rattle.ipc_write.specs.Planned.{NodesFit, is_short}
 use Rattle.ipc_write.specs.declared.encoded.BodyPlan.{BodyPlan}
 use Rattle.ipc_write.specs.declared.encoded.EncodedData.{EncodedData}
 use Rattle.ipc_write.specs.declared.options.WriteOptions.{WriteOptions}
@@ -19,6 +19,11 @@ use Rattle.ipc_write.specs.declared.options.WriteOptions.{WriteOptions}
 -- the message of an array as values under an id
 abbrev pub values_message : ℤ → Bool → Parts → SentMessage
 values_message id is_delta p = message_of_values id is_delta (written_of (column_in little p ∷ []))
+
+-- the message of an array as values means its cells, under any ids of dictionaries under which their values were read, and can say its nodes
+pub record MayBeValues (p : Parts) : Type 0 where
+  pub means : IsMeant little p
+  pub nodes : NodesFit (written_of (column_in little p ∷ []))
 
 -- it was planned: its flatbuffer and the buffers of its body; or it is refused
 abbrev pub PlansValues : Result BodyPlan IpcError → WriteOptions → ℤ → Bool → Parts → Type 0

@@ -2,10 +2,9 @@
 ghost use Rattle.std.specs.Prelude.{◌≡◌, map, IfOk};
 ghost use Rattle.arrow_spec.specs.Framing.{body_bytes};
 ghost use Rattle.arrow_arrays.specs.Parts.{cells_in};
-ghost use Rattle.ipc_write.specs.Batches.{columns_written, written_batch_of};
-ghost use Rattle.ipc_write.specs.Encoding.{AllMean, Makes};
+ghost use Rattle.ipc_write.specs.Batches.{written_batch_of};
+ghost use Rattle.ipc_write.specs.Encoding.{IsWhole, Makes, MayBeBatch};
 ghost use Rattle.ipc_write.specs.Outcomes.{Encodes, Plans};
-ghost use Rattle.ipc_write.specs.Planned.{NodesFit};
 
 use crate::columns::plan_columns;
 use crate::metadata::Content;
@@ -16,12 +15,25 @@ use arrow_spec::{Feature, IpcError};
 use ipc_bodies::append_body;
 use std::alloc::{AllocError, Global};
 
+/// A batch's arrays are sound, and its pairs ascend by their keys.
+fn is_whole(batch: &RecordBatch)
+    ensures { IsWhole batch.now }
+{
+    let _ = batch.height();
+    match batch.custom_metadata() {
+        None => {}
+        Some(pairs) => {
+            let _ = pairs.len();
+        }
+    }
+}
+
 /// The message of a batch, with its pairs, whose padded metadata is within a limit, with the buffers of its body.
 fn batch_plan(alloc: Global, batch: &RecordBatch, limit: usize) -> Result<BodyPlan, IpcError>
     ensures makes { Makes result limit batch.now }
-    ensures means { IfOk result (λ _. AllMean batch.now.height batch.now.arrays) }
-    ensures nodes { IfOk result (λ _. NodesFit (columns_written batch.now.arrays)) }
+    ensures may { IfOk result (λ _. MayBeBatch batch.now) }
 {
+    is_whole(batch);
     let rows = batch.height();
     if rows > MOST_ROWS {
         return Err(IpcError::TooLarge);
@@ -50,10 +62,8 @@ pub fn plan_batch(
     options: &WriteOptions,
 ) -> Result<BodyPlan, IpcError>
     ensures plans { Plans result options.now batch.now }
-    // What is written means the cells of the batch, under any ids of dictionaries under which their values were read.
-    ensures means { IfOk result (λ _. AllMean batch.now.height batch.now.arrays) }
+    ensures may { IfOk result (λ _. MayBeBatch batch.now) }
     ensures cells { IfOk result (λ _. map (λ c. c.cells) (written_batch_of batch.now).columns ≡ map cells_in batch.now.arrays) }
-    ensures nodes { IfOk result (λ _. NodesFit (columns_written batch.now.arrays)) }
 {
     if options.compression.is_some() {
         return Err(IpcError::Unsupported(Feature::Compression));
@@ -93,8 +103,7 @@ pub fn encode_record_batch(
     encoded: &mut EncodedData,
 ) -> Result<(), IpcError>
     ensures encodes { Encodes result options.now batch.now encoded.old encoded.new }
-    // What was written means the cells of the batch, under any ids of dictionaries under which their values were read.
-    ensures means { IfOk result (λ _. AllMean batch.now.height batch.now.arrays) }
+    ensures may { IfOk result (λ _. MayBeBatch batch.now) }
     ensures cells { IfOk result (λ _. map (λ c. c.cells) (written_batch_of batch.now).columns ≡ map cells_in batch.now.arrays) }
 {
     match plan_batch(alloc, batch, options) {

@@ -1,11 +1,7 @@
 //! The values of dictionaries to messages (Arrow Columnar Format, "Dictionary Messages").
-ghost use Rattle.std.specs.Prelude.{[], ◌∷◌, IfOk};
-ghost use Rattle.arrow_spec.specs.Flat.{little};
+ghost use Rattle.std.specs.Prelude.{IfOk};
 ghost use Rattle.arrow_arrays.specs.PartsOf.{parts_of};
-ghost use Rattle.ipc_write_laws.specs.Streams.{written_of};
-ghost use Rattle.ipc_write_arrays.specs.Pieces.{column_in, IsMeant};
-ghost use Rattle.ipc_write.specs.Planned.{NodesFit};
-ghost use Rattle.ipc_write.specs.Values.{PlansValues, EncodesValues};
+ghost use Rattle.ipc_write.specs.Values.{EncodesValues, MayBeValues, PlansValues};
 
 use crate::encode::in_one_piece;
 use crate::metadata::Content;
@@ -32,9 +28,7 @@ pub fn plan_values(
     options: &WriteOptions,
 ) -> Result<BodyPlan, IpcError>
     ensures plans { PlansValues result options.now id is_delta (parts_of array.now) }
-    // What is written means the array's cells, under any ids of dictionaries under which their values were read.
-    ensures means { IfOk result (λ _. IsMeant little (parts_of array.now)) }
-    ensures nodes { IfOk result (λ _. NodesFit (written_of (column_in little (parts_of array.now) ∷ []))) }
+    ensures may { IfOk result (λ _. MayBeValues (parts_of array.now)) }
 {
     if options.compression.is_some() {
         return Err(IpcError::Unsupported(Feature::Compression));
@@ -62,8 +56,7 @@ pub fn encode_values(
     options: &WriteOptions,
 ) -> Result<EncodedData, IpcError>
     ensures encodes { EncodesValues result options.now id is_delta (parts_of array.now) }
-    // What was written means the array's cells, under any ids of dictionaries under which their values were read.
-    ensures means { IfOk result (λ _. IsMeant little (parts_of array.now)) }
+    ensures may { IfOk result (λ _. MayBeValues (parts_of array.now)) }
 {
     let plan = plan_values(alloc, id, array, is_delta, options)?;
     let message = in_one_piece(alloc, plan)?;

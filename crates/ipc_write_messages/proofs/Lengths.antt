@@ -20,7 +20,8 @@ use Rattle.ipc_write.specs.Batches.{batch_message, is_within, written_batch_of}
 use Rattle.ipc_write.specs.declared.options.WriteOptions.{WriteOptions}
 use Rattle.ipc_write.proofs.Written.{same_message}
 use Rattle.ipc_write_messages.specs.declared.messages.PlannedMessage.{PlannedMessage}
-use Rattle.ipc_write_messages.specs.Messages.{MayBeSent, Sizes, chunk_text, message_of, planned_sizes, sent_sizes, sizes_of, total, values_text}
+use Rattle.ipc_encode.specs.Chunks.{MayBeSent}
+use Rattle.ipc_write_messages.specs.Messages.{Sizes, chunk_text, message_of, planned_sizes, sent_sizes, sizes_of, total, values_text}
 
 -- ── one message ──
 

@@ -18,19 +18,19 @@ use Rattle.ipc_write_arrays.specs.Pieces.{pieces_in}
 use Rattle.ipc_dictionaries.specs.NewDictionaries.{ToSend}
 use Rattle.ipc_dictionaries.specs.Walks.{to_send}
 use Rattle.ipc_dictionaries.specs.declared.walk.ToEncode.{ToEncode}
-use Rattle.ipc_write.specs.Batches.{batch_body, batch_message, columns_written, is_within}
-use Rattle.ipc_write.specs.Encoding.{AllMean}
+use Rattle.ipc_write.specs.Batches.{batch_body, batch_message, is_within}
+use Rattle.ipc_write.specs.Encoding.{MayBeBatch}
 use Rattle.ipc_write.specs.Outcomes.{Plans, message_frame, metadata_frame}
-use Rattle.ipc_write.specs.Planned.{NodesFit, is_short}
-use Rattle.ipc_write.specs.Values.{PlansValues, values_message}
+use Rattle.ipc_write.specs.Planned.{is_short}
+use Rattle.ipc_write.specs.Values.{MayBeValues, PlansValues, values_message}
 use Rattle.ipc_write.specs.declared.encoded.BodyPlan.{BodyPlan}
 use Rattle.ipc_write.specs.declared.options.WriteOptions.{WriteOptions}
 use Rattle.ipc_write.proofs.Putting.{aligned_pieces, frame_whole, plan_frame}
 use Rattle.ipc_write.proofs.Written.{framed_is_batch, framed_whole, length-frame}
-use Rattle.ipc_encode.specs.Messages.{Refuses, RefusesOne, all_fit, fits}
 use Rattle.ipc_encode.specs.Chunks.{RefusesChunk}
+use Rattle.ipc_encode.specs.Messages.{AllMayBeValues, Refuses, RefusesOne, all_fit, fits}
 use Rattle.ipc_write_messages.specs.declared.messages.PlannedMessage.{PlannedMessage}
-use Rattle.ipc_write_messages.specs.Messages.{AllMayBeValues, ArePlanned, IsBatchPlanned, IsChunkPlanned, IsPlanned, IsWhole, MayBeSent, MayBeValues, PlansBatch, PlansOne, chunk_text, message_of, planned_sizes, planned_text, Sizes, sent_sizes, sizes_of, values_text}
+use Rattle.ipc_write_messages.specs.Messages.{ArePlanned, IsBatchPlanned, IsChunkPlanned, IsPlanned, PlansBatch, PlansOne, chunk_text, message_of, planned_sizes, planned_text, Sizes, sent_sizes, sizes_of, values_text}
 
 -- ── one message ──
 
@@ -98,15 +98,13 @@ unfolding batch_message
 same_body_length b = refl
 
 -- the message of a batch
-pub batch_planned : (options : WriteOptions) (b : Batch) (p : BodyPlan) (m : PlannedMessage) → Plans (Ok p) options b → AllMean b.height b.arrays → NodesFit (columns_written b.arrays) → IsWhole b
+pub batch_planned : (options : WriteOptions) (b : Batch) (p : BodyPlan) (m : PlannedMessage) → Plans (Ok p) options b → MayBeBatch b
     → planned_text m ≡ message_frame p.ipc_message.items (body_bytes 0 p.buffers.items) → planned_sizes m ≡ record { front = 8 + up_to 8 (length p.ipc_message.items); body = p.body_length } → IsBatchPlanned options b m
-batch_planned options b p m h k n w e f = record {
+batch_planned options b p m h may e f = record {
   within = h.1;
   text = e ∙ ap (λ xs. message_frame xs (body_bytes 0 p.buffers.items)) h.2 ∙ ap (λ qs. message_frame (layout (batch_message b).node) (body_bytes 0 qs)) h.3 ∙ framed_is_batch b;
   sizes = f ∙ node_sizes p.ipc_message.items (batch_message b) p.body_length h.2 (h.4 ∙ same_body_length b);
-  mean = k;
-  nodes = n;
-  whole = w;
+  may = may;
 }
 
 -- with its front, or memory was wanted for it
@@ -115,10 +113,10 @@ pub values_framed : (r : Result PlannedMessage IpcError) (options : WriteOptions
 values_framed (Ok m) options s p h k e z f = values_planned options s p m h k e z
 values_framed (Err x) options s p h k e z f = inl f
 
-pub batch_framed : (r : Result PlannedMessage IpcError) (options : WriteOptions) (b : Batch) (p : BodyPlan) → Plans (Ok p) options b → AllMean b.height b.arrays → NodesFit (columns_written b.arrays) → IsWhole b
+pub batch_framed : (r : Result PlannedMessage IpcError) (options : WriteOptions) (b : Batch) (p : BodyPlan) → Plans (Ok p) options b → MayBeBatch b
     → IfOk r (λ m. planned_text m ≡ message_frame p.ipc_message.items (body_bytes 0 p.buffers.items)) → IfOk r (λ m. planned_sizes m ≡ record { front = 8 + up_to 8 (length p.ipc_message.items); body = p.body_length }) → IfErr r (λ e. e ≡ Memory) → PlansBatch r options b
-batch_framed (Ok m) options b p h k n w e z f = batch_planned options b p m h k n w e z
-batch_framed (Err x) options b p h k n w e z f = inl f
+batch_framed (Ok m) options b p h may e z f = batch_planned options b p m h may e z
+batch_framed (Err x) options b p h may e z f = inl f
 
 -- ── messages of values ──
 
@@ -177,7 +175,7 @@ all_planned options ms xs i all h l = left_none options ms (map to_send (drop i 
 pub chunk_planned : (options : WriteOptions) (sent : List ToSend) (b : Batch) (ms is : List PlannedMessage) (m : PlannedMessage) → ArePlanned options sent ms → IsBatchPlanned options b m → is ≡ ms ++ m ∷ []
     → IsChunkPlanned options sent b is
 chunk_planned options sent b ms is m h k e = record {
-  may = record { fit = h.fit; within = k.within; values = h.may; batch_means = k.mean; batch_nodes = k.nodes; batch_whole = k.whole };
+  may = record { fit = h.fit; within = k.within; values = h.may; batch = k.may };
   text = ap (flat_map planned_text) e ∙ flat_map-append planned_text ms (m ∷ []) ∙ ap (λ xs. xs ++ (planned_text m ++ [])) h.text ∙ ap (λ xs. flat_map values_text sent ++ xs) (append-nil (planned_text m) ∙ k.text);
   sizes = ap (map planned_sizes) e ∙ map-append planned_sizes ms (m ∷ []) ∙ ap (λ xs. xs ++ planned_sizes m ∷ []) h.sizes ∙ ap (λ x. map sent_sizes sent ++ x ∷ []) k.sizes;
 }

@@ -22,7 +22,8 @@ use Rattle.arrow_arrays.specs.Batches.{Batch}
 use Rattle.ipc_dictionaries.specs.NewDictionaries.{ToSend}
 use Rattle.ipc_write.specs.declared.options.WriteOptions.{WriteOptions}
 use Rattle.ipc_write_messages.specs.declared.messages.PlannedMessage.{PlannedMessage}
-use Rattle.ipc_write_messages.specs.Messages.{IsChunkPlanned, MayBeSent, chunk_text, planned_sizes, planned_text, total}
+use Rattle.ipc_encode.specs.Chunks.{MayBeSent}
+use Rattle.ipc_write_messages.specs.Messages.{IsChunkPlanned, chunk_text, planned_sizes, planned_text, total}
 use Rattle.ipc_write_messages.specs.Puts.{PutsBehind, PutsOrStops, SendStops, SendsChunk, StopsIn, Untouched, stop_behind}
 use Rattle.ipc_write_messages.proofs.Lengths.{chunk_length, few_bytes}
 

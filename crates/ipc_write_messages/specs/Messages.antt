@@ -1,6 +1,6 @@
 -- The messages of a batch and of what of its dictionaries is sent before it, planned. (Arrow Columnar Format, "Dictionary Messages".)
-use Rattle.std.specs.Prelude.{◌≡◌, ◌⊎◌, ◌+◌, ◌++◌, ◌∷◌, [], List, ℕ, length, map, None, Result, Ok, Err, true}
-use Rattle.std.specs.List.{flat_map, AllByRecursion}
+use Rattle.std.specs.Prelude.{◌≡◌, ◌⊎◌, ◌+◌, ◌++◌, ◌∷◌, [], List, ℕ, length, map, Result, Ok, Err, true}
+use Rattle.std.specs.List.{flat_map}
 use Rattle.std.specs.declared.alloc.Global.{Global}
 use Rattle.std.specs.declared.vec.Vec.{Vec}
 use Rattle.arrow_spec.specs.declared.error.IpcError.{IpcError}
@@ -8,20 +8,17 @@ use Rattle.arrow_spec.specs.declared.error.IpcError.TheVariants.{Memory}
 use Rattle.arrow_spec.specs.Flat.{little}
 use Rattle.arrow_spec.specs.Framing.{body_bytes, message_bytes, padded_size}
 use Rattle.arrow_spec.specs.Sent.{SentMessage}
-use Rattle.arrow_spec.specs.WrittenSchemas.{CustomMayBeWritten}
 use Rattle.arrow_arrays.specs.Batches.{Batch}
-use Rattle.arrow_arrays.specs.Parts.{Parts, fault_each, forest}
-use Rattle.ipc_write_laws.specs.Streams.{batch_bytes, written_of}
-use Rattle.ipc_write_arrays.specs.Pieces.{IsMeant, column_in, pieces_in}
+use Rattle.ipc_write_laws.specs.Streams.{batch_bytes}
+use Rattle.ipc_write_arrays.specs.Pieces.{pieces_in}
 use Rattle.ipc_dictionaries.specs.NewDictionaries.{ToSend}
-use Rattle.ipc_write.specs.Batches.{batch_message, columns_written, is_within, written_batch_of}
-use Rattle.ipc_write.specs.Encoding.{AllMean}
+use Rattle.ipc_write.specs.Batches.{batch_message, is_within, written_batch_of}
+use Rattle.ipc_write.specs.Encoding.{MayBeBatch}
 use Rattle.ipc_write.specs.Outcomes.{Plans}
-use Rattle.ipc_write.specs.Planned.{NodesFit}
-use Rattle.ipc_write.specs.Values.{values_message}
+use Rattle.ipc_write.specs.Values.{MayBeValues, values_message}
 use Rattle.ipc_write.specs.declared.options.WriteOptions.{WriteOptions}
-use Rattle.ipc_encode.specs.Messages.{Refuses, RefusesOne, all_fit, fits}
-use Rattle.ipc_encode.specs.Chunks.{RefusesChunk}
+use Rattle.ipc_encode.specs.Chunks.{MayBeSent, RefusesChunk}
+use Rattle.ipc_encode.specs.Messages.{AllMayBeValues, Refuses, RefusesOne, all_fit, fits}
 use Rattle.ipc_write_messages.specs.declared.messages.PlannedMessage.{PlannedMessage}
 
 -- how many bytes of a message stand before its body, and how many are its body
@@ -60,15 +57,6 @@ planned_text m = m.front.items ++ body_bytes 0 m.buffers.items
 abbrev pub planned_sizes : PlannedMessage → Sizes
 planned_sizes m = record { front = length m.front.items; body = m.body_length }
 
--- what is sent as values means its cells, under any ids of dictionaries under which their values were read; and its message can say its nodes
-pub record MayBeValues (p : Parts) : Type 0 where
-  pub means : IsMeant little p
-  pub nodes : NodesFit (written_of (column_in little p ∷ []))
-
--- the same of each
-abbrev pub AllMayBeValues : List ToSend → Type 0
-AllMayBeValues sent = AllByRecursion (λ s. MayBeValues s.part) sent
-
 -- the message of values is planned
 pub record IsPlanned (options : WriteOptions) (s : ToSend) (m : PlannedMessage) : Type 0 where
   pub fits : fits options s ≡ true
@@ -92,32 +80,16 @@ abbrev pub PlansEach : Result (Vec PlannedMessage Global) IpcError → WriteOpti
 PlansEach (Ok v) options sent = ArePlanned options sent v.items
 PlansEach (Err e) options sent = (e ≡ Memory) ⊎ RefusesOne e options sent
 
--- a batch's arrays are sound, and its pairs are texts that ascend by their keys
-pub record IsWhole (b : Batch) : Type 0 where
-  pub sound : fault_each (forest b.arrays) ≡ None
-  pub custom : CustomMayBeWritten b.custom
-
 -- a batch's message is planned
 pub record IsBatchPlanned (options : WriteOptions) (b : Batch) (m : PlannedMessage) : Type 0 where
   pub within : is_within options.metadata_limit b ≡ true
   pub text : planned_text m ≡ batch_bytes (written_batch_of b)
   pub sizes : planned_sizes m ≡ sizes_of (batch_message b)
-  pub mean : AllMean b.height b.arrays
-  pub nodes : NodesFit (columns_written b.arrays)
-  pub whole : IsWhole b
+  pub may : MayBeBatch b
 
 abbrev pub PlansBatch : Result PlannedMessage IpcError → WriteOptions → Batch → Type 0
 PlansBatch (Ok m) options b = IsBatchPlanned options b m
 PlansBatch (Err e) options b = (e ≡ Memory) ⊎ Plans (Err e) options b
-
--- values may be sent, and the batch behind them
-pub record MayBeSent (options : WriteOptions) (sent : List ToSend) (b : Batch) : Type 0 where
-  pub fit : all_fit options sent ≡ true
-  pub within : is_within options.metadata_limit b ≡ true
-  pub values : AllMayBeValues sent
-  pub batch_means : AllMean b.height b.arrays
-  pub batch_nodes : NodesFit (columns_written b.arrays)
-  pub batch_whole : IsWhole b
 
 -- the messages of values, and of the batch behind them, are planned
 pub record IsChunkPlanned (options : WriteOptions) (sent : List ToSend) (b : Batch) (ms : List PlannedMessage) : Type 0 where

@@ -8,8 +8,8 @@ use Rattle.ipc_bodies.specs.Puts.{Moved, NoneFalls, PutsPart}
 use Rattle.ipc_io.specs.Outside.{Rose}
 use Rattle.ipc_dictionaries.specs.NewDictionaries.{ToSend}
 use Rattle.ipc_write.specs.declared.options.WriteOptions.{WriteOptions}
-use Rattle.ipc_encode.specs.Chunks.{RefusesChunk}
-use Rattle.ipc_write_messages.specs.Messages.{MayBeSent, chunk_text}
+use Rattle.ipc_encode.specs.Chunks.{MayBeSent, RefusesChunk}
+use Rattle.ipc_write_messages.specs.Messages.{chunk_text}
 use Rattle.ipc_write_messages.specs.declared.puts.Stop.{Stop}
 
 -- no byte was put, and no count fell

@@ -3,10 +3,8 @@ ghost use Rattle.std.specs.Prelude.{◌↔◌, IsTrue};
 ghost use Rattle.ipc_fields.specs.IpcFields.{ids_of};
 ghost use Rattle.ipc_write_messages.specs.Batches.{Suits};
 ghost use Rattle.ipc_write_messages.specs.Fields.{given_ids};
-ghost use Rattle.ipc_write_messages.specs.Messages.{IsWhole};
 
 use crate::fields::are_own;
-use crate::pairs::are_pairs;
 use crate::types::are_of_fields;
 use arrow_arrays::RecordBatch;
 use arrow_types::ArrowSchema;
@@ -26,12 +24,4 @@ pub fn is_of_schema(
         return false;
     }
     are_own(given, own)
-}
-
-/// A batch's arrays are sound, and its pairs ascend by their keys.
-pub(crate) fn is_whole(batch: &RecordBatch)
-    ensures { IsWhole batch.now }
-{
-    let _ = batch.height();
-    are_pairs(batch.custom_metadata());
 }

@@ -7,7 +7,6 @@ ghost use Rattle.ipc_dictionaries.specs.Walks.{to_send};
 ghost use Rattle.ipc_write.specs.Outcomes.{message_frame};
 ghost use Rattle.ipc_write_messages.specs.Messages.{PlansBatch, PlansChunk, PlansEach, PlansOne, planned_sizes, planned_text};
 
-use crate::batches::is_whole;
 use arrow_arrays::RecordBatch;
 use arrow_spec::IpcError;
 use ipc_dictionaries::ToEncode;
@@ -67,7 +66,6 @@ fn batch_message(
 ) -> Result<PlannedMessage, IpcError>
     ensures { PlansBatch result options.now batch.now }
 {
-    is_whole(batch);
     let plan = plan_batch(alloc, batch, options)?;
     with_front(alloc, plan)
 }

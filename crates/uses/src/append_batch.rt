@@ -22,5 +22,8 @@ pub(crate) fn file_with(
     };
     writer.write(&batch, None)?;
     writer.finish()?;
-    Ok(writer.into_inner().into_inner().into_bytes())
+    match writer.into_inner().cut_off() {
+        Ok(disk) => Ok(disk.into_bytes()),
+        Err(refused) => Err(refused.error),
+    }
 }

@@ -36,7 +36,7 @@ returns-in-Ok-clause-encodes c =
     let n = c.in_ok-new.new in
     let ms = c.in-Ok.dictionaries.items in
     let sends : Sends (Ok n) old new (forest b.arrays) below = subst (λ ps. Sends (Ok n) old new (forest ps) below) c.arrays.ensures c.in_ok-new.ensures.sends in
-    (sent_by c.args.options.now old new (forest b.arrays) below n ms sends (subst (λ xs. AreMessagesOf c.args.options.now (map to_send xs) ms) c.as_slice.ensures.value c.in-Ok.ensures.encodes.0), c.in-Ok.ensures.encodes.1)
+    (sent_by c.args.options.now old new (forest b.arrays) below n ms sends (subst (λ xs. AreMessagesOf c.args.options.now (map to_send xs) ms) c.as_slice.ensures.value c.in-Ok.ensures.0), c.in-Ok.ensures.1)
 
 pub returns-in-Ok-clause-options : goal.returns-in-Ok-clause-options
 returns-in-Ok-clause-options c = same_options c.new_dictionaries.new.tracker c.args.tracker.now c.in_ok-new.ensures.options
@@ -51,8 +51,8 @@ returns-in-Err-clause-encodes c =
     let n = c.in_ok-new.new in
     let e = c.in-Err.error in
     let sends : Sends (Ok n) old middle (forest b.arrays) below = subst (λ ps. Sends (Ok n) old middle (forest ps) below) c.arrays.ensures c.in_ok-new.ensures.sends in
-    let why = subst (λ xs. RefusesChunk e c.args.options.now (map to_send xs) b) c.as_slice.ensures.value c.in-Err.ensures.encodes.0 in
-    (stops_behind e old middle (forest b.arrays) below n (λ sent. RefusesChunk e c.args.options.now sent b) sends why, kept_again old middle new (forest b.arrays) below n sends c.undo.ensures.held, c.in-Err.ensures.encodes.1)
+    let why = subst (λ xs. RefusesChunk e c.args.options.now (map to_send xs) b) c.as_slice.ensures.value c.in-Err.ensures.0 in
+    (stops_behind e old middle (forest b.arrays) below n (λ sent. RefusesChunk e c.args.options.now sent b) sends why, kept_again old middle new (forest b.arrays) below n sends c.undo.ensures.held, c.in-Err.ensures.1)
 
 pub returns-in-Err-clause-options : goal.returns-in-Err-clause-options
 returns-in-Err-clause-options c = same_options c.undo.new.tracker c.args.tracker.now (c.undo.ensures.options ∙ c.in_ok-new.ensures.options)

@@ -28,4 +28,4 @@ returns c =
     let x = parts_of c.args.values.now in
     let m = c.in_ok-message.message in
     let encoded : IsOfValues c.args.options.now c.args.id c.args.is_delta x m = subst (λ z. IsOfValues c.args.options.now z c.args.is_delta x m) e c.in_ok-message.ensures.encodes in
-    (m, c.in_ok-push.ensures.items, record { encoded = encoded; means = c.in_ok-message.ensures.means })
+    (m, c.in_ok-push.ensures.items, record { encoded = encoded; may = c.in_ok-message.ensures.may })

@@ -10,4 +10,4 @@ returns-clause-plans c =
     plans_made c.batch_plan.result c.args.options.now c.args.batch.now none c.batch_plan.ensures.makes
 
 pub returns-clause-cells : goal.returns-clause-cells
-returns-clause-cells c = if_ok c.batch_plan.result (λ h. all_cells c.args.batch.now.height c.args.batch.now.arrays h) c.batch_plan.ensures.means
+returns-clause-cells c = if_ok c.batch_plan.result (λ may. all_cells c.args.batch.now.height c.args.batch.now.arrays may.means) c.batch_plan.ensures.may

@@ -33,7 +33,8 @@ returns-clause-plans c =
     let e : to_z w64 (of_z w64 c.args.id) ≡ c.args.id = to_z-of_z w64 c.args.id c.ranges.id in
     values_planned c.message_plan.result c.args.options.now c.args.id c.args.is_delta p c.len-rows.result (outputs_of c.plan.new.out) c.len-rows.ensures.sound c.len-rows.ensures.rows planned none (subst (λ z. MakesMessage c.message_plan.result c.args.options.now.metadata_limit c.len-rows.result (planned_message (DictionaryBatch z c.args.is_delta) c.len-rows.result (outputs_of c.plan.new.out)) (outputs_of c.plan.new.out).pieces) e c.message_plan.ensures.makes)
 
-pub returns-clause-nodes : goal.returns-clause-nodes
-returns-clause-nodes c =
+pub returns-clause-may : goal.returns-clause-may
+returns-clause-may c =
     let p = parts_of c.args.array.now in
-    if_ok c.message_plan.result (values_fit p (outputs_of c.plan.new.out) (c.in_ok-plan.ensures.ok ∙ ap (written_behind little p) c.new-column.ensures)) c.message_plan.ensures.fit
+    let planned : outputs_of c.plan.new.out ≡ written_behind little p no_outputs = c.in_ok-plan.ensures.ok ∙ ap (written_behind little p) c.new-column.ensures in
+    if_ok c.message_plan.result (λ fit. record { means = c.in_ok-plan.ensures.means; nodes = values_fit p (outputs_of c.plan.new.out) planned fit }) c.message_plan.ensures.fit

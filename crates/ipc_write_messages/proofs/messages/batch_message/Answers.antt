@@ -15,4 +15,4 @@ with_front-requires c =
 
 pub returns : goal.returns
 returns c =
-    batch_framed c.with_front.result c.args.options.now c.args.batch.now c.in_ok-plan.plan c.in_ok-plan.ensures.plans c.in_ok-plan.ensures.means c.in_ok-plan.ensures.nodes c.is_whole.ensures c.with_front.ensures.text c.with_front.ensures.sizes c.with_front.ensures.err
+    batch_framed c.with_front.result c.args.options.now c.args.batch.now c.in_ok-plan.plan c.in_ok-plan.ensures.plans c.in_ok-plan.ensures.may c.with_front.ensures.text c.with_front.ensures.sizes c.with_front.ensures.err

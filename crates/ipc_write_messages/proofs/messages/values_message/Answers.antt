@@ -31,4 +31,4 @@ returns c =
     let same : to_z w64 (of_z w64 m.id) ≡ m.id = to_z-of_z w64 m.id fits in
     let p = c.in_ok-plan.plan in
     let plans : PlansValues (Ok p) c.args.options.now m.id m.is_delta (parts_of m.values) = subst (λ z. PlansValues (Ok p) c.args.options.now z m.is_delta (parts_of m.values)) same c.in_ok-plan.ensures.plans in
-    values_framed c.with_front.result c.args.options.now (to_send m) p plans (record { means = c.in_ok-plan.ensures.means; nodes = c.in_ok-plan.ensures.nodes }) c.with_front.ensures.text c.with_front.ensures.sizes c.with_front.ensures.err
+    values_framed c.with_front.result c.args.options.now (to_send m) p plans c.in_ok-plan.ensures.may c.with_front.ensures.text c.with_front.ensures.sizes c.with_front.ensures.err

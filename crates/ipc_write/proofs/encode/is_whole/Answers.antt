@@ -2,7 +2,7 @@ use Rattle.std.proofs.Common.{◌∙◌, [], ap, sym, subst}
 use Rattle.arrow_spec.specs.WrittenSchemas.{Ascend}
 use Rattle.ipc_fields.specs.IpcFields.{metadata_in}
 use Rattle.schema_writer.proofs.Texts.{map_ascends}
-use Rattle.ipc_append_stream.proofs.messages.is_whole.Goals as goal
+use Rattle.ipc_write.proofs.encode.is_whole.Goals as goal
 
 pub returns-in-None : goal.returns-in-None
 returns-in-None c = record {
