@@ -4,7 +4,13 @@
 #[cfg(test)]
 mod appends;
 #[cfg(test)]
+mod dictionary_parts;
+#[cfg(test)]
 mod failing;
+#[cfg(test)]
+mod failing_runs;
+#[cfg(test)]
+mod folders;
 #[cfg(test)]
 mod parts;
 #[cfg(test)]

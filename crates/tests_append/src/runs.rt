@@ -1,11 +1,18 @@
 //! Runs that append the input's stream to a file on a shelf.
 use crate::appends::{APPENDED, THREE_FILE};
+use crate::dictionary_parts::{
+    FIRST_KEYS, FOOTER, LAST_KEYS, LONGER_FOOTER, OTHER_IDS_SCHEMA, OTHER_IDS_X_Y_Z, OTHER_IDS_Y_Z,
+    SCHEMA, X_Y, Z,
+};
 use ipc_disk::{Entry, MemoryShelf};
 use ipc_io::{MemoryFeed, MemorySink};
 use ipc_tool::run;
 use std::alloc::Global;
 use std::test::Fail;
-use tests_tables::parts::{FILE, STREAM, bytes_of};
+use tests_tables::parts::{END, FILE, MAGIC, STREAM, bytes_of, text_of};
+
+/// A file of a batch with a dictionary of two texts.
+const TWO_TEXTS_FILE: &[&str] = &[MAGIC, SCHEMA, X_Y, FIRST_KEYS, END, FOOTER];
 
 /// The file that stands under the name `a`, the words, the input's text, and what the run leaves.
 struct Case {
@@ -34,6 +41,32 @@ const APPENDS: Case = Case {
 
 const CASES: &[Case] = &[
     APPENDS,
+    Case {
+        title: "a dictionary that goes on, under another id",
+        file: TWO_TEXTS_FILE,
+        input: &[OTHER_IDS_SCHEMA, OTHER_IDS_X_Y_Z, LAST_KEYS, END],
+        behind: &[
+            MAGIC,
+            SCHEMA,
+            X_Y,
+            FIRST_KEYS,
+            Z,
+            LAST_KEYS,
+            END,
+            LONGER_FOOTER,
+        ],
+        ..APPENDS
+    },
+    Case {
+        title: "a dictionary of other values",
+        file: TWO_TEXTS_FILE,
+        input: &[OTHER_IDS_SCHEMA, OTHER_IDS_Y_Z, FIRST_KEYS, END],
+        status: 8,
+        output: b"",
+        notes: b"refused 8 DictionaryReplaced\n",
+        behind: TWO_TEXTS_FILE,
+        ..APPENDS
+    },
     Case {
         title: "other fields",
         file: THREE_FILE,
@@ -89,30 +122,25 @@ const CASES: &[Case] = &[
     },
 ];
 
-/// A shelf with one file.
-fn shelf_with(alloc: Global, file: &[&str]) -> Result<MemoryShelf, Fail> {
+/// A shelf with one file, whose calls of these numbers fail.
+pub(crate) fn shelf_with(
+    alloc: Global,
+    file: &[&str],
+    failing: &[u64],
+) -> Result<MemoryShelf, Fail> {
     let mut entries = Vec::new(alloc);
     entries.push(Entry {
         name: String::from_str(alloc, "a")?,
         bytes: bytes_of(alloc, file)?,
-        failing: Vec::new(alloc),
+        failing: failing.to_vec(alloc)?,
         places: Vec::new(alloc),
     })?;
     Ok(MemoryShelf::new(alloc, entries, Vec::new(alloc)))
 }
 
-/// The bytes of texts, one behind the other.
-fn text_of(alloc: Global, parts: &[&str]) -> Result<Vec<u8>, Fail> {
-    let mut text = Vec::new(alloc);
-    for part in parts {
-        text.extend_from_slice(part.as_bytes())?;
-    }
-    Ok(text)
-}
-
 /// Whether a run leaves what it should.
 fn has_outcome(alloc: Global, case: &Case) -> Result<bool, Fail> {
-    let mut shelf = shelf_with(alloc, case.file)?;
+    let mut shelf = shelf_with(alloc, case.file, &[])?;
     let mut input = MemoryFeed::new(text_of(alloc, case.input)?, 100, Vec::new(alloc));
     let mut output = MemorySink::new(alloc, case.room, Vec::new(alloc));
     let mut notes = MemorySink::new(alloc, None, Vec::new(alloc));
