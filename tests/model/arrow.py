@@ -52,6 +52,11 @@ def pair(key, value):
     return Table(Text(key), Text(value))
 
 
+def pair_list(pairs):
+    """Pairs by their keys, or none at all."""
+    return None if pairs is None else Tables([pair(key, pairs[key]) for key in sorted(pairs)])
+
+
 def field(name, kind, nullable):
     """A kind is a tuple, or ("extension", name, metadata, kind)."""
     pairs = []
@@ -76,8 +81,8 @@ def up_to(n, at):
     return (at + n - 1) // n * n
 
 
-def message(tag, header, body, version=4):
-    metadata = lay(Table(Value(2, version), Value(1, tag), header, number(8, body)))
+def message(tag, header, body, version=4, pairs=None):
+    metadata = lay(Table(Value(2, version), Value(1, tag), header, number(8, body), pair_list(pairs)))
     metadata = metadata.ljust(up_to(8, len(metadata)), b"\0")
     return b"\xff\xff\xff\xff" + struct.pack("<I", len(metadata)) + metadata
 
@@ -104,10 +109,10 @@ def batch_tables(rows, columns, step=64):
     return Table(number(8, rows), Structs(nodes), Structs(buffers), None, Numbers64(views) if views else None), bytes(body)
 
 
-def batch(rows, columns, step=64):
+def batch(rows, columns, step=64, pairs=None):
     """The message and the body of a batch."""
     header, body = batch_tables(rows, columns, step)
-    return message(3, header, len(body)), body
+    return message(3, header, len(body), pairs=pairs), body
 
 
 MAGIC = b"ARROW1\0\0"

@@ -1,15 +1,33 @@
-"""The model gives the worked files and streams of crates/tests_files/src/parts.rt, byte by byte."""
+"""The model gives the worked files and streams of crates/tests_files/src/parts.rt, byte by byte, and its reader reads the worked ones
+of the crates of tests as what they say, those of other writers too, and refuses damaged ones."""
 import re
 import struct
 from pathlib import Path
 
 import arrow
+import reading
+import schema_reading
+import schemas
 from arrow import Column
+from cases import ALL
+from cells import difference, plain
+from flat_reading import Damaged, root
+from layout import Structs, Table, Value, lay, number
 from nested import Array
-from layout import Structs, Table, Tables, Value, lay, number
+from reading import Batch, Contents, read_file, read_stream
+from written import read_written_file, read_written_stream
 
-TEXT = (Path(__file__).parents[2] / "crates/tests_files/src/parts.rt").read_text()
-PARTS = {m[0].title().replace("_", ""): bytes.fromhex(m[1]) for m in re.findall(r"const (\w+): &\[u8\] =\s*b\"((?:[0-9a-f][0-9a-f])+)\"", TEXT)}
+CRATES = Path(__file__).parents[2] / "crates"
+TEXT = re.compile(r'(?:const (\w+): [^=;]*=|::(\w+) =>)\s*b?"((?:[0-9a-f][0-9a-f]|\\\s+)+)"')
+
+
+def parts_in(name):
+    """The hex texts of a file by their names."""
+    found = TEXT.findall((CRATES / name).read_text())
+    return {one.title().replace("_", "") or other: bytes.fromhex(re.sub(r"\\\s+", "", text)) for one, other, text in found}
+
+
+PARTS = parts_in("tests_files/src/parts.rt")
 A = [("a", ("int32",), True)]
 
 
@@ -28,27 +46,21 @@ assert b"".join(arrow.file_parts(A, [])) == known("Magic", "Schema", "EndMark", 
 # ── pairs of a footer and of a message themselves, and compressed buffers ──
 
 
-def message(header, body, pairs=None):
-    metadata = lay(Table(Value(2, 4), Value(1, 3), header, number(8, body), Tables(pairs) if pairs else None))
-    metadata = metadata.ljust(arrow.up_to(8, len(metadata)), b"\0")
-    return b"\xff\xff\xff\xff" + struct.pack("<I", len(metadata)) + metadata
-
-
 def footer(fields, head, body, pairs=None):
     schema = arrow.message(1, arrow.schema(fields), 0)
     block = struct.pack("<qiiq", 8 + len(schema), len(head), 0, len(body))
-    table = lay(Table(Value(2, 4), arrow.schema(fields), Structs([]), Structs([block]), Tables(pairs) if pairs else None))
+    table = lay(Table(Value(2, 4), arrow.schema(fields), Structs([]), Structs([block]), arrow.pair_list(pairs)))
     return table + struct.pack("<i", len(table)) + b"ARROW1"
 
 
-PAIR = [arrow.pair("k", "v")]
-plain, body = one[0]
+PAIR = {"k": "v"}
+head, body = one[0]
 batch = (number(8, 3), Structs([struct.pack("<qq", 3, 1)]), Structs([struct.pack("<qq", 0, 1), struct.pack("<qq", 64, 12)]))
-assert message(Table(*batch), len(body)) == plain
-assert footer(A, plain, body, PAIR) == known("OneBlockWithPair")
-paired = message(Table(*batch), len(body), PAIR)
+assert arrow.message(3, Table(*batch), len(body)) == head
+assert footer(A, head, body, PAIR) == known("OneBlockWithPair")
+paired = arrow.message(3, Table(*batch), len(body), pairs=PAIR)
 assert paired == known("OneNullWithPair") and footer(A, paired, body) == known("BlockOfPair")
-compressed = message(Table(*batch, Table()), len(body))
+compressed = arrow.message(3, Table(*batch, Table()), len(body))
 assert compressed == known("Compressed") and footer(A, compressed, body) == known("BlockOfCompressed")
 
 # ── no texts, over buffers of no bytes ──
@@ -73,3 +85,97 @@ def written(begin, count):
 assert written(0, 4) == ([(4, 1), (3, 0)], ["0b", "0000000002000000020000000200000003000000", "", "010203"], 192)
 assert written(1, 3) == ([(3, 1), (1, 0)], ["05", "00000000000000000000000001000000", "", "03"], 192)
 print("the worked files and streams are the model's")
+
+# ── what worked files and streams say ──
+
+COLUMN = [schemas.field("a", ("int32",))]
+ROWS = [1, None, 3]
+FILE = ("Magic", "Schema", "OneNull", "OneNullBody", "EndMark")
+
+
+def saying(*columns, pairs={}, own={}, order="little", fields=COLUMN):
+    """Contents of one column, of these rows in each batch."""
+    return Contents(order, fields, pairs, own, [Batch(len(rows), {}, [rows]) for rows in columns])
+
+
+assert difference(read_written_file(known(*FILE, "OneBlock")), saying(ROWS)) is None
+assert difference(read_written_stream(known(*FILE[1:])), saying(ROWS)) is None
+assert difference(read_written_file(known(*FILE, "OneBlockWithPair")), saying(ROWS, own=PAIR)) is None
+assert difference(read_file(known(*FILE[:2], "OneNullWithPair", *FILE[3:], "BlockOfPair")),
+                  saying()._replace(batches=[Batch(3, PAIR, [ROWS])])) is None
+assert difference(read_written_file(known("Magic", "Schema", "NoNull", "FirstBody", "FourRows", "SecondBody", "EndMark", "TwoBlocks")),
+                  saying([1, 2, 3], [4, 5, 6, 7])) is None
+assert difference(read_file(known("Magic", "TextSchema", "NoTexts", "EndMark", "BlockOfNoTexts")),
+                  saying([], fields=[schemas.field("t", ("utf8",))])) is None
+assert difference(read_file(known(*FILE, "OtherWriter")), saying(ROWS)) is None
+assert difference(read_file(known(*FILE, "BigEndian")), saying([1 << 24, None, 3 << 24], order="big")) is None
+column_with_pairs = [schemas.field("a", ("int32",), True, {"unit": "cm", "about": "x"})]
+assert difference(read_file(known(*FILE, "WithPairs")),
+                  saying(ROWS, pairs={"writer": "another", "by": ""}, fields=column_with_pairs)) is None
+
+for case in ALL:
+    if case.name != "NULLS":
+        file, stream = read_file(b"".join(case.file)), read_stream(b"".join(case.stream))
+        assert file.batches == stream.batches and file.fields == stream.fields, case.name
+[strings] = [case for case in ALL if case.name == "STRINGS"]
+assert read_file(b"".join(strings.file)).batches[0].columns[:6] == [
+    [b"\xff", None, b"\0\1"], [b"\xff", None, b"\0\1"], ["é", None, "z"], ["é", None, "z"], [b"abc", None, b"def"], [b"\xff" * 13, None, b"\xfe"]]
+
+# ── streams with pairs, and dictionaries in dictionaries, in the order of their blocks and out of it ──
+
+STREAMS = parts_in("tests_stream_reader/src/parts.rt")
+assert difference(read_stream(STREAMS["OlderNumbers"]), saying(ROWS)) is None
+paired = read_stream(STREAMS["Paired"])
+assert (paired.own, paired.batches) == (PAIR, [Batch(3, PAIR, [ROWS]), Batch(3, {}, [ROWS])])
+assert read_stream(STREAMS["Three"]).batches == [Batch(2, {}, [[1, 2], ["x", "yz"], [10, 20]])]
+X, Z, Q = ("x",), ("z",), ("q",)
+BOTH = [Batch(2, {}, [[Z, X]]), Batch(3, {}, [[X, Z, X]])]
+replaced = b"".join(STREAMS[name] for name in ("Schema", "Inner", "Delta", "Outer", "FirstBatch", "InnerAgain", "SecondBatch", "Delta", "Outer",
+                                              "SecondBatch", "EndMark"))
+assert read_stream(replaced).batches == [*BOTH, Batch(3, {}, [[Q, Z, Q]])]
+BLOCKS = parts_in("tests_streams/src/dictionary_parts.rt")
+assert read_file(BLOCKS["InOrder"]).batches == read_file(BLOCKS["OuterFirst"]).batches == read_stream(BLOCKS["Stream"]).batches == BOTH
+
+# ── schemas of other writers ──
+
+LAID = parts_in("tests_schemas/src/laid_by_hand.rt")
+order, fields, pairs = schema_reading.schema(root(LAID["OtherWriter"]).table(2))
+assert (order, [plain(f) for f in fields], pairs) == ("little", [plain(f) for f in schemas.EVERY], schemas.EVERY_PAIRS)
+DEFAULTS = [schemas.field("d", ("date64",), False), schemas.field("t", ("time32", "ms"), False),
+            schemas.field("k", ("dictionary", "int32", False, 7, ("utf8",)))]
+assert schema_reading.schema(root(LAID["Defaults"])) == ("little", DEFAULTS, {})
+EXTENDED = schemas.field("x", ("extension", "e", None, ("boolean",)), False, {"k": "2"})
+assert schema_reading.schema(root(LAID["Pairs"])) == ("big", [EXTENDED], {"a": "b"})
+print("the model reads the worked files and streams")
+
+# ── what is refused: places of a file at which a byte is changed, files and streams that are cut, and others ──
+
+
+def is_refused(read, data):
+    try:
+        read(data)
+    except Damaged:
+        return True
+    return False
+
+
+def changed(data, at, mask):
+    return data[:at] + bytes([data[at] ^ mask]) + data[at + 1:]
+
+
+file, stream = known(*FILE, "OneBlock"), known(*FILE[1:])
+assert all(is_refused(read_file, file[:n]) for n in range(len(file))), "a file that is cut"
+assert all(is_refused(read_stream, stream[:n]) for n in range(len(stream))), "a stream that is cut"
+assert is_refused(read_file, file + b"\0") and is_refused(read_stream, stream + b"\0"), "a byte behind"
+PLACES = {"magic": 0, "front": 6, "last byte": len(file) - 1, "length of the footer": len(file) - 10, "root of the footer": len(file) - 186}
+for what, at in PLACES.items():
+    assert is_refused(read_file, changed(file, at, 1)), what
+for at in range(len(file)):
+    for mask in (1, 0x80, 0xff):
+        is_refused(read_file, changed(file, at, mask))  # or read, and no other fault
+REFUSED = [known("Magic", "Schema", "Compressed", "OneNullBody", "EndMark", "BlockOfCompressed"), known("Magic", "Schema", "EndMark", "FarDictionary"),
+           known("Magic", "Schema", "NegativeRows", "FirstBody", "EndMark", "OneBlock"), BLOCKS["DeltaFirst"]]
+assert all(is_refused(read_file, data) for data in REFUSED)
+assert all(is_refused(read_stream, STREAMS[name]) for name in ("LongBody", "LongMetadata"))
+assert all(is_refused(lambda data: schema_reading.schema(root(data)), LAID[name]) for name in ("SameIds", "WideMap"))
+print("the model refuses damaged ones")

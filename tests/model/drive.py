@@ -1,5 +1,6 @@
 """Runs the built program on random files of all kinds, half of them with dictionaries, by their names and as hex text, in random columns and up
-to random limits, as bytes and as hex text: python3 drive.py PROGRAM COUNT SEED. Prints what differs; the status is 0 where nothing does."""
+to random limits, as bytes and as hex text. What it prints is the model's stream, and the model reads it as what was asked for of the file:
+python3 drive.py PROGRAM COUNT SEED. Prints what differs; the status is 0 where nothing does."""
 import subprocess
 import sys
 import tempfile
@@ -8,7 +9,9 @@ from pathlib import Path
 
 import fuzz_dictionaries
 import fuzz_nested
-from driving import drive
+from cells import cut
+from driving import drive, misread
+from reading import read_stream
 
 
 def request_of(r):
@@ -29,7 +32,7 @@ def words_of(asked):
 
 def differs(program, folder, r):
     asked = request_of(r)
-    file, stream = r.choice([fuzz_nested, fuzz_dictionaries]).case(r, asked)
+    file, stream, contents = r.choice([fuzz_nested, fuzz_dictionaries]).case(r, asked)
     words = words_of(asked)
     by_name, raw = r.choice([True, False]), r.choice([True, False])
     given = b""
@@ -42,9 +45,10 @@ def differs(program, folder, r):
         given = file.hex().encode()
     done = subprocess.run([program, *words], input=given, capture_output=True, cwd=folder)
     expected = stream if raw else stream.hex().encode() + b"\n"
-    if (done.returncode, done.stdout, done.stderr) == (0, expected, b""):
-        return None
-    return words, done.returncode, done.stderr.decode(), file.hex()
+    if (done.returncode, done.stdout, done.stderr) != (0, expected, b""):
+        return words, done.returncode, done.stderr.decode(), file.hex()
+    reason = misread(read_stream, stream, cut(contents, fuzz_nested.asked_columns(asked), asked.limit))
+    return reason and (reason, file.hex())
 
 
 def main():

@@ -1,7 +1,8 @@
 """Runs the program that reads and writes again (`crates/rewrite`) on random files of all kinds, half of them with dictionaries: the stream
 that it writes of a file is the model's; written once more it stays as it is, and so does the stream of a file that it writes. A validity
-that tells of no nulls is left out where what was written is read: python3 drive_writers.py PROGRAM REWRITE COUNT SEED. Prints what
-differs; the status is 0 where nothing does."""
+that tells of no nulls is left out where what was written is read. Each stream and file that it writes is read by the model too, and says
+what the file says that was written again: python3 drive_writers.py PROGRAM REWRITE COUNT SEED. Prints what differs; the status is 0 where
+nothing does."""
 import sys
 import tempfile
 from argparse import Namespace
@@ -9,7 +10,9 @@ from pathlib import Path
 
 import fuzz_dictionaries
 import fuzz_nested
-from driving import Programs, drive
+from cells import cut
+from driving import Programs, drive, misread
+from written import read_written_file, read_written_stream
 
 
 def asked(shares):
@@ -20,11 +23,25 @@ def asked(shares):
 STREAMS = [("send", "file", "stream1"), ("stream", "stream1", "stream2"), ("stream", "stream2", "stream3")]
 
 
+def misread_ones(programs, contents, has_file):
+    """What the model reads otherwise of what was written. A file is written in little-endian order."""
+    sent = cut(contents, None, None)
+    for name in ("stream1", "stream2", "stream3"):
+        reason = misread(read_written_stream, programs.bytes_of(name), sent)
+        if reason:
+            return name, reason
+    if has_file:
+        reason = misread(read_written_file, programs.bytes_of("file2"), contents._replace(order="little"))
+        if reason:
+            return "file2", reason
+    return None
+
+
 def differs(programs, r):
     """What is not so, for a random file. It is not written as a file where two columns share an id, of which each may have been read under
     other values."""
     shares = r.choice([True, False])
-    file, stream = r.choice([fuzz_nested, fuzz_dictionaries]).case(r, asked(shares))
+    file, stream, contents = r.choice([fuzz_nested, fuzz_dictionaries]).case(r, asked(shares))
     (programs.folder / "file").write_bytes(file)
     for word, source, target in STREAMS if shares else [*STREAMS, ("file", "file", "file2")]:
         reason = programs.again(word, source, target)
@@ -36,7 +53,8 @@ def differs(programs, r):
         return "the stream once more", file.hex()
     if not shares and programs.stream_of("file2") != programs.bytes_of("stream2"):
         return "the file", file.hex()
-    return None
+    found = misread_ones(programs, contents, not shares)
+    return found and (*found, file.hex())
 
 
 def main():

@@ -3,6 +3,9 @@ import random
 import subprocess
 from pathlib import Path
 
+from cells import difference
+from flat_reading import Damaged
+
 
 class Programs:
     """The program and the one that writes again, run in a folder."""
@@ -22,6 +25,14 @@ class Programs:
 
     def bytes_of(self, name):
         return (self.folder / name).read_bytes()
+
+
+def misread(read, data, contents):
+    """In what it differs from some contents that bytes say by a reader, or why it refuses them, or None."""
+    try:
+        return difference(read(data), contents)
+    except Damaged as fault:
+        return f"refused: {fault}"
 
 
 def drive(differs, count, seed):

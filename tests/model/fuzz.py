@@ -95,23 +95,8 @@ def variable(r, rows):
     return with_validity(r, rows, (name,), [held, data + garbage(r, r.choice([0, 0, 7]))], sent, flags)
 
 
-def laid_anew(values, flags, held_views):
-    out, buffer = b"", b""
-    for i, value in enumerate(values):
-        if flags is not None and not flags[i]:
-            out += bytes(16)
-        elif len(value) <= 12:
-            out += held_views[i]
-        else:
-            out += arrow.view(value, 0, len(buffer))
-            buffer += value
-    return out, [buffer] if buffer else []
-
-
-def view(r, rows):
-    name = r.choice(["binary_view", "utf8_view"])
-    flags = flags_of(r, rows)
-    values = [r.choice(MIXED).encode() if name == "utf8_view" else garbage(r, r.choice([0, 3, 12, 13, 30])) for _ in range(rows)]
+def placed(r, values, flags):
+    """Views of values, and their buffers, in which other bytes may stand too."""
     buffers = [bytearray() for _ in range(r.choice([0, 1, 1, 2, 3]))]
     views = []
     for i, value in enumerate(values):
@@ -132,17 +117,41 @@ def view(r, rows):
             views.append(arrow.view(value, 0, 0))
     for b in buffers:
         b += garbage(r, r.choice([0, 0, 0, 13, 300, 1100]))
-    held = [bytes(b) for b in buffers]
+    return views, [bytes(b) for b in buffers]
+
+
+def laid_anew(values, flags, held_views):
+    out, buffer = b"", b""
+    for i, value in enumerate(values):
+        if flags is not None and not flags[i]:
+            out += bytes(16)
+        elif len(value) <= 12:
+            out += held_views[i]
+        else:
+            out += arrow.view(value, 0, len(buffer))
+            buffer += value
+    return out, [buffer] if buffer else []
+
+
+def sent_views(values, flags, views, buffers):
+    """The views and the buffers of a top column as they are sent: laid anew where much of the buffers is unused."""
     used = sum(len(v) for i, v in enumerate(values) if flags is None or flags[i])
-    unused = max(0, sum(map(len, held)) - used)
-    if rows == 0:
-        sent_views, sent_buffers = b"", []
-    elif min(used, 1024) <= unused:
-        sent_views, sent_buffers = laid_anew(values, flags, views)
-    else:
-        sent_views, sent_buffers = b"".join(views), held
+    unused = max(0, sum(map(len, buffers)) - used)
+    if not values:
+        return b"", []
+    if min(used, 1024) <= unused:
+        return laid_anew(values, flags, views)
+    return b"".join(views), buffers
+
+
+def view(r, rows):
+    name = r.choice(["binary_view", "utf8_view"])
+    flags = flags_of(r, rows)
+    values = [r.choice(MIXED).encode() if name == "utf8_view" else garbage(r, r.choice([0, 3, 12, 13, 30])) for _ in range(rows)]
+    views, held = placed(r, values, flags)
+    views_sent, buffers_sent = sent_views(values, flags, views, held)
     return with_validity(r, rows, (name,), [b"".join(views) + garbage(r, r.choice([0, 0, 16, 5])), *held],
-                         [sent_views, *sent_buffers], flags, len(held), len(sent_buffers))
+                         [views_sent, *buffers_sent], flags, len(held), len(buffers_sent))
 
 
 def column(r, kind_of, rows):
@@ -192,7 +201,7 @@ def write_cases(folder, count, seed, case):
     """Random files as hex text, each with what is expected of it."""
     os.makedirs(folder, exist_ok=True)
     for i in range(count):
-        file, stream = case(random.Random(seed * 100000 + i))
+        file, stream = case(random.Random(seed * 100000 + i))[:2]
         with open(os.path.join(folder, f"case{i:04}"), "w") as out:
             out.write(file.hex())
         with open(os.path.join(folder, f"case{i:04}.stdout"), "w") as out:

@@ -1,20 +1,15 @@
 """Random files of columns with dictionaries at any depth, also in the values of others, in one part or in several, in either byte
 order, with their streams, as cases for `rt try --cases FOLDER -- stream WORDS`: python3 fuzz_dictionaries.py FOLDER COUNT SEED WORDS,
 as for fuzz_nested.py."""
-from collections import namedtuple
-
 import arrow
 import fuzz_nested
-import schemas
+from cells import Message, parts_of
 from fuzz import held_tables
-from fuzz_nested import file_of, held_batch, schema_kind
+from fuzz_fields import random_heading, random_pairs
 from layout import Table, number
-from nested import Array, children_of, random_array, random_kind
+from nested import Array, children_of, layout_of, random_array, random_kind
 
 INDEXES = ["int8", "int16", "int32", "int64", "uint8", "uint16", "uint32", "uint64"]
-
-# a message of a dictionary's values, whether it goes on with those before it, and its values
-Message = namedtuple("Message", "id is_delta values")
 
 
 # ── kinds ──
@@ -32,6 +27,8 @@ def with_children(kind, children):
         return (name, *children)
     if name == "union":
         return (*kind[:3], *children)
+    if name == "extension":
+        return (*kind[:3], with_children(kind[3], children))
     return kind
 
 
@@ -42,7 +39,7 @@ def with_dictionaries(r, kind, taken, shares):
         id = r.choice(list(taken))
         return ("dictionary", index, ordered, id, taken[id])
     below = children_of(kind)
-    if kind[0] == "map":
+    if layout_of(kind)[0] == "map":
         below = [("struct", *[with_dictionaries(r, k, taken, shares) for k in below[0][1:]])]
     else:
         below = [with_dictionaries(r, k, taken, shares) for k in below]
@@ -100,8 +97,10 @@ def random_messages(r, taken):
 
 
 def held_message(r, message, order, version):
+    """A message of values, whose pairs are passed over."""
     header, body = held_tables(r, message.values.rows, message.values.held(r, order, version))
-    return arrow.message(2, Table(number(8, message.id), header, number(1, message.is_delta)), len(body), version), body
+    table = Table(number(8, message.id), header, number(1, message.is_delta))
+    return arrow.message(2, table, len(body), version, random_pairs(r)), body
 
 
 # ── the stream's messages ──
@@ -121,8 +120,7 @@ class Sending:
 
     def send_dictionary(self, messages, kind, at):
         _, _, _, id, values = kind
-        read = [(m.values, messages[:i]) for i, m in enumerate(messages) if m.id == id]
-        read = read or [(no_rows(values), [])]
+        read = parts_of(messages, id) or [(no_rows(values), [])]
         sent, passed = self.counts.get(at), 0
         is_delta = sent is not None
         for i, (part, under) in enumerate(read):
@@ -140,6 +138,7 @@ class Sending:
 
 def no_rows(kind):
     """An array of a kind without rows, as nothing was read of it."""
+    kind = layout_of(kind)
     name = kind[0]
     parts = {"children": [no_rows(k) for k in children_of(kind)]}
     if name in ("list", "large_list", "map", "utf8", "large_utf8", "binary", "large_binary"):
@@ -160,76 +159,30 @@ def no_rows(kind):
 # ── cases ──
 
 
-def top_kind(r, taken, unions, order, shares):
-    """No view stands at the top, where it might be laid anew, and none in big-endian order, where it is refused."""
-    while True:
+def random_kinds(r, count, unions, order, shares):
+    """Kinds of columns, and those of the values of their dictionaries by the ids. No view stands in big-endian order, where it is refused."""
+    kinds, taken = [], {}
+    for _ in range(count):
         kind = random_kind(r, 2, unions, order == "little")
-        if "view" not in kind[0] or r.random() < 0.5:
-            found = dict(taken)
-            kind = with_dictionaries(r, kind, found, shares)
-            if "view" not in kind[0]:
-                taken.update(found)
-                return kind
-
-
-def stream_fields(kinds, chosen):
-    at, fields = 0, []
-    for i in chosen:
-        fields.append(schemas.field(f"c{i}", schema_kind(numbered(kinds[i], at))))
-        at += count_of(kinds[i])
-    return fields
+        kinds.append(with_dictionaries(r, kind, taken, shares))
+    return kinds, taken
 
 
 def case(r, asked):
-    order, version = r.choice(["little", "little", "big"]), r.choice([4, 4, 3])
-    columns = None if asked.columns is None else [int(n) for n in asked.columns.split(",") if n]
-    taken, shares = {}, getattr(asked, "shares", True)
-    kinds = [top_kind(r, taken, asked.unions, order, shares) for _ in range(max(columns or [0]) + 1 + r.choice([0, 1, 2]))]
-    fields = [schemas.field(f"c{i}", schema_kind(k)) for i, k in enumerate(kinds)]
-    chosen = range(len(kinds)) if columns is None else columns
-    messages = random_messages(r, taken)
-    sending, left, at, batches, stream = Sending(), asked.limit, 0, [], []
-    for i in chosen:
-        sending.send_kind(messages, kinds[i], at)
-        at += count_of(kinds[i])
-    for _ in range(r.choice([0, 1, 1, 2, 3])):
-        rows = r.choice([0, 1, 2, 3, 9])
-        arrays = [random_array(r, k, rows) for k in kinds]
-        batches.append(held_batch(r, rows, [c for a in arrays for c in a.held(r, order, version)], version))
-        read = rows if left is None else min(rows, left)
-        stream += arrow.batch(read, [c for i in chosen for c in arrays[i].sent(read, 0, read)])
-        left = None if left is None else left - read
-    file = file_of(fields, order, batches, version, [held_message(r, m, order, version) for m in messages])
-    head = arrow.message(1, schemas.schema_table(stream_fields(kinds, chosen), {}), 0)
-    return file, b"".join([head, *(sending.parts if batches else []), *stream, arrow.END])
+    order, version = fuzz_nested.random_order(r)
+    count = max(fuzz_nested.asked_columns(asked) or [0]) + 1 + r.choice([0, 1, 2])
+    kinds, taken = random_kinds(r, count, asked.unions, order, getattr(asked, "shares", True))
+    heading, messages = random_heading(r, kinds, order, version), random_messages(r, taken)
 
+    def sent_dictionaries(chosen):
+        sending, at = Sending(), 0
+        for i in chosen:
+            sending.send_kind(messages, kinds[i], at)
+            at += count_of(kinds[i])
+        return sending.parts
 
-def random_batch(r, kinds, version):
-    """A batch as a little-endian file has it."""
-    rows = r.choice([0, 1, 2, 3, 9])
-    arrays = [random_array(r, k, rows) for k in kinds]
-    return held_batch(r, rows, [c for a in arrays for c in a.held(r, "little", version)], version)
-
-
-def append_case(r):
-    """A file, a stream of its fields and dictionaries as others write it, and a file with the batches of both. Each id has values, and stands
-    once in the schema."""
-    version, taken = r.choice([4, 4, 3]), {}
-    kinds = [top_kind(r, taken, True, "little", False) for _ in range(r.choice([1, 2, 3]))]
-    fields = [schemas.field(f"c{i}", schema_kind(k)) for i, k in enumerate(kinds)]
-    messages = random_messages(r, taken)
-    while {m.id for m in messages} != set(taken):
-        messages = random_messages(r, taken)
-    first = [random_batch(r, kinds, version) for _ in range(r.choice([1, 1, 2]))]
-    more = [random_batch(r, kinds, version) for _ in range(r.choice([0, 1, 2]))]
-
-    def file_with(batches):
-        return file_of(fields, "little", batches, version, [held_message(r, m, "little", version) for m in messages])
-
-    head = arrow.message(1, schemas.schema_table(fields, {}), 0, version)
-    before = [held_message(r, m, "little", version) for m in messages] if more else []
-    stream = b"".join([head, *(p for m in [*before, *more] for p in m), arrow.END])
-    return file_with(first), stream, file_with(first + more)
+    held = [held_message(r, message, order, version) for message in messages]
+    return fuzz_nested.made(r, asked, kinds, heading, messages, held, sent_dictionaries)
 
 
 if __name__ == "__main__":

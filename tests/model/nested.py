@@ -1,15 +1,23 @@
 """Columns of any kind, with their children: what a file holds of them, and what its stream does.
 
 A kind is a tuple as in arrow.py, or ("list", kind), ("large_list", kind), ("fixed_list", size, kind),
-("map", key kind, value kind), ("struct", kind, ..), ("union", mode, ids, kind, ..) or ("dictionary", index, is ordered, id, kind),
-whose values stand in messages of their own.
+("map", key kind, value kind), ("struct", kind, ..), ("union", mode, ids, kind, ..), whose ids may be None, or
+("dictionary", index, is ordered, id, kind), whose values stand in messages of their own.
 """
 import struct
 
 from arrow import Column, bits
-from fuzz import garbage
+from fuzz import FIXED, garbage, placed, sent_views
 
-CHILDREN = {"list": 1, "large_list": 1, "fixed_list": 1, "map": 1, "struct": 0, "union": 0}
+
+def layout_of(kind):
+    """The kind below an extension."""
+    return layout_of(kind[3]) if kind[0] == "extension" else kind
+
+
+def ids_of(kind):
+    """The ids of a union, which count from 0 where there are none."""
+    return range(len(kind) - 3) if kind[2] is None else kind[2]
 
 
 def children_of(kind):
@@ -114,7 +122,7 @@ class Array:
         name = self.kind[0]
         rows = range(begin, begin + count)
         nulls = count if name == "null" else sum(1 for i in rows if self.flags is not None and not self.flags[i])
-        pieces, below = self.sent_pieces(read, begin, count, is_top)
+        pieces, below = self.sent_top(count) if is_top and "buffers" in self.parts else self.sent_pieces(read, begin, count)
         views = None
         if "buffers" in self.parts:
             views = len(pieces) - 1
@@ -123,7 +131,23 @@ class Array:
             pieces = [bits([self.flags[i] for i in rows]) if has_validity else b""] + pieces
         return [Column(count, nulls, pieces, views)] + below
 
-    def sent_pieces(self, read, begin, count, is_top):
+    def viewed(self, row):
+        """The bytes that a view tells."""
+        view, buffers = self.parts["views"][row], self.parts["buffers"]
+        length, = struct.unpack_from("<I", view)
+        if length <= 12:
+            return view[4:4 + length]
+        number, at = struct.unpack_from("<II", view, 8)
+        return buffers[number][at:at + length]
+
+    def sent_top(self, count):
+        """Views that are a column of the batch."""
+        flags = self.flags
+        values = [self.viewed(i) if flags is None or flags[i] else b"" for i in range(count)]
+        views, buffers = sent_views(values, flags, self.parts["views"][:count], self.parts["buffers"])
+        return [views, *buffers], []
+
+    def sent_pieces(self, read, begin, count):
         name, parts = self.kind[0], self.parts
         end = begin + count
         if name == "null":
@@ -169,14 +193,18 @@ def pack(pattern, numbers):
 # ── random arrays ──
 
 
-LEAVES = [("int8",), ("int16",), ("int32",), ("int64",), ("uint16",), ("uint64",), ("decimal", 38, 10), ("date32",), ("date64",),
-          ("time32", "ms"), ("timestamp", "us", ""), ("duration", "s"), ("interval", "year_month"), ("interval", "day_time"),
-          ("interval", "month_day_nano"), ("fixed", 3), ("boolean",), ("null",), ("utf8",), ("large_utf8",), ("binary",), ("large_binary",),
-          ("utf8_view",), ("binary_view",)]
+LEAVES = [*[kind for kind, _ in FIXED], ("duration", "us"), ("duration", "ns"), ("boolean",), ("null",), ("boolean",), ("null",),
+          *[(name,) for name in ("utf8", "large_utf8", "binary", "large_binary", "utf8_view", "binary_view")] * 2]
 TEXTS = ["", "a", "é", "abcdefghijkl", "abcdefghijklm", "日本語テキスト"]
 
 
 def random_kind(r, depth, unions=False, views=True):
+    """A kind, or an extension of one."""
+    kind = plain_kind(r, depth, unions, views)
+    return ("extension", r.choice(["own", "é"]), r.choice([None, "", "m"]), kind) if r.random() < 0.1 else kind
+
+
+def plain_kind(r, depth, unions, views):
     leaves = [k for k in LEAVES if views or "view" not in k[0]]
     if depth == 0 or r.random() < 0.3:
         return r.choice(leaves)
@@ -193,7 +221,8 @@ def random_kind(r, depth, unions=False, views=True):
         return (name, *[below() for _ in range(r.choice([0, 1, 2, 3]))])
     if name == "union":
         count = r.choice([1, 2, 3])
-        return (name, r.choice(["sparse", "dense"]), tuple(r.sample(range(128), count)), *[below() for _ in range(count)])
+        ids = r.choice([None, tuple(r.sample(range(128), count))])
+        return (name, r.choice(["sparse", "dense"]), ids, *[below() for _ in range(count)])
     return (name, below())
 
 
@@ -215,6 +244,7 @@ def rising(r, rows, step):
 
 
 def random_array(r, kind, rows):
+    kind = layout_of(kind)
     name = kind[0]
     flags = None if name in ("null", "union") else flags_of(r, rows)
     if name in ("list", "large_list", "map"):
@@ -255,7 +285,7 @@ def random_keys(r, kind, rows, flags):
 
 
 def random_union(r, kind, rows):
-    _, mode, ids, *kinds = kind
+    mode, ids, kinds = kind[1], ids_of(kind), children_of(kind)
     types = [r.choice(ids) for _ in range(rows)]
     if mode == "sparse":
         return Array(kind, rows, None, types=types, places=None, children=[random_array(r, k, rows + more(r)) for k in kinds])
@@ -277,15 +307,7 @@ def random_variable(r, kind, rows, flags):
 
 
 def random_views(r, kind, rows, flags):
-    buffer, views = b"", []
-    for i in range(rows):
-        if flags is not None and not flags[i]:
-            views.append(garbage(r, 16))
-            continue
-        value = r.choice(TEXTS).encode()
-        if len(value) <= 12:
-            views.append(struct.pack("<I", len(value)) + value.ljust(12, b"\0"))
-        else:
-            views.append(struct.pack("<I", len(value)) + value[:4] + struct.pack("<II", 0, len(buffer)))
-            buffer += value
-    return Array(kind, rows, flags, views=views, buffers=[buffer])
+    is_text = kind[0] == "utf8_view"
+    values = [r.choice(TEXTS).encode() if is_text else garbage(r, r.choice([0, 3, 12, 13, 30])) for _ in range(rows)]
+    views, buffers = placed(r, values, flags)
+    return Array(kind, rows, flags, views=views, buffers=buffers)

@@ -1,10 +1,10 @@
 """Schemas of every type: their tables, and their texts as the command `schema` prints them.
 
 A kind is a tuple that begins with its name, a field is (name, kind, nullable, pairs)."""
-import struct
+import itertools
 
 import arrow
-from arrow import pair
+from arrow import pair, pair_list
 from layout import Numbers32, Table, Tables, Text, Value, lay, number
 
 EXTENSION = "ARROW:extension:"
@@ -88,13 +88,41 @@ def field_table(field):
 
 
 def schema_table(fields, pairs, order="little"):
-    own = Tables([pair(key, pairs[key]) for key in sorted(pairs)]) if pairs else None
+    own = pair_list(pairs) if pairs else None
     return Table(number(2, {"little": 0, "big": 1}[order]), Tables([field_table(f) for f in fields]), own)
 
 
 def message(table):
     """The metadata of a schema's message."""
     return lay(Table(Value(2, 4), Value(1, 1), table))
+
+
+def numbered_kind(kind, ids):
+    name = kind[0]
+    if name in ("list", "large_list"):
+        return name, numbered_field(kind[1], ids)
+    if name in ("fixed_list", "map"):
+        return name, kind[1], numbered_field(kind[2], ids)
+    if name in ("struct", "union"):
+        return (*kind[:-1], [numbered_field(f, ids) for f in kind[-1]])
+    if name == "dictionary":
+        id = ids(kind[3])
+        return (*kind[:3], id, numbered_kind(kind[4], ids))
+    if name == "extension":
+        return (*kind[:3], numbered_kind(kind[3], ids))
+    return kind
+
+
+def numbered_field(field, ids):
+    """A field whose dictionaries have the ids that a function gives of theirs."""
+    name, kind, nullable, pairs = field
+    return name, numbered_kind(kind, ids), nullable, pairs
+
+
+def numbered(fields):
+    """Fields whose dictionaries are numbered in preorder from 0 on."""
+    numbers = itertools.count()
+    return [numbered_field(f, lambda id: next(numbers)) for f in fields]
 
 
 # ── texts ──
