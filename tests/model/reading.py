@@ -64,14 +64,14 @@ def messages_from(data, at):
 class Reader:
     """What is known of fields and of dictionaries, whose values are cells."""
 
-    def __init__(self, order, fields, is_exact):
-        self.order, self.kinds, self.is_exact = order, [kind for _, kind, _, _ in fields], is_exact
+    def __init__(self, order, fields, exact_from):
+        self.order, self.kinds, self.exact_from = order, [kind for _, kind, _, _ in fields], exact_from
         self.values = schema_reading.dictionaries(self.kinds)
         self.dictionaries = {}
 
     def columns(self, kinds, table, message):
         rows, body = table.number(0, "<q"), Body(table, message.body, self.order, message.version, self.dictionaries)
-        body.is_exact = self.is_exact
+        body.is_exact = self.exact_from is not None and message.at >= self.exact_from
         columns = [read(kind, body) for kind in kinds]
         body.end()
         demand(rows >= 0 and all(column.rows == rows for column in columns), f"columns of other numbers of rows than {rows}")
@@ -93,13 +93,13 @@ class Reader:
 # ── streams ──
 
 
-def read_stream(data, is_exact=False):
-    """What a stream says, which ends with an end mark and nothing behind it."""
+def read_stream(data, exact_from=None):
+    """What a stream says, which ends with an end mark and nothing behind it. From a place on the nulls that nodes state are counted."""
     messages, at = messages_from(data, 0)
     demand(data[at:] in (struct.pack("<ii", -1, 0), bytes(4)), f"{len(data) - at} bytes where the end mark stands")
     demand(messages and messages[0].tag == SCHEMA, "a stream without a schema")
     order, fields, pairs = schema_reading.schema(messages[0].header)
-    reader, batches = Reader(order, fields, is_exact), []
+    reader, batches = Reader(order, fields, exact_from), []
     for message in messages[1:]:
         demand(message.tag in (DICTIONARY, RECORD), f"a message of the type {message.tag}")
         if message.tag == DICTIONARY:
@@ -147,12 +147,12 @@ def file_dictionaries(reader, messages):
     demand(all(m.header.number(0, "<q") in reader.values for m in messages), "a dictionary of no field")
 
 
-def read_file(data, is_exact=False):
-    """What a file says, by its footer."""
+def read_file(data, exact_from=None):
+    """What a file says, by its footer. From a place on the nulls that nodes state are counted."""
     footer, end = footer_of(data)
     demand(footer.number(0, "<h") in (3, 4) and footer.table(1) is not None, "a footer without its version or its schema")
     order, fields, pairs = schema_reading.schema(footer.table(1))
-    reader = Reader(order, fields, is_exact)
+    reader = Reader(order, fields, exact_from)
     held = [[block_message(data, block, tag, end) for block in blocks_of(footer, slot)] for slot, tag in ((2, DICTIONARY), (3, RECORD))]
     file_dictionaries(reader, held[0])
     return Contents(order, fields, pairs, schema_reading.pairs(footer, 4), [reader.batch(message) for message in held[1]])

@@ -46,7 +46,7 @@ def read_written_stream(data):
     demand(data[at:] == END, "no end mark at the end")
     check_places(data, messages)
     check_messages(messages[1:])
-    return read_stream(data, True)
+    return read_stream(data, 0)
 
 
 def check_front(messages, footer):
@@ -60,8 +60,8 @@ def check_blocks(messages, footer):
         demand(blocks_of(footer, slot) == places, f"other blocks than the messages of the type {tag}")
 
 
-def check_file(data, begun=0):
-    """The whole file, of whose messages the first ones were written by others, so many beside the schema."""
+def check_file(data, begun):
+    """The whole file. Answers where the messages behind the begun ones stand."""
     footer, end = footer_of(data)
     messages, at = messages_from(data, len(MAGIC) + 2)
     demand(data[at:end] == END, "no end mark right before the footer")
@@ -70,9 +70,9 @@ def check_file(data, begun=0):
     check_blocks(messages, footer)
     check_places(data, messages)
     check_messages(messages[1 + begun:])
+    return messages[1 + begun].at if len(messages) > 1 + begun else end
 
 
 def read_written_file(data, begun=0):
-    """What a file says that was written whole, or gone on with behind so many messages."""
-    check_file(data, begun)
-    return read_file(data, begun == 0)
+    """What a file says that was written whole, or gone on with behind so many messages beside the schema."""
+    return read_file(data, check_file(data, begun))
