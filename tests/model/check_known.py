@@ -118,8 +118,9 @@ for case in ALL:
         file, stream = read_file(b"".join(case.file)), read_stream(b"".join(case.stream))
         assert file.batches == stream.batches and file.fields == stream.fields, case.name
 [strings] = [case for case in ALL if case.name == "STRINGS"]
+BYTES, TEXTS = [b"\xff", None, b"\0\1"], ["é", None, "z"]
 assert read_file(b"".join(strings.file)).batches[0].columns[:6] == [
-    [b"\xff", None, b"\0\1"], [b"\xff", None, b"\0\1"], ["é", None, "z"], ["é", None, "z"], [b"abc", None, b"def"], [b"\xff" * 13, None, b"\xfe"]]
+    BYTES, BYTES, TEXTS, TEXTS, [b"abc", None, b"def"], [b"\xff" * 13, None, b"\xfe"]]
 
 # ── streams with pairs, and dictionaries in dictionaries, in the order of their blocks and out of it ──
 
@@ -173,9 +174,28 @@ for what, at in PLACES.items():
 for at in range(len(file)):
     for mask in (1, 0x80, 0xff):
         is_refused(read_file, changed(file, at, mask))  # or read, and no other fault
-REFUSED = [known("Magic", "Schema", "Compressed", "OneNullBody", "EndMark", "BlockOfCompressed"), known("Magic", "Schema", "EndMark", "FarDictionary"),
-           known("Magic", "Schema", "NegativeRows", "FirstBody", "EndMark", "OneBlock"), BLOCKS["DeltaFirst"]]
+REFUSED = [known("Magic", "Schema", "Compressed", "OneNullBody", "EndMark", "BlockOfCompressed"),
+           known("Magic", "Schema", "EndMark", "FarDictionary"), BLOCKS["DeltaFirst"]]
 assert all(is_refused(read_file, data) for data in REFUSED)
-assert all(is_refused(read_stream, STREAMS[name]) for name in ("LongBody", "LongMetadata"))
+REFUSED = [STREAMS["LongBody"], STREAMS["LongMetadata"], known("Schema", "NegativeRows", "FirstBody", "EndMark"),
+           known("Schema", "ManyRows", "FirstBody", "EndMark"), known("Schema", "NoNull", "NoValidityBody", "Schema", "EndMark"),
+           known("NoNull", "FirstBody", "EndMark"), b"".join(STREAMS[name] for name in ("Schema", "Outer", "Inner", "FirstBatch", "EndMark"))]
+assert all(is_refused(read_stream, data) for data in REFUSED)
 assert all(is_refused(lambda data: schema_reading.schema(root(data)), LAID[name]) for name in ("SameIds", "WideMap"))
 print("the model refuses damaged ones")
+
+# ── what is read, and is not as a writer has to leave it ──
+
+at_eights = b"".join(arrow.file_parts(A, [arrow.batch(3, [arrow.numbers("<i", [1, None, 3])], 8)]))
+batches = known("Magic", "Schema", "NoNull", "FirstBody", "FourRows", "SecondBody", "EndMark")
+back = known("TwoBlocks")
+turned = batches + back[:-58] + back[-34:-10] + back[-58:-34] + back[-10:]
+nulls = file.index(struct.pack("<qq", 3, 1)) + 8
+older = arrow.message(3, Table(*batch), len(body), 3)
+LEFT = {"buffers at multiples of 8": at_eights, "blocks out of order": turned, "a gap before the footer": known(*FILE) + bytes(64) + known("OneBlock"),
+        "a wrong number of nulls": changed(file, nulls, 3), "no zero behind a buffer": changed(file, len(known("Magic", "Schema", "OneNull")) + 9, 1),
+        "version V4": known("Magic", "Schema") + older + body + known("EndMark", "OneBlock"), "pairs in the footer alone": known(*FILE, "WithPairs")}
+for what, data in LEFT.items():
+    assert not is_refused(read_file, data) and is_refused(read_written_file, data), what
+assert is_refused(read_written_stream, STREAMS["OlderNumbers"]), "prefixes of four bytes"
+print("and those that no writer here leaves")

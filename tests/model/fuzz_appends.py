@@ -137,7 +137,7 @@ def ids_below(kind):
 
 def others_in(r, taken):
     """The ids under which the stream has other values, with those in whose values they stand. Mostly none."""
-    others = {id for id in taken if r.random() < 0.3} if r.random() < 0.3 else set()
+    others = {id for id in taken if r.random() < 0.4} if r.random() < 0.4 else set()
     return {id for id in taken if id in others or others & set(ids_below(taken[id]))}
 
 

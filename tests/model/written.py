@@ -19,6 +19,7 @@ def up_to_64(n):
 def check_body(message):
     """The buffers of a record batch or of a dictionary's values."""
     table = message.header if message.tag == RECORD else message.header.table(1)
+    demand(table is not None, "a dictionary without its values")
     end = 0
     for at, length in table.structs(2, "<qq"):
         demand(at == up_to_64(end), f"a buffer at {at} behind one that ends at {end}")
