@@ -194,7 +194,7 @@ nulls = file.index(struct.pack("<qq", 3, 1)) + 8
 older = arrow.message(3, Table(*batch), len(body), 3)
 LEFT = {"buffers at multiples of 8": at_eights, "blocks out of order": turned, "a gap before the footer": known(*FILE) + bytes(64) + known("OneBlock"),
         "a wrong number of nulls": changed(file, nulls, 3), "no zero behind a buffer": changed(file, len(known("Magic", "Schema", "OneNull")) + 9, 1),
-        "version V4": known("Magic", "Schema") + older + body + known("EndMark", "OneBlock"), "pairs in the footer alone": known(*FILE, "WithPairs")}
+        "version V4": known("Magic", "Schema") + older + body + known("EndMark", "OneBlock"), "other fields in the footer": known(*FILE, "WithPairs")}
 for what, data in LEFT.items():
     assert not is_refused(read_file, data) and is_refused(read_written_file, data), what
 assert is_refused(read_written_stream, STREAMS["OlderNumbers"]), "prefixes of four bytes"

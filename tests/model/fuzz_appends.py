@@ -97,7 +97,7 @@ class Stream:
 
     def __init__(self, r, kinds, order, version):
         self.r, self.kinds, self.order, self.version = r, kinds, order, version
-        self.messages, self.parts, self.batches = [], [], []
+        self.messages, self.parts, self.batches, self.is_replaced = [], [], [], False
 
     def say(self, id, is_delta, values):
         cells = self.r.cells
@@ -154,10 +154,17 @@ def say_values(stream, messages, taken, ids):
 
 
 def say_more(stream, taken, ids):
-    """Deltas of some dictionaries, inner ones first."""
+    """Deltas of some dictionaries, inner ones first, the same values of others in their place, and seldom other ones."""
     for id in taken:
-        if stream.r.random() < 0.4:
-            stream.say(ids[id], True, random_array(stream.r, renamed(taken[id], ids), stream.r.choice([0, 1, 2])))
+        name, kind, chance = ids[id], renamed(taken[id], ids), stream.r.random()
+        if chance < 0.35:
+            stream.say(name, True, random_array(stream.r, kind, stream.r.choice([0, 1, 2])))
+        elif chance < 0.45 and not stream.is_replaced:
+            for i, (part, _) in enumerate(parts_of(stream.messages, name)):
+                stream.say(name, i > 0, part)
+        elif chance > 0.97:
+            stream.say(name, False, random_array(stream.r, kind, stream.r.choice([0, 1, 2])))
+            stream.is_replaced = True
 
 
 def random_stream(r, kinds, taken, messages, version):

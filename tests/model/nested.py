@@ -193,7 +193,7 @@ def pack(pattern, numbers):
 # ── random arrays ──
 
 
-LEAVES = [*[kind for kind, _ in FIXED], ("duration", "us"), ("duration", "ns"), ("boolean",), ("null",), ("boolean",), ("null",),
+LEAVES = [*[kind for kind, _ in FIXED], ("timestamp", "ms", None), ("duration", "us"), ("duration", "ns"), ("boolean",), ("null",), ("boolean",), ("null",),
           *[(name,) for name in ("utf8", "large_utf8", "binary", "large_binary", "utf8_view", "binary_view")] * 2]
 TEXTS = ["", "a", "é", "abcdefghijkl", "abcdefghijklm", "日本語テキスト"]
 

@@ -3,7 +3,7 @@
 Beyond what a reader needs, the nulls that a node states are counted, messages and their bodies stand at multiples of 8 behind prefixes of
 eight bytes, the buffers of a body stand one behind another at multiples of 64 up to its end with zeros between them, a file's messages
 stand one behind another from its front to an end mark right before the footer, and the footer has their blocks in this order and the
-schema of the first message."""
+fields of the first message."""
 import schema_reading
 from flat_reading import demand
 from reading import DICTIONARY, MAGIC, RECORD, SCHEMA, blocks_of, footer_of, messages_from, read_file, read_stream
@@ -51,8 +51,12 @@ def read_written_stream(data):
 
 
 def check_front(messages, footer):
+    """The first message has the byte order and the fields of the footer, and its pairs or none, since the footer has them."""
     demand(messages and messages[0].tag == SCHEMA, "a file whose first message is no schema")
-    demand(schema_reading.schema(messages[0].header) == schema_reading.schema(footer.table(1)), "another schema in the footer")
+    *front, pairs = schema_reading.schema(messages[0].header)
+    *back, all_pairs = schema_reading.schema(footer.table(1))
+    demand(front == back, "other fields in the footer")
+    demand(pairs in ({}, all_pairs), "other pairs in the footer")
 
 
 def check_blocks(messages, footer):
