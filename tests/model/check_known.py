@@ -5,7 +5,6 @@ import struct
 from pathlib import Path
 
 import arrow
-import reading
 import schema_reading
 import schemas
 from arrow import Column

@@ -20,13 +20,14 @@ INTERVALS = {"year_month": "i", "day_time": "ii", "month_day_nano": "iiq"}
 
 
 class Body:
-    """The nodes, buffers and view counts of a record batch, which columns take in turn, with what the batch was read under."""
+    """The nodes, buffers and view counts of a record batch, which columns take in turn, with the values of dictionaries that it is read
+    under, and whether the nulls that its nodes state are counted."""
 
-    def __init__(self, batch, body, order, version, dictionaries):
+    def __init__(self, batch, message, order, dictionaries, is_exact):
         demand(batch.table(3) is None, "compressed buffers")
         self.nodes, self.places = iter(batch.structs(1, "<qq")), iter(batch.structs(2, "<qq"))
-        self.views, self.bytes = iter(batch.numbers(4, "<q")), body
-        self.mark, self.version, self.dictionaries = {"little": "<", "big": ">"}[order], version, dictionaries
+        self.views, self.bytes, self.version = iter(batch.numbers(4, "<q")), message.body, message.version
+        self.mark, self.dictionaries, self.is_exact = {"little": "<", "big": ">"}[order], dictionaries, is_exact
 
     def take(self, queue, what):
         found = next(queue, None)
@@ -61,9 +62,6 @@ class Body:
         valid = self.flags(rows)
         demand(not self.is_exact or nulls == sum(not valid(i) for i in range(rows)), f"{nulls} nulls are stated")
         return valid
-
-    # whether the nulls that a node states are counted
-    is_exact = False
 
     def offsets(self, pattern, rows):
         """Offsets that rise from 0 or above. Of no rows there may be none."""

@@ -6,7 +6,7 @@ from collections import namedtuple
 
 import schema_reading
 from column_reading import Body, cells, read
-from flat_reading import Damaged, Table, demand, root, unpack
+from flat_reading import demand, root, unpack
 
 # its byte order, its fields as schemas.py has them, the pairs of the schema, those of the footer or of the schema's message, and its batches
 Contents = namedtuple("Contents", "order fields pairs own batches")
@@ -70,8 +70,8 @@ class Reader:
         self.dictionaries = {}
 
     def columns(self, kinds, table, message):
-        rows, body = table.number(0, "<q"), Body(table, message.body, self.order, message.version, self.dictionaries)
-        body.is_exact = self.exact_from is not None and message.at >= self.exact_from
+        is_exact = self.exact_from is not None and message.at >= self.exact_from
+        rows, body = table.number(0, "<q"), Body(table, message, self.order, self.dictionaries, is_exact)
         columns = [read(kind, body) for kind in kinds]
         body.end()
         demand(rows >= 0 and all(column.rows == rows for column in columns), f"columns of other numbers of rows than {rows}")
