@@ -47,6 +47,10 @@ fn is_left(alloc: Global, outcome: &Outcome, file: &[u8]) -> Result<bool, Fail> 
     Ok(is_long && file.starts_with(expected.as_slice()))
 }
 
+fn is_same(told: &[u8], expected: &[u8]) -> bool {
+    told == expected
+}
+
 /// Whether a run of a status puts, notes and leaves what it should.
 fn has_outcome(
     alloc: Global,
@@ -57,8 +61,9 @@ fn has_outcome(
 ) -> Result<bool, Fail> {
     for outcome in OUTCOMES {
         if outcome.status == status {
-            let is_told = outcome.output == output && outcome.notes == notes;
-            return Ok(is_told && is_left(alloc, outcome, file)?);
+            let is_told = is_same(output, outcome.output) && is_same(notes, outcome.notes);
+            let is_kept = is_left(alloc, outcome, file)?;
+            return Ok(is_told && is_kept);
         }
     }
     Ok(false)
