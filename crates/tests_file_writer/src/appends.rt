@@ -1,5 +1,7 @@
 //! Files on a disk that go on behind their last batch.
 use crate::parts::{NO_BLOCK, ONE_ROW, TWO_BLOCKS_APPENDED};
+use crate::turns::Call::{Finish, Numbers};
+use crate::turns::go;
 use arrow_spec::{IpcError, OutOfSpecKind};
 use ipc_append::try_from_file;
 use ipc_disk::{DiskTail, MemoryDisk};
@@ -9,7 +11,6 @@ use ipc_reader::Refused;
 use ipc_write::WriteOptions;
 use std::alloc::Global;
 use std::test::Fail;
-use tests_tables::number_batch;
 use tests_tables::parts::{END, FILE, FOOTER, MAGIC, ONE_NULL, SCHEMA, bytes_of};
 
 /// The file of the rows 1, null and 3 goes on with the row 5.
@@ -22,29 +23,28 @@ fn go_on(
     Ok(try_from_file(alloc, disk, metadata, WriteOptions::default()))
 }
 
+/// The file with a batch more, whose footer has both blocks.
+const LONGER: &[&str] = &[
+    MAGIC,
+    SCHEMA,
+    ONE_NULL,
+    ONE_ROW,
+    END,
+    FOOTER,
+    TWO_BLOCKS_APPENDED,
+];
+
 #[test]
 fn a_file_goes_on_behind_its_last_block(rt: HostRuntime) -> Result<(), Fail> {
     let alloc = rt.alloc();
-    let Ok(mut writer) = go_on(alloc, FILE)? else {
-        return Err("refused".into());
-    };
-    let batch = number_batch(alloc, &[5], None)?;
-    writer.write(&batch, None)?;
-    drop(batch);
-    writer.finish()?;
-    let disk = writer.into_inner().into_inner();
-    let expected = bytes_of(
+    let mut writer = go_on(alloc, FILE)?.ok().ok_or("refused")?;
+    go(
         alloc,
-        &[
-            MAGIC,
-            SCHEMA,
-            ONE_NULL,
-            ONE_ROW,
-            END,
-            FOOTER,
-            TWO_BLOCKS_APPENDED,
-        ],
+        &mut writer,
+        &[(Numbers(&[5], None), Ok(())), (Finish, Ok(()))],
     )?;
+    let disk = writer.into_inner().into_inner();
+    let expected = bytes_of(alloc, LONGER)?;
     assert!(rt; disk.bytes().len() == 858);
     assert!(rt; disk.bytes() == expected.as_slice());
     Ok(())
@@ -54,9 +54,7 @@ fn a_file_goes_on_behind_its_last_block(rt: HostRuntime) -> Result<(), Fail> {
 fn a_file_without_a_batch_does_not_go_on(rt: HostRuntime) -> Result<(), Fail> {
     let alloc = rt.alloc();
     let parts = [MAGIC, SCHEMA, END, FOOTER, NO_BLOCK];
-    let Err(refused) = go_on(alloc, &parts)? else {
-        return Err("taken".into());
-    };
+    let refused = go_on(alloc, &parts)?.err().ok_or("taken")?;
     let kind = OutOfSpecKind::MissingRecordBatches;
     assert!(rt; refused.error == IpcError::OutOfSpec(kind));
     let before = bytes_of(alloc, &parts)?;

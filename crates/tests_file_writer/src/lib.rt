@@ -1,15 +1,11 @@
-//! Files as they are written, batch by batch. All of it is tests.
+//! Files as they are written, batch by batch, and files that go on. All of it is tests.
 #![tactic(auto)]
 
 #[cfg(test)]
 mod appends;
 #[cfg(test)]
-mod batches;
-#[cfg(test)]
-mod bytes;
-#[cfg(test)]
-mod dictionaries;
+mod files;
 #[cfg(test)]
 mod parts;
 #[cfg(test)]
-mod states;
+mod turns;

@@ -2,12 +2,10 @@
 #![tactic(auto)]
 
 #[cfg(test)]
-mod batches;
-#[cfg(test)]
 mod bytes;
 #[cfg(test)]
-mod dictionaries;
-#[cfg(test)]
 mod states;
+#[cfg(test)]
+mod turns;
 #[cfg(test)]
 mod wanting;

@@ -1,98 +1,137 @@
-//! Calls out of turn, and behind a put that failed.
-use crate::batches::{write_numbers, writer};
+//! Calls in turn and out of turn, batches and fields that are refused, and puts that fail.
+use crate::turns::Call::{Finish, Numbers, Pair, Start, StartTexts, Texts};
+use crate::turns::{Turn, bytes_after};
 use arrow_spec::IpcError;
-use ipc_fields::IpcField;
-use ipc_io::MemorySink;
-use ipc_stream_writer::StreamWriter;
-use ipc_write::WriteOptions;
-use std::alloc::Global;
 use std::test::Fail;
-use tests_tables::{of_numbers, of_texts, one_pair};
+use tests_tables::with_limit;
 
-fn is_out_of_turn(answer: Result<(), IpcError>) -> bool {
-    matches!(answer, Err(IpcError::State))
-}
+const OK: Result<(), IpcError> = Ok(());
 
-/// Whether each call is refused as one out of turn.
-fn is_closed(alloc: Global, writer: &mut StreamWriter<MemorySink>) -> Result<bool, Fail> {
-    let start = writer.start(&of_numbers(alloc)?, None);
-    let write = write_numbers(alloc, writer, None)?;
-    let finish = writer.finish();
-    Ok(is_out_of_turn(start) && is_out_of_turn(write) && is_out_of_turn(finish))
-}
+const OUT_OF_TURN: Result<(), IpcError> = Err(IpcError::State);
+
+const MISMATCH: Result<(), IpcError> = Err(IpcError::SchemaMismatch);
+
+const NO_LIMIT: usize = 0x7fff_ffff;
+
+/// A row: the most metadata, the room of the sink, the calls with their answers, and the bytes counted and put in the end.
+type Row = (usize, Option<usize>, &'static [Turn], u128, usize);
+
+const ROWS: &[Row] = &[
+    // Nothing before the start, one start, and nothing behind the end.
+    (
+        NO_LIMIT,
+        None,
+        &[
+            (Numbers(None), OUT_OF_TURN),
+            (Finish, OUT_OF_TURN),
+            (Start(None), OK),
+            (Start(None), OUT_OF_TURN),
+            (Finish, OK),
+            (Start(None), OUT_OF_TURN),
+            (Numbers(None), OUT_OF_TURN),
+            (Finish, OUT_OF_TURN),
+        ],
+        144,
+        144,
+    ),
+    // A put that fails is the last.
+    (
+        NO_LIMIT,
+        Some(200),
+        &[
+            (Start(None), OK),
+            (Numbers(None), Err(IpcError::WriteFault)),
+            (Start(None), OUT_OF_TURN),
+            (Numbers(None), OUT_OF_TURN),
+            (Finish, OUT_OF_TURN),
+        ],
+        136,
+        200,
+    ),
+    // A schema whose message is longer than it may be is refused, and may be tried again.
+    (
+        64,
+        None,
+        &[
+            (Start(None), Err(IpcError::TooLarge)),
+            (Start(None), Err(IpcError::TooLarge)),
+        ],
+        0,
+        0,
+    ),
+    // A batch of another schema.
+    (
+        NO_LIMIT,
+        None,
+        &[(StartTexts, OK), (Numbers(None), MISMATCH)],
+        168,
+        168,
+    ),
+    // IPC fields of more columns than there are.
+    (
+        NO_LIMIT,
+        None,
+        &[
+            (Start(Some(2)), MISMATCH),
+            (Start(None), OK),
+            (Numbers(Some(2)), MISMATCH),
+            (Numbers(Some(1)), OK),
+        ],
+        416,
+        416,
+    ),
+    // The message of the schema has pairs that are given before it.
+    (
+        NO_LIMIT,
+        None,
+        &[(Pair, OK), (Start(None), OK), (Pair, OUT_OF_TURN)],
+        192,
+        192,
+    ),
+    // A dictionary is sent where it changes, and one that goes on as a delta.
+    (
+        NO_LIMIT,
+        None,
+        &[
+            (StartTexts, OK),
+            (Texts(b"x"), OK),
+            (Texts(b"x"), OK),
+            (Finish, OK),
+        ],
+        920,
+        920,
+    ),
+    (
+        NO_LIMIT,
+        None,
+        &[
+            (StartTexts, OK),
+            (Texts(b"x"), OK),
+            (Texts(b"y"), OK),
+            (Finish, OK),
+        ],
+        1232,
+        1232,
+    ),
+    (
+        NO_LIMIT,
+        None,
+        &[
+            (StartTexts, OK),
+            (Texts(b"x"), OK),
+            (Texts(b"xy"), OK),
+            (Finish, OK),
+        ],
+        1240,
+        1240,
+    ),
+];
 
 #[test]
-fn calls_come_in_turn(rt: HostRuntime) -> Result<(), Fail> {
-    let alloc = rt.alloc();
-    let mut writer = writer(alloc, WriteOptions::default(), None)?;
-    assert!(rt; is_out_of_turn(write_numbers(alloc, &mut writer, None)?));
-    assert!(rt; is_out_of_turn(writer.finish()));
-    writer.start(&of_numbers(alloc)?, None)?;
-    assert!(rt; is_out_of_turn(writer.start(&of_numbers(alloc)?, None)));
-    writer.finish()?;
-    assert!(rt; is_closed(alloc, &mut writer)?);
-    assert!(rt; writer.byte_count() == 144);
-    let sink = writer.into_inner();
-    assert!(rt; sink.bytes().len() == 144);
-    Ok(())
-}
-
-#[test]
-fn a_put_that_fails_is_the_last(rt: HostRuntime) -> Result<(), Fail> {
-    let alloc = rt.alloc();
-    let mut writer = writer(alloc, WriteOptions::default(), Some(200))?;
-    writer.start(&of_numbers(alloc)?, None)?;
-    let failed = write_numbers(alloc, &mut writer, None)?;
-    assert!(rt; matches!(failed, Err(IpcError::WriteFault)));
-    assert!(rt; is_closed(alloc, &mut writer)?);
-    assert!(rt; writer.byte_count() == 136);
-    let sink = writer.into_inner();
-    assert!(rt; sink.bytes().len() == 200);
-    Ok(())
-}
-
-#[test]
-fn other_batches_are_refused(rt: HostRuntime) -> Result<(), Fail> {
-    let alloc = rt.alloc();
-    let mut writer = writer(alloc, WriteOptions::default(), None)?;
-    writer.start(&of_texts(alloc)?, None)?;
-    let refused = write_numbers(alloc, &mut writer, None)?;
-    assert!(rt; matches!(refused, Err(IpcError::SchemaMismatch)));
-    Ok(())
-}
-
-#[test]
-fn other_fields_are_refused(rt: HostRuntime) -> Result<(), Fail> {
-    let alloc = rt.alloc();
-    let mut writer = writer(alloc, WriteOptions::default(), None)?;
-    let own = vec![in alloc; IpcField::new(alloc)]?;
-    let others = vec![in alloc; IpcField::new(alloc), IpcField::new(alloc)]?;
-    let refused = writer.start(&of_numbers(alloc)?, Some(others.as_slice()));
-    assert!(rt; matches!(refused, Err(IpcError::SchemaMismatch)));
-    writer.start(&of_numbers(alloc)?, None)?;
-    let refused = write_numbers(alloc, &mut writer, Some(others.as_slice()))?;
-    assert!(rt; matches!(refused, Err(IpcError::SchemaMismatch)));
-    write_numbers(alloc, &mut writer, Some(own.as_slice()))??;
-    Ok(())
-}
-
-/// Gives the message of the schema the pair k and v.
-fn give_pair(
-    alloc: Global,
-    writer: &mut StreamWriter<MemorySink>,
-) -> Result<Result<(), IpcError>, Fail> {
-    let pairs = one_pair(alloc)?;
-    Ok(writer.set_message_metadata(pairs))
-}
-
-#[test]
-fn message_of_the_schema_has_pairs(rt: HostRuntime) -> Result<(), Fail> {
-    let alloc = rt.alloc();
-    let mut writer = writer(alloc, WriteOptions::default(), None)?;
-    give_pair(alloc, &mut writer)??;
-    writer.start(&of_numbers(alloc)?, None)?;
-    assert!(rt; is_out_of_turn(give_pair(alloc, &mut writer)?));
-    let sink = writer.into_inner();
-    assert!(rt; sink.bytes().len() == 192);
+fn calls_have_their_turns(rt: HostRuntime) -> Result<(), Fail> {
+    for (limit, room, turns, count, length) in ROWS {
+        let (bytes, counted) = bytes_after(rt.alloc(), with_limit(*limit), *room, turns)?;
+        assert!(rt; bytes.len() == *length && counted == *count, "{length}");
+    }
     Ok(())
 }

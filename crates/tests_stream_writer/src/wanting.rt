@@ -1,12 +1,14 @@
 //! Sinks that want memory.
-use crate::batches::write_numbers;
+use crate::turns::Call::{Numbers, Start};
+use crate::turns::{Turn, go};
 use arrow_spec::IpcError;
 use ipc_io::{MemorySink, PutError, Sink};
 use ipc_stream_writer::StreamWriter;
 use ipc_write::WriteOptions;
 use std::alloc::Global;
 use std::test::Fail;
-use tests_tables::of_numbers;
+
+const MEMORY: Result<(), IpcError> = Err(IpcError::Memory);
 
 /// A sink over memory that wants memory at the put of a number.
 #[derive(Drop)]
@@ -37,11 +39,32 @@ impl Sink for WantingSink {
     }
 }
 
-/// What a writer answers at two batches, where the put of a number wants memory, and how many bytes there are in the end.
-fn answers(
-    alloc: Global,
-    at: u64,
-) -> Result<(Result<(), IpcError>, Result<(), IpcError>, usize), Fail> {
+/// Two batches of numbers, where the put of a number wants memory: what they are answered, and the bytes put in the end.
+const ROWS: &[(u64, [Turn; 3], usize)] = &[
+    // The first put of a batch leaves the writer as before.
+    (
+        1,
+        [
+            (Start(None), Ok(())),
+            (Numbers(None), MEMORY),
+            (Numbers(None), Ok(())),
+        ],
+        136 + 280,
+    ),
+    // A later one is the last.
+    (
+        2,
+        [
+            (Start(None), Ok(())),
+            (Numbers(None), MEMORY),
+            (Numbers(None), Err(IpcError::State)),
+        ],
+        136 + 152,
+    ),
+];
+
+/// How many bytes there are in the end.
+fn length_after(alloc: Global, at: u64, turns: &[Turn]) -> Result<usize, Fail> {
     let sink = WantingSink {
         sink: MemorySink::new(alloc, None, Vec::new(alloc)),
         at,
@@ -52,27 +75,15 @@ fn answers(
         Ok(writer) => writer,
         Err(refused) => return Err(refused.error.into()),
     };
-    writer.start(&of_numbers(alloc)?, None)?;
-    let first = write_numbers(alloc, &mut writer, None)?;
-    let second = write_numbers(alloc, &mut writer, None)?;
+    go(alloc, &mut writer, turns)?;
     let sink = writer.into_inner();
-    Ok((first, second, sink.sink.bytes().len()))
+    Ok(sink.sink.bytes().len())
 }
 
 #[test]
-fn a_first_put_without_memory_leaves_the_writer(rt: HostRuntime) -> Result<(), Fail> {
-    let (first, second, bytes) = answers(rt.alloc(), 1)?;
-    assert!(rt; matches!(first, Err(IpcError::Memory)));
-    assert!(rt; second.is_ok());
-    assert!(rt; bytes == 136 + 280);
-    Ok(())
-}
-
-#[test]
-fn a_later_put_without_memory_is_the_last(rt: HostRuntime) -> Result<(), Fail> {
-    let (first, second, bytes) = answers(rt.alloc(), 2)?;
-    assert!(rt; matches!(first, Err(IpcError::Memory)));
-    assert!(rt; matches!(second, Err(IpcError::State)));
-    assert!(rt; bytes == 136 + 152);
+fn the_first_put_of_a_batch_may_be_tried_again(rt: HostRuntime) -> Result<(), Fail> {
+    for (at, turns, length) in ROWS {
+        assert!(rt; length_after(rt.alloc(), *at, turns)? == *length, "{at}");
+    }
     Ok(())
 }
