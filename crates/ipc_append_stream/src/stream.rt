@@ -7,11 +7,12 @@ ghost use Rattle.ipc_append_stream.specs.Columns.{are_of};
 use arrow_arrays::RecordBatch;
 use ipc_streams::StreamMetadata;
 
-/// A stream that was read to its end: what its schema message says, and its record batches in order, whose columns are of the kinds
-/// of its fields.
+/// A stream that was read to its end. The columns of its batches are of the kinds of its fields.
 #[derive(Drop)]
 pub struct WholeStream {
+    /// What the schema message says.
     pub metadata: StreamMetadata,
+    /// The record batches, in their order.
     pub batches: Vec<RecordBatch>,
     ghost kinds: { are_of (fields_in (rc_value metadata.schema)) batches.items ≡ true },
 }

@@ -3,7 +3,9 @@
 /// How the buffers of a body are compressed (Message.fbs, CompressionType). No body is written so.
 #[derive(Clone, Copy, Debug, PartialEq, Eq)]
 pub enum Compression {
+    /// LZ4 frames.
     LZ4,
+    /// Zstandard frames.
     ZSTD,
 }
 

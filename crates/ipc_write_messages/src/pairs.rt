@@ -5,11 +5,12 @@ ghost use Rattle.schema_writer.specs.Texts.{PairsAscend};
 
 use arrow_types::Metadata;
 
-/// The pairs of a stream's schema, and those of its message (Schema.fbs, Schema: custom_metadata; Message.fbs, Message:
-/// custom_metadata).
+/// The pairs that a stream begins with (Schema.fbs, Schema: custom_metadata; Message.fbs, Message: custom_metadata).
 #[derive(Drop)]
 pub struct StreamPairs {
+    /// Those of the schema.
     pub schema: Option<Metadata>,
+    /// Those of its message.
     pub message: Option<Metadata>,
 }
 

@@ -21,6 +21,7 @@ use std::alloc::Global;
 /// Why a call stops.
 #[derive(Clone, Copy, Debug, PartialEq, Eq)]
 pub struct Stop {
+    /// What the call answers.
     pub error: IpcError,
     /// A byte may have been put.
     pub has_begun: bool,

@@ -20,11 +20,14 @@ use std::alloc::Global;
 /// The most bytes of a message's padded metadata.
 const MOST_METADATA: usize = 0x7fff_ffff;
 
-/// What a stream is begun with: its schema, with its IPC fields, and the bytes of its message.
+/// What a stream is begun with.
 #[derive(Drop)]
 pub struct StreamStart {
+    /// A copy of the schema.
     pub schema: ArrowSchema,
+    /// The ids of its dictionaries, a field for each column.
     pub fields: Vec<IpcField>,
+    /// The bytes of its message, from the prefix on.
     pub message: Vec<u8>,
 }
 

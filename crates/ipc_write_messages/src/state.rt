@@ -2,12 +2,16 @@
 ghost use Rattle.std.specs.Prelude.{◌≡◌};
 ghost use Rattle.ipc_write_messages.specs.States.{is_new, is_started, state_behind};
 
-/// What a writer has done: nothing yet, its stream is begun or ended, or a put has failed.
+/// What a writer has done.
 #[derive(Clone, Copy, Debug, PartialEq, Eq)]
 pub enum WriterState {
+    /// Nothing yet.
     New,
+    /// The schema was put.
     Started,
+    /// The end was put.
     Finished,
+    /// A put has failed.
     Failed,
 }
 
