@@ -2,7 +2,7 @@
 #![tactic(auto)]
 
 #[cfg(test)]
-mod dictionaries;
+mod answers;
 #[cfg(test)]
 mod parts;
 #[cfg(test)]

@@ -1,236 +1,160 @@
-//! Streams that are read whole, in part, and in some columns.
-use crate::parts::{LONG_BODY, LONG_METADATA, NUMBERS, OLDER_NUMBERS, PAIRED, THREE};
-use arrow_arrays::{Array, RecordBatch};
-use arrow_types::Metadata;
-use ipc_schema::{IpcError, MemoryFeed, OutOfSpecKind};
-use ipc_streams::{StreamReader, StreamState, read_stream_metadata};
-use std::alloc::Global;
+//! Streams that are read whole, in part, and in some columns, and dictionaries in the place of others.
+use crate::answers::{Answer, Case, feed_of, is_pair, is_read};
+use crate::parts::Part;
+use ipc_schema::OutOfSpecKind;
+use ipc_streams::{StreamReader, read_stream_metadata};
 use std::test::Fail;
 
-/// What a call answers: rows and the first number, a refusal by its kind, or nothing.
-#[derive(Clone, Copy, Debug, PartialEq, Eq)]
-enum Answer {
-    Rows(usize, Option<i64>),
-    Waiting,
-    Refused(OutOfSpecKind),
-    End,
-}
-
-const BATCH: Answer = Answer::Rows(3, Some(1));
+const BATCH: Answer = Answer::Numbers(3, 1);
 
 const CUT: Answer = Answer::Refused(OutOfSpecKind::Truncated);
 
-/// What two calls answer.
-#[derive(Clone, Copy, Debug, PartialEq, Eq)]
-struct TwoAnswers {
-    first: Answer,
-    second: Answer,
-}
+const WHOLE: Case = Case {
+    stream: &[Part::Numbers],
+    count: 4096,
+    most: 64,
+    columns: None,
+    answers: &[BATCH, Answer::End, Answer::End],
+};
 
-fn first_number(batch: &RecordBatch) -> Option<i64> {
-    match batch.arrays().first() {
-        Some(Array::Int32(numbers)) if numbers.len() > 0 => Some(i64::from(numbers.value(0))),
-        Some(Array::Int64(numbers)) if numbers.len() > 0 => Some(numbers.value(0)),
-        _ => None,
-    }
-}
-
-fn answer_of(read: Option<Result<StreamState, IpcError>>) -> Result<Answer, IpcError> {
-    match read {
-        None => Ok(Answer::End),
-        Some(Ok(StreamState::Waiting)) => Ok(Answer::Waiting),
-        Some(Ok(StreamState::Some(batch))) => Ok(Answer::Rows(
-            batch.height(),
-            first_number(&batch),
-        )),
-        Some(Err(IpcError::OutOfSpec(kind))) => Ok(Answer::Refused(kind)),
-        Some(Err(error)) => Err(error),
-    }
-}
-
-/// The first bytes of a stream that is hex text, pulled in pieces of at most so many.
-fn feed_of(alloc: Global, text: &[u8], count: usize, most: usize) -> Result<MemoryFeed, Fail> {
-    let mut bytes = hex::decode(alloc, text)?;
-    bytes.truncate(count);
-    Ok(MemoryFeed::new(bytes, most.max(1), Vec::new(alloc)))
-}
-
-/// What two calls answer, where so many bytes of a stream are read.
-fn answers(alloc: Global, text: &[u8], count: usize, most: usize) -> Result<TwoAnswers, Fail> {
-    let mut feed = feed_of(alloc, text, count, most)?;
-    let metadata = match read_stream_metadata(alloc, &mut feed) {
-        Ok(metadata) => metadata,
-        Err(IpcError::OutOfSpec(kind)) => {
-            return Ok(TwoAnswers {
-                first: Answer::Refused(kind),
-                second: Answer::End,
-            });
-        }
-        Err(error) => return Err(Fail::from(error)),
-    };
-    let mut reader = match StreamReader::new(alloc, feed, metadata, None) {
-        Ok(reader) => reader,
-        Err(refused) => return Err(Fail::from(refused.error)),
-    };
-    let first = answer_of(reader.next())?;
-    let second = answer_of(reader.next())?;
-    Ok(TwoAnswers { first, second })
-}
-
-#[test]
-fn a_stream_gives_its_batch_and_ends(rt: HostRuntime) -> Result<(), Fail> {
-    let want = TwoAnswers {
-        first: BATCH,
-        second: Answer::End,
-    };
-    for text in [NUMBERS, OLDER_NUMBERS] {
-        for most in [1, 7, 5000] {
-            assert!(rt; answers(rt.alloc(), text, 424, most)? == want);
-        }
-    }
-    Ok(())
-}
-
-/// How many bytes of the stream, from a number on and below another, are answered so.
-struct Cut {
-    from: usize,
-    end: usize,
-    first: Answer,
-    second: Answer,
-}
-
-const CUTS: &[Cut] = &[
-    Cut {
-        from: 0,
-        end: 4,
-        first: Answer::Refused(OutOfSpecKind::MissingSchema),
-        second: Answer::End,
+const CASES: &[Case] = &[
+    WHOLE,
+    Case { most: 1, ..WHOLE },
+    Case { most: 7, ..WHOLE },
+    Case {
+        most: 5000,
+        ..WHOLE
     },
-    Cut {
-        from: 4,
-        end: 136,
-        first: CUT,
-        second: Answer::End,
+    Case {
+        stream: &[Part::OlderNumbers],
+        ..WHOLE
     },
-    Cut {
-        from: 136,
-        end: 140,
-        first: Answer::Waiting,
-        second: Answer::Waiting,
+    Case {
+        stream: &[Part::OlderNumbers],
+        most: 1,
+        ..WHOLE
     },
-    Cut {
-        from: 140,
-        end: 416,
-        first: CUT,
-        second: Answer::End,
+    // A body and metadata that are stated to be longer than the stream.
+    Case {
+        stream: &[Part::LongBody],
+        answers: &[CUT, Answer::End],
+        ..WHOLE
     },
-    Cut {
-        from: 416,
-        end: 420,
-        first: BATCH,
-        second: Answer::Waiting,
+    Case {
+        stream: &[Part::LongMetadata],
+        answers: &[CUT],
+        ..WHOLE
     },
-    Cut {
-        from: 420,
-        end: 424,
-        first: BATCH,
-        second: CUT,
+    Case {
+        stream: &[Part::Three],
+        columns: Some(&[2, 0]),
+        answers: &[Answer::Numbers(2, 10), Answer::End, Answer::End],
+        ..WHOLE
+    },
+    // Messages have pairs of their own.
+    Case {
+        stream: &[Part::Paired],
+        answers: &[Answer::Paired, Answer::Unpaired, Answer::End],
+        ..WHOLE
+    },
+    // A dictionary takes the place of the one before it.
+    Case {
+        stream: &[
+            Part::Schema,
+            Part::Inner,
+            Part::Delta,
+            Part::Outer,
+            Part::FirstBatch,
+            Part::InnerAgain,
+            Part::SecondBatch,
+            Part::Delta,
+            Part::Outer,
+            Part::SecondBatch,
+            Part::EndMark,
+        ],
+        answers: &[
+            Answer::Texts(&[b"z", b"x"]),
+            Answer::Texts(&[b"x", b"z", b"x"]),
+            Answer::Texts(&[b"q", b"z", b"q"]),
+            Answer::End,
+        ],
+        ..WHOLE
+    },
+    // A reader ends behind a refusal.
+    Case {
+        stream: &[Part::Schema, Part::Outer, Part::Inner, Part::FirstBatch],
+        answers: &[
+            Answer::Refused(OutOfSpecKind::InvalidId { requested_id: 1 }),
+            Answer::End,
+        ],
+        ..WHOLE
+    },
+    Case {
+        stream: &[Part::Schema, Part::Schema],
+        answers: &[Answer::Refused(OutOfSpecKind::UnexpectedMessageType)],
+        ..WHOLE
+    },
+    Case {
+        stream: &[Part::Schema, Part::Inner],
+        answers: &[Answer::Waiting, Answer::Waiting],
+        ..WHOLE
     },
 ];
 
 #[test]
+fn readers_answer_so(rt: HostRuntime) -> Result<(), Fail> {
+    for (number, case) in CASES.iter().enumerate() {
+        assert!(rt; is_read(rt.alloc(), *case)?, "{number}");
+    }
+    Ok(())
+}
+
+/// What is answered where the stream ends behind so many bytes, from a number on and below another.
+const CUTS: &[(usize, usize, &[Answer])] = &[
+    (0, 4, &[Answer::Refused(OutOfSpecKind::MissingSchema)]),
+    (4, 136, &[CUT]),
+    (136, 140, &[Answer::Waiting, Answer::Waiting]),
+    (140, 416, &[CUT, Answer::End]),
+    (416, 420, &[BATCH, Answer::Waiting]),
+    (420, 424, &[BATCH, CUT, Answer::End]),
+    (424, 425, &[BATCH, Answer::End]),
+];
+
+#[test]
 fn a_stream_that_is_cut_waits_or_is_truncated(rt: HostRuntime) -> Result<(), Fail> {
-    for cut in CUTS {
-        let want = TwoAnswers {
-            first: cut.first,
-            second: cut.second,
-        };
-        for count in cut.from..cut.end {
-            assert!(rt;
-                answers(rt.alloc(), NUMBERS, count, 64)? == want,
-                "{}",
-                count
-            );
+    for (from, end, answers) in CUTS {
+        for count in *from..*end {
+            let case = Case {
+                count,
+                answers,
+                ..WHOLE
+            };
+            assert!(rt; is_read(rt.alloc(), case)?, "{count}");
         }
     }
     Ok(())
 }
 
 #[test]
-fn a_long_message_in_a_short_stream_is_truncated(rt: HostRuntime) -> Result<(), Fail> {
-    let want = TwoAnswers {
-        first: CUT,
-        second: Answer::End,
-    };
-    for text in [LONG_BODY, LONG_METADATA] {
-        assert!(rt; answers(rt.alloc(), text, 424, 64)? == want);
-    }
-    Ok(())
-}
-
-#[test]
-fn columns_are_given_in_the_order_asked(rt: HostRuntime) -> Result<(), Fail> {
-    let alloc = rt.alloc();
-    let mut feed = feed_of(alloc, THREE, 4096, 64)?;
-    let metadata = read_stream_metadata(alloc, &mut feed)?;
-    let columns = [2, 0].to_vec(alloc)?;
-    let mut reader = match StreamReader::new(alloc, feed, metadata, Some(columns)) {
-        Ok(reader) => reader,
-        Err(refused) => return Err(Fail::from(refused.error)),
-    };
-    assert!(rt; reader.schema().len() == 2);
-    assert!(rt; !reader.is_finished());
-    assert!(rt; answer_of(reader.next())? == Answer::Rows(2, Some(10)));
-    assert!(rt; answer_of(reader.next())? == Answer::End);
-    assert!(rt; reader.is_finished());
-    assert!(rt; answer_of(reader.next())? == Answer::End);
-    Ok(())
-}
-
-/// Whether metadata is the pair "k", "v" alone.
-fn is_pair(metadata: Option<&Metadata>) -> bool {
-    let Some(metadata) = metadata else {
-        return false;
-    };
-    match metadata.get("k") {
-        Some(value) => metadata.len() == 1 && value.as_str() == "v",
-        None => false,
-    }
-}
-
-/// Whether a batch is answered whose message has this pair, or has none.
-fn has_pair(read: Option<Result<StreamState, IpcError>>, is_there: bool) -> Result<bool, IpcError> {
-    let Some(read) = read else {
-        return Ok(false);
-    };
-    match read? {
-        StreamState::Waiting => Ok(false),
-        StreamState::Some(batch) => Ok(is_pair(batch.custom_metadata()) == is_there),
-    }
-}
-
-#[test]
-fn messages_have_their_own_pairs(rt: HostRuntime) -> Result<(), Fail> {
-    let alloc = rt.alloc();
-    let mut feed = feed_of(alloc, PAIRED, 4096, 64)?;
-    let metadata = read_stream_metadata(alloc, &mut feed)?;
+fn metadata_is_that_of_the_schema_message(rt: HostRuntime) -> Result<(), Fail> {
+    let mut feed = feed_of(rt.alloc(), &[Part::Paired], 4096, 64)?;
+    let metadata = read_stream_metadata(rt.alloc(), &mut feed)?;
     assert!(rt; is_pair(metadata.custom_metadata.as_ref()));
     assert!(rt; metadata.custom_schema_metadata.is_none());
-    let mut reader = match StreamReader::new(alloc, feed, metadata, None) {
-        Ok(reader) => reader,
-        Err(refused) => return Err(Fail::from(refused.error)),
-    };
-    assert!(rt; has_pair(reader.next(), true)?);
-    assert!(rt; has_pair(reader.next(), false)?);
-    assert!(rt; reader.next().is_none());
+    let copy = metadata.try_clone(rt.alloc())?;
+    assert!(rt; *copy.schema == *metadata.schema && copy.version == metadata.version);
     Ok(())
 }
 
 #[test]
-fn a_copy_of_metadata_is_equal(rt: HostRuntime) -> Result<(), Fail> {
-    let mut feed = feed_of(rt.alloc(), NUMBERS, usize::MAX, 100)?;
-    let metadata = read_stream_metadata(rt.alloc(), &mut feed)?;
-    let copy = metadata.try_clone(rt.alloc())?;
-    assert!(rt; *copy.schema == *metadata.schema && copy.version == metadata.version);
+fn a_reader_has_the_schema_of_its_columns(rt: HostRuntime) -> Result<(), Fail> {
+    let alloc = rt.alloc();
+    let mut feed = feed_of(alloc, &[Part::Three], 4096, 64)?;
+    let metadata = read_stream_metadata(alloc, &mut feed)?;
+    let columns = [2, 0].to_vec(alloc)?;
+    let reader = StreamReader::new(alloc, feed, metadata, Some(columns))
+        .ok()
+        .ok_or("refused")?;
+    assert!(rt; reader.schema().len() == 2 && !reader.is_finished());
     Ok(())
 }
