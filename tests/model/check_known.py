@@ -123,7 +123,7 @@ assert read_file(b"".join(strings.file)).batches[0].columns[:6] == [
 
 # ── streams with pairs, and dictionaries in dictionaries, in the order of their blocks and out of it ──
 
-STREAMS = parts_in("tests_stream_reader/src/parts.rt")
+STREAMS = parts_in("tests_messages/src/stream_parts.rt")
 assert difference(read_stream(STREAMS["OlderNumbers"]), saying(ROWS)) is None
 paired = read_stream(STREAMS["Paired"])
 assert (paired.own, paired.batches) == (PAIR, [Batch(3, PAIR, [ROWS]), Batch(3, {}, [ROWS])])

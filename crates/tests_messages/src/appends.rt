@@ -1,7 +1,7 @@
 //! Files on a disk that go on behind their last batch.
-use crate::parts::{NO_BLOCK, ONE_ROW, TWO_BLOCKS_APPENDED};
-use crate::turns::Call::{Finish, Numbers};
-use crate::turns::go;
+use crate::file_parts::{NO_BLOCK, ONE_ROW, TWO_BLOCKS_APPENDED};
+use crate::file_turns::Call::{Finish, Numbers};
+use crate::file_turns::go;
 use arrow_spec::{IpcError, OutOfSpecKind};
 use ipc_append::try_from_file;
 use ipc_disk::{DiskTail, MemoryDisk};

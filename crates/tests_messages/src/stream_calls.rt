@@ -1,6 +1,6 @@
 //! Calls in turn and out of turn, batches and fields that are refused, and puts that fail.
-use crate::turns::Call::{Finish, Numbers, Pair, Start, StartTexts, Texts};
-use crate::turns::{Turn, bytes_after};
+use crate::stream_turns::Call::{Finish, Numbers, Pair, Start, StartTexts, Texts};
+use crate::stream_turns::{Turn, bytes_after};
 use arrow_spec::IpcError;
 use std::test::Fail;
 use tests_tables::with_limit;

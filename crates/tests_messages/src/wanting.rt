@@ -1,6 +1,6 @@
 //! Sinks that want memory.
-use crate::turns::Call::{Numbers, Start};
-use crate::turns::{Turn, go};
+use crate::stream_turns::Call::{Numbers, Start};
+use crate::stream_turns::{Turn, go};
 use arrow_spec::IpcError;
 use ipc_io::{MemorySink, PutError, Sink};
 use ipc_stream_writer::StreamWriter;

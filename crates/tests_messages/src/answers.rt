@@ -1,5 +1,5 @@
 //! Streams that are read, and what the calls of their readers answer.
-use crate::parts::Part;
+use crate::stream_parts::Part;
 use arrow_arrays::{Array, RecordBatch};
 use arrow_types::Metadata;
 use ipc_schema::{IpcError, MemoryFeed, OutOfSpecKind};

@@ -1,9 +1,11 @@
 //! The bytes of files, as the worked examples have them: calls in turn and out of turn, and puts that fail.
-use crate::parts::{FOUR_ROWS, NO_BLOCK, ONE_BLOCK_WITH_PAIR, ONE_ROW, THREE_ROWS, TWO_BLOCKS};
-use crate::turns::Call::{
+use crate::file_parts::{
+    FOUR_ROWS, NO_BLOCK, ONE_BLOCK_WITH_PAIR, ONE_ROW, THREE_ROWS, TWO_BLOCKS,
+};
+use crate::file_turns::Call::{
     Encoded, EncodedAlone, Finish, FooterPair, Numbers, SchemaPair, Start, Texts,
 };
-use crate::turns::{Turn, sink_after};
+use crate::file_turns::{Turn, sink_after};
 use arrow_spec::IpcError;
 use ipc_file_writer::FileWriter;
 use ipc_files::read_file_metadata;

@@ -1,6 +1,6 @@
 //! Streams that are read whole, in part, and in some columns, and dictionaries in the place of others.
 use crate::answers::{Answer, Case, feed_of, is_pair, is_read};
-use crate::parts::Part;
+use crate::stream_parts::Part;
 use ipc_schema::OutOfSpecKind;
 use ipc_streams::{StreamReader, read_stream_metadata};
 use std::test::Fail;

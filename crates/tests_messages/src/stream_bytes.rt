@@ -1,6 +1,6 @@
 //! The bytes of a stream, as the worked example has them.
-use crate::turns::Call::{Finish, Numbers, Start};
-use crate::turns::bytes_after;
+use crate::stream_turns::Call::{Finish, Numbers, Start};
+use crate::stream_turns::bytes_after;
 use ipc_io::MemorySink;
 use ipc_stream_writer::{Encoding, StreamCore};
 use ipc_write::WriteOptions;
