@@ -93,35 +93,6 @@ fn reads_scalars(rt: HostRuntime) -> Result<(), Fail> {
 }
 
 #[test]
-fn slots_are_there_or_not(rt: HostRuntime) -> Result<(), Fail> {
-    let table = Flat::root(&TABLE)?;
-    for (slot, is_there) in [(3, false), (10, false), (8, true)] {
-        assert!(rt; table.has_slot(slot) == Ok(is_there));
-    }
-    Ok(())
-}
-
-#[test]
-fn reads_choices(rt: HostRuntime) -> Result<(), Fail> {
-    let table = Flat::root(&TABLE)?;
-    for (slot, width, default, count, want) in [
-        (0, ChoiceWidth::One, 0, 255, Ok(254)),
-        (0, ChoiceWidth::One, 0, 254, Err(FlatError::Number)),
-        (1, ChoiceWidth::Two, 0, 65534, Ok(65533)),
-        (1, ChoiceWidth::Two, 0, 65533, Err(FlatError::Number)),
-        (3, ChoiceWidth::Two, 2, 3, Ok(2)),
-        (3, ChoiceWidth::One, 2, 2, Err(FlatError::Number)),
-        (8, ChoiceWidth::One, 2, 3, Err(FlatError::Range)),
-    ] {
-        assert!(rt;
-            table.slot_choice(slot, width, default, count) == want,
-            "{slot} {count}"
-        );
-    }
-    Ok(())
-}
-
-#[test]
 fn reads_texts(rt: HostRuntime) -> Result<(), Fail> {
     let table = Flat::root(&TABLE)?;
     for (slot, want) in [
@@ -131,28 +102,6 @@ fn reads_texts(rt: HostRuntime) -> Result<(), Fail> {
         (9, Err(FlatError::Utf8)),
     ] {
         assert!(rt; table.slot_text(slot) == want, "{slot}");
-    }
-    Ok(())
-}
-
-/// The number at a slot of the table at a slot.
-fn inner_number(table: &Table, slot: usize, inner: usize) -> Result<Option<u8>, FlatError> {
-    match table.slot_table(slot)? {
-        None => Ok(None),
-        Some(table) => Ok(Some(table.slot_u8(inner, 7)?)),
-    }
-}
-
-#[test]
-fn reads_tables(rt: HostRuntime) -> Result<(), Fail> {
-    let table = Flat::root(&TABLE)?;
-    for (slot, inner, want) in [
-        (3, 0, Ok(None)),
-        (8, 0, Err(FlatError::Range)),
-        (7, 3, Ok(Some(7))),
-        (7, 0, Err(FlatError::Range)),
-    ] {
-        assert!(rt; inner_number(&table, slot, inner) == want, "{slot}");
     }
     Ok(())
 }
@@ -167,6 +116,14 @@ fn reads_a_vector(rt: HostRuntime) -> Result<(), Fail> {
     Ok(())
 }
 
+/// The number at a slot of the table at a slot.
+fn inner_number(table: &Table, slot: usize, inner: usize) -> Result<Option<usize>, FlatError> {
+    match table.slot_table(slot)? {
+        None => Ok(None),
+        Some(table) => Ok(Some(usize::from(table.slot_u8(inner, 7)?))),
+    }
+}
+
 fn item_count(table: &Table, slot: usize, width: usize) -> Result<Option<usize>, FlatError> {
     match table.slot_vector(slot, width)? {
         None => Ok(None),
@@ -174,18 +131,76 @@ fn item_count(table: &Table, slot: usize, width: usize) -> Result<Option<usize>,
     }
 }
 
-#[test]
-fn vectors_end_within_the_bytes(rt: HostRuntime) -> Result<(), Fail> {
-    let table = Flat::root(&TABLE)?;
+/// A call that reads a slot.
+#[derive(Clone, Copy)]
+enum Call {
+    /// Whether there is one.
+    Has,
+    /// With a width, a default, and how many numbers are listed.
+    Choice(ChoiceWidth, u16, u16),
+    /// Of the table there, the number at a slot.
+    Inner(usize),
+    /// How many items there are of a width.
+    Items(usize),
+}
+
+fn answer(table: &Table, call: Call, slot: usize) -> Result<Option<usize>, FlatError> {
+    match call {
+        Call::Has => Ok(Some(usize::from(table.has_slot(slot)?))),
+        Call::Choice(width, default, count) => {
+            Ok(Some(usize::from(table.slot_choice(slot, width, default, count)?)))
+        }
+        Call::Inner(inner) => inner_number(table, slot, inner),
+        Call::Items(width) => item_count(table, slot, width),
+    }
+}
+
+/// A call, its slot, and its answer.
+const CALLS: &[(Call, usize, Result<Option<usize>, FlatError>)] = &[
+    (Call::Has, 3, Ok(Some(0))),
+    (Call::Has, 10, Ok(Some(0))),
+    (Call::Has, 8, Ok(Some(1))),
+    (Call::Choice(ChoiceWidth::One, 0, 255), 0, Ok(Some(254))),
+    (
+        Call::Choice(ChoiceWidth::One, 0, 254),
+        0,
+        Err(FlatError::Number),
+    ),
+    (Call::Choice(ChoiceWidth::Two, 0, 65534), 1, Ok(Some(65533))),
+    (
+        Call::Choice(ChoiceWidth::Two, 0, 65533),
+        1,
+        Err(FlatError::Number),
+    ),
+    (Call::Choice(ChoiceWidth::Two, 2, 3), 3, Ok(Some(2))),
+    (
+        Call::Choice(ChoiceWidth::One, 2, 2),
+        3,
+        Err(FlatError::Number),
+    ),
+    (
+        Call::Choice(ChoiceWidth::One, 2, 3),
+        8,
+        Err(FlatError::Range),
+    ),
+    (Call::Inner(0), 3, Ok(None)),
+    (Call::Inner(0), 8, Err(FlatError::Range)),
+    (Call::Inner(3), 7, Ok(Some(7))),
+    (Call::Inner(0), 7, Err(FlatError::Range)),
+    (Call::Items(4), 3, Ok(None)),
+    (Call::Items(4), 8, Err(FlatError::Range)),
     // The one item of the vector at slot 6 begins at 88 of 100.
-    for (slot, width, want) in [
-        (3, 4, Ok(None)),
-        (8, 4, Err(FlatError::Range)),
-        (6, 12, Ok(Some(1))),
-        (6, 13, Err(FlatError::Range)),
-        (6, usize::MAX, Err(FlatError::Range)),
-    ] {
-        assert!(rt; item_count(&table, slot, width) == want, "{slot}");
+    (Call::Items(12), 6, Ok(Some(1))),
+    (Call::Items(13), 6, Err(FlatError::Range)),
+    (Call::Items(usize::MAX), 6, Err(FlatError::Range)),
+];
+
+#[test]
+fn reads_slots(rt: HostRuntime) -> Result<(), Fail> {
+    let table = Flat::root(&TABLE)?;
+    for i in 0..CALLS.len() {
+        let (call, slot, want) = CALLS[i];
+        assert!(rt; answer(&table, call, slot) == want, "{i}");
     }
     Ok(())
 }
