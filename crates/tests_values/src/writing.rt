@@ -1,10 +1,9 @@
 //! Arrays as they are written alone.
 ghost use Rattle.std.specs.Prelude.{◌≡◌, ◌^◌, ◌<◌, [], ◌∷◌, length, map, pos, None, Some, true, false, IfOk};
-ghost use Rattle.arrow_spec.specs.declared.types.IntegerType.TheVariants.{UInt8};
 ghost use Rattle.arrow_spec.specs.declared.types.IntervalUnit.TheVariants.{DayTime};
-ghost use Rattle.arrow_spec.specs.Kinds.{boolean, integer, interval, small, utf8, utf8_view};
+ghost use Rattle.arrow_spec.specs.Kinds.{interval, small, utf8, utf8_view};
 ghost use Rattle.arrow_spec.specs.Sent.{body_of};
-ghost use Rattle.arrow_arrays.specs.LeafParts.{bits, numbers, text, text_views};
+ghost use Rattle.arrow_arrays.specs.LeafParts.{numbers, text, text_views};
 ghost use Rattle.arrow_arrays.specs.Parts.{leaf, rows_in};
 ghost use Rattle.arrow_arrays.specs.PartsOf.{parts_of};
 ghost use Rattle.ipc_write_arrays.specs.Pieces.{pieces_in};
@@ -12,7 +11,7 @@ ghost use Rattle.ipc_write_arrays.specs.Outputs.{MayHaveOrder};
 ghost use Rattle.arrow_spec.specs.Flat.{order_by};
 
 use arrow_arrays::Array;
-use arrow_buffers::{Bitmap, BooleanArray, Buffer, PrimitiveArray, Utf8Array, Utf8ViewArray};
+use arrow_buffers::{Bitmap, Buffer, PrimitiveArray, Utf8Array, Utf8ViewArray};
 use arrow_spec::{FieldNode, IpcBuffer};
 use arrow_types::{ArrowDataType, IntervalUnit, days_ms};
 use ipc_write_arrays::write;
@@ -84,16 +83,6 @@ fn stands(body: &[u8], at: usize, bytes: &[u8]) -> bool {
     true
 }
 
-fn three_numbers(alloc: Global) -> Result<Array, Fail>
-    ensures { IfOk result (λ a. parts_of a ≡ leaf (numbers (record { kind = integer UInt8; values = (1 ∷ []) ∷ (2 ∷ []) ∷ (3 ∷ []) ∷ []; validity = None }))) }
-{
-    let values = Buffer::from_vec([1, 2, 3].to_vec(alloc)?)?;
-    match PrimitiveArray::try_new(ArrowDataType::UInt8, values, None) {
-        Ok(array) => Ok(Array::UInt8(array)),
-        Err(_) => Err(Fail::from("an array")),
-    }
-}
-
 fn three_texts(alloc: Global) -> Result<Array, Fail>
     ensures { IfOk result (λ a. parts_of a ≡ leaf (text (record { kind = utf8 small; offsets = pos 0 ∷ pos 2 ∷ pos 2 ∷ pos 3 ∷ []; values = 97 ∷ 98 ∷ 99 ∷ []; validity = Some (true ∷ false ∷ true ∷ []) }))) }
 {
@@ -102,16 +91,6 @@ fn three_texts(alloc: Global) -> Result<Array, Fail>
     let validity = Bitmap::from_vec([0b101].to_vec(alloc)?, 3)?;
     match Utf8Array::<i32>::try_new(ArrowDataType::Utf8, offsets, values, Some(validity)) {
         Ok(array) => Ok(Array::Utf8(array)),
-        Err(_) => Err(Fail::from("an array")),
-    }
-}
-
-fn three_flags(alloc: Global) -> Result<Array, Fail>
-    ensures { IfOk result (λ a. parts_of a ≡ leaf (bits (record { kind = boolean; values = false ∷ true ∷ false ∷ []; validity = None }))) }
-{
-    let values = Bitmap::from_vec([0b1111_0101].to_vec(alloc)?, 4)?;
-    match BooleanArray::try_new(ArrowDataType::Boolean, values, None) {
-        Ok(array) => Ok(Array::Boolean(array.sliced(1, 3))),
         Err(_) => Err(Fail::from("an array")),
     }
 }
@@ -146,16 +125,6 @@ fn one_interval(alloc: Global) -> Result<Array, Fail>
 }
 
 #[test]
-fn numbers_without_validity(rt: HostRuntime) -> Result<(), Fail> {
-    let alloc = rt.alloc();
-    let written = write_first(alloc, &three_numbers(alloc)?, true)?;
-    assert!(rt; lies(&written, 3, 0, &[(0, 0), (0, 3)]));
-    assert!(rt; stands(written.body.as_slice(), 0, &[1, 2, 3]));
-    assert!(rt; written.body.len() == 64 && written.offset == 64 && written.views.is_empty());
-    Ok(())
-}
-
-#[test]
 fn a_part_of_texts(rt: HostRuntime) -> Result<(), Fail> {
     let alloc = rt.alloc();
     let array = three_texts(alloc)?.sliced(1, 2);
@@ -165,15 +134,6 @@ fn a_part_of_texts(rt: HostRuntime) -> Result<(), Fail> {
     assert!(rt; stands(written.body.as_slice(), 64, &[0, 0, 0, 0, 0, 0, 0, 0, 1]));
     assert!(rt; stands(written.body.as_slice(), 128, b"c"));
     assert!(rt; written.offset == 192);
-    Ok(())
-}
-
-#[test]
-fn bits_behind_the_first(rt: HostRuntime) -> Result<(), Fail> {
-    let alloc = rt.alloc();
-    let written = write_first(alloc, &three_flags(alloc)?, true)?;
-    assert!(rt; lies(&written, 3, 0, &[(0, 0), (0, 1)]));
-    assert!(rt; stands(written.body.as_slice(), 0, &[0b010]));
     Ok(())
 }
 
@@ -194,5 +154,6 @@ fn integers_turned_one_by_one(rt: HostRuntime) -> Result<(), Fail> {
     let written = write_first(alloc, &one_interval(alloc)?, false)?;
     assert!(rt; lies(&written, 1, 0, &[(0, 0), (0, 8)]));
     assert!(rt; stands(written.body.as_slice(), 0, &[0, 0, 0, 1, 0, 0, 2, 3]));
+    assert!(rt; written.body.len() == 64 && written.offset == 64 && written.views.is_empty());
     Ok(())
 }
