@@ -2,19 +2,19 @@
 #![tactic(auto)]
 
 #[cfg(test)]
+mod arrays;
+#[cfg(test)]
 mod batches;
 #[cfg(test)]
 mod bodies;
 #[cfg(test)]
 mod buffers;
 #[cfg(test)]
-mod dictionaries;
-#[cfg(test)]
 mod error_texts;
 #[cfg(test)]
 mod flatbuffers;
 #[cfg(test)]
-mod nested;
+mod layouts;
 #[cfg(test)]
 mod numbers;
 #[cfg(test)]

@@ -1,57 +1,47 @@
 //! Types, fields and schemas.
+use crate::arrays::{Kind, type_of};
 use arrow_types::{
-    ArrowDataType, ArrowSchema, ArrowSchemaRef, ExtensionType, Field, IntegerType, IntervalUnit,
-    Metadata, PhysicalType, PrimitiveType, TimeUnit, UnionMode, get_extension,
+    ArrowDataType, ArrowSchema, Field, IntegerType, Metadata, PhysicalType, PrimitiveType,
+    UnionMode, get_extension,
 };
 use std::alloc::{AllocError, Global};
-use std::rc::Rc;
 use std::test::Fail;
 
 fn text(alloc: Global, bytes: &str) -> Result<String, AllocError> {
     String::from_str(alloc, bytes)
 }
 
-fn extension(alloc: Global, name: &str, inner: ArrowDataType) -> Result<ArrowDataType, AllocError> {
-    let extension = ExtensionType {
-        name: text(alloc, name)?,
-        inner,
-        metadata: None,
-    };
-    Ok(ArrowDataType::Extension(Box::new(alloc, extension)?))
-}
+const LAYOUTS: &[(Kind, PhysicalType)] = &[
+    (Kind::Micros, PhysicalType::Primitive(PrimitiveType::Int64)),
+    (Kind::Days, PhysicalType::Primitive(PrimitiveType::DaysMs)),
+    (
+        Kind::Decimal256,
+        PhysicalType::Primitive(PrimitiveType::Int256),
+    ),
+    (Kind::Utf8View, PhysicalType::Utf8View),
+    (
+        Kind::Dictionary(IntegerType::Int16),
+        PhysicalType::Dictionary(IntegerType::Int16),
+    ),
+    (Kind::OwnPairs, PhysicalType::FixedSizeBinary),
+];
 
-/// An extension over an extension over an interval.
-fn two_extensions(alloc: Global) -> Result<ArrowDataType, AllocError> {
-    let days = ArrowDataType::Interval(IntervalUnit::DayTime);
-    extension(alloc, "outer", extension(alloc, "inner", days)?)
+#[test]
+fn types_have_their_layouts(rt: HostRuntime) -> Result<(), Fail> {
+    for i in 0..LAYOUTS.len() {
+        let (kind, layout) = LAYOUTS[i];
+        assert!(rt;
+            type_of(rt.alloc(), kind)?.to_physical_type() == layout,
+            "{i}"
+        );
+    }
+    Ok(())
 }
 
 #[test]
 fn extensions_are_looked_through(rt: HostRuntime) -> Result<(), Fail> {
-    let outer = two_extensions(rt.alloc())?;
-    assert!(rt; *outer.to_logical_type() == ArrowDataType::Interval(IntervalUnit::DayTime));
-    assert!(rt; outer.to_physical_type() == PhysicalType::Primitive(PrimitiveType::DaysMs));
-    Ok(())
-}
-
-fn layout(dtype: ArrowDataType) -> PhysicalType {
-    dtype.to_physical_type()
-}
-
-#[test]
-fn layouts_of_types(rt: HostRuntime) {
-    let seconds = layout(ArrowDataType::Timestamp(TimeUnit::Second, None));
-    assert!(rt; seconds == PhysicalType::Primitive(PrimitiveType::Int64));
-    let decimals = layout(ArrowDataType::Decimal256(40, 3));
-    assert!(rt; decimals == PhysicalType::Primitive(PrimitiveType::Int256));
-    assert!(rt; layout(ArrowDataType::Utf8View) == PhysicalType::Utf8View);
-}
-
-#[test]
-fn a_dictionary_has_the_layout_of_its_keys(rt: HostRuntime) -> Result<(), Fail> {
-    let values = Box::new(rt.alloc(), ArrowDataType::Utf8)?;
-    let keys = ArrowDataType::Dictionary(IntegerType::Int16, values, true);
-    assert!(rt; keys.to_physical_type() == PhysicalType::Dictionary(IntegerType::Int16));
+    let outer = type_of(rt.alloc(), Kind::OwnPairs)?;
+    assert!(rt; *outer.to_logical_type() == ArrowDataType::FixedSizeBinary(2));
     Ok(())
 }
 
@@ -120,15 +110,6 @@ fn stands_first(schema: &ArrowSchema, name: &str, dtype: &ArrowDataType) -> bool
     }
 }
 
-#[test]
-fn a_field_takes_the_place_of_its_name(rt: HostRuntime) -> Result<(), Fail> {
-    let mut schema = two_fields(rt.alloc())?;
-    assert!(rt; stands_first(&schema, "b", &ArrowDataType::Int8));
-    assert!(rt; is_replaced(rt.alloc(), &mut schema, &ArrowDataType::Int8)?);
-    assert!(rt; stands_first(&schema, "b", &ArrowDataType::Int16));
-    Ok(())
-}
-
 fn keys(alloc: Global, schema: &ArrowSchema) -> Result<String, AllocError> {
     let mut keys = String::new(alloc);
     for (key, _) in schema.iter() {
@@ -138,10 +119,13 @@ fn keys(alloc: Global, schema: &ArrowSchema) -> Result<String, AllocError> {
 }
 
 #[test]
-fn a_shared_schema_keeps_its_order(rt: HostRuntime) -> Result<(), Fail> {
-    let schema: ArrowSchemaRef = Rc::new(rt.alloc(), two_fields(rt.alloc())?)?;
+fn a_schema_keeps_its_order(rt: HostRuntime) -> Result<(), Fail> {
+    let mut schema = two_fields(rt.alloc())?;
     assert!(rt; schema.len() == 2 && !schema.is_empty());
     assert!(rt; schema.contains("a") && !schema.contains("c"));
+    assert!(rt; stands_first(&schema, "b", &ArrowDataType::Int8));
+    assert!(rt; is_replaced(rt.alloc(), &mut schema, &ArrowDataType::Int8)?);
+    assert!(rt; stands_first(&schema, "b", &ArrowDataType::Int16));
     assert!(rt; keys(rt.alloc(), &schema)?.as_str() == "ba");
     Ok(())
 }
