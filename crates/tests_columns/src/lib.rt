@@ -4,8 +4,6 @@
 #[cfg(test)]
 mod arrays;
 #[cfg(test)]
-mod bodies;
-#[cfg(test)]
 mod columns;
 #[cfg(test)]
 mod dictionaries;
@@ -14,11 +12,11 @@ mod held;
 #[cfg(test)]
 mod kinds;
 #[cfg(test)]
+mod layouts;
+#[cfg(test)]
 mod memory;
 #[cfg(test)]
 mod messages;
-#[cfg(test)]
-mod nested;
 #[cfg(test)]
 mod nests;
 #[cfg(test)]
@@ -28,6 +26,4 @@ mod round_trips;
 #[cfg(test)]
 mod steps;
 #[cfg(test)]
-mod unions;
-#[cfg(test)]
-mod values;
+mod types;
