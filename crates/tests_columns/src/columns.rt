@@ -1,8 +1,9 @@
 //! Columns over a body, as they are read, passed over, and written again (Arrow Columnar Format, "Buffer Listing for Each Layout").
 use crate::layouts::{
-    Column, Parts, array_of, column_of, is_kept, is_passed_over, laid, placed, source_of,
+    Column, Parts, add_buffer, array_of, column_of, is_kept, is_passed_over, laid, placed,
+    source_of,
 };
-use crate::steps::{Queues, queues_of};
+use crate::steps::{Queues, Written, queues_of};
 use crate::types::{Kind, Nest, type_of};
 use arrow_arrays::{Array, is_carried};
 use arrow_buffers::PrimitiveArray;
@@ -10,7 +11,7 @@ use arrow_spec::{Feature, IpcError, MetadataVersion, OutOfSpecKind};
 use arrow_types::ArrowDataType;
 use ipc_read::{Body, read_null, read_primitive, skip_binview};
 use ipc_schema::{MemorySource, Source};
-use std::alloc::Global;
+use std::alloc::{AllocError, Global};
 use std::test::Fail;
 
 /// Validity 05 and the numbers 1, 0, 3; validity 03, the offsets 0, 1, 3, 3 and the text "xyz".
@@ -731,17 +732,27 @@ const FIXED: &[(Kind, &[u8])] = &[
     (Kind::Pairs, b"abcdefgh"),
 ];
 
-/// Whether four rows, of which the third is null, and those behind the first are written as their bytes.
+/// A node, a validity of one byte, and the rows' bytes.
+fn fixed(
+    alloc: Global,
+    node: (i64, i64),
+    validity: u8,
+    bytes: &[u8],
+) -> Result<Written, AllocError> {
+    let mut written = laid(alloc, (&[node], &[]), &[])?;
+    add_buffer(&mut written, &[validity])?;
+    add_buffer(&mut written, bytes)?;
+    Ok(written)
+}
+
+/// Whether four rows, of which the third is null, or those behind the first are written as their bytes.
 fn is_fixed(alloc: Global, kind: Kind, bytes: &[u8], first: usize) -> Result<bool, Fail> {
-    let read = laid(alloc, (&[(4, 1)], &[&[0xFB], bytes]), &[])?;
-    let dtype = type_of(alloc, kind)?;
-    let (node, validity) = if first == 0 {
-        ((4, 1), 0b1011)
-    } else {
-        ((3, 1), 0b101)
+    let read = fixed(alloc, (4, 1), 0xFB, bytes)?;
+    let layout = match first {
+        0 => fixed(alloc, (4, 1), 0b1011, bytes)?,
+        _ => fixed(alloc, (3, 1), 0b101, &bytes[bytes.len() / 4..])?,
     };
-    let rest = bytes.get(bytes.len() / 4 * first..).unwrap_or(&[]);
-    let layout = laid(alloc, (&[node], &[&[validity], rest]), &[])?;
+    let dtype = type_of(alloc, kind)?;
     let array = array_of(alloc, dtype, &read, 4, MetadataVersion::V5)?;
     is_kept(alloc, array, first, &layout)
 }

@@ -29,7 +29,7 @@ pub(crate) type Parts<'a> = (&'a [(i64, i64)], &'a [&'a [u8]]);
 const ZEROS: [u8; 64] = [0; 64];
 
 /// Adds a buffer behind the body, and zeros behind it up to a multiple of 64.
-fn add_buffer(written: &mut Written, bytes: &[u8]) -> Result<(), AllocError> {
+pub(crate) fn add_buffer(written: &mut Written, bytes: &[u8]) -> Result<(), AllocError> {
     written.buffers.push(IpcBuffer {
         offset: written.body.len() as i64,
         length: bytes.len() as i64,
