@@ -6,8 +6,6 @@ mod arrays;
 #[cfg(test)]
 mod columns;
 #[cfg(test)]
-mod dictionaries;
-#[cfg(test)]
 mod held;
 #[cfg(test)]
 mod kinds;
