@@ -20,13 +20,12 @@ use Rattle.arrow_types.specs.declared.physical.PrimitiveType.{PrimitiveType}
 use Rattle.arrow_types.specs.declared.physical.PrimitiveType.TheVariants as primitive
 use Rattle.arrow_buffers.specs.Variable.{Variable}
 use Rattle.arrow_arrays.specs.LeafParts.{LeafParts, numbers, binary, text, binary_views, text_views}
-use Rattle.arrow_arrays.specs.Parts.{Forest, Parts, also, leaf, nested, none}
+use Rattle.arrow_arrays.specs.Parts.{Parts, leaf, nested}
 use Rattle.arrow_arrays.specs.Batches.{Batch}
 use Rattle.ipc_bodies.specs.Pieces.{in_order, rebased, offset_bytes}
 use Rattle.ipc_write_arrays.specs.Pieces.{layout_in_order, width_of_kind, bytes_between, variable_pieces, leaf_pieces, pieces_in}
 use Rattle.ipc_write_arrays.specs.Trims.{has_no_children}
-use Rattle.ipc_write_arrays.specs.Outputs.{LeafMayHaveOrder, MayHaveOrder, MayHaveOrderEach}
-use Rattle.ipc_write.specs.Additions.{first_or, has_one}
+use Rattle.ipc_write_arrays.specs.Outputs.{LeafMayHaveOrder, MayHaveOrder}
 use Rattle.ipc_write.specs.Batches.{batch_body, columns_pieces, is_within, batch_message}
 use Rattle.ipc_write.specs.Compaction.{top}
 
@@ -83,12 +82,6 @@ short_in (nested h cs) is_little_endian c k short = cc
 short_in (leaf l) true c h short = subst (λ q. body_of 0 (map length (pieces_in little q)) < 2 ^ 63) (plain_top l h) short
 short_in (leaf l) false c h short =
     subst (λ ns. body_of 0 ns < 2 ^ 63) (sym (lengths_turned l)) (subst (λ q. body_of 0 (map length (pieces_in little q)) < 2 ^ 63) (plain_top l h) short)
-
--- one array that may be written so
-pub one_order : (cs : Forest) (other : Parts) → has_one cs ≡ true → MayHaveOrder (first_or other cs) true → MayHaveOrderEach cs true
-one_order none other h k = tt
-one_order (also p none) other h k = (k, tt)
-one_order (also p (also q cs)) other h k = cc
 
 -- ── a message of one column ──
 
