@@ -2,8 +2,6 @@
 #![tactic(auto)]
 
 #[cfg(test)]
-mod arrays;
-#[cfg(test)]
 mod columns;
 #[cfg(test)]
 mod held;
@@ -25,3 +23,5 @@ mod round_trips;
 mod steps;
 #[cfg(test)]
 mod types;
+#[cfg(test)]
+mod worked;

@@ -289,15 +289,22 @@ fn keys(alloc: Global, index: Index, valid: Valid) -> Result<DictionaryKeys, Arr
     }
 }
 
+/// Keys into values, which are given by themselves where there is one part of them.
 fn by_key(
     alloc: Global,
     kind: Kind,
     index: Index,
-    parts: Vec<Array>,
+    mut parts: Vec<Array>,
     valid: Valid,
 ) -> Result<Array, ArrayError> {
     let dtype = type_of(alloc, kind)?;
     let keys = keys(alloc, index, valid)?;
+    if parts.len() == 1 {
+        if let Some(values) = parts.pop() {
+            let array = DictionaryArray::try_new(alloc, dtype, keys, values)?;
+            return Ok(Array::Dictionary(array));
+        }
+    }
     let array = DictionaryArray::try_from_parts(dtype, keys, parts)?;
     Ok(Array::Dictionary(array))
 }
