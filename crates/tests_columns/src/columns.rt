@@ -1,627 +1,287 @@
-//! Columns over a body, as they are read, passed over, and written again (Arrow Columnar Format, "Buffer Listing for Each Layout").
-use crate::layouts::{
-    Column, Parts, add_buffer, array_of, column_of, is_kept, is_passed_over, laid, placed,
-    source_of,
-};
-use crate::steps::{Queues, Written, queues_of};
-use crate::types::{Kind, Nest, type_of};
-use crate::worked::{
-    BEHIND, DENSE, FLAGS, LISTS, LONG_OFFSETS, LONG_VIEW, MAPS, MAPS_AND_NULL, MAPS_OF_KEYS,
-    NEGATIVE, NO_ITEMS, NULL_VIEW, NULLS, NUMBERS, OTHER_VIEW, SECOND_ITEM, SHORT_MANY, SHORT_VIEW,
-    SPARSE, STRUCTS, TEXTS, TWOS, UNION_NULL, VIEWS,
-};
+//! Worked columns over memory, read and passed over.
 use arrow_arrays::{Array, is_carried};
 use arrow_buffers::PrimitiveArray;
-use arrow_spec::{Feature, IpcError, MetadataVersion, OutOfSpecKind};
-use arrow_types::ArrowDataType;
-use ipc_read::{Body, read_null, read_primitive, skip_binview};
+use arrow_spec::{FieldNode, IpcBuffer, IpcError, MetadataVersion, OutOfSpecKind};
+use arrow_types::{ArrowDataType, Field};
+use ipc_fields::IpcField;
+use ipc_read::{Body, Dictionaries, read, read_null, read_primitive, skip, skip_binview};
 use ipc_schema::{MemorySource, Source};
 use std::alloc::{AllocError, Global};
+use std::collections::VecDeque;
 use std::test::Fail;
 
-/// How a column is written again, and its view counts, or why it is not read.
-type Answer = Result<(Parts<'static>, &'static [i64]), IpcError>;
+/// Validity 05 and the numbers 1, 0, 3; validity 03, the offsets 0, 1, 3, 3 and the text "xyz".
+const TABLE: &[u8] =
+    b"\x05\0\0\0\0\0\0\0\x01\0\x03\0\0\0\0\0\x03\0\0\0\0\0\0\0\0\0\0\0\x01\0\0\0\x03\0\0\0\x03\0\0\0xyz\0\0\0\0\0";
 
-/// Columns, how many of the rows in front are left out, and how the others are written.
-const ROWS: &[(Column, usize, Answer)] = &[
-    (
-        NUMBERS,
-        0,
-        Ok(((&[(3, 1)], &[b"\x05", b"\x01\0\x03"]), &[])),
-    ),
-    (NUMBERS, 1, Ok(((&[(2, 1)], &[b"\x02", b"\0\x03"]), &[]))),
-    (
-        TEXTS,
-        0,
-        Ok((
-            (
-                &[(3, 1)],
-                &[b"\x03", b"\0\0\0\0\x01\0\0\0\x03\0\0\0\x03\0\0\0", b"xyz"],
-            ),
-            &[],
-        )),
-    ),
-    // Bits past the end are zeros.
-    (FLAGS, 0, Ok(((&[(4, 1)], &[b"\x0B", b"\x0A"]), &[]))),
-    (FLAGS, 1, Ok(((&[(3, 1)], &[b"\x05", b"\x05"]), &[]))),
-    // Offsets begin at 0, and the bytes where the first of them was.
-    (
-        BEHIND,
-        0,
-        Ok((
-            (
-                &[(4, 1)],
-                &[
-                    b"\x0B",
-                    b"\0\0\0\0\x01\0\0\0\x03\0\0\0\x04\0\0\0\x05\0\0\0",
-                    b"b\xC3\xA9-c",
-                ],
-            ),
-            &[],
-        )),
-    ),
-    (
-        BEHIND,
-        1,
-        Ok((
-            (
-                &[(3, 1)],
-                &[
-                    b"\x05",
-                    b"\0\0\0\0\x02\0\0\0\x03\0\0\0\x04\0\0\0",
-                    b"\xC3\xA9-c",
-                ],
-            ),
-            &[],
-        )),
-    ),
-    (
-        LONG_OFFSETS,
-        0,
-        Ok((
-            (
-                &[(4, 1)],
-                &[
-                    b"\x0B",
-                    b"\0\0\0\0\0\0\0\0\x01\0\0\0\0\0\0\0\x03\0\0\0\0\0\0\0\x04\0\0\0\0\0\0\0\x05\0\0\0\0\0\0\0",
-                    b"b\xC3\xA9-c",
-                ],
-            ),
-            &[],
-        )),
-    ),
-    (
-        LONG_OFFSETS,
-        1,
-        Ok((
-            (
-                &[(3, 1)],
-                &[
-                    b"\x05",
-                    b"\0\0\0\0\0\0\0\0\x02\0\0\0\0\0\0\0\x03\0\0\0\0\0\0\0\x04\0\0\0\0\0\0\0",
-                    b"\xC3\xA9-c",
-                ],
-            ),
-            &[],
-        )),
-    ),
-    (
-        VIEWS,
-        0,
-        Ok((
-            (
-                &[(4, 1)],
-                &[
-                    b"\x0B",
-                    b"\x0C\0\0\0abcdefghijkl\x02\0\0\0\xC3\xA9\0\0\0\0\0\0\0\0\0\0\xFF\xFF\xFF\xFF\xFF\xFF\xFF\xFF\xFF\xFF\xFF\xFF\xFF\xFF\xFF\xFF\x0D\0\0\0abcd\0\0\0\0\x01\0\0\0",
-                    b"-abcdefghijklm",
-                ],
-            ),
-            &[1],
-        )),
-    ),
-    (
-        VIEWS,
-        1,
-        Ok((
-            (
-                &[(3, 1)],
-                &[
-                    b"\x05",
-                    b"\x02\0\0\0\xC3\xA9\0\0\0\0\0\0\0\0\0\0\xFF\xFF\xFF\xFF\xFF\xFF\xFF\xFF\xFF\xFF\xFF\xFF\xFF\xFF\xFF\xFF\x0D\0\0\0abcd\0\0\0\0\x01\0\0\0",
-                    b"-abcdefghijklm",
-                ],
-            ),
-            &[1],
-        )),
-    ),
-    (
-        SHORT_VIEW,
-        0,
-        Ok((
-            (
-                &[(1, 0)],
-                &[b"", b"\x0C\0\0\0abcdefghijkl", b"abcdefghijklm"],
-            ),
-            &[1],
-        )),
-    ),
-    (
-        LONG_VIEW,
-        0,
-        Ok((
-            (
-                &[(1, 0)],
-                &[b"", b"\x0D\0\0\0abcd\0\0\0\0\0\0\0\0", b"abcdefghijklm"],
-            ),
-            &[1],
-        )),
-    ),
-    (
-        OTHER_VIEW,
-        0,
-        Err(IpcError::OutOfSpec(OutOfSpecKind::InvalidView)),
-    ),
-    // Rows that are not null hold no bytes, so there is no buffer.
-    (
-        NULL_VIEW,
-        0,
-        Ok((
-            (&[(1, 1)], &[b"\0", b"\0\0\0\0\0\0\0\0\0\0\0\0\0\0\0\0"]),
-            &[0],
-        )),
-    ),
-    (NULLS, 0, Ok(((&[(4, 4)], &[]), &[]))),
-    (NULLS, 1, Ok(((&[(3, 3)], &[]), &[]))),
-    (
-        MAPS,
-        0,
-        Ok((
-            (
-                &[(2, 0), (3, 0), (3, 0), (3, 0)],
-                &[
-                    b"",
-                    b"\0\0\0\0\x01\0\0\0\x03\0\0\0",
-                    b"",
-                    b"",
-                    b"\x01\x02\x03",
-                    b"",
-                    b"\x04\x05\x06",
-                ],
-            ),
-            &[],
-        )),
-    ),
-    (
-        MAPS,
-        1,
-        Ok((
-            (
-                &[(1, 0), (2, 0), (2, 0), (2, 0)],
-                &[
-                    b"",
-                    b"\0\0\0\0\x02\0\0\0",
-                    b"",
-                    b"",
-                    b"\x02\x03",
-                    b"",
-                    b"\x05\x06",
-                ],
-            ),
-            &[],
-        )),
-    ),
-    (
-        MAPS_AND_NULL,
-        1,
-        Ok((
-            (
-                &[(3, 1), (2, 0), (2, 0), (2, 0)],
-                &[
-                    b"\x05",
-                    b"\0\0\0\0\0\0\0\0\x01\0\0\0\x02\0\0\0",
-                    b"",
-                    b"",
-                    b"\x03\x04",
-                    b"",
-                    b"\x07\x08",
-                ],
-            ),
-            &[],
-        )),
-    ),
-    // Each child has the next node.
-    (
-        MAPS_OF_KEYS,
-        0,
-        Err(IpcError::OutOfSpec(OutOfSpecKind::ExpectedBuffer)),
-    ),
-    (
-        SECOND_ITEM,
-        0,
-        Ok((
-            (
-                &[(1, 0), (2, 0)],
-                &[b"", b"\0\0\0\0\x02\0\0\0", b"", b"\x08\x09"],
-            ),
-            &[],
-        )),
-    ),
-    (
-        LISTS,
-        0,
-        Ok((
-            (
-                &[(4, 1), (3, 0)],
-                &[
-                    b"\x0B",
-                    b"\0\0\0\0\x02\0\0\0\x02\0\0\0\x02\0\0\0\x03\0\0\0",
-                    b"",
-                    b"\x01\x02\x03",
-                ],
-            ),
-            &[],
-        )),
-    ),
-    (
-        LISTS,
-        1,
-        Ok((
-            (
-                &[(3, 1), (1, 0)],
-                &[b"\x05", b"\0\0\0\0\0\0\0\0\0\0\0\0\x01\0\0\0", b"", b"\x03"],
-            ),
-            &[],
-        )),
-    ),
-    (
-        TWOS,
-        0,
-        Ok(((&[(2, 0), (4, 0)], &[b"", b"", b"\x01\x02\x03\0"]), &[])),
-    ),
-    (
-        TWOS,
-        1,
-        Ok(((&[(1, 0), (2, 0)], &[b"", b"", b"\x03\0"]), &[])),
-    ),
-    // More items than can be counted are refused by their node.
-    (
-        SHORT_MANY,
-        0,
-        Err(IpcError::OutOfSpec(OutOfSpecKind::NodeLength)),
-    ),
-    (
-        NO_ITEMS,
-        0,
-        Err(IpcError::OutOfSpec(OutOfSpecKind::ExpectedBuffer)),
-    ),
-    (
-        NEGATIVE,
-        0,
-        Err(IpcError::OutOfSpec(OutOfSpecKind::UnexpectedNegativeInteger)),
-    ),
-    (
-        STRUCTS,
-        0,
-        Ok((
-            (
-                &[(4, 1), (4, 1), (4, 0)],
-                &[
-                    b"\x0B",
-                    b"\x0B",
-                    b"\x01\x02\x03\x04",
-                    b"",
-                    b"\x05\x06\x07\x08",
-                ],
-            ),
-            &[],
-        )),
-    ),
-    (
-        STRUCTS,
-        1,
-        Ok((
-            (
-                &[(3, 1), (3, 1), (3, 0)],
-                &[b"\x05", b"\x05", b"\x02\x03\x04", b"", b"\x06\x07\x08"],
-            ),
-            &[],
-        )),
-    ),
-    (
-        SPARSE,
-        0,
-        Ok((
-            (
-                &[(3, 0), (3, 0), (3, 0)],
-                &[b"\x05\x07\x07", b"", b"\x01\x02\x03", b"", b"\x0A\x14\x1E"],
-            ),
-            &[],
-        )),
-    ),
-    (
-        SPARSE,
-        1,
-        Ok((
-            (
-                &[(2, 0), (2, 0), (2, 0)],
-                &[b"\x07\x07", b"", b"\x02\x03", b"", b"\x14\x1E"],
-            ),
-            &[],
-        )),
-    ),
-    // Children of dense unions are whole.
-    (
-        DENSE,
-        0,
-        Ok((
-            (
-                &[(4, 0), (2, 0), (3, 0)],
-                &[
-                    b"\x05\x07\x07\x05",
-                    b"\0\0\0\0\0\0\0\0\x01\0\0\0\x01\0\0\0",
-                    b"",
-                    b"\x01\x02",
-                    b"",
-                    b"\x0A\x14\x1E",
-                ],
-            ),
-            &[],
-        )),
-    ),
-    (
-        DENSE,
-        1,
-        Ok((
-            (
-                &[(3, 0), (2, 0), (3, 0)],
-                &[
-                    b"\x07\x07\x05",
-                    b"\0\0\0\0\x01\0\0\0\x01\0\0\0",
-                    b"",
-                    b"\x01\x02",
-                    b"",
-                    b"\x0A\x14\x1E",
-                ],
-            ),
-            &[],
-        )),
-    ),
-    (
-        UNION_NULL,
-        0,
-        Err(IpcError::Unsupported(Feature::UnionNulls)),
-    ),
-];
-
-/// Whether a column is answered so.
-fn is_answered(alloc: Global, column: &Column, first: usize, answer: Answer) -> Result<bool, Fail> {
-    let (parts, views) = match answer {
-        Ok(layout) => layout,
-        Err(refusal) => return Ok(column_of(alloc, column).err() == Some(refusal)),
-    };
-    let layout = laid(alloc, parts, views)?;
-    is_kept(alloc, column_of(alloc, column)?, first, &layout)
+/// What is left of a batch's tables.
+#[derive(Drop)]
+pub(crate) struct Queues {
+    pub nodes: VecDeque<FieldNode>,
+    pub buffers: VecDeque<IpcBuffer>,
+    pub variadic: VecDeque<i64>,
 }
 
-#[test]
-fn columns_are_written_as_they_were_read(rt: HostRuntime) -> Result<(), Fail> {
-    for i in 0..ROWS.len() {
-        let (column, first, answer) = ROWS[i];
-        assert!(rt; is_answered(rt.alloc(), &column, first, answer)?, "{i}");
-    }
-    Ok(())
-}
-
-#[test]
-fn columns_are_passed_over(rt: HostRuntime) -> Result<(), Fail> {
-    for i in 0..ROWS.len() {
-        let (column, _, answer) = ROWS[i];
-        if answer.is_ok() {
-            assert!(rt; is_passed_over(rt.alloc(), &column)?, "{i}");
-        }
-    }
-    Ok(())
-}
-
-/// Types of which each row has the same number of bytes, and four rows.
-const FIXED: &[(Kind, &[u8])] = &[
-    (Kind::Int8, b"\x01\xFE\x03\x80"),
-    (Kind::Int16, b"\x01\0\xFE\xFF\x03\0\0\x80"),
-    (
-        Kind::Int32,
-        b"\x01\0\0\0\xFE\xFF\xFF\xFF\x03\0\0\0\0\0\0\x80",
-    ),
-    (
-        Kind::Int64,
-        b"\x01\0\0\0\0\0\0\0\xFE\xFF\xFF\xFF\xFF\xFF\xFF\xFF\x03\0\0\0\0\0\0\0\0\0\0\0\0\0\0\x80",
-    ),
-    (Kind::UInt8, b"\x01\x02\x03\xFF"),
-    (Kind::UInt16, b"\x01\0\x02\0\x03\0\xFF\xFF"),
-    (
-        Kind::UInt32,
-        b"\x01\0\0\0\x02\0\0\0\x03\0\0\0\xFF\xFF\xFF\xFF",
-    ),
-    (
-        Kind::UInt64,
-        b"\x01\0\0\0\0\0\0\0\x02\0\0\0\0\0\0\0\x03\0\0\0\0\0\0\0\xFF\xFF\xFF\xFF\xFF\xFF\xFF\xFF",
-    ),
-    (
-        Kind::Decimal,
-        b"\x01\0\0\0\0\0\0\0\0\0\0\0\0\0\0\0\xFE\xFF\xFF\xFF\xFF\xFF\xFF\xFF\xFF\xFF\xFF\xFF\xFF\xFF\xFF\xFF\x03\0\0\0\0\0\0\0\0\0\0\0\0\0\0\0\0\0\0\0\0\0\0\0\0\0\0\0\0\0\0\x80",
-    ),
-    (
-        Kind::DayTime,
-        b"\xFF\xFF\xFF\xFF\x04\x03\x02\x01\xFE\xFF\xFF\xFF\x04\x03\x02\x01\xFD\xFF\xFF\xFF\x04\x03\x02\x01\xFC\xFF\xFF\xFF\x04\x03\x02\x01",
-    ),
-    (
-        Kind::MonthDayNano,
-        b"\x04\x03\x02\x01\xFE\xFF\xFF\xFF\x08\x07\x06\x05\x04\x03\x02\x01\x04\x03\x02\x01\xFD\xFF\xFF\xFF\x08\x07\x06\x05\x04\x03\x02\x01\x04\x03\x02\x01\xFC\xFF\xFF\xFF\x08\x07\x06\x05\x04\x03\x02\x01\x04\x03\x02\x01\xFB\xFF\xFF\xFF\x08\x07\x06\x05\x04\x03\x02\x01",
-    ),
-    (Kind::Pairs, b"abcdefgh"),
-];
-
-/// A node, a validity of one byte, and the rows' bytes.
-fn fixed(
+pub(crate) fn nodes(
     alloc: Global,
-    node: (i64, i64),
-    validity: u8,
-    bytes: &[u8],
-) -> Result<Written, AllocError> {
-    let mut written = laid(alloc, (&[node], &[]), &[])?;
-    add_buffer(&mut written, &[validity])?;
-    add_buffer(&mut written, bytes)?;
-    Ok(written)
+    nodes: &[(i64, i64)],
+) -> Result<VecDeque<FieldNode>, AllocError> {
+    let mut queue = VecDeque::new(alloc);
+    for (length, null_count) in nodes {
+        queue.push_back(FieldNode {
+            length: *length,
+            null_count: *null_count,
+        })?;
+    }
+    Ok(queue)
 }
 
-/// Whether four rows, of which the third is null, or those behind the first are written as their bytes.
-fn is_fixed(alloc: Global, kind: Kind, bytes: &[u8], first: usize) -> Result<bool, Fail> {
-    let read = fixed(alloc, (4, 1), 0xFB, bytes)?;
-    let layout = match first {
-        0 => fixed(alloc, (4, 1), 0b1011, bytes)?,
-        _ => fixed(alloc, (3, 1), 0b101, &bytes[bytes.len() / 4..])?,
+pub(crate) fn buffers(
+    alloc: Global,
+    buffers: &[(i64, i64)],
+) -> Result<VecDeque<IpcBuffer>, AllocError> {
+    let mut queue = VecDeque::new(alloc);
+    for (offset, length) in buffers {
+        queue.push_back(IpcBuffer {
+            offset: *offset,
+            length: *length,
+        })?;
+    }
+    Ok(queue)
+}
+
+/// Two bytes stand before the body.
+pub(crate) fn source(alloc: Global, body: &[u8]) -> Result<MemorySource, AllocError> {
+    let mut bytes = b"ab".to_vec(alloc)?;
+    bytes.extend_from_slice(body)?;
+    Ok(MemorySource::new(bytes, Vec::new(alloc), Vec::new(alloc)))
+}
+
+/// The next array of a body of 48 bytes.
+pub(crate) fn next(
+    alloc: Global,
+    queues: &mut Queues,
+    source: &mut MemorySource,
+    dtype: ArrowDataType,
+    rows: usize,
+) -> Result<Array, IpcError> {
+    next_of(alloc, queues, source, dtype, rows, MetadataVersion::V5)
+}
+
+/// The same in a message of a version.
+#[tactic(auto, using(ipc_read::proofs::HeldKinds::empty_holds))]
+pub(crate) fn next_of(
+    alloc: Global,
+    queues: &mut Queues,
+    source: &mut MemorySource,
+    dtype: ArrowDataType,
+    rows: usize,
+    version: MetadataVersion,
+) -> Result<Array, IpcError> {
+    if source.size()? < 50 || !is_carried(&dtype) {
+        return Err(IpcError::State);
+    }
+    let body = Body {
+        offset: 2,
+        length: 48,
     };
-    let dtype = type_of(alloc, kind)?;
-    let array = array_of(alloc, dtype, &read, 4, MetadataVersion::V5)?;
-    is_kept(alloc, array, first, &layout)
+    let field = Field::new(alloc, String::new(alloc), dtype, true);
+    let dictionaries = Dictionaries::new(alloc);
+    read(
+        alloc,
+        &mut queues.nodes,
+        &mut queues.variadic,
+        &field,
+        &IpcField::new(alloc),
+        &mut queues.buffers,
+        source,
+        &dictionaries,
+        body,
+        true,
+        rows,
+        version,
+        &mut Vec::new(alloc),
+    )
+}
+
+/// A node of three rows, of which one is null, and buffers.
+fn three_rows(alloc: Global, places: &[(i64, i64)]) -> Result<Queues, AllocError> {
+    Ok(Queues {
+        nodes: nodes(alloc, &[(3, 1)])?,
+        buffers: buffers(alloc, places)?,
+        variadic: VecDeque::new(alloc),
+    })
+}
+
+/// The first column of such a batch.
+fn first(alloc: Global, places: &[(i64, i64)], dtype: ArrowDataType) -> Result<Array, Fail> {
+    let mut queues = three_rows(alloc, places)?;
+    let mut source = source(alloc, TABLE)?;
+    Ok(next(alloc, &mut queues, &mut source, dtype, 3)?)
+}
+
+/// Whether numbers have these values, and one null.
+fn holds_numbers(numbers: &Array, values: &[u8]) -> bool {
+    match numbers {
+        Array::UInt8(numbers) => numbers.values().as_slice() == values && numbers.null_count() == 1,
+        _ => false,
+    }
 }
 
 #[test]
-fn rows_of_one_size_are_their_bytes(rt: HostRuntime) -> Result<(), Fail> {
-    for i in 0..FIXED.len() {
-        let (kind, bytes) = FIXED[i];
-        assert!(rt; is_fixed(rt.alloc(), kind, bytes, 0)?, "{i}");
-        assert!(rt; is_fixed(rt.alloc(), kind, bytes, 1)?, "{i}");
-    }
+fn numbers_have_their_values_and_their_nulls(rt: HostRuntime) -> Result<(), Fail> {
+    let numbers = first(rt.alloc(), &[(0, 1), (8, 3)], ArrowDataType::UInt8)?;
+    assert!(rt; holds_numbers(&numbers, &[1, 0, 3]));
+    drop(numbers);
     Ok(())
 }
 
-/// Columns, a row, and between which items it is, of one size from which on and how many, or of which child it is which item.
-const PLACES: &[(Column, usize, (usize, usize))] = &[
-    (SECOND_ITEM, 0, (1, 3)),
-    (MAPS, 1, (1, 3)),
-    (TWOS, 1, (2, 2)),
-    (SPARSE, 0, (0, 0)),
-    (SPARSE, 1, (1, 1)),
-    (SPARSE, 2, (1, 2)),
-    (DENSE, 0, (0, 0)),
-    (DENSE, 1, (1, 0)),
-    (DENSE, 2, (1, 1)),
-    (DENSE, 3, (0, 1)),
-];
-
-fn place_of(array: &Array, row: usize) -> Option<(usize, usize)> {
-    match array {
-        Array::List(lists) if row < lists.len() => Some(lists.range(row)),
-        Array::Map(maps) if row < maps.len() => Some(maps.range(row)),
-        Array::FixedSizeList(lists) if row < lists.len() => Some(lists.range(row)),
-        Array::Union(unions) if row < unions.len() => Some(unions.index(row)),
-        _ => None,
+/// Whether texts have these offsets into these bytes, and one null.
+fn holds_texts(
+    alloc: Global,
+    texts: &Array,
+    offsets: &[i32],
+    values: &[u8],
+) -> Result<bool, AllocError> {
+    match texts {
+        Array::Utf8(texts) => {
+            let held = texts.offsets().to_vec(alloc)?;
+            let parts = held.as_slice() == offsets && texts.values().as_slice() == values;
+            Ok(parts && texts.null_count() == 1)
+        }
+        _ => Ok(false),
     }
-}
-
-fn place_in(alloc: Global, column: &Column, row: usize) -> Result<Option<(usize, usize)>, Fail> {
-    let array = column_of(alloc, column)?;
-    let place = place_of(&array, row);
-    drop(array);
-    Ok(place)
 }
 
 #[test]
-fn rows_lie_in_children(rt: HostRuntime) -> Result<(), Fail> {
-    for (column, row, place) in PLACES {
-        assert!(rt; place_in(rt.alloc(), column, *row)? == Some(*place));
-    }
+fn texts_have_their_values_and_their_nulls(rt: HostRuntime) -> Result<(), Fail> {
+    let places = [(16, 1), (24, 16), (40, 3)];
+    let texts = first(rt.alloc(), &places, ArrowDataType::Utf8)?;
+    let held = holds_texts(rt.alloc(), &texts, &[0, 1, 3, 3], b"xyz");
+    drop(texts);
+    assert!(rt; held?);
     Ok(())
 }
 
-/// 2^62 nulls.
-const MANY: Column = Column {
-    kind: Kind::Null,
-    nodes: &[(4_611_686_018_427_387_904, 4_611_686_018_427_387_904)],
-    places: &[],
-    views: &[],
-    body: b"",
-    rows: 4_611_686_018_427_387_904,
-    version: MetadataVersion::V5,
-};
+/// What is refused behind the first column of a batch of one.
+fn second(alloc: Global) -> Result<Option<IpcError>, Fail> {
+    let mut queues = three_rows(alloc, &[(0, 1), (8, 3)])?;
+    let mut source = source(alloc, TABLE)?;
+    drop(next(alloc, &mut queues, &mut source, ArrowDataType::UInt8, 3)?);
+    Ok(next(alloc, &mut queues, &mut source, ArrowDataType::UInt8, 3).err())
+}
 
-const NULL_COLUMNS: &[Column] = &[NULLS, MANY];
-
-/// Whether the rows of a column are nulls, and those behind the first too.
-fn are_nulls(alloc: Global, column: &Column) -> Result<bool, Fail> {
-    let mut queues = queues_of(alloc, &placed(alloc, column)?)?;
-    let array = read_null(alloc, &mut queues.nodes, &ArrowDataType::Null, column.rows)?;
-    let rows = array.len();
-    if rows == 0 || rows != column.rows || array.null_count() != rows {
-        return Ok(false);
-    }
-    let part = array.sliced(1, rows - 1);
-    Ok(part.len() == rows - 1 && part.null_count() == rows - 1)
+#[test]
+fn the_next_column_has_the_next_node(rt: HostRuntime) -> Result<(), Fail> {
+    let missing = IpcError::OutOfSpec(OutOfSpecKind::ExpectedBuffer);
+    assert!(rt; second(rt.alloc())? == Some(missing));
+    Ok(())
 }
 
 #[test]
 fn nulls_take_no_buffers(rt: HostRuntime) -> Result<(), Fail> {
-    for column in NULL_COLUMNS {
-        assert!(rt; are_nulls(rt.alloc(), column)?);
-    }
+    let alloc = rt.alloc();
+    let rows: i64 = 4_611_686_018_427_387_904;
+    let mut nodes = nodes(alloc, &[(rows, rows)])?;
+    let array = read_null(
+        alloc,
+        &mut nodes,
+        &ArrowDataType::Null,
+        4_611_686_018_427_387_904,
+    )?;
+    assert!(rt; array.len() == 4_611_686_018_427_387_904 && array.null_count() == array.len());
     Ok(())
 }
 
-/// Views over two buffers, before the numbers 7 and 8.
-const VIEWS_AND_NUMBERS: Column = Column {
-    kind: Kind::Int64,
-    nodes: &[(2, 0), (2, 0)],
-    places: &[(0, 0), (0, 32), (64, 13), (128, 13), (0, 0), (0, 16)],
-    views: &[2],
-    body: b"\x07\0\0\0\0\0\0\0\x08\0\0\0\0\0\0\0",
-    rows: 2,
-    version: MetadataVersion::V5,
-};
+/// The tables of a column of views, before one of numbers.
+fn views_and_numbers(alloc: Global) -> Result<Queues, AllocError> {
+    let places = [(0, 0), (0, 32), (64, 13), (128, 13), (192, 0), (192, 16)];
+    let mut variadic = VecDeque::new(alloc);
+    variadic.push_back(2)?;
+    Ok(Queues {
+        nodes: nodes(alloc, &[(2, 0), (2, 0)])?,
+        buffers: buffers(alloc, &places)?,
+        variadic,
+    })
+}
 
-/// The numbers of a body of 16 bytes behind views that are passed over.
-fn behind_views(
-    alloc: Global,
-    queues: &mut Queues,
-    source: &mut MemorySource,
-) -> Result<PrimitiveArray<i64>, IpcError> {
-    if source.size()? < 18 {
-        return Err(IpcError::State);
+/// The numbers of a body of 208 bytes, of which views stand before them.
+fn behind_views(alloc: Global, source: &mut MemorySource) -> Result<PrimitiveArray<i64>, Fail> {
+    if source.size()? < 210 {
+        return Err(Fail::from("a short source"));
     }
-    let (offset, length) = (2, 16);
-    skip_binview(&mut queues.nodes, &mut queues.buffers, &mut queues.views)?;
-    read_primitive::<i64, MemorySource>(
+    let body = Body {
+        offset: 2,
+        length: 208,
+    };
+    let mut queues = views_and_numbers(alloc)?;
+    skip_binview(&mut queues.nodes, &mut queues.buffers, &mut queues.variadic)?;
+    let mut scratch = Vec::new(alloc);
+    Ok(read_primitive::<i64, MemorySource>(
         alloc,
         &mut queues.nodes,
         &ArrowDataType::Int64,
         &mut queues.buffers,
         source,
-        Body { offset, length },
+        body,
         true,
         2,
-        &mut Vec::new(alloc),
-    )
+        &mut scratch,
+    )?)
+}
+
+/// Zeros where views and their buffers stand, and the numbers 7 and 8.
+fn body_of_views(alloc: Global) -> Result<Vec<u8>, AllocError> {
+    let mut body = Vec::new(alloc);
+    body.resize(192, 0)?;
+    body.extend_from_slice(&[7, 0, 0, 0, 0, 0, 0, 0, 8, 0, 0, 0, 0, 0, 0, 0])?;
+    Ok(body)
 }
 
 #[test]
 fn all_buffers_of_views_are_passed_over(rt: HostRuntime) -> Result<(), Fail> {
-    let alloc = rt.alloc();
-    let mut queues = queues_of(alloc, &placed(alloc, &VIEWS_AND_NUMBERS)?)?;
-    let mut source = source_of(alloc, VIEWS_AND_NUMBERS.body)?;
-    let numbers = behind_views(alloc, &mut queues, &mut source)?;
-    assert!(rt; numbers.values().to_vec(alloc)?.as_slice() == [7, 8].as_slice());
+    let mut source = source(rt.alloc(), &body_of_views(rt.alloc())?)?;
+    let numbers = behind_views(rt.alloc(), &mut source)?;
+    assert!(rt; numbers.values().to_vec(rt.alloc())?.as_slice() == [7, 8].as_slice());
     Ok(())
 }
 
+/// A struct of lists of Int8 and of view texts.
+fn lists_and_views(alloc: Global) -> Result<ArrowDataType, AllocError> {
+    let item = Field::new(alloc, String::new(alloc), ArrowDataType::Int8, true);
+    let lists = ArrowDataType::List(Box::new(alloc, item)?);
+    let first = Field::new(alloc, String::new(alloc), lists, true);
+    let second = Field::new(alloc, String::new(alloc), ArrowDataType::Utf8View, true);
+    Ok(ArrowDataType::Struct(vec![in alloc; first, second]?))
+}
+
+/// The tables of such a struct, whose views have two buffers, before a node and a buffer more.
+fn struct_and_more(alloc: Global) -> Result<Queues, AllocError> {
+    let mut variadic = VecDeque::new(alloc);
+    variadic.push_back(2)?;
+    Ok(Queues {
+        nodes: nodes(alloc, &[(2, 0), (2, 0), (3, 0), (2, 0), (7, 0)])?,
+        buffers: buffers(alloc, &[(0, 0); 10])?,
+        variadic,
+    })
+}
+
+/// Whether one node and one buffer are left behind the struct.
+fn leaves_one_of_each(alloc: Global) -> Result<bool, Fail> {
+    let dtype = lists_and_views(alloc)?;
+    let mut queues = struct_and_more(alloc)?;
+    skip(
+        &mut queues.nodes,
+        &dtype,
+        &mut queues.buffers,
+        &mut queues.variadic,
+        MetadataVersion::V5,
+    )?;
+    Ok(queues.nodes.len() == 1 && queues.buffers.len() == 1 && queues.variadic.is_empty())
+}
+
 #[test]
-fn types_tell_whether_they_are_read(rt: HostRuntime) -> Result<(), Fail> {
-    for (kind, is_read) in [
-        (Kind::Over(Nest::Map), true),
-        (Kind::Over(Nest::FixedSizeList(2)), true),
-        (Kind::Over(Nest::FixedSizeList(0)), false),
-        (Kind::Float64, false),
-    ] {
-        assert!(rt; is_carried(&type_of(rt.alloc(), kind)?) == is_read);
-    }
+fn a_struct_is_passed_over_with_its_children(rt: HostRuntime) -> Result<(), Fail> {
+    assert!(rt; leaves_one_of_each(rt.alloc())?);
     Ok(())
 }

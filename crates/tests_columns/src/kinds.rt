@@ -1,5 +1,5 @@
 //! Columns with children, passed over and read by the calls of their kind.
-use crate::steps::{Queues, Written, queues_of};
+use crate::steps::{Queues, Written, encoded, queues_of};
 use arrow_arrays::{Array, is_carried};
 use arrow_spec::{IpcError, MetadataVersion};
 use arrow_types::{ArrowDataType, PhysicalType};
@@ -10,6 +10,7 @@ use ipc_read::{
 };
 use ipc_schema::{MemorySource, Source};
 use std::alloc::Global;
+use std::process::Abort;
 use std::test::Fail;
 
 /// Passes over a column.
@@ -30,25 +31,20 @@ fn pass(queues: &mut Queues, dtype: &ArrowDataType) -> Result<(), IpcError> {
 }
 
 /// Whether nothing is left behind the column.
-pub(crate) fn is_passed(
-    alloc: Global,
-    dtype: &ArrowDataType,
-    written: &Written,
-) -> Result<bool, Fail> {
+fn is_passed(alloc: Global, dtype: &ArrowDataType, written: &Written) -> Result<bool, Fail> {
     let mut queues = queues_of(alloc, written)?;
     pass(&mut queues, dtype)?;
     Ok(queues.nodes.is_empty() && queues.buffers.is_empty() && queues.views.is_empty())
 }
 
-/// The column of so many rows.
-pub(crate) fn read_of_kind(
+/// The column of so many rows over a body.
+fn read_of_kind(
     alloc: Global,
+    queues: &mut Queues,
     dtype: &ArrowDataType,
-    written: &Written,
+    body: Vec<u8>,
     rows: usize,
 ) -> Result<Array, IpcError> {
-    let mut queues = queues_of(alloc, written)?;
-    let body = written.body.as_slice().to_vec(alloc)?;
     let mut source = MemorySource::new(body, Vec::new(alloc), Vec::new(alloc));
     let body = Body {
         offset: 0,
@@ -88,4 +84,15 @@ pub(crate) fn read_of_kind(
         PhysicalType::Union => by!(read_union, Union),
         _ => Err(IpcError::State),
     }
+}
+
+/// The column is passed over, and read as it was written.
+pub(crate) fn goes_by_kind(rt: &impl Abort, alloc: Global, array: &Array) -> Result<(), Fail> {
+    let written = encoded(alloc, array)?;
+    assert!(rt; is_passed(alloc, array.dtype(), &written)?);
+    let mut queues = queues_of(alloc, &written)?;
+    let back = read_of_kind(alloc, &mut queues, array.dtype(), written.body, array.len())?;
+    assert!(rt; back == *array);
+    drop(back);
+    Ok(())
 }

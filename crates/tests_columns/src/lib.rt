@@ -2,17 +2,21 @@
 #![tactic(auto)]
 
 #[cfg(test)]
+mod arrays;
+#[cfg(test)]
+mod bodies;
+#[cfg(test)]
 mod columns;
 #[cfg(test)]
 mod held;
 #[cfg(test)]
 mod kinds;
 #[cfg(test)]
-mod layouts;
-#[cfg(test)]
 mod memory;
 #[cfg(test)]
 mod messages;
+#[cfg(test)]
+mod nested;
 #[cfg(test)]
 mod nests;
 #[cfg(test)]
@@ -22,6 +26,6 @@ mod round_trips;
 #[cfg(test)]
 mod steps;
 #[cfg(test)]
-mod types;
+mod unions;
 #[cfg(test)]
-mod worked;
+mod values;

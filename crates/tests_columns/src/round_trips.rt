@@ -1,4 +1,4 @@
-//! Arrays that are written without a message and read back, in either order.
+//! Arrays that are read back as they were written.
 ghost use Rattle.std.specs.Prelude.{◌≡◌, ◌^◌, ◌<◌, length, map, false, true};
 ghost use Rattle.arrow_spec.specs.Flat.{little};
 ghost use Rattle.arrow_spec.specs.Sent.{body_of};
@@ -9,9 +9,15 @@ ghost use Rattle.ipc_write_arrays.specs.Pieces.{pieces_in};
 ghost use Rattle.ipc_write_arrays.specs.Trims.{has_no_children};
 ghost use Rattle.ipc_write.specs.Compaction.{top};
 
-use crate::steps::{read_back, write_alone};
+use crate::arrays::{
+    binary, binary_views, days, decimals, fixed, flags, int8, int16, int32, int64, large_binary,
+    large_lists, large_utf8, lists, maps, months, nulls, structs, text_views, uint8, uint16,
+    uint32, uint64, utf8,
+};
+use crate::steps::{encoded, read_back, write_alone};
 use arrow_arrays::Array;
 use std::alloc::Global;
+use std::process::Abort;
 use std::test::Fail;
 
 /// Whether an array has views, which are written in little-endian order alone, or children, which may have some.
@@ -32,8 +38,14 @@ pub(crate) fn may_have_views(array: &Array) -> bool
     )
 }
 
-/// Whether the array goes through nodes, buffers and a body of its own, in an order.
-fn goes_alone(alloc: Global, array: &Array, is_little_endian: bool) -> Result<bool, Fail>
+/// The array goes through nodes, buffers and a body of its own, in an order.
+fn goes_alone(
+    rt: &impl Abort,
+    alloc: Global,
+    title: &str,
+    array: &Array,
+    is_little_endian: bool,
+) -> Result<(), Fail>
     requires plain { MayHaveOrder (parts_of array.now) false }
     requires childless { has_no_children (parts_of array.now) ≡ true }
     requires few { rows_in (parts_of array.now) < 2 ^ 63 }
@@ -41,18 +53,103 @@ fn goes_alone(alloc: Global, array: &Array, is_little_endian: bool) -> Result<bo
 {
     let parts = write_alone(alloc, array, is_little_endian)?;
     let back = read_back(alloc, array.dtype(), array.len(), parts, is_little_endian)??;
-    let is_same = back == *array;
+    assert!(rt; back == *array, "{title}");
     drop(back);
-    Ok(is_same)
+    Ok(())
 }
 
-/// Whether an array without views and children goes alone in both orders.
-pub(crate) fn goes_in_both_orders(alloc: Global, array: &Array) -> Result<bool, Fail>
-    requires few { rows_in (parts_of array.now) < 2 ^ 63 }
-    requires short { body_of 0 (map length (pieces_in little (top (parts_of array.now)))) < 2 ^ 63 }
-{
+/// The array goes through the message of a batch, and without it in both orders.
+pub(crate) fn goes_round(
+    rt: &impl Abort,
+    alloc: Global,
+    title: &str,
+    array: &Array,
+) -> Result<(), Fail> {
+    let message = encoded(alloc, array)?;
+    let back = read_back(alloc, array.dtype(), array.len(), message, true)??;
+    assert!(rt; back == *array, "{title}");
+    drop(back);
     if may_have_views(array) {
-        return Ok(true);
+        return Ok(());
     }
-    Ok(goes_alone(alloc, array, true)? && goes_alone(alloc, array, false)?)
+    goes_alone(rt, alloc, title, array, true)?;
+    goes_alone(rt, alloc, title, array, false)
+}
+
+/// The array and what stands behind its first row.
+fn both_go_round(rt: &impl Abort, alloc: Global, title: &str, array: Array) -> Result<(), Fail> {
+    if let Err(e) = goes_round(rt, alloc, title, &array) {
+        drop(array);
+        return Err(e);
+    }
+    let rows = array.len();
+    assert!(rt; rows == 4 && array.null_count() > 0, "{title}");
+    let part = array.sliced(1, rows - 1);
+    let behind = goes_round(rt, alloc, title, &part);
+    drop(part);
+    behind
+}
+
+#[test]
+fn signed_integers(rt: HostRuntime) -> Result<(), Fail> {
+    let alloc = rt.alloc();
+    both_go_round(&rt, alloc, "8 bits", int8(alloc)?)?;
+    both_go_round(&rt, alloc, "16 bits", int16(alloc)?)?;
+    both_go_round(&rt, alloc, "32 bits", int32(alloc)?)?;
+    both_go_round(&rt, alloc, "64 bits", int64(alloc)?)
+}
+
+#[test]
+fn unsigned_integers(rt: HostRuntime) -> Result<(), Fail> {
+    let alloc = rt.alloc();
+    both_go_round(&rt, alloc, "8 bits", uint8(alloc)?)?;
+    both_go_round(&rt, alloc, "16 bits", uint16(alloc)?)?;
+    both_go_round(&rt, alloc, "32 bits", uint32(alloc)?)?;
+    both_go_round(&rt, alloc, "64 bits", uint64(alloc)?)
+}
+
+#[test]
+fn decimals_and_intervals(rt: HostRuntime) -> Result<(), Fail> {
+    let alloc = rt.alloc();
+    both_go_round(&rt, alloc, "decimals", decimals(alloc)?)?;
+    both_go_round(&rt, alloc, "days", days(alloc)?)?;
+    both_go_round(&rt, alloc, "months", months(alloc)?)
+}
+
+#[test]
+fn nulls_truth_values_and_strings_of_one_size(rt: HostRuntime) -> Result<(), Fail> {
+    let alloc = rt.alloc();
+    both_go_round(&rt, alloc, "nulls", nulls()?)?;
+    both_go_round(&rt, alloc, "flags", flags(alloc)?)?;
+    both_go_round(&rt, alloc, "fixed", fixed(alloc)?)
+}
+
+#[test]
+fn strings_and_texts_between_offsets(rt: HostRuntime) -> Result<(), Fail> {
+    let alloc = rt.alloc();
+    both_go_round(&rt, alloc, "binary", binary(alloc)?)?;
+    both_go_round(&rt, alloc, "large binary", large_binary(alloc)?)?;
+    both_go_round(&rt, alloc, "text", utf8(alloc)?)?;
+    both_go_round(&rt, alloc, "large text", large_utf8(alloc)?)
+}
+
+#[test]
+fn views(rt: HostRuntime) -> Result<(), Fail> {
+    let alloc = rt.alloc();
+    both_go_round(&rt, alloc, "byte strings", binary_views(alloc)?)?;
+    both_go_round(&rt, alloc, "texts under an extension", text_views(alloc)?)
+}
+
+#[test]
+fn lists_of_texts_and_of_pairs_of_views(rt: HostRuntime) -> Result<(), Fail> {
+    let alloc = rt.alloc();
+    both_go_round(&rt, alloc, "lists", lists(alloc)?)?;
+    both_go_round(&rt, alloc, "large lists", large_lists(alloc)?)
+}
+
+#[test]
+fn structs_and_maps(rt: HostRuntime) -> Result<(), Fail> {
+    let alloc = rt.alloc();
+    both_go_round(&rt, alloc, "structs", structs(alloc)?)?;
+    both_go_round(&rt, alloc, "maps", maps(alloc)?)
 }

@@ -96,19 +96,17 @@ pub(crate) struct Case {
     pub(crate) answers: &'static [Answer],
 }
 
-/// Whether the calls of a reader answer so, and it is finished behind its end and a refusal, and not where it waits.
-fn are_answers(reader: &mut StreamReader<MemoryFeed>, answers: &[Answer]) -> bool {
+/// Whether the next call of a reader answers so, and the reader is finished behind its end and a refusal, and not before.
+fn is_next(reader: &mut StreamReader<MemoryFeed>, answer: Answer) -> bool {
+    let is_last = matches!(answer, Answer::End | Answer::Refused(_));
+    is_answer(reader.next(), answer) && reader.is_finished() == is_last
+}
+
+/// Whether the calls of a reader answer so, one after another.
+fn are_next(reader: &mut StreamReader<MemoryFeed>, answers: &[Answer]) -> bool {
     for answer in answers {
-        if !is_answer(reader.next(), *answer) {
+        if !is_next(reader, *answer) {
             return false;
-        }
-        match answer {
-            Answer::End | Answer::Refused(_) => if !reader.is_finished() {
-                return false;
-            },
-            _ => if reader.is_finished() {
-                return false;
-            },
         }
     }
     true
@@ -132,7 +130,7 @@ pub(crate) fn is_read(alloc: Global, case: Case) -> Result<bool, Fail> {
         Some(columns) => Some(columns.to_vec(alloc)?),
     };
     match StreamReader::new(alloc, feed, metadata, columns) {
-        Ok(mut reader) => Ok(are_answers(&mut reader, case.answers)),
+        Ok(mut reader) => Ok(are_next(&mut reader, case.answers)),
         Err(refused) => Err(Fail::from(refused.error)),
     }
 }

@@ -40,11 +40,11 @@ impl Sink for WantingSink {
 }
 
 /// Two batches of numbers, where the put of a number wants memory: what they are answered, and the bytes put in the end.
-const ROWS: &[(u64, [Turn; 3], usize)] = &[
+const ROWS: &[(u64, &[Turn], usize)] = &[
     // The first put of a batch leaves the writer as before.
     (
         1,
-        [
+        &[
             (Start(None), Ok(())),
             (Numbers(None), MEMORY),
             (Numbers(None), Ok(())),
@@ -54,7 +54,7 @@ const ROWS: &[(u64, [Turn; 3], usize)] = &[
     // A later one is the last.
     (
         2,
-        [
+        &[
             (Start(None), Ok(())),
             (Numbers(None), MEMORY),
             (Numbers(None), Err(IpcError::State)),
