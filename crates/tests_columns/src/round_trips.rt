@@ -9,11 +9,7 @@ ghost use Rattle.ipc_write_arrays.specs.Pieces.{pieces_in};
 ghost use Rattle.ipc_write_arrays.specs.Trims.{has_no_children};
 ghost use Rattle.ipc_write.specs.Compaction.{top};
 
-use crate::arrays::{
-    binary, binary_views, days, decimals, fixed, flags, int8, int16, int32, int64, large_binary,
-    large_lists, large_utf8, lists, maps, months, nulls, structs, text_views, uint8, uint16,
-    uint32, uint64, utf8,
-};
+use crate::arrays::{decimals, flags, int8, months, text_views, utf8};
 use crate::steps::{encoded, read_back, write_alone};
 use arrow_arrays::Array;
 use std::alloc::Global;
@@ -91,65 +87,17 @@ fn both_go_round(rt: &impl Abort, alloc: Global, title: &str, array: Array) -> R
 }
 
 #[test]
-fn signed_integers(rt: HostRuntime) -> Result<(), Fail> {
+fn numbers_of_one_byte_of_sixteen_and_of_three_integers(rt: HostRuntime) -> Result<(), Fail> {
     let alloc = rt.alloc();
     both_go_round(&rt, alloc, "8 bits", int8(alloc)?)?;
-    both_go_round(&rt, alloc, "16 bits", int16(alloc)?)?;
-    both_go_round(&rt, alloc, "32 bits", int32(alloc)?)?;
-    both_go_round(&rt, alloc, "64 bits", int64(alloc)?)
-}
-
-#[test]
-fn unsigned_integers(rt: HostRuntime) -> Result<(), Fail> {
-    let alloc = rt.alloc();
-    both_go_round(&rt, alloc, "8 bits", uint8(alloc)?)?;
-    both_go_round(&rt, alloc, "16 bits", uint16(alloc)?)?;
-    both_go_round(&rt, alloc, "32 bits", uint32(alloc)?)?;
-    both_go_round(&rt, alloc, "64 bits", uint64(alloc)?)
-}
-
-#[test]
-fn decimals_and_intervals(rt: HostRuntime) -> Result<(), Fail> {
-    let alloc = rt.alloc();
     both_go_round(&rt, alloc, "decimals", decimals(alloc)?)?;
-    both_go_round(&rt, alloc, "days", days(alloc)?)?;
     both_go_round(&rt, alloc, "months", months(alloc)?)
 }
 
 #[test]
-fn nulls_truth_values_and_strings_of_one_size(rt: HostRuntime) -> Result<(), Fail> {
+fn truth_values_texts_and_views(rt: HostRuntime) -> Result<(), Fail> {
     let alloc = rt.alloc();
-    both_go_round(&rt, alloc, "nulls", nulls()?)?;
     both_go_round(&rt, alloc, "flags", flags(alloc)?)?;
-    both_go_round(&rt, alloc, "fixed", fixed(alloc)?)
-}
-
-#[test]
-fn strings_and_texts_between_offsets(rt: HostRuntime) -> Result<(), Fail> {
-    let alloc = rt.alloc();
-    both_go_round(&rt, alloc, "binary", binary(alloc)?)?;
-    both_go_round(&rt, alloc, "large binary", large_binary(alloc)?)?;
     both_go_round(&rt, alloc, "text", utf8(alloc)?)?;
-    both_go_round(&rt, alloc, "large text", large_utf8(alloc)?)
-}
-
-#[test]
-fn views(rt: HostRuntime) -> Result<(), Fail> {
-    let alloc = rt.alloc();
-    both_go_round(&rt, alloc, "byte strings", binary_views(alloc)?)?;
     both_go_round(&rt, alloc, "texts under an extension", text_views(alloc)?)
-}
-
-#[test]
-fn lists_of_texts_and_of_pairs_of_views(rt: HostRuntime) -> Result<(), Fail> {
-    let alloc = rt.alloc();
-    both_go_round(&rt, alloc, "lists", lists(alloc)?)?;
-    both_go_round(&rt, alloc, "large lists", large_lists(alloc)?)
-}
-
-#[test]
-fn structs_and_maps(rt: HostRuntime) -> Result<(), Fail> {
-    let alloc = rt.alloc();
-    both_go_round(&rt, alloc, "structs", structs(alloc)?)?;
-    both_go_round(&rt, alloc, "maps", maps(alloc)?)
 }

@@ -1,5 +1,5 @@
 //! Worked values of views, of bits past the end, and of nulls without buffers.
-use crate::arrays::uint8;
+use crate::arrays::int8;
 use crate::steps::{Written, encoded, read_back};
 use arrow_arrays::Array;
 use arrow_spec::{FieldNode, IpcBuffer, IpcError, OutOfSpecKind};
@@ -80,7 +80,7 @@ fn a_view_has_its_text_or_leads_to_it(rt: HostRuntime) -> Result<(), Fail> {
 
 #[test]
 fn bits_past_the_end_of_a_validity_are_zeros(rt: HostRuntime) -> Result<(), Fail> {
-    let array = uint8(rt.alloc())?;
+    let array = int8(rt.alloc())?;
     let written = encoded(rt.alloc(), &array);
     drop(array);
     assert!(rt; written?.body.first() == Some(&0b1011));
