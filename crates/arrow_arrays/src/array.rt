@@ -19,7 +19,6 @@ use std::marker::Model;
 
 /// An array of any kind.
 #[cycle(array)]
-#[derive(Drop)]
 pub enum Array {
     /// Nulls.
     Null(NullArray),
@@ -75,9 +74,42 @@ pub enum Array {
     Dictionary(DictionaryArray),
 }
 
+impl Drop for Array {
+    #[cycle(let_go)]
+    fn drop(self) {
+        match self {
+            Array::Null(held) => drop(held),
+            Array::Boolean(held) => drop(held),
+            Array::Int8(held) => drop(held),
+            Array::Int16(held) => drop(held),
+            Array::Int32(held) => drop(held),
+            Array::Int64(held) => drop(held),
+            Array::Int128(held) => drop(held),
+            Array::UInt8(held) => drop(held),
+            Array::UInt16(held) => drop(held),
+            Array::UInt32(held) => drop(held),
+            Array::UInt64(held) => drop(held),
+            Array::DaysMs(held) => drop(held),
+            Array::MonthsDaysNs(held) => drop(held),
+            Array::Binary(held) => drop(held),
+            Array::LargeBinary(held) => drop(held),
+            Array::Utf8(held) => drop(held),
+            Array::LargeUtf8(held) => drop(held),
+            Array::BinaryView(held) => drop(held),
+            Array::Utf8View(held) => drop(held),
+            Array::FixedSizeBinary(held) => drop(held),
+            Array::List(held) => drop(held),
+            Array::FixedSizeList(held) => drop(held),
+            Array::Map(held) => drop(held),
+            Array::Struct(held) => drop(held),
+            Array::Union(held) => drop(held),
+            Array::Dictionary(held) => drop(held),
+        }
+    }
+}
+
 /// Lists between offsets, seen as their top and the one child that the offsets lie in.
 #[cycle(array)]
-#[derive(Drop)]
 pub struct ListArray {
     pub(crate) dtype: ArrowDataType,
     pub(crate) offsets: ListOffsets,
@@ -85,9 +117,24 @@ pub struct ListArray {
     pub(crate) validity: Option<Bitmap>,
 }
 
+impl Drop for ListArray {
+    #[cycle(let_go)]
+    fn drop(self) {
+        let ListArray {
+            dtype,
+            offsets,
+            values,
+            validity,
+        } = self;
+        drop(dtype);
+        drop(offsets);
+        drop(values);
+        drop(validity);
+    }
+}
+
 /// Lists of one size, seen as their top and the one child that has their items.
 #[cycle(array)]
-#[derive(Drop)]
 pub struct FixedSizeListArray {
     pub(crate) dtype: ArrowDataType,
     pub(crate) rows: usize,
@@ -95,9 +142,23 @@ pub struct FixedSizeListArray {
     pub(crate) validity: Option<Bitmap>,
 }
 
+impl Drop for FixedSizeListArray {
+    #[cycle(let_go)]
+    fn drop(self) {
+        let FixedSizeListArray {
+            dtype,
+            rows: _,
+            values,
+            validity,
+        } = self;
+        drop(dtype);
+        drop(values);
+        drop(validity);
+    }
+}
+
 /// Maps between offsets, seen as their top and the one child that has their entries.
 #[cycle(array)]
-#[derive(Drop)]
 pub struct MapArray {
     pub(crate) dtype: ArrowDataType,
     pub(crate) offsets: Buffer<i32>,
@@ -105,9 +166,24 @@ pub struct MapArray {
     pub(crate) validity: Option<Bitmap>,
 }
 
+impl Drop for MapArray {
+    #[cycle(let_go)]
+    fn drop(self) {
+        let MapArray {
+            dtype,
+            offsets,
+            field,
+            validity,
+        } = self;
+        drop(dtype);
+        drop(offsets);
+        drop(field);
+        drop(validity);
+    }
+}
+
 /// Rows across several columns, seen as their top and the columns.
 #[cycle(array)]
-#[derive(Drop)]
 pub struct StructArray {
     pub(crate) dtype: ArrowDataType,
     pub(crate) rows: usize,
@@ -115,9 +191,23 @@ pub struct StructArray {
     pub(crate) validity: Option<Bitmap>,
 }
 
+impl Drop for StructArray {
+    #[cycle(let_go)]
+    fn drop(self) {
+        let StructArray {
+            dtype,
+            rows: _,
+            values,
+            validity,
+        } = self;
+        drop(dtype);
+        drop(values);
+        drop(validity);
+    }
+}
+
 /// Rows of one of several columns each, seen as their top and the columns.
 #[cycle(array)]
-#[derive(Drop)]
 pub struct UnionArray {
     pub(crate) dtype: ArrowDataType,
     pub(crate) types: Buffer<i8>,
@@ -125,13 +215,38 @@ pub struct UnionArray {
     pub(crate) offsets: Option<Buffer<i32>>,
 }
 
+impl Drop for UnionArray {
+    #[cycle(let_go)]
+    fn drop(self) {
+        let UnionArray {
+            dtype,
+            types,
+            fields,
+            offsets,
+        } = self;
+        drop(dtype);
+        drop(types);
+        drop(fields);
+        drop(offsets);
+    }
+}
+
 /// Rows that are each a row of a dictionary, seen as their top and the parts of the dictionary.
 #[cycle(array)]
-#[derive(Drop)]
 pub struct DictionaryArray {
     pub(crate) dtype: ArrowDataType,
     pub(crate) keys: DictionaryKeys,
     pub(crate) parts: Vec<Array>,
+}
+
+impl Drop for DictionaryArray {
+    #[cycle(let_go)]
+    fn drop(self) {
+        let DictionaryArray { dtype, keys, parts } = self;
+        drop(dtype);
+        drop(keys);
+        drop(parts);
+    }
 }
 
 impl Model for ListArray {

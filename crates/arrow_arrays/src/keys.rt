@@ -10,7 +10,6 @@ use arrow_spec::IntegerType;
 use std::alloc::{AllocError, Global};
 
 /// The row of a dictionary that each row is, in any integer type.
-#[derive(Drop)]
 pub enum DictionaryKeys {
     /// Signed keys of 8 bits.
     Int8(PrimitiveArray<i8>),
@@ -30,6 +29,22 @@ pub enum DictionaryKeys {
     UInt32(PrimitiveArray<u32>),
     /// Unsigned keys of 64 bits.
     UInt64(PrimitiveArray<u64>),
+}
+
+impl Drop for DictionaryKeys {
+    fn drop(self) {
+        match self {
+            DictionaryKeys::Int8(held) => drop(held),
+            DictionaryKeys::Int16(held) => drop(held),
+            DictionaryKeys::Int32(held) => drop(held),
+            DictionaryKeys::Int64(held) => drop(held),
+            DictionaryKeys::Int128(held) => drop(held),
+            DictionaryKeys::UInt8(held) => drop(held),
+            DictionaryKeys::UInt16(held) => drop(held),
+            DictionaryKeys::UInt32(held) => drop(held),
+            DictionaryKeys::UInt64(held) => drop(held),
+        }
+    }
 }
 
 impl DictionaryKeys {

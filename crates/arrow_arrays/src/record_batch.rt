@@ -28,12 +28,25 @@ pub enum BatchError {
 
 /// Columns of one height under a schema, with the pairs of their message (Message.fbs, Message: custom_metadata), seen as
 /// the height, the schema, the parts of each column, and the pairs.
-#[derive(Drop)]
 pub struct RecordBatchT {
     height: usize,
     schema: ArrowSchemaRef,
     arrays: Vec<Array>,
     custom_metadata: Option<Metadata>,
+}
+
+impl Drop for RecordBatchT {
+    fn drop(self) {
+        let RecordBatchT {
+            height: _,
+            schema,
+            arrays,
+            custom_metadata,
+        } = self;
+        drop(schema);
+        drop(arrays);
+        drop(custom_metadata);
+    }
 }
 
 /// A record batch of arrays of any kind.

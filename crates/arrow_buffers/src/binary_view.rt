@@ -19,13 +19,28 @@ use std::alloc::{AllocError, Global};
 use std::marker::{Model, PhantomData};
 
 /// An array of views, seen as its type's kind, its views of 16 bytes a row, its buffers and its validity.
-#[derive(Drop)]
 pub struct BinaryViewArrayGeneric<V: ViewType> {
     dtype: ArrowDataType,
     views: Buffer<u8>,
     data_buffers: Vec<Buffer<u8>>,
     validity: Option<Bitmap>,
     rows: PhantomData<V>,
+}
+
+impl<V: ViewType> Drop for BinaryViewArrayGeneric<V> {
+    fn drop(self) {
+        let BinaryViewArrayGeneric {
+            dtype,
+            views,
+            data_buffers,
+            validity,
+            rows: _,
+        } = self;
+        drop(dtype);
+        drop(views);
+        drop(data_buffers);
+        drop(validity);
+    }
 }
 
 /// An array of views of byte strings.

@@ -12,11 +12,21 @@ use std::marker::Model;
 use std::rc::RcSlice;
 
 /// A run of bits, seen as the list of its bits. Bit i is bit i mod 8, the least first, of byte i / 8. A part of it shares its memory.
-#[derive(Drop)]
 pub struct Bitmap {
     bytes: RcSlice<u8>,
     start: usize,
     count: usize,
+}
+
+impl Drop for Bitmap {
+    fn drop(self) {
+        let Bitmap {
+            bytes,
+            start: _,
+            count: _,
+        } = self;
+        drop(bytes);
+    }
 }
 
 impl Model for Bitmap {

@@ -14,11 +14,23 @@ use std::alloc::{AllocError, Global};
 use std::marker::Model;
 
 /// An array of truth values, seen as its type's kind, its bits and its validity.
-#[derive(Drop)]
 pub struct BooleanArray {
     dtype: ArrowDataType,
     values: Bitmap,
     validity: Option<Bitmap>,
+}
+
+impl Drop for BooleanArray {
+    fn drop(self) {
+        let BooleanArray {
+            dtype,
+            values,
+            validity,
+        } = self;
+        drop(dtype);
+        drop(values);
+        drop(validity);
+    }
 }
 
 impl Model for BooleanArray {

@@ -14,13 +14,25 @@ use std::rc::RcSlice;
 
 /// A run of items, seen as the list of its items: a range of shared bytes, and the order in which each item's bytes stand in it.
 /// A part of it shares the bytes.
-#[derive(Drop)]
 pub struct Buffer<T: NativeType> {
     bytes: RcSlice<u8>,
     at: usize,
     count: usize,
     is_big_endian: bool,
     items: PhantomData<T>,
+}
+
+impl<T: NativeType> Drop for Buffer<T> {
+    fn drop(self) {
+        let Buffer {
+            bytes,
+            at: _,
+            count: _,
+            is_big_endian: _,
+            items: _,
+        } = self;
+        drop(bytes);
+    }
 }
 
 impl<T: NativeType> Model for Buffer<T> {

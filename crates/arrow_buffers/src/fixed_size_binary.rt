@@ -13,11 +13,23 @@ use std::alloc::{AllocError, Global};
 use std::marker::Model;
 
 /// An array of byte strings of one size, seen as its type's kind, its bytes and its validity.
-#[derive(Drop)]
 pub struct FixedSizeBinaryArray {
     dtype: ArrowDataType,
     values: Buffer<u8>,
     validity: Option<Bitmap>,
+}
+
+impl Drop for FixedSizeBinaryArray {
+    fn drop(self) {
+        let FixedSizeBinaryArray {
+            dtype,
+            values,
+            validity,
+        } = self;
+        drop(dtype);
+        drop(values);
+        drop(validity);
+    }
 }
 
 impl Model for FixedSizeBinaryArray {

@@ -12,10 +12,16 @@ use std::alloc::{AllocError, Global};
 use std::marker::Model;
 
 /// An array whose rows are all null, seen as its type's kind and the number of its rows.
-#[derive(Drop)]
 pub struct NullArray {
     dtype: ArrowDataType,
     count: usize,
+}
+
+impl Drop for NullArray {
+    fn drop(self) {
+        let NullArray { dtype, count: _ } = self;
+        drop(dtype);
+    }
 }
 
 impl Model for NullArray {

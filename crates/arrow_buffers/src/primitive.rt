@@ -15,11 +15,23 @@ use std::alloc::{AllocError, Global};
 use std::marker::Model;
 
 /// An array of numbers, seen as its type's kind, its numbers and its validity.
-#[derive(Drop)]
 pub struct PrimitiveArray<T: NativeType> {
     dtype: ArrowDataType,
     values: Buffer<T>,
     validity: Option<Bitmap>,
+}
+
+impl<T: NativeType> Drop for PrimitiveArray<T> {
+    fn drop(self) {
+        let PrimitiveArray {
+            dtype,
+            values,
+            validity,
+        } = self;
+        drop(dtype);
+        drop(values);
+        drop(validity);
+    }
 }
 
 impl<T: NativeType> Model for PrimitiveArray<T> {

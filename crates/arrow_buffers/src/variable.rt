@@ -18,13 +18,28 @@ use std::alloc::{AllocError, Global};
 use std::marker::{Model, PhantomData};
 
 /// An array of byte strings or of texts, seen as its type's kind, its offsets, its bytes and its validity.
-#[derive(Drop)]
 pub struct VariableArray<O: Offset, V: ViewType> {
     dtype: ArrowDataType,
     offsets: Buffer<O>,
     values: Buffer<u8>,
     validity: Option<Bitmap>,
     rows: PhantomData<V>,
+}
+
+impl<O: Offset, V: ViewType> Drop for VariableArray<O, V> {
+    fn drop(self) {
+        let VariableArray {
+            dtype,
+            offsets,
+            values,
+            validity,
+            rows: _,
+        } = self;
+        drop(dtype);
+        drop(offsets);
+        drop(values);
+        drop(validity);
+    }
 }
 
 /// An array of byte strings.

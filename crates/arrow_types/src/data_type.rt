@@ -12,7 +12,6 @@ pub type Metadata = BTreeMap<String, String>;
 
 /// The type of a column (Arrow Columnar Format, "Data Types").
 #[cycle(datatype)]
-#[derive(Drop)]
 pub enum ArrowDataType {
     /// Rows that are all null.
     Null,
@@ -94,7 +93,6 @@ pub enum ArrowDataType {
 
 /// A column's name and type, whether it may have nulls, and its metadata.
 #[cycle(datatype)]
-#[derive(Drop)]
 pub struct Field {
     /// Its name.
     pub name: String,
@@ -108,7 +106,6 @@ pub struct Field {
 
 /// A union's children, and the id of each; with no ids they count 0, 1, and so on.
 #[cycle(datatype)]
-#[derive(Drop)]
 pub struct UnionType {
     /// The children, in order.
     pub fields: Vec<Field>,
@@ -120,7 +117,6 @@ pub struct UnionType {
 
 /// A type under a name of its own, stored as another (Arrow Columnar Format, "Extension Types").
 #[cycle(datatype)]
-#[derive(Drop)]
 pub struct ExtensionType {
     /// Its name.
     pub name: String,
@@ -128,6 +124,94 @@ pub struct ExtensionType {
     pub inner: ArrowDataType,
     /// What else is said of it, where anything is.
     pub metadata: Option<String>,
+}
+
+impl Drop for ArrowDataType {
+    #[cycle(let_go)]
+    fn drop(self) {
+        match self {
+            ArrowDataType::Timestamp(_, zone) => drop(zone),
+            ArrowDataType::List(field) => drop(field),
+            ArrowDataType::LargeList(field) => drop(field),
+            ArrowDataType::FixedSizeList(field, _) => drop(field),
+            ArrowDataType::Map(field, _) => drop(field),
+            ArrowDataType::Struct(fields) => drop(fields),
+            ArrowDataType::Union(union) => drop(union),
+            ArrowDataType::Dictionary(_, values, _) => drop(values),
+            ArrowDataType::Extension(extension) => drop(extension),
+            ArrowDataType::Null => (),
+            ArrowDataType::Boolean => (),
+            ArrowDataType::Int8 => (),
+            ArrowDataType::Int16 => (),
+            ArrowDataType::Int32 => (),
+            ArrowDataType::Int64 => (),
+            ArrowDataType::Int128 => (),
+            ArrowDataType::UInt8 => (),
+            ArrowDataType::UInt16 => (),
+            ArrowDataType::UInt32 => (),
+            ArrowDataType::UInt64 => (),
+            ArrowDataType::Float16 => (),
+            ArrowDataType::Float32 => (),
+            ArrowDataType::Float64 => (),
+            ArrowDataType::Date32 => (),
+            ArrowDataType::Date64 => (),
+            ArrowDataType::Time32(_) => (),
+            ArrowDataType::Time64(_) => (),
+            ArrowDataType::Duration(_) => (),
+            ArrowDataType::Interval(_) => (),
+            ArrowDataType::Binary => (),
+            ArrowDataType::LargeBinary => (),
+            ArrowDataType::Utf8 => (),
+            ArrowDataType::LargeUtf8 => (),
+            ArrowDataType::BinaryView => (),
+            ArrowDataType::Utf8View => (),
+            ArrowDataType::FixedSizeBinary(_) => (),
+            ArrowDataType::Decimal(_, _) => (),
+            ArrowDataType::Decimal256(_, _) => (),
+        }
+    }
+}
+
+impl Drop for Field {
+    #[cycle(let_go)]
+    fn drop(self) {
+        let Field {
+            name,
+            dtype,
+            is_nullable: _,
+            metadata,
+        } = self;
+        drop(name);
+        drop(dtype);
+        drop(metadata);
+    }
+}
+
+impl Drop for UnionType {
+    #[cycle(let_go)]
+    fn drop(self) {
+        let UnionType {
+            fields,
+            ids,
+            mode: _,
+        } = self;
+        drop(fields);
+        drop(ids);
+    }
+}
+
+impl Drop for ExtensionType {
+    #[cycle(let_go)]
+    fn drop(self) {
+        let ExtensionType {
+            name,
+            inner,
+            metadata,
+        } = self;
+        drop(name);
+        drop(inner);
+        drop(metadata);
+    }
 }
 
 /// Whether a type has neither children nor values nor a type below it.

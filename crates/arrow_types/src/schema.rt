@@ -15,9 +15,15 @@ use std::marker::Model;
 use std::rc::Rc;
 
 /// Fields in order, each under a key of its own (Arrow Columnar Format, "Schema message").
-#[derive(Drop)]
 pub struct ArrowSchema {
     fields: IndexMap<String, Field>,
+}
+
+impl Drop for ArrowSchema {
+    fn drop(self) {
+        let ArrowSchema { fields } = self;
+        drop(fields);
+    }
 }
 
 /// A schema that is shared.
