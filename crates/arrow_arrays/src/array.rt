@@ -1,10 +1,16 @@
 //! The array of any kind. A contract sees it as the tree of its parts.
-ghost use Rattle.std.specs.Prelude.{◌≡◌, ◌+◌, ◌≤◌, length, None, IfOk};
+ghost use Rattle.std.specs.Prelude.{◌≡◌, ⊥, ◌+◌, ◌≤◌, length, None, IfOk, IfSome};
 ghost use Rattle.std.specs.Option.{option_map};
 ghost use Rattle.arrow_types.specs.KindOf.{kind_of};
 ghost use Rattle.arrow_buffers.specs.Rows.{part};
 ghost use Rattle.arrow_arrays.specs.Parts.{kind_in, rows_in, validity_in, null_rows_in, cells_in, part_of, fault_in};
 ghost use Rattle.arrow_arrays.specs.PartsOf.{parts_of};
+ghost use Rattle.arrow_arrays.specs.declared.array.Array.TheVariants as arrays;
+ghost use Rattle.arrow_arrays.specs.declared.array.ListArray.{ListArray};
+ghost use Rattle.arrow_arrays.specs.declared.array.FixedSizeListArray.{FixedSizeListArray};
+ghost use Rattle.arrow_arrays.specs.declared.array.MapArray.{MapArray};
+ghost use Rattle.arrow_arrays.specs.declared.array.StructArray.{StructArray};
+ghost use Rattle.arrow_arrays.specs.declared.array.UnionArray.{UnionArray};
 
 use crate::keys::DictionaryKeys;
 use crate::numbers::{narrow_numbers, number_rows};
@@ -406,6 +412,61 @@ impl Model for DictionaryArray {
 pub type ArrayRef = Array;
 
 impl Array {
+    /// The array of lists that this is, if it is one.
+    pub fn into_list(self) -> Option<ListArray>
+        ensures same { IfSome result (λ lists. self ≡ arrays.List lists) }
+        ensures other { result ≡ None → (lists : ListArray) → self ≡ arrays.List lists → ⊥ }
+    {
+        match self {
+            Array::List(lists) => Some(lists),
+            _ => None,
+        }
+    }
+
+    /// The array of lists of one size that this is, if it is one.
+    pub fn into_fixed_size_list(self) -> Option<FixedSizeListArray>
+        ensures same { IfSome result (λ lists. self ≡ arrays.FixedSizeList lists) }
+        ensures other { result ≡ None → (lists : FixedSizeListArray) → self ≡ arrays.FixedSizeList lists → ⊥ }
+    {
+        match self {
+            Array::FixedSizeList(lists) => Some(lists),
+            _ => None,
+        }
+    }
+
+    /// The array of maps that this is, if it is one.
+    pub fn into_map(self) -> Option<MapArray>
+        ensures same { IfSome result (λ maps. self ≡ arrays.Map maps) }
+        ensures other { result ≡ None → (maps : MapArray) → self ≡ arrays.Map maps → ⊥ }
+    {
+        match self {
+            Array::Map(maps) => Some(maps),
+            _ => None,
+        }
+    }
+
+    /// The array of structs that this is, if it is one.
+    pub fn into_struct(self) -> Option<StructArray>
+        ensures same { IfSome result (λ structs. self ≡ arrays.Struct structs) }
+        ensures other { result ≡ None → (structs : StructArray) → self ≡ arrays.Struct structs → ⊥ }
+    {
+        match self {
+            Array::Struct(structs) => Some(structs),
+            _ => None,
+        }
+    }
+
+    /// The array of unions that this is, if it is one.
+    pub fn into_union(self) -> Option<UnionArray>
+        ensures same { IfSome result (λ unions. self ≡ arrays.Union unions) }
+        ensures other { result ≡ None → (unions : UnionArray) → self ≡ arrays.Union unions → ⊥ }
+    {
+        match self {
+            Array::Union(unions) => Some(unions),
+            _ => None,
+        }
+    }
+
     /// How many rows there are.
     pub fn len(&self) -> usize
         ensures rows { result ≡ rows_in (parts_of self.now) }

@@ -8,20 +8,12 @@ use arrow_buffers::{Buffer, range_of, rise_within};
 use std::alloc::AllocError;
 
 /// Where each list begins, and where the last one ends.
+#[derive(Drop)]
 pub enum ListOffsets {
     /// Offsets of 32 bits.
     Small(Buffer<i32>),
     /// Offsets of 64 bits.
     Large(Buffer<i64>),
-}
-
-impl Drop for ListOffsets {
-    fn drop(self) {
-        match self {
-            ListOffsets::Small(held) => drop(held),
-            ListOffsets::Large(held) => drop(held),
-        }
-    }
 }
 
 impl ListOffsets {

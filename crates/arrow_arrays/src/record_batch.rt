@@ -129,10 +129,16 @@ impl RecordBatchT {
         } else {
             Some(metadata)
         };
+        let RecordBatchT {
+            height,
+            schema,
+            arrays,
+            custom_metadata: _,
+        } = self;
         RecordBatchT {
-            height: self.height,
-            schema: self.schema,
-            arrays: self.arrays,
+            height,
+            schema,
+            arrays,
             custom_metadata,
         }
     }
@@ -143,12 +149,20 @@ impl RecordBatchT {
         ensures { result ≡ record { height = self.height; schema = self.schema; arrays = self.arrays; custom = metadata_of metadata } }
     {
         match metadata {
-            None => RecordBatchT {
-                height: self.height,
-                schema: self.schema,
-                arrays: self.arrays,
-                custom_metadata: None,
-            },
+            None => {
+                let RecordBatchT {
+                    height,
+                    schema,
+                    arrays,
+                    custom_metadata: _,
+                } = self;
+                RecordBatchT {
+                    height,
+                    schema,
+                    arrays,
+                    custom_metadata: None,
+                }
+            }
             Some(metadata) => self.with_custom_metadata(metadata),
         }
     }
@@ -226,7 +240,13 @@ impl RecordBatchT {
     pub fn into_arrays(self) -> Vec<Array>
         ensures { all_parts_of result.items ≡ self.arrays }
     {
-        self.arrays
+        let RecordBatchT {
+            height: _,
+            schema: _,
+            arrays,
+            custom_metadata: _,
+        } = self;
+        arrays
     }
 
     /// The columns, in order, and the pairs of the batch's message, without their schema.
@@ -235,7 +255,13 @@ impl RecordBatchT {
         ensures custom { metadata_of result.1 ≡ self.custom }
         ensures few { length self.custom ≤ 1048576 }
     {
-        (self.arrays, self.custom_metadata)
+        let RecordBatchT {
+            height: _,
+            schema: _,
+            arrays,
+            custom_metadata,
+        } = self;
+        (arrays, custom_metadata)
     }
 
     /// The schema and the columns, in order.
@@ -243,7 +269,13 @@ impl RecordBatchT {
         ensures schema { rc_value result.0 ≡ self.schema }
         ensures arrays { all_parts_of result.1.items ≡ self.arrays }
     {
-        (self.schema, self.arrays)
+        let RecordBatchT {
+            height: _,
+            schema,
+            arrays,
+            custom_metadata: _,
+        } = self;
+        (schema, arrays)
     }
 
     /// A second owner of the same columns.
@@ -266,6 +298,6 @@ impl From<RecordBatch> for Vec<Array> {
     ghost from_gives = { λ batch arrays. all_parts_of arrays.items ≡ batch.arrays };
 
     fn from(batch: RecordBatch) -> Vec<Array> {
-        batch.arrays
+        batch.into_arrays()
     }
 }

@@ -8,6 +8,7 @@ use std::alloc::{AllocError, Global};
 /// The dictionary ids of a field: its own, where its type is a dictionary, and those of its children. A dictionary's
 /// IPC field is that of its values with the id, and an extension's that of the type below it (Schema.fbs,
 /// DictionaryEncoding).
+#[derive(Drop)]
 pub struct IpcField {
     /// An IPC field for each child.
     pub fields: Vec<IpcField>,
@@ -15,33 +16,13 @@ pub struct IpcField {
     pub dictionary_id: Option<i64>,
 }
 
-impl Drop for IpcField {
-    #[cycle(let_go)]
-    fn drop(self) {
-        let IpcField {
-            fields,
-            dictionary_id: _,
-        } = self;
-        drop(fields);
-    }
-}
-
 /// The IPC fields of a schema's fields, and its byte order (Schema.fbs, Schema).
+#[derive(Drop)]
 pub struct IpcSchema {
     /// An IPC field for each field.
     pub fields: Vec<IpcField>,
     /// Whether numbers in bodies have the lowest byte first.
     pub is_little_endian: bool,
-}
-
-impl Drop for IpcSchema {
-    fn drop(self) {
-        let IpcSchema {
-            fields,
-            is_little_endian: _,
-        } = self;
-        drop(fields);
-    }
 }
 
 impl IpcField {

@@ -15,6 +15,7 @@ use arrow_types::{ArrowDataType, Field};
 use std::alloc::Global;
 
 /// A dictionary's id, the type of its values, and the IPC fields of that type's children.
+#[derive(Drop)]
 pub struct Use {
     /// The id, 0 where none was there.
     pub id: i64,
@@ -22,18 +23,6 @@ pub struct Use {
     pub values: ArrowDataType,
     /// The IPC fields of that type's children.
     pub fields: Vec<IpcField>,
-}
-
-impl Drop for Use {
-    fn drop(self) {
-        let Use {
-            id: _,
-            values,
-            fields,
-        } = self;
-        drop(values);
-        drop(fields);
-    }
 }
 
 /// The id of the IPC field at a place, none where there is none.

@@ -42,9 +42,9 @@ fn into_list(array: Array) -> ListArray
     requires kind { is_of_lists (physical_of (kind_in (parts_of array))) ≡ true }
     ensures parts { parts_of (arrays.List result) ≡ parts_of array }
 {
-    match known(array) {
-        Array::List(lists) => lists,
-        _ => unreachable!(),
+    match known(array).into_list() {
+        Some(lists) => lists,
+        None => unreachable!(),
     }
 }
 
@@ -53,9 +53,9 @@ fn into_fixed_size_list(array: Array) -> FixedSizeListArray
     requires kind { physical_of (kind_in (parts_of array)) ≡ physical.FixedSizeList }
     ensures parts { parts_of (arrays.FixedSizeList result) ≡ parts_of array }
 {
-    match known(array) {
-        Array::FixedSizeList(lists) => lists,
-        _ => unreachable!(),
+    match known(array).into_fixed_size_list() {
+        Some(lists) => lists,
+        None => unreachable!(),
     }
 }
 
@@ -64,9 +64,9 @@ fn into_struct(array: Array) -> StructArray
     requires kind { physical_of (kind_in (parts_of array)) ≡ physical.Struct }
     ensures parts { parts_of (arrays.Struct result) ≡ parts_of array }
 {
-    match known(array) {
-        Array::Struct(structs) => structs,
-        _ => unreachable!(),
+    match known(array).into_struct() {
+        Some(structs) => structs,
+        None => unreachable!(),
     }
 }
 
@@ -75,9 +75,9 @@ fn into_map(array: Array) -> MapArray
     requires kind { physical_of (kind_in (parts_of array)) ≡ physical.Map }
     ensures parts { parts_of (arrays.Map result) ≡ parts_of array }
 {
-    match known(array) {
-        Array::Map(maps) => maps,
-        _ => unreachable!(),
+    match known(array).into_map() {
+        Some(maps) => maps,
+        None => unreachable!(),
     }
 }
 
@@ -86,9 +86,9 @@ fn into_union(array: Array) -> UnionArray
     requires kind { physical_of (kind_in (parts_of array)) ≡ physical.Union }
     ensures parts { parts_of (arrays.Union result) ≡ parts_of array }
 {
-    match known(array) {
-        Array::Union(unions) => unions,
-        _ => unreachable!(),
+    match known(array).into_union() {
+        Some(unions) => unions,
+        None => unreachable!(),
     }
 }
 
