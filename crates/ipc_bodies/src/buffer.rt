@@ -37,9 +37,15 @@ enum Held {
 }
 
 /// A buffer of a body, seen as its bytes. It shares what an array holds, and takes no memory for them.
-#[derive(Drop)]
 pub struct BodyBuffer {
     held: Held,
+}
+
+impl Drop for BodyBuffer {
+    fn drop(self) {
+        let BodyBuffer { held } = self;
+        drop(held);
+    }
 }
 
 impl Model for BodyBuffer {

@@ -14,7 +14,6 @@ use std::alloc::Global;
 use std::collections::BTreeMap;
 
 /// What a writer has sent of dictionaries: under each id the parts of its values, in order.
-#[derive(Drop)]
 pub struct DictionaryTracker {
     /// The parts under each id.
     pub dictionaries: BTreeMap<i64, Vec<Array>>,
@@ -22,6 +21,17 @@ pub struct DictionaryTracker {
     pub cannot_replace: bool,
     /// Whether values that begin with those that are held are sent as a delta.
     pub deltas: bool,
+}
+
+impl Drop for DictionaryTracker {
+    fn drop(self) {
+        let DictionaryTracker {
+            dictionaries,
+            cannot_replace: _,
+            deltas: _,
+        } = self;
+        drop(dictionaries);
+    }
 }
 
 /// An array that is a dictionary.

@@ -22,7 +22,6 @@ use std::alloc::{AllocError, Global};
 use std::slice;
 
 /// A dictionary batch that is to be encoded.
-#[derive(Drop)]
 pub struct ToEncode {
     /// The id of the dictionary.
     pub id: i64,
@@ -30,6 +29,17 @@ pub struct ToEncode {
     pub values: Array,
     /// Whether they go on with those that were sent under the id.
     pub is_delta: bool,
+}
+
+impl Drop for ToEncode {
+    fn drop(self) {
+        let ToEncode {
+            id: _,
+            values,
+            is_delta: _,
+        } = self;
+        drop(values);
+    }
 }
 
 /// What a walk has come to: the ids that are fixed, the messages and the changes of what is held.

@@ -14,7 +14,6 @@ use std::alloc::Global;
 /// The writer of a file without its sink, which each call that writes is lent: how batches are written, what was begun or ended,
 /// the file's schema with its IPC fields, its pairs and those of its footer, the dictionaries and the blocks that were put,
 /// whether a batch was, and memory through which bodies are put.
-#[derive(Drop)]
 pub struct FileCore {
     pub(crate) options: WriteOptions,
     pub(crate) state: WriterState,
@@ -30,4 +29,28 @@ pub struct FileCore {
     ghost order: { ipc_schema.is_little_endian ≡ true },
     ghost kept: { tracker.cannot_replace ≡ true },
     ghost deltas: { tracker.deltas ≡ options.deltas },
+}
+
+impl Drop for FileCore {
+    fn drop(self) {
+        let FileCore {
+            options: _,
+            state,
+            schema,
+            ipc_schema,
+            pairs,
+            tracker,
+            blocks,
+            has_written: _,
+            scratch,
+            alloc: _,
+        } = self;
+        drop(state);
+        drop(schema);
+        drop(ipc_schema);
+        drop(pairs);
+        drop(tracker);
+        drop(blocks);
+        drop(scratch);
+    }
 }

@@ -43,7 +43,6 @@ pub fn projection_of(
 /// A reader of a file without its source, which each call that reads is lent: the file's metadata, the columns asked
 /// for, how many rows are left of a limit, the current block, the dictionaries that were read, and memory that is used
 /// again.
-#[derive(Drop)]
 pub struct FileCursor {
     pub(crate) metadata: FileMetadata,
     pub(crate) projection: Option<ProjectionInfo>,
@@ -54,6 +53,23 @@ pub struct FileCursor {
     ghost readable: { IsReadable metadata },
     ghost made: { IsMade (rc_value metadata.schema) projection },
     ghost uses: { ∥ KeepsUses (meta_view metadata) dictionaries ∥₁ },
+}
+
+impl Drop for FileCursor {
+    fn drop(self) {
+        let FileCursor {
+            metadata,
+            projection,
+            left: _,
+            block: _,
+            dictionaries,
+            scratch,
+        } = self;
+        drop(metadata);
+        drop(projection);
+        drop(dictionaries);
+        drop(scratch);
+    }
 }
 
 impl FileCursor {

@@ -16,7 +16,6 @@ use std::alloc::Global;
 /// The writer of a stream without its sink, which each call that writes is lent: how batches are written, whether the bytes of the
 /// stream are put or their hex text, what was begun or ended, the stream's schema with its IPC fields, the pairs for it and for its
 /// message, the dictionaries that were sent, how many bytes the stream has, and memory that is used again.
-#[derive(Drop)]
 pub struct StreamCore {
     pub(crate) options: WriteOptions,
     pub(crate) encoding: Encoding,
@@ -33,4 +32,27 @@ pub struct StreamCore {
     ghost deltas: { tracker.deltas ≡ options.deltas },
     ghost none_held: { is_new state ≡ true → (id : ℤ) → is_absent (held_by tracker id) ≡ true },
     ghost plain: { may_be_started state options ≡ true },
+}
+
+impl Drop for StreamCore {
+    fn drop(self) {
+        let StreamCore {
+            options: _,
+            encoding: _,
+            state,
+            schema,
+            fields,
+            pairs,
+            tracker,
+            byte_count: _,
+            scratch,
+            alloc: _,
+        } = self;
+        drop(state);
+        drop(schema);
+        drop(fields);
+        drop(pairs);
+        drop(tracker);
+        drop(scratch);
+    }
 }

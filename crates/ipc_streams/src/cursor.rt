@@ -17,13 +17,26 @@ use std::alloc::Global;
 
 /// A reader of a stream without its feed: the columns, the dictionaries of the messages that were taken, whether there is
 /// nothing left, and memory that is used again.
-#[derive(Drop)]
 pub(crate) struct StreamCursor {
     pub(crate) columns: StreamColumns,
     pub(crate) dictionaries: Dictionaries,
     pub(crate) is_finished: bool,
     pub(crate) scratch: Vec<u8>,
     ghost values: { ∥ HoldsValues (stream_schema columns.metadata) (held_in dictionaries) ∥₁ },
+}
+
+impl Drop for StreamCursor {
+    fn drop(self) {
+        let StreamCursor {
+            columns,
+            dictionaries,
+            is_finished: _,
+            scratch,
+        } = self;
+        drop(columns);
+        drop(dictionaries);
+        drop(scratch);
+    }
 }
 
 impl StreamCursor {
