@@ -1,5 +1,5 @@
 //! The array of any kind. A contract sees it as the tree of its parts.
-ghost use Rattle.std.specs.Prelude.{◌≡◌, ⊥, ◌+◌, ◌≤◌, length, None, IfOk, IfSome};
+ghost use Rattle.std.specs.Prelude.{◌≡◌, ⊥, ◌+◌, ◌≤◌, length, None, IfOk, IfNone, IfSome};
 ghost use Rattle.std.specs.Option.{option_map};
 ghost use Rattle.arrow_types.specs.KindOf.{kind_of};
 ghost use Rattle.arrow_buffers.specs.Rows.{part};
@@ -415,7 +415,7 @@ impl Array {
     /// The array of lists that this is, if it is one.
     pub fn into_list(self) -> Option<ListArray>
         ensures same { IfSome result (λ lists. self ≡ arrays.List lists) }
-        ensures other { result ≡ None → (lists : ListArray) → self ≡ arrays.List lists → ⊥ }
+        ensures other { IfNone result ((lists : ListArray) → self ≡ arrays.List lists → ⊥) }
     {
         match self {
             Array::List(lists) => Some(lists),
@@ -426,7 +426,7 @@ impl Array {
     /// The array of lists of one size that this is, if it is one.
     pub fn into_fixed_size_list(self) -> Option<FixedSizeListArray>
         ensures same { IfSome result (λ lists. self ≡ arrays.FixedSizeList lists) }
-        ensures other { result ≡ None → (lists : FixedSizeListArray) → self ≡ arrays.FixedSizeList lists → ⊥ }
+        ensures other { IfNone result ((lists : FixedSizeListArray) → self ≡ arrays.FixedSizeList lists → ⊥) }
     {
         match self {
             Array::FixedSizeList(lists) => Some(lists),
@@ -437,7 +437,7 @@ impl Array {
     /// The array of maps that this is, if it is one.
     pub fn into_map(self) -> Option<MapArray>
         ensures same { IfSome result (λ maps. self ≡ arrays.Map maps) }
-        ensures other { result ≡ None → (maps : MapArray) → self ≡ arrays.Map maps → ⊥ }
+        ensures other { IfNone result ((maps : MapArray) → self ≡ arrays.Map maps → ⊥) }
     {
         match self {
             Array::Map(maps) => Some(maps),
@@ -448,7 +448,7 @@ impl Array {
     /// The array of structs that this is, if it is one.
     pub fn into_struct(self) -> Option<StructArray>
         ensures same { IfSome result (λ structs. self ≡ arrays.Struct structs) }
-        ensures other { result ≡ None → (structs : StructArray) → self ≡ arrays.Struct structs → ⊥ }
+        ensures other { IfNone result ((structs : StructArray) → self ≡ arrays.Struct structs → ⊥) }
     {
         match self {
             Array::Struct(structs) => Some(structs),
@@ -459,7 +459,7 @@ impl Array {
     /// The array of unions that this is, if it is one.
     pub fn into_union(self) -> Option<UnionArray>
         ensures same { IfSome result (λ unions. self ≡ arrays.Union unions) }
-        ensures other { result ≡ None → (unions : UnionArray) → self ≡ arrays.Union unions → ⊥ }
+        ensures other { IfNone result ((unions : UnionArray) → self ≡ arrays.Union unions → ⊥) }
     {
         match self {
             Array::Union(unions) => Some(unions),
