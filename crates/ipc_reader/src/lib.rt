@@ -7,4 +7,4 @@ mod reader;
 mod reads;
 
 pub use cursor::{FileCursor, projection_of};
-pub use reader::{FileReader, Refused};
+pub use reader::FileReader;

@@ -16,18 +16,9 @@ use arrow_arrays::RecordBatch;
 use arrow_spec::IpcError;
 use arrow_types::ArrowSchemaRef;
 use ipc_files::{FileMetadata, RecordMessage};
-use ipc_io::Source;
+use ipc_io::{Refused, Source};
 use ipc_projection::ProjectionInfo;
 use std::alloc::Global;
-
-/// A refusal, with the object that the call had taken.
-#[derive(Drop)]
-pub struct Refused<T> {
-    /// Why.
-    pub error: IpcError,
-    /// The object, which is handed back.
-    pub object: T,
-}
 
 /// A cursor over a file's record batches with the file's source.
 #[derive(Drop)]

@@ -16,8 +16,7 @@ use crate::metadata::StreamMetadata;
 use crate::state::StreamState;
 use arrow_spec::IpcError;
 use arrow_types::ArrowSchemaRef;
-use ipc_io::Feed;
-use ipc_reader::Refused;
+use ipc_io::{Feed, Refused};
 use std::alloc::Global;
 
 /// A cursor over a stream's record batches with the feed from which they come.
