@@ -15,7 +15,8 @@ ghost use Rattle.ipc_files.specs.Blocks.{batch_in, BatchRead};
 ghost use Rattle.ipc_files.specs.Fetching.{BlockFetched};
 ghost use Rattle.ipc_files.specs.FileDictionaries.{HoldsUses};
 ghost use Rattle.ipc_files.specs.FileViews.{meta_view, FileCause, IsReadable};
-ghost use Rattle.ipc_files.specs.Selections.{HasFields, IsMade, MayProject, numbers_read, schema_shown};
+ghost use Rattle.ipc_files.specs.Selections.{HasFields, IsMade, numbers_read, schema_shown};
+ghost use Rattle.ipc_projection.specs.Projections.{MayProject};
 ghost use Rattle.ipc_files.specs.Requests.{asked};
 
 use crate::batch::read_batch;

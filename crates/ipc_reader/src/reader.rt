@@ -6,8 +6,8 @@ ghost use Rattle.arrow_spec.specs.declared.error.IpcError.TheVariants.{Memory};
 ghost use Rattle.arrow_spec.specs.Files.{columns_right};
 ghost use Rattle.ipc_io.specs.Outside.{IsSize};
 ghost use Rattle.ipc_files.specs.FileViews.{IsReadable};
-ghost use Rattle.ipc_files.specs.Selections.{IsMade, MayProject, schema_shown};
-ghost use Rattle.ipc_reader.specs.Cursors.{numbers_in};
+ghost use Rattle.ipc_files.specs.Selections.{IsMade, schema_shown};
+ghost use Rattle.ipc_projection.specs.Projections.{MayProject, numbers_in};
 ghost use Rattle.ipc_reader.specs.Reads.{NextBatch, NextMessage, SkipsBlocks};
 ghost use Rattle.ipc_reader.specs.declared.kept.KeptDictionaries.TheVariants.{NotRead};
 

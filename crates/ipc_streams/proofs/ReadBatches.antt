@@ -31,9 +31,9 @@ use Rattle.ipc_read.specs.DictionaryBatches.{AddsDictionary, HasKindOf, dictiona
 use Rattle.ipc_read.specs.Projection.{are_columns, are_rising}
 use Rattle.ipc_read.specs.Sources.{bytes_in}
 use Rattle.ipc_read.specs.declared.body.Body.{Body}
-use Rattle.ipc_projection.specs.Projections.{IsReordered}
+use Rattle.ipc_projection.specs.Projections.{IsReordered, MayProject}
 use Rattle.ipc_projection.specs.declared.projection.ProjectionInfo.{ProjectionInfo}
-use Rattle.ipc_files.specs.Selections.{MayProject, numbers_read}
+use Rattle.ipc_files.specs.Selections.{numbers_read}
 use Rattle.ipc_files.proofs.FileDictionaries.{uses_kept}
 use Rattle.ipc_files.proofs.InOrder.{right_of_projection}
 use Rattle.ipc_files.proofs.Picked.{all_picked, as_many, reordered_picked}

@@ -10,7 +10,7 @@ ghost use Rattle.ipc_bodies.specs.Encodings.{text_of};
 ghost use Rattle.ipc_read.specs.Projection.{columns_of};
 ghost use Rattle.ipc_files.specs.FileViews.{WasRead, file_custom, meta_view};
 ghost use Rattle.ipc_files.specs.Requests.{asked};
-ghost use Rattle.ipc_reader.specs.Cursors.{numbers_in};
+ghost use Rattle.ipc_projection.specs.Projections.{numbers_in};
 ghost use Rattle.ipc_stream_writer.specs.Calls.{IsFresh};
 ghost use Rattle.ipc_transcode.specs.Fetching.{FetchesSome, FetchesTo, FileFetched};
 ghost use Rattle.ipc_transcode.specs.Sends.{BeginsStream, IsNewWriter, IsReadBy, IsReader, IsUnsent, IsWriter, SendCause, Sending, SendsAll, SendsFile, SendsNext, SentRows, SentSoFar, schema_of_reader, send_options};
