@@ -19,3 +19,5 @@ pub mod Unions
 pub mod TreesSound
 pub mod TreesCells
 pub mod TreesWritten
+pub mod ChosenFloats
+pub mod HeldUses

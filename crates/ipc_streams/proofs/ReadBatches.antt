@@ -24,10 +24,10 @@ use Rattle.ipc_schema.specs.Headers.{dictionary_message_of}
 use Rattle.ipc_schema.specs.Views.{header_of}
 use Rattle.ipc_schema.specs.declared.message.DictionaryMessage.{DictionaryMessage}
 use Rattle.ipc_read_laws.specs.Batches.{columns_read}
-use Rattle.ipc_read_laws.specs.Held.{Held, HasKind, HoldsCells}
+use Rattle.ipc_read_laws.specs.Held.{Held, HasKind, HoldsCells, HasKindOf, values_of_id}
 use Rattle.transcode_laws.specs.Files.{ArePicked, AreAsked}
 use Rattle.ipc_read.specs.Batches.{batch_reading, chosen_read, columns_asked, table_of}
-use Rattle.ipc_read.specs.DictionaryBatches.{AddsDictionary, HasKindOf, dictionary_reading, message_of, values_of_id}
+use Rattle.ipc_read.specs.DictionaryBatches.{AddsDictionary, dictionary_reading, message_of}
 use Rattle.ipc_read.specs.Projection.{are_columns, are_rising}
 use Rattle.ipc_read.specs.Sources.{bytes_in}
 use Rattle.ipc_read.specs.declared.body.Body.{Body}

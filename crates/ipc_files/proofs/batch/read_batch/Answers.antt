@@ -11,7 +11,7 @@ use Rattle.ipc_files.specs.Fetching.{BlockFetched}
 use Rattle.ipc_files.specs.FileViews.{meta_view}
 use Rattle.ipc_files.specs.Requests.{asked}
 use Rattle.ipc_files.proofs.Errors.{is_err}
-use Rattle.ipc_files.proofs.ChosenFloats.{chosen_with}
+use Rattle.ipc_read_laws.proofs.ChosenFloats.{chosen_with}
 use Rattle.ipc_files.proofs.ReadBatches.{batch_given, block_given, indexed, kinds_cause, kinds_refused}
 use Rattle.ipc_files.proofs.ReadColumns.{columns_read}
 use Rattle.ipc_files.proofs.ReadFiles.{of_err}

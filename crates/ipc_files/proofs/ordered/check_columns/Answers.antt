@@ -11,7 +11,7 @@ use Rattle.ipc_read.specs.Sources.{Answers}
 use Rattle.ipc_files.specs.FileViews.{meta_view}
 use Rattle.ipc_files.specs.Selections.{numbers_read}
 use Rattle.ipc_files.proofs.InOrder.{floats_asked, made_rising}
-use Rattle.ipc_files.proofs.ChosenFloats.{chosen_with}
+use Rattle.ipc_read_laws.proofs.ChosenFloats.{chosen_with}
 use Rattle.ipc_files.proofs.ReadColumns.{columns_read}
 use Rattle.ipc_files.proofs.ordered.check_columns.Goals as goal
 

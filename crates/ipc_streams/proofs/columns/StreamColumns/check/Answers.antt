@@ -9,7 +9,7 @@ use Rattle.ipc_read.specs.Batches.{are_column_kinds}
 use Rattle.ipc_read.specs.Projection.{are_rising, columns_of}
 use Rattle.ipc_read.specs.Sources.{Answers}
 use Rattle.ipc_files.specs.Selections.{numbers_read}
-use Rattle.ipc_files.proofs.ChosenFloats.{chosen_with}
+use Rattle.ipc_read_laws.proofs.ChosenFloats.{chosen_with}
 use Rattle.ipc_files.proofs.InOrder.{floats_asked, made_rising}
 use Rattle.ipc_streams.specs.Starts.{stream_schema}
 use Rattle.ipc_streams.proofs.StreamSchemas.{may_read}
