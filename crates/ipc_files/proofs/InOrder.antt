@@ -20,7 +20,7 @@ use Rattle.arrow_spec.specs.Readings.{Gives, Reading, Refuses, bind, free_of, re
 use Rattle.arrow_types.specs.Schemas.{Keyed}
 use Rattle.arrow_arrays.specs.Batches.{Batch}
 use Rattle.ipc_read.specs.Batches.{table_of}
-use Rattle.ipc_read.specs.Projection.{are_columns, are_rising, chosen}
+use Rattle.ipc_read_laws.specs.Projection.{are_columns, are_rising, chosen}
 use Rattle.ipc_read.proofs.Chosen.{all_chosen}
 use Rattle.ipc_projection.specs.Places.{IsPermutation, entry}
 use Rattle.ipc_projection.specs.Projections.{IsReordered, MayProject}

@@ -8,7 +8,7 @@ ghost use Rattle.arrow_spec.specs.Readings.{Gives};
 ghost use Rattle.ipc_io.specs.Outside.{IsSize, SourceKept};
 ghost use Rattle.ipc_read.specs.Batches.{table_of};
 ghost use Rattle.ipc_read.specs.Held.{held_in};
-ghost use Rattle.ipc_read.specs.Projection.{columns_of};
+ghost use Rattle.ipc_read_laws.specs.Projection.{columns_of};
 ghost use Rattle.ipc_read.specs.Sources.{Answers, IsRefusal};
 ghost use Rattle.ipc_read_laws.specs.Held.{HoldsCells};
 ghost use Rattle.ipc_files.specs.Blocks.{batch_in, BatchRead};

@@ -7,7 +7,7 @@ use Rattle.std.specs.Rc.{rc_value}
 use Rattle.arrow_spec.specs.Columns.{stands_in}
 use Rattle.arrow_types.specs.Schemas.{Keyed}
 use Rattle.arrow_arrays.specs.Batches.{Batch}
-use Rattle.ipc_read.specs.Projection.{do_rise, are_below}
+use Rattle.ipc_read_laws.specs.Projection.{do_rise, are_below}
 use Rattle.ipc_projection.specs.Places.{IsPermutation, StandAt, entry}
 use Rattle.ipc_projection.specs.declared.projection.ProjectionInfo.{ProjectionInfo}
 

@@ -28,7 +28,7 @@ use Rattle.ipc_read_laws.specs.Held.{Held, HasKind, HoldsCells, HasKindOf, value
 use Rattle.transcode_laws.specs.Files.{ArePicked, AreAsked}
 use Rattle.ipc_read.specs.Batches.{batch_reading, chosen_read, columns_asked, table_of}
 use Rattle.ipc_read.specs.DictionaryBatches.{AddsDictionary, dictionary_reading, message_of}
-use Rattle.ipc_read.specs.Projection.{are_columns, are_rising}
+use Rattle.ipc_read_laws.specs.Projection.{are_columns, are_rising}
 use Rattle.ipc_read.specs.Sources.{bytes_in}
 use Rattle.ipc_read.specs.declared.body.Body.{Body}
 use Rattle.ipc_projection.specs.Projections.{IsReordered, MayProject}

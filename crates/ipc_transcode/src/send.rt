@@ -7,7 +7,7 @@ ghost use Rattle.arrow_spec.specs.Kinds.{width};
 ghost use Rattle.ipc_fields.specs.IpcFields.{metadata_of};
 ghost use Rattle.ipc_io.specs.Outside.{IsSize, SinkKept, SourceKept};
 ghost use Rattle.ipc_bodies.specs.Encodings.{text_of};
-ghost use Rattle.ipc_read.specs.Projection.{columns_of};
+ghost use Rattle.ipc_read_laws.specs.Projection.{columns_of};
 ghost use Rattle.ipc_files.specs.FileViews.{WasRead, file_custom, meta_view};
 ghost use Rattle.ipc_files.specs.Requests.{asked};
 ghost use Rattle.ipc_projection.specs.Projections.{numbers_in};

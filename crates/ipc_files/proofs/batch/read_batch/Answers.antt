@@ -5,7 +5,7 @@ use Rattle.arrow_types.specs.Schemas.{fields_in}
 use Rattle.ipc_fields.specs.IpcFields.{fields_with, ids_of}
 use Rattle.ipc_read.specs.Batches.{are_column_kinds}
 use Rattle.ipc_read.specs.Held.{held_in}
-use Rattle.ipc_read.specs.Projection.{columns_of}
+use Rattle.ipc_read_laws.specs.Projection.{columns_of}
 use Rattle.ipc_files.specs.Blocks.{asked_under}
 use Rattle.ipc_files.specs.Fetching.{BlockFetched}
 use Rattle.ipc_files.specs.FileViews.{meta_view}

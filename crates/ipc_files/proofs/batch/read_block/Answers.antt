@@ -2,7 +2,7 @@ use Rattle.std.proofs.Common.{◌≡◌, Ok, Err, subst, sym, true}
 use Rattle.std.specs.Rc.{rc_value}
 use Rattle.ipc_fields.specs.IpcFields.{ids_of}
 use Rattle.ipc_read.specs.Held.{held_in}
-use Rattle.ipc_read.specs.Projection.{are_columns, columns_of}
+use Rattle.ipc_read_laws.specs.Projection.{are_columns, columns_of}
 use Rattle.ipc_files.specs.Blocks.{asked_under}
 use Rattle.ipc_files.specs.FileBlocks.{file_block, paired_of}
 use Rattle.ipc_files.specs.FileViews.{meta_view}

@@ -1,5 +1,5 @@
 use Rattle.std.proofs.Common.{◌≡◌, Ok, Err, length, refl, sym, subst}
-use Rattle.ipc_read.specs.Projection.{columns_of}
+use Rattle.ipc_read_laws.specs.Projection.{columns_of}
 use Rattle.ipc_files.specs.Requests.{asked}
 use Rattle.ipc_files.proofs.Errors.{is_err}
 use Rattle.ipc_files.proofs.ReadFiles.{file_width}
