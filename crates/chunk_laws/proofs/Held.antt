@@ -14,7 +14,7 @@ use Rattle.ipc_read_laws.proofs.PlainTypes.{plain_with}
 use Rattle.ipc_write_laws.specs.Messages.{IsKnown, Known}
 use Rattle.ipc_write_arrays.specs.Dictionaries.{Begins, HoldsEachAt, HoldsValuesAt, dictionary_id, first_kind, is_alike, other_fields}
 use Rattle.ipc_write.specs.Encoding.{AreAlike, HoldAllValues}
-use Rattle.ipc_files.proofs.HeldUses.{plain_same}
+use Rattle.ipc_read_laws.proofs.HeldUses.{plain_same}
 use Rattle.stream_laws.specs.Heard.{AllHaveValuesAt, GoesOn, HasValuesAt}
 use Rattle.stream_laws.proofs.Apart.{Under}
 

@@ -7,7 +7,7 @@ use Rattle.arrow_spec.specs.Kinds as kind
 use Rattle.arrow_spec.specs.Kinds.{Kind, Fields, Use, same, uses_in, uses_of, values_under}
 use Rattle.arrow_spec.proofs.Fewer.{none_first, none_second}
 use Rattle.arrow_spec.proofs.SameIds.{id_true}
-use Rattle.ipc_files.proofs.HeldUses.{join}
+use Rattle.ipc_read_laws.proofs.HeldUses.{join}
 
 pub under_has : (Q : ℤ → Kind → Type 0) (us : List Use) (id : ℤ) (k : Kind) → AllByRecursion (λ u. Q u.id u.values) us → values_under id us ≡ Some k → Q id k
 under_has Q [] id k all e = cc

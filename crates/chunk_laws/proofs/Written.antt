@@ -19,7 +19,7 @@ use Rattle.ipc_dictionaries.specs.NewDictionaries.{ToSend}
 use Rattle.ipc_write_laws.specs.Messages.{AllMayBeWritten, Known, WrittenMessage, batch_in, none_known, with_message, with_messages}
 use Rattle.ipc_write.specs.Encoding.{AllMean}
 use Rattle.column_laws.proofs.ReadColumns.{cells_under}
-use Rattle.ipc_files.proofs.ChosenFloats.{chosen_with}
+use Rattle.ipc_read_laws.proofs.ChosenFloats.{chosen_with}
 use Rattle.ipc_write_messages.specs.Messages.{chunk_text}
 use Rattle.ipc_write_messages.specs.Schemas.{begun_message}
 use Rattle.ipc_write_messages.proofs.Beginning.{text_is}

@@ -14,7 +14,7 @@ use arrow_spec::IpcError;
 use ipc_disk::{Disk, DiskTail};
 use ipc_file_writer::{BegunFile, FileCore, FileWriter};
 use ipc_files::{Dictionaries, FileMetadata, read_file_dictionaries};
-use ipc_reader::Refused;
+use ipc_io::Refused;
 use ipc_write::WriteOptions;
 use std::alloc::Global;
 

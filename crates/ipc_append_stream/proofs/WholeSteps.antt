@@ -15,7 +15,8 @@ use Rattle.arrow_arrays.specs.Batches.{Batch}
 use Rattle.arrow_types.specs.Schemas.{Keyed, fields_in}
 use Rattle.ipc_append_stream.proofs.Handed.{handed}
 use Rattle.ipc_files.specs.FileViews.{FileCause}
-use Rattle.ipc_files.specs.Selections.{HasFields, MayProject, schema_shown}
+use Rattle.ipc_files.specs.Selections.{HasFields, schema_shown}
+use Rattle.ipc_projection.specs.Projections.{MayProject}
 use Rattle.ipc_projection.specs.declared.projection.ProjectionInfo.{ProjectionInfo}
 use Rattle.ipc_read.specs.Batches.{table_of}
 use Rattle.ipc_read.specs.Held.{held_in}

@@ -16,7 +16,7 @@ use arrow_spec::IpcError;
 use ipc_append::try_from_file;
 use ipc_disk::{Disk, DiskTail};
 use ipc_file_writer::FileWriter;
-use ipc_reader::Refused;
+use ipc_io::Refused;
 use ipc_write::WriteOptions;
 use std::alloc::Global;
 

@@ -13,8 +13,7 @@ use arrow_arrays::RecordBatch;
 use arrow_spec::IpcError;
 use arrow_types::{ArrowSchemaRef, Metadata};
 use ipc_fields::IpcField;
-use ipc_io::Sink;
-use ipc_reader::Refused;
+use ipc_io::{Refused, Sink};
 use ipc_write::{EncodedData, WriteOptions};
 use std::alloc::Global;
 

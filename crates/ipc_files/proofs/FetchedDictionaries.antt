@@ -18,9 +18,9 @@ use Rattle.file_laws.specs.Fetched.{dictionary_fetched, for_rows}
 use Rattle.ipc_schema.specs.Headers.{DictionaryTables, dictionary_message, dictionary_message_of}
 use Rattle.ipc_schema.specs.Views.{header_of}
 use Rattle.ipc_schema.specs.declared.message.DictionaryMessage.{DictionaryMessage}
-use Rattle.ipc_read_laws.specs.Held.{Held}
+use Rattle.ipc_read_laws.specs.Held.{Held, values_of_id}
 use Rattle.ipc_read.specs.Batches.{batch_fetched as buffers_fetched}
-use Rattle.ipc_read.specs.DictionaryBatches.{dictionary_fetched as values_fetched, one_column, values_of_id}
+use Rattle.ipc_read.specs.DictionaryBatches.{dictionary_fetched as values_fetched, one_column}
 use Rattle.ipc_files.specs.FileBlocks.{block_metadata, message_metadata}
 use Rattle.ipc_files.specs.FileDictionaries.{DictionariesFetched, DictionaryFetched, DictionaryIn, FirstFetched, block_dictionary, block_values, dictionaries_cost, dictionary_cost}
 use Rattle.ipc_files.specs.Fetching.{BlockFetched, MetadataFetched, both_of, message_cost}

@@ -8,7 +8,6 @@ pub mod BlockPrefixes
 pub mod BlockMessages
 pub mod BlockNumbers
 pub mod FileFooters
-pub mod ChosenFloats
 pub mod Fetching
 pub mod FetchedFiles
 pub mod BlockRows
@@ -20,5 +19,4 @@ pub mod InOrder
 pub mod ShownFields
 pub mod FileDictionaries
 pub mod ReadColumns
-pub mod HeldUses
 pub mod FetchedDictionaries

@@ -13,9 +13,9 @@ use Rattle.ipc_read_laws.specs.Held.{Held}
 use Rattle.ipc_read_laws.specs.PartsRead.{parts_read}
 use Rattle.transcode_laws.specs.Files.{AreAsked, ArePicked}
 use Rattle.ipc_read.specs.Batches.{chosen_read}
-use Rattle.ipc_read.specs.Projection.{are_columns, are_rising, chosen, kept}
+use Rattle.ipc_read_laws.specs.Projection.{are_columns, are_rising, chosen, kept}
 use Rattle.ipc_read.proofs.Chosen.{all_chosen}
-use Rattle.ipc_read.specs.Projection.{are_below}
+use Rattle.ipc_read_laws.specs.Projection.{are_below}
 use Rattle.ipc_projection.specs.Places.{StandAt}
 use Rattle.ipc_projection.specs.Projections.{IsProjection, IsReordered}
 use Rattle.ipc_projection.specs.declared.projection.ProjectionInfo.{ProjectionInfo}

@@ -20,7 +20,7 @@ use Rattle.ipc_files.specs.Blocks.{BlockRead, ReadsBlock, asked_under, batch_in}
 use Rattle.ipc_files.specs.FileBlocks.{block_record, file_block}
 use Rattle.ipc_files.specs.FileViews.{FileCause}
 use Rattle.ipc_files.proofs.BlockMessages.{batch_by_record, refused_first}
-use Rattle.ipc_files.proofs.ChosenFloats.{chosen_with}
+use Rattle.ipc_read_laws.proofs.ChosenFloats.{chosen_with}
 
 -- what is refused at a place of its own
 pub refused_place : (e : IpcError) (es : List IpcError) → Refuses e es → Refuses e (refusals (free_of es))

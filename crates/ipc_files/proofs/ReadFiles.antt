@@ -21,7 +21,7 @@ use Rattle.ipc_io.specs.Outside.{IsSize}
 use Rattle.ipc_files.specs.declared.block.BlockMessage.{BlockMessage}
 use Rattle.ipc_read_laws.specs.Held.{Held, HoldsCells}
 use Rattle.ipc_read.specs.Batches.{batch_reading, chosen_read, table_of}
-use Rattle.ipc_read.specs.Projection.{are_columns, are_rising}
+use Rattle.ipc_read_laws.specs.Projection.{are_columns, are_rising}
 use Rattle.ipc_read.specs.Sources.{bytes_in}
 use Rattle.ipc_read.specs.declared.body.Body.{Body}
 use Rattle.ipc_files.specs.FileBlocks.{BlockIn, PairedMessage, block_record, paired_of}

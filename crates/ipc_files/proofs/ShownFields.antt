@@ -10,12 +10,12 @@ use Rattle.arrow_types.specs.Schemas.{Keyed}
 use Rattle.arrow_arrays.specs.Batches.{Batch}
 use Rattle.arrow_arrays.specs.Parts.{kind_in}
 use Rattle.ipc_read.specs.Batches.{kinds_of}
-use Rattle.ipc_read.specs.Projection.{are_below, chosen}
+use Rattle.ipc_read_laws.specs.Projection.{are_below, chosen}
 use Rattle.ipc_projection.specs.Places.{StandAt}
-use Rattle.ipc_projection.specs.Projections.{IsProjection, IsReordered}
+use Rattle.ipc_projection.specs.Projections.{IsProjection, IsReordered, MayProject}
 use Rattle.ipc_projection.specs.declared.projection.ProjectionInfo.{ProjectionInfo}
 use Rattle.ipc_projection.proofs.Projected.{chosen_stand, stand_once}
-use Rattle.ipc_files.specs.Selections.{HasFields, MayProject, numbers_read, schema_shown}
+use Rattle.ipc_files.specs.Selections.{HasFields, numbers_read, schema_shown}
 use Rattle.ipc_files.proofs.InOrder.{all_shown, ordered_shown}
 
 -- ── items and what is said of them ──

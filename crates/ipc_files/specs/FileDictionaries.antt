@@ -15,8 +15,8 @@ use Rattle.file_laws.specs.Fetched.{dictionary_fetched}
 use Rattle.transcode_laws.specs.Files.{HeaderFits}
 use Rattle.ipc_schema.specs.Headers.{DictionaryTables, dictionary_message, dictionary_message_of}
 use Rattle.ipc_schema.specs.declared.message.DictionaryMessage.{DictionaryMessage}
-use Rattle.ipc_read_laws.specs.Held.{Held, HoldsCells}
-use Rattle.ipc_read.specs.DictionaryBatches.{HasKindOf, HoldsPart, values_of_id}
+use Rattle.ipc_read_laws.specs.Held.{Held, HoldsCells, HasKindOf, values_of_id}
+use Rattle.ipc_read.specs.DictionaryBatches.{HoldsPart}
 use Rattle.ipc_read.specs.Held.{held_in}
 use Rattle.ipc_files.specs.Blocks.{asked_under}
 use Rattle.ipc_files.specs.Fetching.{block_cost}

@@ -5,15 +5,8 @@ use Rattle.arrow_types.specs.Schemas.{Keyed}
 use Rattle.arrow_arrays.specs.Batches.{Batch}
 use Rattle.arrow_arrays.specs.Parts.{kind_in}
 use Rattle.ipc_read.specs.Batches.{kinds_of}
-use Rattle.ipc_projection.specs.Projections.{IsProjection}
+use Rattle.ipc_projection.specs.Projections.{MayProject}
 use Rattle.ipc_projection.specs.declared.projection.ProjectionInfo.{ProjectionInfo}
-
--- a projection of the numbers that are asked for, and none where all are
-abbrev pub MayProject : List Keyed → Option (List ℕ) → Option ProjectionInfo → Type 0
-MayProject s None None = Unit {0}
-MayProject s None (Some p) = ⊥
-MayProject s (Some columns) None = ⊥
-MayProject s (Some columns) (Some p) = IsProjection s columns p
 
 -- the numbers that are read for a projection
 abbrev pub numbers_read : Option ProjectionInfo → Option (List ℕ)

@@ -9,7 +9,7 @@ ghost use Rattle.arrow_arrays.specs.Parts.{kind_in};
 ghost use Rattle.ipc_io.specs.Outside.{IsSize, SourceKept};
 ghost use Rattle.ipc_read.specs.Batches.{kinds_of, table_of};
 ghost use Rattle.ipc_read.specs.Held.{held_in};
-ghost use Rattle.ipc_read.specs.Projection.{are_columns, are_rising, chosen, columns_of};
+ghost use Rattle.ipc_read_laws.specs.Projection.{are_columns, are_rising, chosen, columns_of};
 ghost use Rattle.ipc_read_laws.specs.Held.{HoldsCells};
 ghost use Rattle.ipc_files.specs.Blocks.{asked_under, batch_in, BatchRead, body_place, ReadsBlock};
 ghost use Rattle.ipc_files.specs.FileBlocks.{file_block};

@@ -8,14 +8,15 @@ ghost use Rattle.arrow_spec.specs.Readings.{Gives};
 ghost use Rattle.ipc_io.specs.Outside.{IsSize, SourceKept};
 ghost use Rattle.ipc_read.specs.Batches.{table_of};
 ghost use Rattle.ipc_read.specs.Held.{held_in};
-ghost use Rattle.ipc_read.specs.Projection.{columns_of};
+ghost use Rattle.ipc_read_laws.specs.Projection.{columns_of};
 ghost use Rattle.ipc_read.specs.Sources.{Answers, IsRefusal};
 ghost use Rattle.ipc_read_laws.specs.Held.{HoldsCells};
 ghost use Rattle.ipc_files.specs.Blocks.{batch_in, BatchRead};
 ghost use Rattle.ipc_files.specs.Fetching.{BlockFetched};
 ghost use Rattle.ipc_files.specs.FileDictionaries.{HoldsUses};
 ghost use Rattle.ipc_files.specs.FileViews.{meta_view, FileCause, IsReadable};
-ghost use Rattle.ipc_files.specs.Selections.{HasFields, IsMade, MayProject, numbers_read, schema_shown};
+ghost use Rattle.ipc_files.specs.Selections.{HasFields, IsMade, numbers_read, schema_shown};
+ghost use Rattle.ipc_projection.specs.Projections.{MayProject};
 ghost use Rattle.ipc_files.specs.Requests.{asked};
 
 use crate::batch::read_batch;

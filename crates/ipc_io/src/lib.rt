@@ -4,6 +4,8 @@
 mod lent;
 mod memory;
 mod outside;
+mod refused;
 
 pub use memory::{FailingCalls, MemoryFeed, MemorySink, MemorySource, has_place};
 pub use outside::{Failed, Feed, Got, PutError, Shelf, ShelfError, Sink, Source};
+pub use refused::Refused;

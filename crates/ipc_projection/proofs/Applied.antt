@@ -12,7 +12,6 @@ use Rattle.arrow_arrays.specs.Batches.{Batch, batch_fault, have_rows}
 use Rattle.arrow_arrays.specs.declared.record_batch.BatchError.TheVariants.{Width, Height}
 use Rattle.arrow_arrays.specs.Parts.{Parts}
 use Rattle.arrow_types.specs.Schemas.{Keyed}
-use Rattle.ipc_read.proofs.BatchTables.{batch_fine}
 use Rattle.ipc_projection.specs.Places.{ArePlaces, IsInverse, IsPermutation, StandAt}
 use Rattle.ipc_projection.specs.Projections.{IsReordered}
 use Rattle.ipc_projection.proofs.Inverse.{inverse_places}
@@ -48,6 +47,10 @@ batch_parts b h =
     let e : nat_eq (length b.schema) (length b.arrays) ≡ true = p.0 in
     (grind arith, p.1)
 
+-- a batch of such parts has no fault
+no_fault : (rows : ℕ) (schema : List Keyed) (arrays : List Parts) → length schema ≡ length arrays → have_rows rows arrays ≡ true → batch_fault (record { height = rows; schema = schema; arrays = arrays; custom = [] }) ≡ None
+no_fault rows schema arrays width same = let e : nat_eq (length schema) (length arrays) ≡ true = grind arith in rw (e, same) refl
+
 -- the places from which a map leads to the columns of a batch
 pub batch_places : (m : BTreeMap ℕ ℕ) (old : Batch) (places : List ℕ) → batch_fault old ≡ None → IsPermutation m (length old.arrays) → IsInverse m places (length old.schema) → ArePlaces places (length old.arrays)
 batch_places m old places f h v = inverse_places m (length old.arrays) places h (subst (IsInverse m places) (batch_parts old f).0 v)
@@ -58,7 +61,7 @@ pub applied : (m : BTreeMap ℕ ℕ) (old : Batch) (places : List ℕ) → batch
     → (batch_fault (record { height = old.height; schema = schema; arrays = arrays; custom = [] }) ≡ None) × IsReordered m old (record { height = old.height; schema = schema; arrays = arrays; custom = old.custom })
 applied m old places f h v schema s arrays a =
     let p = batch_parts old f in (
-      batch_fine old.height schema arrays (s.count ∙ sym a.count) (pass_at _ old.arrays places arrays (batch_places m old places f h v) a p.1),
+      no_fault old.height schema arrays (s.count ∙ sym a.count) (pass_at _ old.arrays places arrays (batch_places m old places f h v) a p.1),
       record {
         height = refl;
         width = a.count ∙ v.count ∙ p.0;

@@ -3,8 +3,8 @@ use Rattle.std.proofs.Common.{◌≡◌, ℕ, suc, ◌+◌, ◌-◌, ◌^◌, �
 use Rattle.std.specs.Iterator.{Yields}
 use Rattle.std.proofs.lemmas.Bool.{cases_lt}
 use Rattle.arrow_spec.specs.Columns.{stands_in}
-use Rattle.ipc_read.specs.Projection.{do_rise}
-use Rattle.ipc_read.proofs.Chosen.{stands_before}
+use Rattle.ipc_read_laws.specs.Projection.{do_rise}
+use Rattle.ipc_read_laws.proofs.Rising.{stands_before}
 use Rattle.ipc_projection.specs.Selections.{GivesMarked, all_marked, marked, selects}
 use Rattle.ipc_projection.specs.declared.iterator.ProjectionResult.{ProjectionResult}
 use Rattle.ipc_projection.proofs.Numbers.{first_least, rises_later}

@@ -4,8 +4,8 @@ use Rattle.std.specs.Prelude.{slice_get, nat_eq, nat_le, nat_lt, ◌||◌}
 use Rattle.std.proofs.lemmas.Bool.{and_parts, and_from, cases_lt}
 use Rattle.std.proofs.lemmas.Option.{same_Some, slice_get_within, get_or_from_slice_get}
 use Rattle.arrow_spec.specs.Columns.{stands_in}
-use Rattle.ipc_read.specs.Projection.{do_rise, are_below}
-use Rattle.ipc_read.proofs.Chosen.{stands_at}
+use Rattle.ipc_read_laws.specs.Projection.{do_rise, are_below}
+use Rattle.ipc_read_laws.proofs.Rising.{stands_at}
 
 -- ── the numbers ──
 

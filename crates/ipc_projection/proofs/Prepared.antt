@@ -7,7 +7,7 @@ use Rattle.std.proofs.lemmas.Bool.{cases_lt}
 use Rattle.std.proofs.lemmas.List.{take_all}
 use Rattle.std.proofs.lemmas.Option.{slice_get_within, slice_get-get_or, same_Some, none-some}
 use Rattle.arrow_types.specs.Schemas.{Keyed}
-use Rattle.ipc_read.specs.Projection.{are_below}
+use Rattle.ipc_read_laws.specs.Projection.{are_below}
 use Rattle.ipc_projection.specs.declared.projection.ProjectionInfo.{ProjectionInfo}
 use Rattle.ipc_projection.specs.Places.{ArePlaces, ArePlacesOf, AreRising, StandAt, entry}
 use Rattle.ipc_projection.specs.Projections.{IsProjection}

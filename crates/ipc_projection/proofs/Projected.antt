@@ -8,8 +8,8 @@ use Rattle.arrow_spec.specs.Columns.{stands_in}
 use Rattle.arrow_types.specs.Schemas.{Keyed}
 use Rattle.arrow_arrays.specs.Batches.{Batch}
 use Rattle.arrow_arrays.specs.Parts.{Parts}
-use Rattle.ipc_read.specs.Projection.{do_rise, are_below, chosen, kept}
-use Rattle.ipc_read.proofs.Chosen.{stands_before}
+use Rattle.ipc_read_laws.specs.Projection.{do_rise, are_below, chosen, kept}
+use Rattle.ipc_read_laws.proofs.Rising.{stands_before}
 use Rattle.ipc_projection.specs.declared.projection.ProjectionInfo.{ProjectionInfo}
 use Rattle.ipc_projection.specs.Places.{IsPermutation, StandAt, entry}
 use Rattle.ipc_projection.specs.Projections.{IsProjection, IsReordered, IsSame}

@@ -9,7 +9,7 @@ use Rattle.std.proofs.lemmas.Bool.{cases_lt}
 use Rattle.std.proofs.lemmas.List.{length-append}
 use Rattle.std.proofs.lemmas.List.Sums.{count_by_more_yes, count_by_more_no}
 use Rattle.std.proofs.lemmas.Option.{slice_get_within, get_or_from_slice_get, same_Some, none-some}
-use Rattle.ipc_read.specs.Projection.{do_rise, are_below}
+use Rattle.ipc_read_laws.specs.Projection.{do_rise, are_below}
 use Rattle.ipc_projection.specs.Places.{AreRising, entry}
 use Rattle.ipc_projection.proofs.Numbers.{below_more, below_pushed, rise_pushed}
 use Rattle.ipc_projection.proofs.Stood.{get_before, get_pushed}

@@ -3,7 +3,7 @@ use Rattle.std.specs.Prelude.{◌≡◌, ℕ, ◌<◌, ◌≤◌, List, length, 
 use Rattle.std.specs.BTreeMap.{BTreeMap, get}
 use Rattle.std.specs.List.{count_by}
 use Rattle.std.specs.Ordering.{nat_cmp}
-use Rattle.ipc_read.specs.Projection.{do_rise, are_below}
+use Rattle.ipc_read_laws.specs.Projection.{do_rise, are_below}
 
 -- the entry of a map at a place
 abbrev pub entry : BTreeMap ℕ ℕ → ℕ → Option ℕ

@@ -1,7 +1,7 @@
 //! Items of which some are selected by their numbers.
 ghost use Rattle.std.specs.Prelude.{◌≡◌, ℕ, ◌+◌, ◌^◌, ◌<◌, ◌≤◌, length, true};
 ghost use Rattle.arrow_spec.specs.Columns.{stands_in};
-ghost use Rattle.ipc_read.specs.Projection.{do_rise};
+ghost use Rattle.ipc_read_laws.specs.Projection.{do_rise};
 ghost use Rattle.ipc_projection.specs.Selections.{GivesMarked, selects};
 
 use std::iter::Iterator;

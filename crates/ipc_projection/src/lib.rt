@@ -10,4 +10,4 @@ mod projection;
 
 pub use apply::apply_projection;
 pub use iterator::{ProjectionIter, ProjectionResult};
-pub use projection::{ProjectionInfo, prepare_projection};
+pub use projection::{ProjectionInfo, prepare_projection, projection_of};

@@ -2,7 +2,7 @@
 ghost use Rattle.std.specs.Prelude.{◌≡◌, ◌∷◌, ◌⊎◌, [], length, Ok, Err, Some, IfOk, IfErr};
 ghost use Rattle.arrow_spec.specs.Files.{columns_right};
 ghost use Rattle.arrow_spec.specs.declared.error.IpcError.TheVariants.{Memory};
-ghost use Rattle.ipc_projection.specs.Projections.{IsProjection, IsSame};
+ghost use Rattle.ipc_projection.specs.Projections.{IsProjection, IsSame, MayProject, numbers_in};
 
 use crate::fields::schema_at;
 use crate::places::{places_asked, rising_columns};
@@ -53,4 +53,27 @@ pub fn prepare_projection(
         map,
         schema,
     })
+}
+
+/// The projection onto the columns of these numbers, in their order, if any are asked for.
+///
+/// # Errors
+///
+/// As of `prepare_projection`.
+pub fn projection_of(
+    alloc: Global,
+    schema: &ArrowSchema,
+    columns: Option<Vec<usize>>,
+) -> Result<Option<ProjectionInfo>, IpcError>
+    ensures projected { IfOk result (λ p. MayProject schema.now (numbers_in columns) p) }
+    ensures right { IfOk result (λ _. columns_right (numbers_in columns) (length schema.now) ≡ Ok tt) }
+    ensures err { IfErr result (λ e. (e ≡ Memory) ⊎ (columns_right (numbers_in columns) (length schema.now) ≡ Err (e ∷ []))) }
+{
+    match columns {
+        None => Ok(None),
+        Some(columns) => {
+            let projection = prepare_projection(alloc, schema, columns)?;
+            Ok(Some(projection))
+        }
+    }
 }

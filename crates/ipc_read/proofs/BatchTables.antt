@@ -26,7 +26,7 @@ use Rattle.ipc_read.specs.Queues.{Left, BatchAt}
 use Rattle.ipc_read.specs.Batches.{AreQueuesOf, MayBeRead, batch_reading, columns_asked}
 use Rattle.arrow_spec.specs.Arrays.{Dictionaries}
 use Rattle.ipc_read_laws.specs.Held.{Held, HoldsCells}
-use Rattle.ipc_read.specs.Projection.{are_rising, are_columns, chosen}
+use Rattle.ipc_read_laws.specs.Projection.{are_rising, are_columns, chosen}
 use Rattle.ipc_read.proofs.Chosen.{asked_are_chosen}
 use Rattle.ipc_read.specs.Sources.{Told, Known, bytes_in}
 use Rattle.ipc_read.specs.declared.body.Body.{Body}

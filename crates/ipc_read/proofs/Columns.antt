@@ -29,7 +29,7 @@ use Rattle.ipc_read_laws.specs.Held.{Held}
 use Rattle.ipc_read_laws.specs.PartsRead.{parts_read}
 use Rattle.ipc_read.specs.Batches.{IsFieldAt, are_carried_kinds, batch_fetched, cells_asked, chosen_fetched, chosen_read, kinds_of, schema_fields}
 use Rattle.ipc_read.specs.Held.{column_kind}
-use Rattle.ipc_read.specs.Projection.{kept, chosen}
+use Rattle.ipc_read_laws.specs.Projection.{kept, chosen}
 use Rattle.ipc_read.proofs.Refusals.{refuses_left, refuses_right}
 use Rattle.ipc_read.proofs.ColumnKinds.{drop_at, both_first, both_second}
 use Rattle.ipc_read.proofs.ColumnIds.{after_with, counts_with}

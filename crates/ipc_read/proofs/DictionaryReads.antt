@@ -31,13 +31,13 @@ use Rattle.arrow_arrays.specs.Parts as parts
 use Rattle.arrow_arrays.specs.Parts.{Parts, Forest, also, forest, either, fault_in, fault_each, kind_in, kinds_each, cells_in, cells_each}
 use Rattle.ipc_fields.specs.IpcFields.{Ids, Tree, no_fields, ids, ids_of, tree_of, kind_with, fields_with}
 use Rattle.ipc_fields.specs.declared.ipc_field.IpcField.{IpcField}
-use Rattle.ipc_read_laws.specs.Held.{Held, HoldsCells, HasKind, HasKinds, HasFields}
+use Rattle.ipc_read_laws.specs.Held.{Held, HoldsCells, HasKind, HasKinds, HasFields, values_of_id, HasKindOf}
 use Rattle.ipc_read_laws.specs.PlainKinds.{plain_kind}
 use Rattle.ipc_read_laws.specs.PartsRead.{parts_read}
 use Rattle.ipc_read_laws.proofs.PlainKinds.{width_plain}
 use Rattle.ipc_read.specs.Batches.{batch_reading, batch_fetched, columns_asked, chosen_read, is_column_kind, are_column_fields, are_column_kinds, kinds_of, schema_fields}
 use Rattle.ipc_read.specs.Held.{held_in}
-use Rattle.ipc_read.specs.DictionaryBatches.{values_of_id, one_column, with_part, parts_before, dictionary_reading, dictionary_fetched, AddsDictionary, HasKindOf, HoldsPart}
+use Rattle.ipc_read.specs.DictionaryBatches.{one_column, with_part, parts_before, dictionary_reading, dictionary_fetched, AddsDictionary, HoldsPart}
 use Rattle.arrow_types.specs.Child.{Child}
 use Rattle.ipc_read.proofs.BatchTables.{refused_first}
 use Rattle.ipc_read.proofs.Refusals.{memory_refuses}

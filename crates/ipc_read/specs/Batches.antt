@@ -37,7 +37,7 @@ use Rattle.arrow_arrays.specs.Carried.{is_carried}
 use Rattle.ipc_fields.specs.IpcFields.{ids_of, fields_with}
 use Rattle.ipc_fields.specs.declared.ipc_field.IpcField.{IpcField}
 use Rattle.ipc_read.specs.Skips.{is_plain_layout}
-use Rattle.ipc_read.specs.Projection.{kept, chosen}
+use Rattle.ipc_read_laws.specs.Projection.{kept, chosen}
 
 -- ── the columns ──
 

@@ -1,9 +1,9 @@
 -- Dictionary messages that are read. (Arrow Columnar Format, "Dictionary Messages".)
-use Rattle.std.specs.Prelude.{◌≡◌, ℕ, ⊤, ℤ, List, [], ◌∷◌, Bool, true, false, Option, Some, None, Ok, Result, IfOk, IfErr, IfSome}
+use Rattle.std.specs.Prelude.{◌≡◌, ℕ, ⊤, ℤ, List, [], ◌∷◌, Bool, true, false, Option, Some, None, Ok, Result, IfOk, IfErr}
 use Rattle.arrow_spec.specs.declared.error.IpcError.{IpcError}
 use Rattle.arrow_spec.specs.declared.message.MetadataVersion.{MetadataVersion}
 use Rattle.arrow_spec.specs.Readings.{Reading, Refuses, refusals}
-use Rattle.arrow_spec.specs.Kinds.{Kind, Fields, none, field, uses_in, values_under}
+use Rattle.arrow_spec.specs.Kinds.{Kind, Fields, none, field}
 use Rattle.arrow_spec.specs.Counts.{RecordBatch, first_place}
 use Rattle.arrow_spec.specs.Messages.{BatchHeader, DictionaryBatch}
 use Rattle.arrow_spec.specs.Arrays.{Dictionaries, HeldDictionary}
@@ -13,16 +13,12 @@ use Rattle.arrow_arrays.specs.Parts as parts
 use Rattle.arrow_arrays.specs.Parts.{Parts, Forest, also}
 use Rattle.ipc_fields.specs.IpcFields.{Ids, schema_with}
 use Rattle.ipc_read.specs.Batches.{batch_fetched}
-use Rattle.ipc_read_laws.specs.Held.{Held, HoldsCells, HasKind}
+use Rattle.ipc_read_laws.specs.Held.{Held, HoldsCells}
 use Rattle.ipc_read_laws.specs.PartsRead.{parts_read}
 
 -- the message of a dictionary, by its batch's tables
 abbrev pub message_of : ℤ → Bool → BatchHeader → DictionaryBatch
 message_of id is_delta tables = record { id = id; is_delta = is_delta; values = tables }
-
--- the kind of the values under an id of columns
-abbrev pub values_of_id : Fields → ℤ → Option Kind
-values_of_id fs id = values_under id (uses_in fs)
 
 -- one column of a kind, without a name
 abbrev pub one_column : Kind → Fields
@@ -52,10 +48,6 @@ dictionary_reading s below is_little_endian d most x version body may_replace =
 pub record AddsDictionary (d : Dictionaries) (h : Held) (result : Result (Unit {0}) IpcError) (read : Reading HeldDictionary) : Type 0 where
   pub ok : IfOk result (λ _. (x : HeldDictionary) × (read ≡ Ok x) × HoldsCells (x ∷ d) h)
   pub err : IfErr result (λ e. Refuses e (refusals read))
-
--- the parts that are held under an id are of the kind of its values
-abbrev pub HasKindOf : Fields → Held → ℤ → Type 0
-HasKindOf fs h id = IfSome (values_of_id fs id) (λ k. IfSome (h id) (HasKind k))
 
 -- the stated lengths of the buffers that are looked at, where there are rows and the id is one of a schema
 abbrev pub dictionary_fetched : RecordBatch → Option Kind → ℕ → ℕ

@@ -10,6 +10,5 @@ pub mod Held
 pub mod Readers
 pub mod Skips
 pub mod Readings
-pub mod Projection
 pub mod Batches
 pub mod DictionaryBatches

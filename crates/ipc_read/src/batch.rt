@@ -18,7 +18,7 @@ ghost use Rattle.ipc_schema.specs.Views.{header_of};
 ghost use Rattle.ipc_read.specs.Batches.{AreQueuesOf, table_in, are_column_kinds, are_carried_kinds, batch_reading, table_of, batch_fetched, cells_asked, chosen_fetched, chosen_read, kinds_of, schema_fields};
 ghost use Rattle.ipc_read.specs.Held.{held_in, column_kind};
 ghost use Rattle.ipc_read_laws.specs.Held.{HoldsCells, HasKinds, HasFields};
-ghost use Rattle.ipc_read.specs.Projection.{are_columns, are_rising, chosen, columns_of};
+ghost use Rattle.ipc_read_laws.specs.Projection.{are_columns, are_rising, chosen, columns_of};
 ghost use Rattle.arrow_spec.specs.Files.{record_batch_of, share};
 ghost use Rattle.ipc_read.specs.Readers.{TreeAt, KnownTo, Readable, CanRead, KeepsQueues, KeepsSource, FailsToReadColumn, HasReadCause, TakesTree, FetchesTree};
 ghost use Rattle.ipc_read.specs.Skips.{PassesColumn};

@@ -17,10 +17,10 @@ ghost use Rattle.arrow_arrays.specs.PartsOf.{parts_of, forest_of};
 ghost use Rattle.ipc_fields.specs.IpcFields.{ids_of, tree_of};
 ghost use Rattle.ipc_fields.specs.Uses.{use_in};
 ghost use Rattle.ipc_io.specs.Outside.{SourceKept};
-ghost use Rattle.ipc_read_laws.specs.Held.{HoldsCells, HasKinds};
+ghost use Rattle.ipc_read_laws.specs.Held.{HoldsCells, HasKinds, values_of_id, HasKindOf};
 ghost use Rattle.ipc_schema.specs.Views.{header_of};
 ghost use Rattle.ipc_read.specs.Batches.{is_column_kind, kinds_of, schema_fields};
-ghost use Rattle.ipc_read.specs.DictionaryBatches.{message_of, values_of_id, one_column, parts_before, dictionary_reading, dictionary_fetched, AddsDictionary, HasKindOf, HoldsPart};
+ghost use Rattle.ipc_read.specs.DictionaryBatches.{message_of, one_column, parts_before, dictionary_reading, dictionary_fetched, AddsDictionary, HoldsPart};
 ghost use Rattle.ipc_read.specs.Held.{held_in};
 ghost use Rattle.ipc_read.specs.Sources.{Inside, BodyReadCause, bytes_in};
 

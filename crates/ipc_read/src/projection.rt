@@ -3,7 +3,7 @@ ghost use Rattle.std.specs.Prelude.{◌≡◌, true, IfOk, IfErr};
 ghost use Rattle.std.specs.Rc.{rc_value};
 ghost use Rattle.arrow_spec.specs.Columns.{is_chosen};
 ghost use Rattle.arrow_spec.specs.declared.error.IpcError.TheVariants.{Memory};
-ghost use Rattle.ipc_read.specs.Projection.{columns_of, are_rising, chosen};
+ghost use Rattle.ipc_read_laws.specs.Projection.{columns_of, are_rising, chosen};
 
 use crate::tables::field_at;
 use arrow_spec::IpcError;

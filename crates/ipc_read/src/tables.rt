@@ -15,7 +15,7 @@ ghost use Rattle.arrow_types.specs.Physical.{physical_of};
 ghost use Rattle.arrow_types.specs.Schemas.{fields_in};
 ghost use Rattle.ipc_schema.specs.Views.{header_of};
 ghost use Rattle.ipc_read.specs.Batches.{AreQueuesOf, MayBeRead, columns_asked, IsFieldAt, is_column_kind, are_column_fields, are_column_kinds, are_carried_kinds, unread_feature, unread_number};
-ghost use Rattle.ipc_read.specs.Projection.{columns_of, are_rising};
+ghost use Rattle.ipc_read_laws.specs.Projection.{columns_of, are_rising};
 ghost use Rattle.ipc_read.specs.Queues.{Left};
 ghost use Rattle.ipc_read.specs.Skips.{IsDamage, is_plain_kind};
 ghost use Rattle.ipc_read.specs.Sources.{Answers, IsRefusal};

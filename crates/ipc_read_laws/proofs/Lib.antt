@@ -19,3 +19,6 @@ pub mod Unions
 pub mod TreesSound
 pub mod TreesCells
 pub mod TreesWritten
+pub mod Rising
+pub mod ChosenFloats
+pub mod HeldUses

@@ -2,7 +2,7 @@
 use Rattle.std.specs.Prelude.{◌≡◌, ℤ, None, Option, IfSome, true}
 use Rattle.std.specs.Option.{option_map}
 use Rattle.arrow_spec.specs.Kinds as kind
-use Rattle.arrow_spec.specs.Kinds.{Kind, Fields, field, «list», fixed_size_list, struct, map, union, dictionary, extension}
+use Rattle.arrow_spec.specs.Kinds.{Kind, Fields, field, «list», fixed_size_list, struct, map, union, dictionary, extension, uses_in, values_under}
 use Rattle.arrow_spec.specs.Arrays.{Dictionaries, found}
 use Rattle.arrow_arrays.specs.Heads.{joined, each_of}
 use Rattle.arrow_arrays.specs.Parts.{Forest, kinds_each, cells_each, fault_each}
@@ -56,3 +56,11 @@ HasKinds h k = AllHeld HasKind h k
 
 abbrev pub HasFields : Held → Fields → Type 0
 HasFields h fs = AllHeldIn HasKind h fs
+
+-- the kind of the values under an id of columns
+abbrev pub values_of_id : Fields → ℤ → Option Kind
+values_of_id fs id = values_under id (uses_in fs)
+
+-- the parts that are held under an id are of the kind of its values
+abbrev pub HasKindOf : Fields → Held → ℤ → Type 0
+HasKindOf fs h id = IfSome (values_of_id fs id) (λ k. IfSome (h id) (HasKind k))

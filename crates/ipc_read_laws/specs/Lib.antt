@@ -3,6 +3,7 @@ pub mod Held
 pub mod PartsRead
 pub mod Faults
 pub mod Batches
+pub mod Projection
 pub mod LayoutFaults
 pub mod LeftFaults
 pub mod WrittenParts

@@ -1,15 +1,8 @@
 -- What is asked of a cursor over the record batches of a file, and where a call leaves it.
-use Rattle.std.specs.Prelude.{ℕ, ◌+◌, List, Option, Some, None, Result, Ok, Err}
-use Rattle.std.specs.declared.alloc.Global.{Global}
-use Rattle.std.specs.declared.vec.Vec.{Vec}
+use Rattle.std.specs.Prelude.{ℕ, ◌+◌, Option, Some, None, Result, Ok, Err}
 use Rattle.arrow_spec.specs.declared.error.IpcError.{IpcError}
 use Rattle.arrow_spec.specs.Files.{what_is_left}
 use Rattle.arrow_arrays.specs.Batches.{Batch}
-
--- the numbers that are asked for
-abbrev pub numbers_in : Option (Vec ℕ Global) → Option (List ℕ)
-numbers_in None = None
-numbers_in (Some columns) = Some columns.items
 
 -- what is left of a limit behind a call: less by the rows of the batch that it gave
 abbrev pub left_after : Option ℕ → Option (Result Batch IpcError) → Option ℕ

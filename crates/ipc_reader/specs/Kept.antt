@@ -20,7 +20,7 @@ use Rattle.ipc_files.specs.Blocks.{BatchRead, batch_in}
 use Rattle.ipc_files.specs.FileDictionaries.{AreHeld, DictionariesFetched, FirstFetched, HoldsUses}
 use Rattle.ipc_files.specs.Fetching.{BlockFetched}
 use Rattle.ipc_files.specs.FileViews.{meta_view, FileCause}
-use Rattle.ipc_files.specs.Selections.{MayProject}
+use Rattle.ipc_projection.specs.Projections.{MayProject}
 use Rattle.ipc_files.specs.declared.metadata.FileMetadata.{FileMetadata}
 use Rattle.ipc_reader.specs.declared.kept.KeptDictionaries.{KeptDictionaries}
 use Rattle.ipc_reader.specs.declared.kept.KeptDictionaries.TheVariants.{NotRead, Held, Refused}

@@ -12,7 +12,8 @@ use Rattle.ipc_files.specs.FileBlocks.{GivesIn, block_header}
 use Rattle.ipc_files.specs.Fetching.{MetadataFetched}
 use Rattle.ipc_files.specs.FileViews.{meta_view, FileCause}
 use Rattle.ipc_files.specs.RowCounts.{MessagesFetched, blocks_passed}
-use Rattle.ipc_files.specs.Selections.{HasFields, MayProject, schema_shown}
+use Rattle.ipc_files.specs.Selections.{HasFields, schema_shown}
+use Rattle.ipc_projection.specs.Projections.{MayProject}
 use Rattle.ipc_files.specs.Requests.{asked}
 use Rattle.ipc_reader.specs.Cursors.{block_after, left_after}
 use Rattle.ipc_reader.specs.Kept.{FetchedBy, GivesBy, KeepsFile, KeptAfter, KeptBehind, ReadUnderKept, is_refused}

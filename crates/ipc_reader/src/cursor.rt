@@ -4,41 +4,18 @@ ghost use Rattle.std.specs.Rc.{rc_value};
 ghost use Rattle.arrow_spec.specs.declared.error.IpcError.TheVariants.{Memory};
 ghost use Rattle.arrow_spec.specs.Files.{columns_right};
 ghost use Rattle.ipc_files.specs.FileViews.{IsReadable, meta_view};
-ghost use Rattle.ipc_files.specs.Selections.{IsMade, MayProject, schema_shown};
-ghost use Rattle.ipc_reader.specs.Cursors.{numbers_in};
+ghost use Rattle.ipc_files.specs.Selections.{IsMade, schema_shown};
+ghost use Rattle.ipc_projection.specs.Projections.{MayProject, numbers_in};
 ghost use Rattle.ipc_reader.specs.Kept.{KeepsUses};
 ghost use Rattle.ipc_reader.specs.declared.kept.KeptDictionaries.TheVariants.{NotRead};
 
 use crate::kept::KeptDictionaries;
 use arrow_spec::IpcError;
-use arrow_types::{ArrowSchema, ArrowSchemaRef};
+use arrow_types::ArrowSchemaRef;
 use ipc_files::FileMetadata;
-use ipc_projection::{ProjectionInfo, prepare_projection};
+use ipc_projection::{ProjectionInfo, projection_of};
 use std::alloc::Global;
 use std::mem;
-
-/// The projection onto the columns of these numbers, in their order, if any are asked for.
-///
-/// # Errors
-///
-/// As of `prepare_projection` of `ipc_projection`.
-pub fn projection_of(
-    alloc: Global,
-    schema: &ArrowSchema,
-    columns: Option<Vec<usize>>,
-) -> Result<Option<ProjectionInfo>, IpcError>
-    ensures projected { IfOk result (λ p. MayProject schema.now (numbers_in columns) p) }
-    ensures right { IfOk result (λ _. columns_right (numbers_in columns) (length schema.now) ≡ Ok tt) }
-    ensures err { IfErr result (λ e. (e ≡ Memory) ⊎ (columns_right (numbers_in columns) (length schema.now) ≡ Err (e ∷ []))) }
-{
-    match columns {
-        None => Ok(None),
-        Some(columns) => {
-            let projection = prepare_projection(alloc, schema, columns)?;
-            Ok(Some(projection))
-        }
-    }
-}
 
 /// A reader of a file without its source, which each call that reads is lent: the file's metadata, the columns asked
 /// for, how many rows are left of a limit, the current block, the dictionaries that were read, and memory that is used

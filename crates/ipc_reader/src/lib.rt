@@ -6,5 +6,5 @@ mod kept;
 mod reader;
 mod reads;
 
-pub use cursor::{FileCursor, projection_of};
-pub use reader::{FileReader, Refused};
+pub use cursor::FileCursor;
+pub use reader::FileReader;

@@ -6,8 +6,8 @@ ghost use Rattle.arrow_spec.specs.declared.error.IpcError.TheVariants.{Memory};
 ghost use Rattle.arrow_spec.specs.Files.{columns_right};
 ghost use Rattle.ipc_io.specs.Outside.{IsSize};
 ghost use Rattle.ipc_files.specs.FileViews.{IsReadable};
-ghost use Rattle.ipc_files.specs.Selections.{IsMade, MayProject, schema_shown};
-ghost use Rattle.ipc_reader.specs.Cursors.{numbers_in};
+ghost use Rattle.ipc_files.specs.Selections.{IsMade, schema_shown};
+ghost use Rattle.ipc_projection.specs.Projections.{MayProject, numbers_in};
 ghost use Rattle.ipc_reader.specs.Reads.{NextBatch, NextMessage, SkipsBlocks};
 ghost use Rattle.ipc_reader.specs.declared.kept.KeptDictionaries.TheVariants.{NotRead};
 
@@ -16,18 +16,9 @@ use arrow_arrays::RecordBatch;
 use arrow_spec::IpcError;
 use arrow_types::ArrowSchemaRef;
 use ipc_files::{FileMetadata, RecordMessage};
-use ipc_io::Source;
+use ipc_io::{Refused, Source};
 use ipc_projection::ProjectionInfo;
 use std::alloc::Global;
-
-/// A refusal, with the object that the call had taken.
-#[derive(Drop)]
-pub struct Refused<T> {
-    /// Why.
-    pub error: IpcError,
-    /// The object, which is handed back.
-    pub object: T,
-}
 
 /// A cursor over a file's record batches with the file's source.
 #[derive(Drop)]

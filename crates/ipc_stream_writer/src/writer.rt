@@ -11,8 +11,7 @@ use arrow_arrays::RecordBatch;
 use arrow_spec::IpcError;
 use arrow_types::{ArrowSchema, Metadata};
 use ipc_fields::IpcField;
-use ipc_io::Sink;
-use ipc_reader::Refused;
+use ipc_io::{Refused, Sink};
 use ipc_write::WriteOptions;
 use std::alloc::Global;
 

@@ -24,16 +24,16 @@ use Rattle.ipc_schema.specs.Headers.{dictionary_message_of}
 use Rattle.ipc_schema.specs.Views.{header_of}
 use Rattle.ipc_schema.specs.declared.message.DictionaryMessage.{DictionaryMessage}
 use Rattle.ipc_read_laws.specs.Batches.{columns_read}
-use Rattle.ipc_read_laws.specs.Held.{Held, HasKind, HoldsCells}
+use Rattle.ipc_read_laws.specs.Held.{Held, HasKind, HoldsCells, HasKindOf, values_of_id}
 use Rattle.transcode_laws.specs.Files.{ArePicked, AreAsked}
 use Rattle.ipc_read.specs.Batches.{batch_reading, chosen_read, columns_asked, table_of}
-use Rattle.ipc_read.specs.DictionaryBatches.{AddsDictionary, HasKindOf, dictionary_reading, message_of, values_of_id}
-use Rattle.ipc_read.specs.Projection.{are_columns, are_rising}
+use Rattle.ipc_read.specs.DictionaryBatches.{AddsDictionary, dictionary_reading, message_of}
+use Rattle.ipc_read_laws.specs.Projection.{are_columns, are_rising}
 use Rattle.ipc_read.specs.Sources.{bytes_in}
 use Rattle.ipc_read.specs.declared.body.Body.{Body}
-use Rattle.ipc_projection.specs.Projections.{IsReordered}
+use Rattle.ipc_projection.specs.Projections.{IsReordered, MayProject}
 use Rattle.ipc_projection.specs.declared.projection.ProjectionInfo.{ProjectionInfo}
-use Rattle.ipc_files.specs.Selections.{MayProject, numbers_read}
+use Rattle.ipc_files.specs.Selections.{numbers_read}
 use Rattle.ipc_files.proofs.FileDictionaries.{uses_kept}
 use Rattle.ipc_files.proofs.InOrder.{right_of_projection}
 use Rattle.ipc_files.proofs.Picked.{all_picked, as_many, reordered_picked}

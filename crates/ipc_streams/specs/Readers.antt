@@ -15,7 +15,8 @@ use Rattle.arrow_spec.specs.Messages.{BatchHeader, RecordMessage}
 use Rattle.arrow_spec.specs.Readings.{Gives, Reading}
 use Rattle.arrow_spec.specs.Streams.{Reader}
 use Rattle.ipc_read_laws.specs.Held.{Held}
-use Rattle.ipc_files.specs.Selections.{MayProject, numbers_read, schema_shown}
+use Rattle.ipc_files.specs.Selections.{numbers_read, schema_shown}
+use Rattle.ipc_projection.specs.Projections.{MayProject}
 use Rattle.arrow_types.specs.Schemas.{Keyed}
 use Rattle.ipc_streams.specs.declared.columns.StreamColumns.{StreamColumns}
 use Rattle.ipc_streams.specs.Starts.{stream_schema}

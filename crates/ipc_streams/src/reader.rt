@@ -3,10 +3,9 @@ ghost use Rattle.std.specs.Prelude.{◌≡◌, ◌∷◌, ◌⊎◌, [], length,
 ghost use Rattle.std.specs.Rc.{rc_value};
 ghost use Rattle.arrow_spec.specs.declared.error.IpcError.TheVariants.{Memory};
 ghost use Rattle.arrow_spec.specs.Files.{columns_right};
-ghost use Rattle.ipc_files.specs.Selections.{MayProject};
+ghost use Rattle.ipc_projection.specs.Projections.{MayProject, numbers_in};
 ghost use Rattle.ipc_read.specs.Held.{held_in};
 ghost use Rattle.ipc_read_laws.specs.Held.{none_held};
-ghost use Rattle.ipc_reader.specs.Cursors.{numbers_in};
 ghost use Rattle.ipc_streams.specs.Nexts.{NextState};
 ghost use Rattle.ipc_streams.specs.Readers.{fields_shown};
 ghost use Rattle.ipc_streams.specs.Starts.{IsReadable};
@@ -16,8 +15,7 @@ use crate::metadata::StreamMetadata;
 use crate::state::StreamState;
 use arrow_spec::IpcError;
 use arrow_types::ArrowSchemaRef;
-use ipc_io::Feed;
-use ipc_reader::Refused;
+use ipc_io::{Feed, Refused};
 use std::alloc::Global;
 
 /// A cursor over a stream's record batches with the feed from which they come.

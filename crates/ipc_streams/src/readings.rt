@@ -14,7 +14,7 @@ ghost use Rattle.ipc_read_laws.specs.Held.{HoldsCells};
 ghost use Rattle.ipc_read.specs.Batches.{kinds_of, table_of};
 ghost use Rattle.ipc_read.specs.DictionaryBatches.{AddsDictionary};
 ghost use Rattle.ipc_read.specs.Held.{held_in};
-ghost use Rattle.ipc_read.specs.Projection.{chosen, columns_of};
+ghost use Rattle.ipc_read_laws.specs.Projection.{chosen, columns_of};
 ghost use Rattle.ipc_read.specs.Sources.{Answers, IsRefusal};
 ghost use Rattle.ipc_files.specs.Selections.{HasFields, numbers_read};
 ghost use Rattle.ipc_streams.specs.Readers.{IsReader, IsRising, ReadsRising, batch_read, fields_shown};

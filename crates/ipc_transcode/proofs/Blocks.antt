@@ -30,7 +30,7 @@ use Rattle.sent_dictionaries.specs.Laws.{AreFileColumns, ColumnsAreRight}
 use Rattle.ipc_files.specs.Blocks.{BlockRead}
 use Rattle.ipc_files.specs.FileDictionaries.{HoldsUses}
 use Rattle.ipc_files.specs.FileViews.{WasRead, file_custom}
-use Rattle.ipc_files.proofs.HeldUses.{each_use, held_fields}
+use Rattle.ipc_read_laws.proofs.HeldUses.{each_use, held_fields}
 use Rattle.ipc_transcode.specs.Sends.{Sending, asked_in, fields_in_request, meta_in}
 use Rattle.sent_schemas.specs.SentFields.{AreSentFields}
 use Rattle.sent_schemas.proofs.SentFields.{fields_read}

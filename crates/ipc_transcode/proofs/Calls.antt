@@ -10,7 +10,7 @@ use Rattle.ipc_bodies.specs.Encodings.{text_of}
 use Rattle.ipc_bodies.specs.Puts.{Moved}
 use Rattle.ipc_files.specs.FileViews.{meta_view}
 use Rattle.ipc_files.specs.Requests.{asked}
-use Rattle.ipc_files.specs.Selections.{MayProject}
+use Rattle.ipc_projection.specs.Projections.{MayProject}
 use Rattle.ipc_files.specs.declared.metadata.FileMetadata.{FileMetadata}
 use Rattle.ipc_reader.specs.Kept.{GivesBy, HoldsFile, KeptAfter, ReadUnderKept}
 use Rattle.ipc_reader.specs.Reads.{NextBatch}

@@ -17,7 +17,7 @@ use Rattle.ipc_files.specs.FileDictionaries.{FirstFetched, dictionaries_cost}
 use Rattle.ipc_files.specs.FileViews.{meta_view}
 use Rattle.ipc_files.specs.Fetching.{BlockFetched, block_cost}
 use Rattle.ipc_files.specs.Requests.{asked}
-use Rattle.ipc_files.specs.Selections.{MayProject}
+use Rattle.ipc_projection.specs.Projections.{MayProject}
 use Rattle.ipc_files.specs.declared.metadata.FileMetadata.{FileMetadata}
 use Rattle.ipc_reader.specs.Kept.{FetchedBy}
 use Rattle.ipc_reader.specs.Reads.{NextBatch}

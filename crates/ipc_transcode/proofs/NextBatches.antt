@@ -21,7 +21,8 @@ use Rattle.ipc_files.specs.FileBlocks.{file_block}
 use Rattle.ipc_files.specs.declared.metadata.FileMetadata.{FileMetadata}
 use Rattle.ipc_files.specs.FileViews.{FileCause, file_custom, meta_view}
 use Rattle.ipc_files.specs.Requests.{asked}
-use Rattle.ipc_files.specs.Selections.{MayProject, schema_shown}
+use Rattle.ipc_files.specs.Selections.{schema_shown}
+use Rattle.ipc_projection.specs.Projections.{MayProject}
 use Rattle.ipc_files.proofs.Picked.{picked_from}
 use Rattle.ipc_files.proofs.Selected.{asked_below}
 use Rattle.ipc_projection.specs.declared.projection.ProjectionInfo.{ProjectionInfo}

@@ -8,7 +8,8 @@ use Rattle.arrow_arrays.specs.Batches.{Batch}
 use Rattle.arrow_arrays.specs.Parts.{forest}
 use Rattle.ipc_dictionaries.specs.Columns.{columns_of}
 use Rattle.ipc_files.specs.FileViews.{WasRead, meta_view}
-use Rattle.ipc_files.specs.Selections.{HasFields, MayProject}
+use Rattle.ipc_files.specs.Selections.{HasFields}
+use Rattle.ipc_projection.specs.Projections.{MayProject}
 use Rattle.ipc_files.specs.declared.metadata.FileMetadata.{FileMetadata}
 use Rattle.ipc_reader.specs.Reads.{NextBatch}
 use Rattle.ipc_reader.specs.declared.cursor.FileCursor.{FileCursor}

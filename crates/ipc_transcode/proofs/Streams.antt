@@ -10,7 +10,7 @@ use Rattle.ipc_bodies.specs.Puts.{Moved}
 use Rattle.ipc_bodies.specs.declared.encoding.Encoding.{Encoding}
 use Rattle.ipc_files.specs.FileViews.{FileSays, WasRead, file_custom, meta_view}
 use Rattle.ipc_files.specs.declared.metadata.FileMetadata.{FileMetadata}
-use Rattle.ipc_files.specs.Selections.{MayProject}
+use Rattle.ipc_projection.specs.Projections.{MayProject}
 use Rattle.ipc_reader.specs.declared.cursor.FileCursor.{FileCursor}
 use Rattle.ipc_reader.specs.declared.kept.KeptDictionaries.TheVariants.{NotRead}
 use Rattle.ipc_stream_writer.specs.Calls.{Finishes}

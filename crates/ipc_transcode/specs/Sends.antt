@@ -22,7 +22,8 @@ use Rattle.ipc_read_laws.specs.PlainKinds.{plain_fields}
 use Rattle.ipc_files.specs.FileDictionaries.{HoldsUses}
 use Rattle.ipc_files.specs.FileViews.{FileSays, WasRead, file_custom, meta_view}
 use Rattle.ipc_files.specs.declared.metadata.FileMetadata.{FileMetadata}
-use Rattle.ipc_files.specs.Selections.{MayProject, schema_shown}
+use Rattle.ipc_files.specs.Selections.{schema_shown}
+use Rattle.ipc_projection.specs.Projections.{MayProject}
 use Rattle.ipc_reader.specs.Kept.{HeldParts}
 use Rattle.ipc_reader.specs.declared.cursor.FileCursor.{FileCursor}
 use Rattle.ipc_reader.specs.declared.kept.KeptDictionaries.TheVariants.{Held, NotRead}

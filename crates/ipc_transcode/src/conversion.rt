@@ -2,7 +2,7 @@
 ghost use Rattle.std.specs.Prelude.{◌≡◌, ◌≤◌, true, IfOk, IfErr, IfSome, IsSome};
 ghost use Rattle.arrow_spec.specs.Meaning.{file_table};
 ghost use Rattle.ipc_io.specs.Outside.{Stands, SourceKept, SinkKept};
-ghost use Rattle.ipc_read.specs.Projection.{columns_of};
+ghost use Rattle.ipc_read_laws.specs.Projection.{columns_of};
 ghost use Rattle.ipc_transcode.specs.Fetching.{FileFetched};
 ghost use Rattle.ipc_files.specs.Requests.{asked};
 ghost use Rattle.ipc_bodies.specs.Encodings.{text_of};

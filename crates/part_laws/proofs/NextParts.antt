@@ -18,14 +18,14 @@ use Rattle.arrow_spec.proofs.SameIds.{id_true}
 use Rattle.ipc_fields.proofs.SameKinds.{same_itself}
 use Rattle.ipc_dictionaries.specs.Columns.{columns_of}
 use Rattle.ipc_read_laws.specs.Batches.{columns_read}
-use Rattle.ipc_read_laws.specs.Held.{Held, HoldsCells, none_held}
+use Rattle.ipc_read_laws.specs.Held.{Held, HoldsCells, none_held, values_of_id}
 use Rattle.ipc_read_laws.specs.PartsRead.{parts_read}
 use Rattle.ipc_read_laws.specs.PlainKinds.{plain_fields, plain_kind}
 use Rattle.transcode_laws.specs.Files.{AreAsked, ArePicked}
-use Rattle.ipc_read.specs.DictionaryBatches.{HoldsPart, parts_before, values_of_id, with_part}
+use Rattle.ipc_read.specs.DictionaryBatches.{HoldsPart, parts_before, with_part}
 use Rattle.part_laws.specs.Parts.{PartTree}
 use Rattle.ipc_files.specs.FileDictionaries.{no_block, one_block}
-use Rattle.ipc_files.proofs.HeldUses.{Agrees, uses_one}
+use Rattle.ipc_read_laws.proofs.HeldUses.{Agrees, uses_one}
 use Rattle.part_laws.specs.Laws.{AreReadParts, ColumnsAreOfFields, ColumnsAreReadUnder, HeldPartsAreRead, IsLast, NextPartIsRead, NothingIsRead, OrderIsOfAsked}
 use Rattle.part_laws.specs.ReadUnder.{AreReadUnder, EachIsReadUnder, IsReadUnder, held_if_any, held_of, parts_under}
 use Rattle.part_laws.proofs.ReadParts.{block_said, no_parts, one_more_part, uses_asked}

@@ -16,7 +16,7 @@ use Rattle.arrow_arrays.specs.Carried.{is_carried}
 use Rattle.arrow_arrays.specs.Nodes.{counts_in}
 use Rattle.arrow_arrays.specs.Parts.{Parts, kind_in}
 use Rattle.arrow_spec.proofs.SameIds.{id_true}
-use Rattle.ipc_read_laws.specs.Held.{HasKinds, Held, HoldsCells, HoldsKinds}
+use Rattle.ipc_read_laws.specs.Held.{HasKinds, Held, HoldsCells, HoldsKinds, values_of_id}
 use Rattle.ipc_read_laws.specs.PartsRead.{parts_read}
 use Rattle.ipc_read_laws.specs.PlainKinds.{plain_kind}
 use Rattle.ipc_read_laws.proofs.Keys.{holds_none}
@@ -31,12 +31,12 @@ use Rattle.transcode_laws.proofs.Numbers.{TablesHaveWidth, WrittenFits, array_fi
 use Rattle.column_laws.proofs.ReadValues.{read_values_at}
 use Rattle.column_laws.proofs.TreeLengths.{column_written}
 use Rattle.ipc_read.specs.Batches.{is_column_kind}
-use Rattle.ipc_read.specs.DictionaryBatches.{HoldsPart, parts_before, values_of_id}
+use Rattle.ipc_read.specs.DictionaryBatches.{HoldsPart, parts_before}
 use Rattle.ipc_read.proofs.ColumnKinds.{column_carried}
 use Rattle.ipc_read_laws.proofs.PlainTypes.{plain_twice}
 use Rattle.part_laws.specs.Parts.{EachFilePart, IsFilePart, IsOfValues, PartTree, part_behind}
 use Rattle.ipc_files.specs.FileDictionaries.{HoldsBlock, HoldsUses, block_dictionary, block_values}
-use Rattle.ipc_files.proofs.HeldUses.{Agrees, each_use, each_value, join, plain_same, split, uses_one}
+use Rattle.ipc_read_laws.proofs.HeldUses.{Agrees, each_use, each_value, join, plain_same, split, uses_one}
 use Rattle.ipc_files.proofs.ReadColumns.{values_read}
 use Rattle.part_laws.specs.Laws.{IsLast, NoPartsAreRead, OneMorePartIsRead, PartsAreOfAsked}
 use Rattle.part_laws.proofs.HeldParts.{AreSoundParts, kinds_sound, last_is, one_more_sound, part_cells}

@@ -23,7 +23,7 @@ use Rattle.ipc_read_laws.specs.PlainKinds.{plain_kind}
 use Rattle.ipc_read_laws.proofs.PlainKinds.{values_plain}
 use Rattle.ipc_read_laws.proofs.SoundLaws.{kind_under}
 use Rattle.ipc_write_arrays.specs.Dictionaries.{is_alike}
-use Rattle.ipc_files.proofs.HeldUses.{plain_same}
+use Rattle.ipc_read_laws.proofs.HeldUses.{plain_same}
 use Rattle.ipc_read_laws.proofs.PlainTypes.{plain_twice}
 use Rattle.part_laws.specs.ReadUnder.{AreReadUnder, IsReadUnder}
 

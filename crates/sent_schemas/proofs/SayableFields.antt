@@ -13,7 +13,7 @@ use Rattle.arrow_spec.proofs.NumberedFields.{numbered_may}
 use Rattle.ipc_dictionaries.specs.Shapes.{are_apart, is_apart}
 use Rattle.ipc_fields.specs.IpcFields.{is_encoded}
 use Rattle.ipc_fields.proofs.KindSteps.{ids_equal}
-use Rattle.ipc_files.proofs.HeldUses.{split}
+use Rattle.ipc_read_laws.proofs.HeldUses.{split}
 use Rattle.schema_writer.specs.Defaults as defaults
 use Rattle.schema_writer.specs.Tables.{all_fit, fits_below}
 use Rattle.schema_writer.proofs.Saying.{representable_is}

@@ -16,7 +16,7 @@ use Rattle.arrow_spec.proofs.Forms.{count_form, form, forms}
 use Rattle.arrow_spec.proofs.SameIds.{id_true}
 use Rattle.ipc_fields.proofs.SameKinds.{form_is_same, same_as_other}
 use Rattle.ipc_dictionaries.specs.Columns.{columns_of}
-use Rattle.ipc_files.proofs.HeldUses.{Agrees, split, uses_one}
+use Rattle.ipc_read_laws.proofs.HeldUses.{Agrees, split, uses_one}
 use Rattle.stream_laws.specs.Heard.{AreApart, IsApart, PartsAreApart, stands_in, stands_in_each, stands_in_parts}
 
 -- ── forms ──

@@ -18,7 +18,7 @@ use Rattle.ipc_dictionaries.specs.NewDictionaries.{ToSend}
 use Rattle.ipc_read_laws.specs.PlainKinds.{plain_kind}
 use Rattle.ipc_read_laws.proofs.PlainTypes.{plain_with}
 use Rattle.ipc_write_arrays.specs.Dictionaries.{dictionary_id, first_kind, other_fields}
-use Rattle.ipc_files.proofs.HeldUses.{Agrees, plain_same, uses_one}
+use Rattle.ipc_read_laws.proofs.HeldUses.{Agrees, plain_same, uses_one}
 use Rattle.stream_laws.specs.Heard.{AllHaveValues, AllHaveValuesAt, AllMayStand, AllStand, GoesOn, HasValues, HasValuesAt, IsAmong, MayStand, Stands, heard, with_part}
 use Rattle.stream_laws.specs.Laws.{WhatIsSentMayStand}
 use Rattle.stream_laws.proofs.Apart.{Under, children_under, columns_of_kinds, fields_form, same_dictionary}

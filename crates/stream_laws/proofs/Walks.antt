@@ -17,7 +17,7 @@ use Rattle.arrow_spec.proofs.Forms.{form}
 use Rattle.ipc_fields.proofs.SameKinds.{same_by_form}
 use Rattle.ipc_dictionaries.specs.Standing.{allowed, delta_start, standing}
 use Rattle.ipc_dictionaries.specs.NewDictionaries.{Options, Sending, array_sent, arrays_sent, parts_sent, scoped}
-use Rattle.ipc_files.proofs.HeldUses.{split}
+use Rattle.ipc_read_laws.proofs.HeldUses.{split}
 use Rattle.stream_laws.specs.Heard.{AreApart, IsAmong, IsApart, PartsAreApart, cells_held, heard, stands_in, stands_in_each, stands_in_parts}
 use Rattle.stream_laws.specs.Laws.{WhatIsSentIsKnown}
 use Rattle.stream_laws.proofs.Apart.{PartsUnder, Under, agreeing_are_apart, children_under, columns_of_kinds, dictionary_uses, fields_hold, first_used, same_dictionary, values_under_them}

@@ -8,9 +8,8 @@ use Rattle.arrow_spec.specs.declared.types.IntegerType.TheVariants.{UInt16}
 use Rattle.arrow_types.specs.Schemas.{Keyed, fields_in}
 use Rattle.ipc_fields.specs.IpcFields.{Ids, no_fields, ids, ids_of, kind_with, fields_with}
 use Rattle.ipc_fields.specs.declared.ipc_field.IpcField.{IpcField}
-use Rattle.ipc_read_laws.specs.Held.{Held, HasKinds}
+use Rattle.ipc_read_laws.specs.Held.{Held, HasKinds, values_of_id}
 use Rattle.ipc_read.specs.Batches.{is_column_kind, are_column_kinds, kinds_of, schema_fields}
-use Rattle.ipc_read.specs.DictionaryBatches.{values_of_id}
 
 abbrev texts : Kind
 texts = dictionary UInt16 false (pos 0) (utf8 small)

@@ -7,7 +7,7 @@ use ipc_append::try_from_file;
 use ipc_disk::{DiskTail, MemoryDisk};
 use ipc_file_writer::FileWriter;
 use ipc_files::read_file_metadata;
-use ipc_reader::Refused;
+use ipc_io::Refused;
 use ipc_write::WriteOptions;
 use std::alloc::Global;
 use std::test::Fail;

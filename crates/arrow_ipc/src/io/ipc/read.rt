@@ -6,6 +6,7 @@ pub use ipc_files::{
     get_row_count, get_row_count_from_blocks, read_batch, read_block_header, read_block_rows,
     read_file_dictionaries, read_file_metadata, read_file_schema, read_projected_batch,
 };
+pub use ipc_io::Refused;
 pub use ipc_projection::{
     ProjectionInfo, ProjectionIter, ProjectionResult, apply_projection, prepare_projection,
 };
@@ -17,7 +18,7 @@ pub use ipc_read::{
     skip_fixed_size_binary, skip_fixed_size_list, skip_list, skip_map, skip_null, skip_primitive,
     skip_struct, skip_union, skip_utf8,
 };
-pub use ipc_reader::{FileCursor, FileReader, Refused};
+pub use ipc_reader::{FileCursor, FileReader};
 pub use ipc_schema::{
     BatchHeader, Message, MessageHeader, RecordMessage, deserialize_record_blocks,
     deserialize_schema, deserialize_schema_and_blocks, footer_metadata, message_metadata,

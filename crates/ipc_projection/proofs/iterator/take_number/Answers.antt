@@ -1,6 +1,6 @@
 use Rattle.std.proofs.Common.{◌≡◌, ◌∙◌, ◌+◌, suc, sym, ap, arith, true, get_or}
 use Rattle.arrow_spec.specs.Columns.{stands_in}
-use Rattle.ipc_read.specs.Projection.{do_rise}
+use Rattle.ipc_read_laws.specs.Projection.{do_rise}
 use Rattle.ipc_projection.proofs.Numbers.{rest_rises}
 use Rattle.ipc_projection.proofs.Marks.{none_past, none_stands, not_first}
 use Rattle.ipc_projection.proofs.iterator.take_number.Goals as goal

@@ -19,7 +19,8 @@ use Rattle.ipc_schema.specs.Views.{header_of}
 use Rattle.ipc_read_laws.specs.PlainKinds.{plain_kind}
 use Rattle.ipc_read_laws.proofs.PlainTypes.{plain_of, plain_with}
 use Rattle.ipc_read.specs.Batches.{batch_reading, kinds_of, schema_fields, table_of}
-use Rattle.ipc_read.specs.DictionaryBatches.{message_of, values_of_id, one_column, parts_before, dictionary_reading}
+use Rattle.ipc_read.specs.DictionaryBatches.{message_of, one_column, parts_before, dictionary_reading}
+use Rattle.ipc_read_laws.specs.Held.{values_of_id}
 use Rattle.ipc_read.specs.Held.{held_in}
 use Rattle.ipc_read.specs.Sources.{bytes_in}
 use Rattle.ipc_read.proofs.Chosen.{all_chosen}

@@ -2,7 +2,7 @@ use Rattle.std.proofs.Common.{◌≡◌, ◌∙◌, sym, ap, arith, string_bytes
 use Rattle.std.specs.Prelude.{slice_get}
 use Rattle.arrow_types.specs.KindOf.{child_of}
 use Rattle.arrow_types.specs.Schemas.{Keyed, with_field}
-use Rattle.ipc_read.specs.Projection.{columns_of}
+use Rattle.ipc_read_laws.specs.Projection.{columns_of}
 use Rattle.ipc_read.proofs.Chosen.{field_added, field_left}
 use Rattle.ipc_read.proofs.projection.chosen_fields.Goals as goal
 

@@ -1,5 +1,5 @@
 use Rattle.std.proofs.Common.{◌≡◌, ◌++◌, ◌≤◌, drop, length}
-use Rattle.ipc_read.specs.Projection.{chosen, columns_of}
+use Rattle.ipc_read_laws.specs.Projection.{chosen, columns_of}
 use Rattle.ipc_read.proofs.projection.chosen_fields.Given as goal
 
 abbrev pub invariant-loop-i : goal.invariant-loop-i

@@ -1,6 +1,6 @@
 use Rattle.std.proofs.Common.{◌∙◌, sym, ap}
 use Rattle.std.specs.Rc.{rc_value}
-use Rattle.ipc_read.specs.Projection.{columns_of, chosen}
+use Rattle.ipc_read_laws.specs.Projection.{columns_of, chosen}
 use Rattle.ipc_read.proofs.Chosen.{all_chosen}
 use Rattle.ipc_read.proofs.projection.chosen_schema.Goals as goal
 

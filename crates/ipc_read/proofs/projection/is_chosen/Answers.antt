@@ -2,8 +2,8 @@ use Rattle.std.proofs.Common.{◌≡◌, sym, ap, ◌∙◌}
 use Rattle.std.specs.Prelude.{Some}
 use Rattle.std.proofs.lemmas.List.Sorted.{searched}
 use Rattle.arrow_spec.specs.Columns.{is_chosen}
-use Rattle.ipc_read.specs.Projection.{columns_of, are_rising}
-use Rattle.ipc_read.proofs.Chosen.{rises, stands_by_search}
+use Rattle.ipc_read_laws.specs.Projection.{columns_of, are_rising}
+use Rattle.ipc_read_laws.proofs.Rising.{rises, stands_by_search}
 use Rattle.ipc_read.proofs.projection.is_chosen.Goals as goal
 
 pub returns-in-Some : goal.returns-in-Some

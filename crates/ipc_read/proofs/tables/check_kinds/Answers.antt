@@ -4,7 +4,7 @@ use Rattle.arrow_spec.specs.Features.{float_faults}
 use Rattle.arrow_spec.specs.Readings.{Refuses}
 use Rattle.arrow_types.specs.KindOf.{child_of}
 use Rattle.ipc_read.specs.Batches.{is_column_kind}
-use Rattle.ipc_read.specs.Projection.{columns_of}
+use Rattle.ipc_read_laws.specs.Projection.{columns_of}
 use Rattle.ipc_read.proofs.Passing.{is_err, answers_err}
 use Rattle.ipc_read.proofs.ColumnKinds.{columns_next, column_carried, held_next, floats_next, floats_refused, floats_end, held_end, columns_behind, floats_passed, held_passed, chosen_kind}
 use Rattle.ipc_read.proofs.tables.check_kinds.Goals as goal

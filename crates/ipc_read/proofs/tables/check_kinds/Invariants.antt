@@ -3,7 +3,7 @@ use Rattle.std.specs.Prelude.{◌≤◌, length}
 use Rattle.arrow_spec.specs.Features.{chosen_floats}
 use Rattle.arrow_types.specs.Schemas.{fields_in}
 use Rattle.ipc_read.specs.Batches.{are_column_kinds, are_carried_kinds}
-use Rattle.ipc_read.specs.Projection.{columns_of}
+use Rattle.ipc_read_laws.specs.Projection.{columns_of}
 use Rattle.ipc_read.proofs.tables.check_kinds.Given as goal
 
 abbrev pub invariant-loop-i : goal.invariant-loop-i

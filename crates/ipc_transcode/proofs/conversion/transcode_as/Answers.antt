@@ -1,4 +1,4 @@
-use Rattle.ipc_read.specs.Projection.{columns_of}
+use Rattle.ipc_read_laws.specs.Projection.{columns_of}
 use Rattle.ipc_files.specs.Requests.{asked}
 use Rattle.ipc_transcode.proofs.Asking.{cause_of, part_of, whole_of}
 use Rattle.ipc_transcode.proofs.Refusing.{complete_by_cause}

@@ -1,10 +1,10 @@
 use Rattle.std.proofs.Common.{◌≡◌, Ok, Err, length, refl, sym, subst}
-use Rattle.ipc_read.specs.Projection.{columns_of}
+use Rattle.ipc_read_laws.specs.Projection.{columns_of}
 use Rattle.ipc_files.specs.Requests.{asked}
 use Rattle.ipc_files.proofs.Errors.{is_err}
 use Rattle.ipc_files.proofs.ReadFiles.{file_width}
 use Rattle.ipc_files.proofs.Selected.{right_of_file}
-use Rattle.ipc_files.specs.Selections.{MayProject}
+use Rattle.ipc_projection.specs.Projections.{MayProject}
 use Rattle.arrow_spec.specs.Files.{columns_right}
 use Rattle.std.specs.Rc.{rc_value}
 use Rattle.ipc_transcode.proofs.Asks.{columns_not_right, numbers_cause, wrong_as}

@@ -7,7 +7,7 @@ use Rattle.arrow_arrays.specs.Parts.{cells_in}
 use Rattle.arrow_arrays.specs.PartsOf.{all_parts_of}
 use Rattle.ipc_schema.specs.Views.{header_of}
 use Rattle.ipc_read.specs.Batches.{batch_reading, batch_fetched, chosen_read, table_in, schema_fields}
-use Rattle.ipc_read.specs.Projection.{columns_of, are_columns}
+use Rattle.ipc_read_laws.specs.Projection.{columns_of, are_columns}
 use Rattle.arrow_spec.specs.Files.{record_batch_of, share}
 use Rattle.ipc_read.specs.Sources.{bytes_in}
 use Rattle.arrow_spec.specs.Flat.{order_by}

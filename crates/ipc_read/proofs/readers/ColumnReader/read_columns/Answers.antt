@@ -11,7 +11,7 @@ use Rattle.ipc_read_laws.specs.Held.{AllHeldIn, HasKind}
 use Rattle.ipc_read.specs.Queues.{AllAt}
 use Rattle.ipc_read.specs.Batches.{chosen_fetched, kinds_of, schema_fields}
 use Rattle.ipc_read.specs.Held.{held_in, column_kind}
-use Rattle.ipc_read.specs.Projection.{columns_of, chosen}
+use Rattle.ipc_read_laws.specs.Projection.{columns_of, chosen}
 use Rattle.ipc_read.proofs.Passing.{is_err}
 use Rattle.ipc_read.proofs.Places.{first_place_in}
 use Rattle.ipc_read.proofs.BatchTables.{gives_err}

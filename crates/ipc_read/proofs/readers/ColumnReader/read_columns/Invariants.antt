@@ -12,7 +12,7 @@ use Rattle.ipc_read.specs.Queues.{AllAt, BatchAt}
 use Rattle.ipc_read.specs.Sources.{Known}
 use Rattle.ipc_read.specs.Readers.{KeepsQueues}
 use Rattle.ipc_read.specs.Batches.{chosen_fetched, kinds_of, schema_fields}
-use Rattle.ipc_read.specs.Projection.{chosen, columns_of}
+use Rattle.ipc_read_laws.specs.Projection.{chosen, columns_of}
 use Rattle.ipc_read.proofs.Columns.{AreDone}
 use Rattle.ipc_read.proofs.readers.ColumnReader.read_columns.Given as goal
 

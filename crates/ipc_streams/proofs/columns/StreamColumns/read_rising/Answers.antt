@@ -2,7 +2,7 @@ use Rattle.std.proofs.Common.{◌≡◌, ◌∙◌, ap, length, subst, sym, true
 use Rattle.std.specs.Rc.{rc_value}
 use Rattle.arrow_spec.specs.Schema.{Schema}
 use Rattle.ipc_read.specs.Held.{held_in}
-use Rattle.ipc_read.specs.Projection.{are_columns, are_rising, columns_of}
+use Rattle.ipc_read_laws.specs.Projection.{are_columns, are_rising, columns_of}
 use Rattle.ipc_read.specs.declared.body.Body.{Body}
 use Rattle.ipc_schema.specs.Views.{header_of}
 use Rattle.ipc_files.proofs.InOrder.{made_range, made_rising}

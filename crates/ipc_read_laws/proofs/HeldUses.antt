@@ -14,10 +14,9 @@ use Rattle.arrow_arrays.specs.Heads.{each_of}
 use Rattle.arrow_arrays.specs.Parts.{Forest, kinds_each}
 use Rattle.arrow_spec.proofs.SameIds.{id_self, id_true}
 use Rattle.ipc_fields.proofs.SameKinds.{form_is_same, same_as_other, same_by_form, same_itself, same_through}
-use Rattle.ipc_read_laws.specs.Held.{Held, HasKind, HasKinds, HasFields}
+use Rattle.ipc_read_laws.specs.Held.{Held, HasKind, HasKinds, HasFields, HasKindOf, values_of_id}
 use Rattle.ipc_read_laws.proofs.PlainTypes.{form_plain}
 use Rattle.ipc_read_laws.specs.PlainKinds.{plain_kind}
-use Rattle.ipc_read.specs.DictionaryBatches.{HasKindOf, values_of_id}
 
 -- ── kinds without ids ──
 

@@ -1,0 +1,11 @@
+//! What a call that takes an object answers where it refuses.
+use arrow_spec::IpcError;
+
+/// A refusal, with the object that the call had taken.
+#[derive(Drop)]
+pub struct Refused<T> {
+    /// Why.
+    pub error: IpcError,
+    /// The object, which is handed back.
+    pub object: T,
+}
