@@ -1,8 +1,8 @@
 """Appends random streams to random files by the program. What is appended to says what it said and what the stream's batches say, as the model
 reads it, below its last block it stays as it was, and nothing else stands in it; and it says the same as a file of the model's that has
-the batches and dictionaries of both, where each is written again by `crates/rewrite` first, which leaves out a validity that tells of no
+the batches and dictionaries of both, where each is written again by `crates/uses` first, which leaves out a validity that tells of no
 nulls, and then made a stream of. A stream of other fields, or of other values of dictionaries, is refused, and the file stays as it was:
-python3 drive_append.py PROGRAM REWRITE COUNT SEED. Prints what differs, and how many cases had which status; the status is 0 where nothing
+python3 drive_append.py PROGRAM USES COUNT SEED. Prints what differs, and how many cases had which status; the status is 0 where nothing
 does."""
 import sys
 import tempfile
@@ -33,7 +33,7 @@ def appended_differs(programs, case):
     if reason:
         return "what is read", reason
     for name in ("file", "whole"):
-        reason = programs.again("file", name, name + "2")
+        reason = programs.again("file-again", name, name + "2")
         if reason:
             return name, reason
     if programs.stream_of("file2") != programs.stream_of("whole2"):
@@ -58,10 +58,10 @@ def differs(programs, statuses, r):
 
 
 def main():
-    program, rewrite = [str(Path(p).resolve()) for p in sys.argv[1:3]]
+    program, uses = [str(Path(p).resolve()) for p in sys.argv[1:3]]
     statuses = Counter()
     with tempfile.TemporaryDirectory() as folder:
-        programs = Programs(program, rewrite, folder)
+        programs = Programs(program, uses, folder)
         status = drive(lambda r: differs(programs, statuses, r), int(sys.argv[3]), int(sys.argv[4]))
     print("statuses", *[f"{wanted}: {count}" for wanted, count in sorted(statuses.items())])
     sys.exit(status)

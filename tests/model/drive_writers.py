@@ -1,7 +1,7 @@
-"""Runs the program that reads and writes again (`crates/rewrite`) on random files of all kinds, half of them with dictionaries: the stream
+"""Has `crates/uses` read and write again random files of all kinds, half of them with dictionaries: the stream
 that it writes of a file is the model's; written once more it stays as it is, and so does the stream of a file that it writes. A validity
 that tells of no nulls is left out where what was written is read. Each stream and file that it writes is read by the model too, and says
-what the file says that was written again: python3 drive_writers.py PROGRAM REWRITE COUNT SEED. Prints what differs; the status is 0 where
+what the file says that was written again: python3 drive_writers.py PROGRAM USES COUNT SEED. Prints what differs; the status is 0 where
 nothing does."""
 import sys
 import tempfile
@@ -20,7 +20,7 @@ def asked(shares):
     return Namespace(unions=True, columns=None, limit=None, shares=shares)
 
 
-STREAMS = [("send", "file", "stream1"), ("stream", "stream1", "stream2"), ("stream", "stream2", "stream3")]
+STREAMS = [("send", "file", "stream1"), ("stream-again", "stream1", "stream2"), ("stream-again", "stream2", "stream3")]
 
 
 def misread_ones(programs, contents, has_file):
@@ -43,7 +43,7 @@ def differs(programs, r):
     shares = r.choice([True, False])
     file, stream, contents = r.choice([fuzz_nested, fuzz_dictionaries]).case(r, asked(shares))
     (programs.folder / "file").write_bytes(file)
-    for word, source, target in STREAMS if shares else [*STREAMS, ("file", "file", "file2")]:
+    for word, source, target in STREAMS if shares else [*STREAMS, ("file-again", "file", "file2")]:
         reason = programs.again(word, source, target)
         if reason:
             return word, reason, file.hex()
@@ -58,9 +58,9 @@ def differs(programs, r):
 
 
 def main():
-    program, rewrite = [str(Path(p).resolve()) for p in sys.argv[1:3]]
+    program, uses = [str(Path(p).resolve()) for p in sys.argv[1:3]]
     with tempfile.TemporaryDirectory() as folder:
-        programs = Programs(program, rewrite, folder)
+        programs = Programs(program, uses, folder)
         sys.exit(drive(lambda r: differs(programs, r), int(sys.argv[3]), int(sys.argv[4])))
 
 

@@ -8,13 +8,13 @@ from flat_reading import Damaged
 
 
 class Programs:
-    """The program and the one that writes again, run in a folder."""
+    """The program and the uses of its library, run in a folder."""
 
-    def __init__(self, program, rewrite, folder):
-        self.program, self.rewrite, self.folder = program, rewrite, Path(folder)
+    def __init__(self, program, uses, folder):
+        self.program, self.uses, self.folder = program, uses, Path(folder)
 
     def again(self, word, source, target):
-        done = subprocess.run([self.rewrite, word, source, target], capture_output=True, cwd=self.folder)
+        done = subprocess.run([self.uses, word, source, target], capture_output=True, cwd=self.folder)
         return done.stderr.decode() or None
 
     def append(self, name, stream):

@@ -1,139 +1,106 @@
-//! Eight uses of `arrow_ipc`. An Arrow file comes on standard input: the first column of its first record batch and the rows of each batch are printed, a batch of numbers is written, by itself, as a stream, which is read again, and as a file, to which another is appended, and the file is sent as a stream.
+//! Uses of `arrow_ipc`, by words, of which one command may stand behind another:
+//!
+//! - `show`, as without any word, shows eight uses, of an Arrow file on standard input;
+//! - `file-again FROM TO` and `stream-again FROM TO` write a file or a stream that they read, and `send FROM TO` a file as a stream;
+//! - `write-file NAME BATCHES ROWS` and `write-stream NAME BATCHES ROWS` write numbers, and `append NAME BATCHES ROWS` behind the batches of a file.
 #![tactic(auto)]
 
+mod again;
 mod append_batch;
 mod each_batch;
 mod file_to_stream;
+mod numbers;
 mod read_column;
 mod read_stream;
+mod show;
 mod write_batch;
 mod write_file;
 mod write_stream;
 
-use append_batch::file_with;
-use arrow_ipc::io::MemorySource;
-use arrow_ipc::io::ipc::IpcError;
-use each_batch::heights;
-use file_to_stream::stream_of;
-use read_column::{first_batch, first_column};
-use read_stream::first_height;
-use std::alloc::Global;
-use std::io::Read;
+use again::write_again;
+use numbers::write_numbers;
+use show::show_uses;
+use std::env;
 use std::process::ExitCode;
-use write_batch::message_of;
-use write_file::file_of_numbers;
-use write_stream::stream_of_numbers;
 
-/// The column, where the file has a batch.
-fn column_of(alloc: Global, source: &mut MemorySource) -> Result<Vec<Option<i32>>, IpcError> {
-    match first_batch(alloc, source)? {
-        Some(batch) => first_column(alloc, &batch),
-        None => Ok(Vec::new(alloc)),
+/// Writes a file or a stream again, by two names, and gives the words behind them.
+fn do_again<'a>(
+    rt: &HostRuntime,
+    word: &str,
+    words: &'a [String],
+) -> Result<&'a [String], &'static str> {
+    let [from, to, behind @ ..] = words else {
+        return Err("two names");
+    };
+    write_again(rt, word, from, to)?;
+    Ok(behind)
+}
+
+/// A number of the words.
+fn number(text: &str) -> Result<u32, &'static str> {
+    match text.parse::<u32>() {
+        Ok(number) => Ok(number),
+        Err(_) => Err("no number"),
     }
 }
 
-/// The bytes of standard input.
-fn input(rt: &HostRuntime) -> Result<Vec<u8>, &'static str> {
-    let mut bytes = Vec::new(rt.alloc());
-    match rt.stdin().read_to_end(&mut bytes) {
-        Ok(_) => Ok(bytes),
-        Err(_) => Err("the input fails"),
+/// Writes numbers, by a name, a number of batches and one of rows, and gives the words behind them.
+fn do_numbers<'a>(
+    rt: &HostRuntime,
+    word: &str,
+    words: &'a [String],
+) -> Result<&'a [String], &'static str> {
+    let [name, batches, rows, behind @ ..] = words else {
+        return Err("a name, a number of batches, and one of rows");
+    };
+    write_numbers(rt, word, name, number(batches)?, number(rows)?)?;
+    Ok(behind)
+}
+
+/// Does what a word asks for, and gives the words behind those that it takes.
+fn do_word<'a>(
+    rt: &HostRuntime,
+    word: &str,
+    words: &'a [String],
+) -> Result<&'a [String], &'static str> {
+    match word {
+        "show" => {
+            show_uses(rt)?;
+            Ok(words)
+        }
+        "file-again" | "stream-again" | "send" => do_again(rt, word, words),
+        "write-file" | "write-stream" | "append" => do_numbers(rt, word, words),
+        _ => Err("no such word"),
     }
 }
 
-/// How many bytes a stream and a file of two numbers have.
-fn written(alloc: Global) -> Result<(usize, usize), IpcError> {
-    let stream = stream_of_numbers(alloc, vec![in alloc; 1, 3]?)?;
-    let file = file_of_numbers(alloc, vec![in alloc; 1, 3]?)?;
-    Ok((stream.bytes().len(), file.bytes().len()))
-}
-
-/// How many rows are read of the first batch of a stream of two numbers.
-fn read_again(alloc: Global) -> Result<Option<usize>, IpcError> {
-    let stream = stream_of_numbers(alloc, vec![in alloc; 1, 3]?)?;
-    first_height(alloc, stream.bytes().to_vec(alloc)?)
-}
-
-/// How many bytes a file of two numbers has with a batch of two more.
-fn appended(alloc: Global) -> Result<usize, IpcError> {
-    let file = file_of_numbers(alloc, vec![in alloc; 1, 3]?)?;
-    let bytes = file.bytes().to_vec(alloc)?;
-    Ok(file_with(alloc, bytes, vec![in alloc; 5, 7]?)?.len())
-}
-
-/// The lengths of a message of two numbers, and of the stream of a file.
-fn lengths(alloc: Global, source: &mut MemorySource) -> Result<(usize, usize), IpcError> {
-    let message = message_of(alloc, vec![in alloc; 1, 3]?)?;
-    let stream = stream_of(alloc, source)?;
-    Ok((message.len(), stream.bytes().len()))
-}
-
-/// The first column of the first record batch, and the rows of each.
-fn show_batches(rt: &HostRuntime, source: &mut MemorySource) -> Result<(), IpcError> {
-    for row in &column_of(rt.alloc(), source)? {
-        let _ = match row {
-            Some(number) => println!(rt; "{number}"),
-            None => println!(rt; "null"),
-        };
-    }
-    for height in &heights(rt.alloc(), source, None)? {
-        let _ = println!(rt; "a batch of {height} rows");
+/// Does what words ask for, one command after another.
+fn do_words(rt: &HostRuntime, words: &[String]) -> Result<(), &'static str> {
+    let mut left = words;
+    for _ in 0..words.len() {
+        match left {
+            [] => return Ok(()),
+            [word, behind @ ..] => left = do_word(rt, word, behind)?,
+        }
     }
     Ok(())
 }
 
-/// The lengths of a stream and a file that are written.
-fn show_written(rt: &HostRuntime) -> Result<(), &'static str> {
-    match written(rt.alloc()) {
-        Ok((stream, file)) => {
-            let _ = println!(rt; "a stream of {stream} bytes that was written, a file of {file}");
-            show_read(rt)
-        }
-        Err(error) => Err(error.name()),
+fn run(rt: &HostRuntime) -> Result<(), &'static str> {
+    let Ok(arguments) = env::args(rt) else {
+        return Err("no words");
+    };
+    let Ok(words) = arguments.skip(1).collect::<Vec<String>>(rt.alloc()) else {
+        return Err("no memory");
+    };
+    if words.is_empty() {
+        return show_uses(rt);
     }
-}
-
-/// The rows of a stream that is read.
-fn show_read(rt: &HostRuntime) -> Result<(), &'static str> {
-    match read_again(rt.alloc()) {
-        Ok(Some(height)) => {
-            let _ = println!(rt; "a stream with a batch of {height} rows that was read");
-            show_appended(rt)
-        }
-        Ok(None) => Err("a stream without a batch"),
-        Err(error) => Err(error.name()),
-    }
-}
-
-/// The length of a file that goes on.
-fn show_appended(rt: &HostRuntime) -> Result<(), &'static str> {
-    match appended(rt.alloc()) {
-        Ok(file) => {
-            let _ = println!(rt; "a file of {file} bytes that went on");
-            Ok(())
-        }
-        Err(error) => Err(error.name()),
-    }
-}
-
-/// The uses, one after another.
-fn show(rt: &HostRuntime) -> Result<(), &'static str> {
-    let bytes = input(rt)?;
-    let mut source = MemorySource::new(bytes, Vec::new(rt.alloc()), Vec::new(rt.alloc()));
-    if let Err(error) = show_batches(rt, &mut source) {
-        return Err(error.name());
-    }
-    match lengths(rt.alloc(), &mut source) {
-        Ok((message, stream)) => {
-            let _ = println!(rt; "a message of {message} bytes, a stream of {stream}");
-            show_written(rt)
-        }
-        Err(error) => Err(error.name()),
-    }
+    do_words(rt, words.as_slice())
 }
 
 fn main(rt: HostRuntime) -> ExitCode {
-    match show(&rt) {
+    match run(&rt) {
         Ok(()) => ExitCode::SUCCESS,
         Err(reason) => {
             let _ = eprintln!(rt; "{reason}");

@@ -1,5 +1,5 @@
 //! Files that are read one record batch after another and written again.
-use crate::writers::{BatchWriter, Heading, HeadingPairs, file_writer, stream_writer};
+use crate::again::writers::{BatchWriter, Heading, HeadingPairs, file_writer, stream_writer};
 use arrow_ipc::io::ipc::IpcError;
 use arrow_ipc::io::ipc::read::{FileReader, read_file_metadata};
 use arrow_ipc::io::{MemorySink, MemorySource};

@@ -1,5 +1,5 @@
 //! Streams that are read one record batch after another and written again.
-use crate::writers::{Heading, HeadingPairs, stream_writer};
+use crate::again::writers::{Heading, HeadingPairs, stream_writer};
 use arrow_ipc::io::ipc::IpcError;
 use arrow_ipc::io::ipc::read::{StreamMetadata, StreamReader, StreamState, read_stream_metadata};
 use arrow_ipc::io::ipc::write::StreamWriter;
