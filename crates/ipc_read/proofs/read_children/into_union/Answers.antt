@@ -3,4 +3,4 @@ use Rattle.ipc_read.proofs.Tops.{only_unions}
 use Rattle.ipc_read.proofs.read_children.into_union.Goals as goal
 
 pub unreachable-requires : goal.unreachable-requires
-unreachable-requires c = only_unions c.args.array c.known.ensures.sound c.requires.kind (λ x e. c.into_union.ensures.other x (c.known.ensures.same ∙ e))
+unreachable-requires c = only_unions c.args.array c.known.ensures.sound c.requires.kind (λ x e. c.in-None.ensures.other x (c.known.ensures.same ∙ e))
