@@ -1,13 +1,15 @@
-"""The model gives the worked files and streams of crates/tests_files/src/parts.rt, byte by byte, and its reader reads the worked ones
+"""The model gives the worked files and streams of crates/run_cases/data/worked.cases, byte by byte, and its reader reads the worked ones
 of the crates of tests as what they say, those of other writers too, and refuses damaged ones."""
 import re
 import struct
 from pathlib import Path
 
 import arrow
+import laid_by_hand
 import schema_reading
 import schemas
 from arrow import Column
+from case_lines import bytes_in
 from cases import ALL
 from cells import difference, plain
 from flat_reading import Damaged, root
@@ -17,16 +19,15 @@ from reading import Batch, Contents, read_file, read_stream
 from written import read_written_file, read_written_stream
 
 CRATES = Path(__file__).parents[2] / "crates"
-TEXT = re.compile(r'(?:const (\w+): [^=;]*=|::(\w+) =>)\s*b?"((?:[0-9a-f][0-9a-f]|\\\s+)+)"')
 
 
-def parts_in(name):
-    """The hex texts of a file by their names."""
-    found = TEXT.findall((CRATES / name).read_text())
-    return {one.title().replace("_", "") or other: bytes.fromhex(re.sub(r"\\\s+", "", text)) for one, other, text in found}
+def names_in(name):
+    """The bytes of a file of cases by their names."""
+    lines = [line.split() for line in (CRATES / name).read_text().splitlines() if line.startswith("name ")]
+    return {line[1]: bytes.fromhex(line[2]) for line in lines if re.fullmatch("[0-9a-f]+", line[2]) and line[3] == "=>"}
 
 
-PARTS = parts_in("tests_files/src/parts.rt")
+PARTS = {name.title().replace("_", ""): data for name, data in bytes_in("worked.cases", "made.cases").items()}
 A = [("a", ("int32",), True)]
 
 
@@ -123,29 +124,34 @@ assert read_file(b"".join(strings.file)).batches[0].columns[:6] == [
 
 # ── streams with pairs, and dictionaries in dictionaries, in the order of their blocks and out of it ──
 
-STREAMS = parts_in("tests_messages/src/stream_parts.rt")
-assert difference(read_stream(STREAMS["OlderNumbers"]), saying(ROWS)) is None
-paired = read_stream(STREAMS["Paired"])
+STREAMS = names_in("run_messages/data/readers.cases")
+
+
+def stream_of(*names):
+    return b"".join(STREAMS[name] for name in names)
+
+
+assert difference(read_stream(stream_of("OLDER_SCHEMA", "OLDER_ONE_NULL", "OLDER_END")), saying(ROWS)) is None
+paired = read_stream(stream_of("SCHEMA_WITH_PAIR", "ONE_NULL_WITH_PAIR", "ONE_NULL", "END"))
 assert (paired.own, paired.batches) == (PAIR, [Batch(3, PAIR, [ROWS]), Batch(3, {}, [ROWS])])
-assert read_stream(STREAMS["Three"]).batches == [Batch(2, {}, [[1, 2], ["x", "yz"], [10, 20]])]
+assert read_stream(stream_of("THREE_SCHEMA", "THREE", "END")).batches == [Batch(2, {}, [[1, 2], ["x", "yz"], [10, 20]])]
 X, Z, Q = ("x",), ("z",), ("q",)
 BOTH = [Batch(2, {}, [[Z, X]]), Batch(3, {}, [[X, Z, X]])]
-replaced = b"".join(STREAMS[name] for name in ("Schema", "Inner", "Delta", "Outer", "FirstBatch", "InnerAgain", "SecondBatch", "Delta", "Outer",
-                                              "SecondBatch", "EndMark"))
+replaced = stream_of("NESTED", "INNER_X_Y", "INNER_MORE_Z", "OUTER", "KEYS_0_1", "INNER_Q_R", "KEYS_1_0_1", "INNER_MORE_Z", "OUTER",
+                     "KEYS_1_0_1", "END")
 assert read_stream(replaced).batches == [*BOTH, Batch(3, {}, [[Q, Z, Q]])]
-BLOCKS = parts_in("tests_streams/src/dictionary_parts.rt")
-assert read_file(BLOCKS["InOrder"]).batches == read_file(BLOCKS["OuterFirst"]).batches == read_stream(BLOCKS["Stream"]).batches == BOTH
+in_order, outer_first = known("DictionariesInOrder"), known("OuterFirst")
+assert read_file(in_order).batches == read_file(outer_first).batches == read_stream(known("DictionariesStream")).batches == BOTH
 
 # ── schemas of other writers ──
 
-LAID = parts_in("tests_schemas/src/laid_by_hand.rt")
-order, fields, pairs = schema_reading.schema(root(LAID["OtherWriter"]).table(2))
+order, fields, pairs = schema_reading.schema(root(laid_by_hand.OTHER_WRITER).table(2))
 assert (order, [plain(f) for f in fields], pairs) == ("little", [plain(f) for f in schemas.EVERY], schemas.EVERY_PAIRS)
 DEFAULTS = [schemas.field("d", ("date64",), False), schemas.field("t", ("time32", "ms"), False),
             schemas.field("k", ("dictionary", "int32", False, 7, ("utf8",)))]
-assert schema_reading.schema(root(LAID["Defaults"])) == ("little", DEFAULTS, {})
+assert schema_reading.schema(root(laid_by_hand.DEFAULTS)) == ("little", DEFAULTS, {})
 EXTENDED = schemas.field("x", ("extension", "e", None, ("boolean",)), False, {"k": "2"})
-assert schema_reading.schema(root(LAID["Pairs"])) == ("big", [EXTENDED], {"a": "b"})
+assert schema_reading.schema(root(laid_by_hand.PAIRS)) == ("big", [EXTENDED], {"a": "b"})
 print("the model reads the worked files and streams")
 
 # ── what is refused: places of a file at which a byte is changed, files and streams that are cut, and others ──
@@ -174,13 +180,13 @@ for at in range(len(file)):
     for mask in (1, 0x80, 0xff):
         is_refused(read_file, changed(file, at, mask))  # or read, and no other fault
 REFUSED = [known("Magic", "Schema", "Compressed", "OneNullBody", "EndMark", "BlockOfCompressed"),
-           known("Magic", "Schema", "EndMark", "FarDictionary"), BLOCKS["DeltaFirst"]]
+           known("Magic", "Schema", "EndMark", "FarDictionary"), known("DeltaFirst")]
 assert all(is_refused(read_file, data) for data in REFUSED)
-REFUSED = [STREAMS["LongBody"], STREAMS["LongMetadata"], known("Schema", "NegativeRows", "FirstBody", "EndMark"),
+REFUSED = [STREAMS["LONG_BODY"], STREAMS["LONG_METADATA"], known("Schema", "NegativeRows", "FirstBody", "EndMark"),
            known("Schema", "ManyRows", "FirstBody", "EndMark"), known("Schema", "NoNull", "NoValidityBody", "Schema", "EndMark"),
-           known("NoNull", "FirstBody", "EndMark"), b"".join(STREAMS[name] for name in ("Schema", "Outer", "Inner", "FirstBatch", "EndMark"))]
+           known("NoNull", "FirstBody", "EndMark"), stream_of("NESTED", "OUTER", "INNER_X_Y", "KEYS_0_1", "END")]
 assert all(is_refused(read_stream, data) for data in REFUSED)
-assert all(is_refused(lambda data: schema_reading.schema(root(data)), LAID[name]) for name in ("SameIds", "WideMap"))
+assert all(is_refused(lambda data: schema_reading.schema(root(data)), data) for data in (laid_by_hand.SAME_IDS, laid_by_hand.WIDE_MAP))
 print("the model refuses damaged ones")
 
 # ── what is read, and is not as a writer has to leave it ──
@@ -196,5 +202,5 @@ LEFT = {"buffers at multiples of 8": at_eights, "blocks out of order": turned, "
         "version V4": known("Magic", "Schema") + older + body + known("EndMark", "OneBlock"), "other fields in the footer": known(*FILE, "WithPairs")}
 for what, data in LEFT.items():
     assert not is_refused(read_file, data) and is_refused(read_written_file, data), what
-assert is_refused(read_written_stream, STREAMS["OlderNumbers"]), "prefixes of four bytes"
+assert is_refused(read_written_stream, stream_of("OLDER_SCHEMA", "OLDER_ONE_NULL", "OLDER_END")), "prefixes of four bytes"
 print("and those that no writer here leaves")

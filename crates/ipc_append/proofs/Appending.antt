@@ -16,14 +16,8 @@ use Rattle.ipc_disk.specs.Tails.{IsOfDisk}
 use Rattle.ipc_file_writer.specs.Begun.{GoesOn, MayEnd}
 use Rattle.ipc_file_writer.specs.declared.begun.BegunFile.{BegunFile}
 use Rattle.ipc_file_writer.specs.declared.file.FileCore.{FileCore}
-use Rattle.ipc_files.specs.FileDictionaries.{HoldsUses, ReadsDictionaries}
-use Rattle.ipc_files.specs.FileViews.{FileCause, meta_view}
-use Rattle.ipc_files.specs.declared.metadata.FileMetadata.{FileMetadata}
+use Rattle.ipc_streams.specs.Below.{HoldsUses, ReadsDictionaries, FileCause, meta_view, FileMetadata, held_in, Answers, IsRefusal, HoldsCells, WriteOptions}
 use Rattle.ipc_io.specs.Outside.{IsSize, Rose}
-use Rattle.ipc_read.specs.Held.{held_in}
-use Rattle.ipc_read.specs.Sources.{Answers, IsRefusal}
-use Rattle.ipc_read_laws.specs.Held.{HoldsCells}
-use Rattle.ipc_write.specs.declared.options.WriteOptions.{WriteOptions}
 use Rattle.ipc_append.specs.Appends.{Continues, DoesNotAppend, HoldsFile, IsContinued, StopsBefore, cut_place}
 use Rattle.ipc_append.specs.Places.{Tells}
 use Rattle.ipc_append.proofs.Cutting.{may_cut}

@@ -10,9 +10,7 @@ use Rattle.arrow_spec.specs.Features.{chosen_floats}
 use Rattle.arrow_spec.specs.Layout.{up_to}
 use Rattle.arrow_spec.specs.Readings.{◌>>=◌, IsAmong, Reading, free_of, is_absent, refusals, unless}
 use Rattle.arrow_spec.proofs.ReadPairs.{goes, is_true}
-use Rattle.ipc_files.specs.FileViews.{file_custom, meta_view}
-use Rattle.ipc_files.specs.declared.metadata.FileMetadata.{FileMetadata}
-use Rattle.ipc_write.specs.declared.options.WriteOptions.{WriteOptions}
+use Rattle.ipc_streams.specs.Below.{file_custom, meta_view, FileMetadata, WriteOptions}
 use Rattle.ipc_append.specs.Appends.{cut_place}
 use Rattle.ipc_append.specs.Places.{last_end}
 use Rattle.ipc_append.proofs.Places.{on, passes, refused_behind, refused_first, same_number, stops}

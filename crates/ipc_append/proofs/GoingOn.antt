@@ -22,20 +22,15 @@ use Rattle.arrow_spec.proofs.ReadPairs.{is_true, same_read, through}
 use Rattle.arrow_types.specs.Schemas.{fields_in}
 use Rattle.arrow_arrays.specs.Heads.{joined}
 use Rattle.arrow_arrays.specs.Parts.{Forest, cells_each}
-use Rattle.file_laws.specs.Laws.{BlockFits}
+use Rattle.laws_files.specs.FileLaws.{BlockFits}
 use Rattle.ipc_disk.specs.Tails.{cut_and_padded}
 use Rattle.ipc_fields.specs.IpcFields.{fields_with, metadata_of}
-use Rattle.ipc_files.specs.FileViews.{file_custom, meta_view}
-use Rattle.ipc_files.specs.declared.metadata.FileMetadata.{FileMetadata}
+use Rattle.ipc_streams.specs.Below.{file_custom, meta_view, FileMetadata, held_in, IsNatural, file_block, WriteOptions}
 use Rattle.ipc_io.specs.Outside.{IsSize}
-use Rattle.ipc_read.specs.Held.{held_in}
-use Rattle.ipc_schema.specs.Footers.{IsNatural, file_block}
-use Rattle.ipc_write.specs.declared.options.WriteOptions.{WriteOptions}
-use Rattle.schema_writer.specs.Serialized.{serialized}
-use Rattle.stream_laws.specs.Heard.{cells_held}
-use Rattle.written_files.specs.Files.{BatchBefore, DictionaryBefore, FrontMeans, MayBeCut, cut_at, read_meta, table_of}
-use Rattle.written_files.proofs.Cuts.{cut_means}
-use Rattle.written_files.proofs.Tables.{front_same}
+use Rattle.ipc_file_writer.specs.Below.{serialized, cells_held}
+use Rattle.laws_files.specs.Files.{BatchBefore, DictionaryBefore, FrontMeans, MayBeCut, cut_at, read_meta, table_of}
+use Rattle.laws_files.proofs.CutFiles.{cut_means}
+use Rattle.laws_files.proofs.Tables.{front_same}
 use Rattle.ipc_file_writer.specs.Blocks.{file_blocks}
 use Rattle.ipc_file_writer.specs.Calls.{ending_of, file_ids}
 use Rattle.ipc_file_writer.specs.Ends.{file_ending}

@@ -1,3 +1,16 @@
+pub mod Handed
+pub mod BareKinds
+pub mod StreamKinds
+pub mod StreamRefusals
+pub mod WholeSteps
+pub mod EncodeSteps
+pub mod PrepareSteps
+pub mod PutSteps
+pub mod BatchMeaning
+pub mod AppendMeaning
+pub mod AppendSteps
+pub mod RightColumns
+pub mod Refused
 pub mod Places
 pub mod Cutting
 pub mod Appending

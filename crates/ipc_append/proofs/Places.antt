@@ -16,9 +16,8 @@ use Rattle.arrow_spec.specs.Files.{FileBlock, block_of}
 use Rattle.arrow_spec.specs.Readings.{◌>>=◌, IsAmong, Reading, bind, natural, only_if, refusals, unless}
 use Rattle.arrow_spec.proofs.ReadPairs.{goes, is_true}
 use Rattle.ipc_fields.proofs.Steps.{drop_item}
-use Rattle.ipc_files.specs.declared.metadata.FileMetadata.{FileMetadata}
-use Rattle.ipc_schema.specs.Footers.{IsNatural, block_by, file_block}
-use Rattle.written_files.specs.Files as files
+use Rattle.ipc_streams.specs.Below.{FileMetadata, IsNatural, block_by, file_block}
+use Rattle.laws_files.specs.Files as files
 use Rattle.ipc_append.specs.Places.{HaveWidths, behind_block, block_end, farthest, last_end}
 
 -- ── steps of a reading ──

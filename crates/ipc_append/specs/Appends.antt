@@ -17,16 +17,11 @@ use Rattle.ipc_fields.specs.IpcFields.{ids_of, metadata_of}
 use Rattle.ipc_file_writer.specs.Calls.{ending_of, file_ids}
 use Rattle.ipc_file_writer.specs.Written.{IsFile, cells_by, own_fields, table_by}
 use Rattle.ipc_file_writer.specs.declared.file.FileCore.{FileCore}
-use Rattle.ipc_files.specs.FileDictionaries.{HoldsUses}
-use Rattle.ipc_files.specs.FileViews.{FileCause, FileSays, WasRead, file_custom, meta_view}
-use Rattle.ipc_files.specs.declared.metadata.FileMetadata.{FileMetadata}
+use Rattle.ipc_streams.specs.Below.{HoldsUses, FileCause, FileSays, WasRead, file_custom, meta_view, FileMetadata, held_in, HoldsCells, WriteOptions}
 use Rattle.ipc_disk.specs.Disks.{below}
 use Rattle.ipc_disk.specs.Tails.{cut_and_padded}
 use Rattle.ipc_io.specs.Outside.{Rose}
-use Rattle.ipc_read.specs.Held.{held_in}
-use Rattle.ipc_read_laws.specs.Held.{HoldsCells}
-use Rattle.ipc_write.specs.declared.options.WriteOptions.{WriteOptions}
-use Rattle.ipc_write_messages.specs.declared.state.WriterState.TheVariants.{Started}
+use Rattle.ipc_file_writer.specs.Below.{Started}
 use Rattle.ipc_append.specs.Places.{last_end}
 
 -- Where a file is cut: it is little-endian, and neither compression nor a column that no array is of is asked for; its blocks are as above; its footer has no more pairs than any, and it goes on below 2^63.

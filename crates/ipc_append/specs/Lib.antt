@@ -1,2 +1,10 @@
+pub mod Below
+pub mod Columns
+pub mod Bare
+pub mod Wholes
+pub mod Targets
+pub mod Encoded
+pub mod Puts
+pub mod Appended
 pub mod Places
 pub mod Appends

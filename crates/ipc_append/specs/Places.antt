@@ -6,8 +6,7 @@ use Rattle.arrow_spec.specs.declared.error.OutOfSpecKind.TheVariants.{BlockRange
 use Rattle.arrow_spec.specs.declared.message.Block.{Block}
 use Rattle.arrow_spec.specs.Files.{FileBlock}
 use Rattle.arrow_spec.specs.Readings.{◌>>=◌, IsAmong, Reading, only_if, refusals}
-use Rattle.ipc_files.specs.declared.metadata.FileMetadata.{FileMetadata}
-use Rattle.ipc_schema.specs.Footers.{block_by}
+use Rattle.ipc_streams.specs.Below.{FileMetadata, block_by}
 
 -- a call gives what a reading says, or one of its refusals; it takes no memory, and asks no device
 abbrev pub Tells : {A : Type 0} → Result A IpcError → Reading A → Type 0

@@ -5,17 +5,16 @@ ghost use Rattle.arrow_spec.specs.Layout.{up_to};
 ghost use Rattle.ipc_append.specs.Appends.{Continues, DoesNotAppend, IsAppending, IsContinued, StopsBefore, cut_place};
 ghost use Rattle.ipc_disk.specs.Disks.{IsWithin, below};
 ghost use Rattle.ipc_disk.specs.Tails.{cut_and_padded};
-ghost use Rattle.ipc_files.specs.FileViews.{IsReadable};
+ghost use Rattle.ipc_streams.specs.Below.{IsReadable};
 ghost use Rattle.ipc_io.specs.Outside.{IsSize, Rose, SourceKept};
 
 use crate::checks::cut_place;
 use crate::ends::have_widths;
 use arrow_spec::IpcError;
 use ipc_disk::{Disk, DiskTail};
-use ipc_file_writer::{BegunFile, FileCore, FileWriter};
-use ipc_files::{Dictionaries, FileMetadata, read_file_dictionaries};
+use ipc_file_writer::{BegunFile, FileCore, FileWriter, WriteOptions};
 use ipc_io::Refused;
-use ipc_write::WriteOptions;
+use ipc_streams::{Dictionaries, FileMetadata, read_file_dictionaries};
 use std::alloc::Global;
 
 /// The writer of a file, and the place where the file is cut.

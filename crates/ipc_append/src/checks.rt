@@ -4,12 +4,12 @@ ghost use Rattle.arrow_spec.specs.Readings.{free_of};
 ghost use Rattle.std.specs.Prelude.{None, ◌≡◌, length, nat_le};
 ghost use Rattle.ipc_append.specs.Appends.{cut_place};
 ghost use Rattle.ipc_append.specs.Places.{Tells};
-ghost use Rattle.ipc_files.specs.FileViews.{IsReadable, file_custom, meta_view};
+ghost use Rattle.ipc_streams.specs.Below.{IsReadable, file_custom, meta_view};
 
 use crate::ends::last_end;
 use arrow_spec::{Counted, Feature, IpcError};
-use ipc_files::{FileMetadata, check_columns, custom_metadata_of};
-use ipc_write::WriteOptions;
+use ipc_file_writer::WriteOptions;
+use ipc_streams::{FileMetadata, check_columns, custom_metadata_of};
 
 /// The most pairs of a footer.
 const MOST_PAIRS: usize = 1_048_576;

@@ -5,7 +5,7 @@ ghost use Rattle.arrow_spec.specs.Readings.{natural};
 ghost use Rattle.ipc_append.specs.Places.{HaveWidths, Tells, block_end, farthest, last_end};
 
 use arrow_spec::{Block, IpcError, OutOfSpecKind};
-use ipc_files::FileMetadata;
+use ipc_streams::FileMetadata;
 
 /// A number of a block, which may not be negative.
 fn natural(number: i64) -> Result<u64, IpcError>

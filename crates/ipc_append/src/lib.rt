@@ -1,8 +1,24 @@
-//! Files that go on: record batches are appended to an Arrow file (Arrow Columnar Format, "IPC File Format").
+//! Files that go on: record batches, or a whole Arrow stream, are appended to an Arrow file on a disk (Arrow Columnar Format, "IPC File Format", "IPC Streaming Format").
 #![tactic(auto)]
 
 mod append;
+mod bare;
 mod checks;
+mod encode;
 mod ends;
+mod prepare;
+mod put;
+mod stream;
+mod stream_append;
+mod whole;
 
 pub use append::try_from_file;
+pub use ipc_file_writer::{
+    BegunFile, BodyBuffer, BodyPlan, Compression, EncodedData, FileCore, FileWriter, Record,
+    WriteOptions, encode_record_batch, encode_values, message_to_bytes, pad_to_64, plan_batch,
+    plan_values, put_body, write, write_continuation, write_dictionary, write_message, write_plan,
+};
+pub use ipc_streams::{StreamMetadata, StreamReader, StreamState, read_stream_metadata};
+pub use stream::WholeStream;
+pub use stream_append::append_stream;
+pub use whole::read_whole;

@@ -9,22 +9,14 @@ use Rattle.arrow_arrays.specs.Batches.{Batch}
 use Rattle.arrow_arrays.specs.Parts.{Parts, forest}
 use Rattle.ipc_fields.specs.IpcFields.{ids_of}
 use Rattle.ipc_fields.specs.declared.ipc_field.IpcField.{IpcField}
-use Rattle.ipc_bodies.specs.Puts.{Moved, NoneFalls, PutsPart}
-use Rattle.ipc_dictionaries.specs.Batches.{Sends as Found}
-use Rattle.ipc_dictionaries.specs.Changes.{undone}
-use Rattle.ipc_dictionaries.specs.NewDictionaries.{ToSend}
-use Rattle.ipc_dictionaries.specs.Tracker.{held_by}
-use Rattle.ipc_dictionaries.specs.Walks.{to_send}
-use Rattle.ipc_dictionaries.specs.declared.sending.NewDictionaries.{NewDictionaries}
-use Rattle.ipc_dictionaries.specs.declared.tracker.DictionaryTracker.{DictionaryTracker}
-use Rattle.ipc_dictionaries.specs.declared.walk.ToEncode.{ToEncode}
-use Rattle.ipc_encode.specs.Chunks.{MayBeSent, RefusesChunk, found}
-use Rattle.ipc_encode.proofs.ChunkSteps.{kept_again, stops_behind, stops_found}
-use Rattle.ipc_write_messages.specs.declared.messages.PlannedMessage.{PlannedMessage}
-use Rattle.ipc_write_messages.specs.declared.puts.Stop.{Stop}
-use Rattle.ipc_write_messages.specs.Messages.{IsChunkPlanned, Sizes, chunk_text, planned_sizes, planned_text}
-use Rattle.ipc_write_messages.specs.Puts.{StopsIn, Untouched}
-use Rattle.ipc_write_messages.specs.States.{state_behind}
+use Rattle.ipc_messages.specs.Below.{Moved, NoneFalls, PutsPart, Sends as Found, undone, ToSend, held_by, to_send, NewDictionaries, DictionaryTracker, ToEncode}
+use Rattle.ipc_messages.specs.Chunks.{MayBeSent, RefusesChunk, found}
+use Rattle.ipc_messages.proofs.ChunkSteps.{kept_again, stops_behind, stops_found}
+use Rattle.ipc_messages.specs.declared.messages.PlannedMessage.{PlannedMessage}
+use Rattle.ipc_messages.specs.declared.puts.Stop.{Stop}
+use Rattle.ipc_messages.specs.Messages.{IsChunkPlanned, Sizes, chunk_text, planned_sizes, planned_text}
+use Rattle.ipc_messages.specs.Puts.{StopsIn, Untouched}
+use Rattle.ipc_messages.specs.States.{state_behind}
 use Rattle.ipc_file_writer.specs.declared.blocks.ChunkBlocks.{ChunkBlocks}
 use Rattle.ipc_file_writer.specs.declared.blocks.FileBlocks.{FileBlocks}
 use Rattle.ipc_file_writer.specs.declared.calls.PlannedChunk.{PlannedChunk}

@@ -9,7 +9,7 @@ use Rattle.arrow_spec.specs.Counts.{magnitude}
 use Rattle.arrow_spec.specs.Footers.{block_bytes}
 use Rattle.arrow_spec.specs.Layout.{zeros}
 use Rattle.arrow_spec.specs.Sent.{i64_bytes}
-use Rattle.ipc_schema.specs.Footers.{IsNatural, file_block}
+use Rattle.ipc_messages.specs.Below.{IsNatural, file_block}
 
 -- a block's numbers, which are not negative
 block_text : (x : Block) → IsNatural x → i64_bytes x.offset ++ (to_le_bytes w32 (cast_unsigned w32 x.meta_data_length) ++ (zeros 4 ++ i64_bytes x.body_length)) ≡ block_bytes (file_block x)

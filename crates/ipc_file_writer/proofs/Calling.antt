@@ -6,14 +6,12 @@ use Rattle.arrow_arrays.specs.Batches.{Batch}
 use Rattle.arrow_types.specs.Schemas.{Keyed}
 use Rattle.ipc_fields.specs.IpcFields.{Ids, ids_of}
 use Rattle.ipc_fields.specs.declared.ipc_field.IpcField.{IpcField}
-use Rattle.ipc_bodies.specs.Puts.{Moved}
-use Rattle.ipc_dictionaries.specs.Tracker.{IsKept, held_by}
-use Rattle.ipc_dictionaries.specs.declared.tracker.DictionaryTracker.{DictionaryTracker}
-use Rattle.ipc_write_messages.specs.declared.puts.Stop.{Stop}
-use Rattle.ipc_write_messages.specs.Batches.{Suits}
-use Rattle.ipc_write_messages.specs.Puts.{StopsIn, Untouched}
-use Rattle.ipc_write_messages.specs.Schemas.{IsRefusedAs}
-use Rattle.ipc_write_messages.specs.States.{is_new, is_started, state_behind}
+use Rattle.ipc_messages.specs.Below.{Moved, IsKept, held_by, DictionaryTracker}
+use Rattle.ipc_messages.specs.declared.puts.Stop.{Stop}
+use Rattle.ipc_messages.specs.Batches.{Suits}
+use Rattle.ipc_messages.specs.Puts.{StopsIn, Untouched}
+use Rattle.ipc_messages.specs.Schemas.{IsRefusedAs}
+use Rattle.ipc_messages.specs.States.{is_new, is_started, state_behind}
 use Rattle.ipc_file_writer.proofs.Meaning.{sent_file}
 use Rattle.ipc_file_writer.specs.declared.file.FileCore.{FileCore}
 use Rattle.ipc_file_writer.specs.Calls.{Finishes, HasNoMore, LeavesAll, Sends, Starts, Stays, SuitsFile, Writes, ending_of, file_schema, start_of}

@@ -17,12 +17,11 @@ use Rattle.arrow_types.specs.Schemas.{Keyed, fields_in}
 use Rattle.ipc_fields.specs.IpcFields.{Ids, fields_with, ids_of, metadata_of}
 use Rattle.ipc_fields.specs.declared.ipc_field.IpcField.{IpcField}
 use Rattle.schema_writer.specs.Serialized.{IsOfTable, belong_to, serialized}
-use Rattle.ipc_write.specs.Metadata.{BuildsMetadata}
-use Rattle.ipc_write.specs.declared.options.WriteOptions.{WriteOptions}
-use Rattle.ipc_write_messages.specs.Schemas.{IsRefusedAs, stream_text}
-use Rattle.ipc_write_messages.proofs.Beginning.{refused_first, then_by}
+use Rattle.ipc_messages.specs.Below.{BuildsMetadata, WriteOptions}
+use Rattle.ipc_messages.specs.Schemas.{IsRefusedAs, stream_text}
+use Rattle.ipc_messages.proofs.Beginning.{refused_first, then_by}
 use Rattle.ipc_file_writer.specs.Blocks.{file_blocks}
-use Rattle.written_files.specs.Files.{file_end, file_front}
+use Rattle.laws_files.specs.Files.{file_end, file_front}
 use Rattle.ipc_file_writer.specs.Ends.{file_ending, file_footer, file_start, no_pairs}
 use Rattle.ipc_file_writer.specs.Footers.{footer_table}
 use Rattle.ipc_file_writer.specs.declared.blocks.FileBlocks.{FileBlocks}

@@ -7,17 +7,15 @@ use Rattle.std.proofs.lemmas.List.{map-append}
 use Rattle.arrow_spec.specs.Features.{chosen_floats}
 use Rattle.arrow_spec.specs.Files.{TableBatch}
 use Rattle.arrow_spec.specs.WrittenSchemas.{IdsMayBeWritten, SchemaMayBeWritten}
-use Rattle.file_laws.specs.Laws.{BlockFits}
+use Rattle.laws_files.specs.FileLaws.{BlockFits}
 use Rattle.ipc_fields.specs.IpcFields.{ids_of}
-use Rattle.ipc_bodies.specs.Puts.{Moved}
-use Rattle.ipc_write_laws.specs.Streams.{WrittenBatch, batch_bytes, body_for, table_batch, written_batch}
-use Rattle.ipc_write_laws.specs.Messages.{Known, WrittenValues, batch_in, bytes_of, values_bytes, values_message, with_messages}
-use Rattle.ipc_write.specs.declared.encoded.EncodedData.{EncodedData}
-use Rattle.ipc_framed_messages.specs.Framed.{given_sizes, given_text}
-use Rattle.written_files.specs.Files.{FrontMeans, MayBeAdded, batch_blocks, values_blocks, with_more}
-use Rattle.written_files.proofs.Lists.{message_long}
-use Rattle.written_files.proofs.Messages.{values_long}
-use Rattle.written_files.proofs.Tables.{front_goes_on}
+use Rattle.ipc_messages.specs.Below.{Moved, EncodedData}
+use Rattle.laws_files.specs.Below.{WrittenBatch, batch_bytes, body_for, table_batch, written_batch, Known, WrittenValues, batch_in, bytes_of, values_bytes, values_message, with_messages}
+use Rattle.ipc_messages.specs.Framed.{given_sizes, given_text}
+use Rattle.laws_files.specs.Files.{FrontMeans, MayBeAdded, batch_blocks, values_blocks, with_more}
+use Rattle.laws_files.proofs.Lists.{message_long}
+use Rattle.laws_files.proofs.Messages.{values_long}
+use Rattle.laws_files.proofs.Tables.{front_goes_on}
 use Rattle.ipc_file_writer.specs.declared.file.FileCore.{FileCore}
 use Rattle.ipc_file_writer.specs.Blocks.{behind, behind_all, block_at, blocks_at, file_blocks}
 use Rattle.ipc_file_writer.specs.Calls.{file_ids, file_schema}

@@ -6,15 +6,13 @@ use Rattle.std.specs.Io.KnownBytes.{Appends}
 use Rattle.std.proofs.lemmas.List.{map-append}
 use Rattle.arrow_spec.specs.declared.error.IpcError.{IpcError}
 use Rattle.arrow_spec.specs.declared.error.IpcError.TheVariants.{Memory}
-use Rattle.ipc_bodies.specs.Puts.{Moved, NoneFalls, PutsPart}
-use Rattle.ipc_schema.specs.Footers.{file_block}
-use Rattle.ipc_write.specs.declared.encoded.EncodedData.{EncodedData}
-use Rattle.ipc_write_messages.specs.declared.puts.Stop.{Stop}
-use Rattle.ipc_write_messages.specs.Messages.{Sizes}
-use Rattle.ipc_write_messages.specs.Puts.{StopsIn}
-use Rattle.ipc_write_messages.specs.States.{is_started, state_behind}
-use Rattle.ipc_framed_messages.specs.declared.framed.FramedMessage.{FramedMessage}
-use Rattle.ipc_framed_messages.specs.Framed.{AreFramed, FramesEach, framed_sizes, framed_text, given_sizes, given_text}
+use Rattle.ipc_messages.specs.Below.{Moved, NoneFalls, PutsPart, file_block, EncodedData}
+use Rattle.ipc_messages.specs.declared.puts.Stop.{Stop}
+use Rattle.ipc_messages.specs.Messages.{Sizes}
+use Rattle.ipc_messages.specs.Puts.{StopsIn}
+use Rattle.ipc_messages.specs.States.{is_started, state_behind}
+use Rattle.ipc_messages.specs.declared.framed.FramedMessage.{FramedMessage}
+use Rattle.ipc_messages.specs.Framed.{AreFramed, FramesEach, framed_sizes, framed_text, given_sizes, given_text}
 use Rattle.ipc_file_writer.specs.declared.blocks.ChunkBlocks.{ChunkBlocks}
 use Rattle.ipc_file_writer.specs.declared.blocks.FileBlocks.{FileBlocks}
 use Rattle.ipc_file_writer.specs.declared.file.FileCore.{FileCore}

@@ -3,12 +3,10 @@ use Rattle.std.proofs.Common.{◌≡◌, ℕ, ◌+◌, List, [], ◌∷◌, ◌+
 use Rattle.std.specs.List.{flat_map}
 use Rattle.std.proofs.lemmas.List.{map-append}
 use Rattle.arrow_arrays.specs.Batches.{Batch}
-use Rattle.ipc_write_laws.specs.Streams.{batch_bytes}
-use Rattle.ipc_dictionaries.specs.NewDictionaries.{ToSend}
-use Rattle.ipc_schema.specs.Footers.{file_block}
-use Rattle.ipc_write.specs.Batches.{batch_message, written_batch_of}
-use Rattle.ipc_write_messages.specs.Messages.{Sizes, chunk_text, sent_sizes, sizes_of, values_text}
-use Rattle.ipc_write_messages.proofs.Lengths.{length-batch, length-values}
+use Rattle.laws_files.specs.Below.{batch_bytes}
+use Rattle.ipc_messages.specs.Below.{ToSend, file_block, batch_message, written_batch_of}
+use Rattle.ipc_messages.specs.Messages.{Sizes, chunk_text, sent_sizes, sizes_of, values_text}
+use Rattle.ipc_messages.proofs.Lengths.{length-batch, length-values}
 use Rattle.ipc_file_writer.specs.declared.blocks.ChunkBlocks.{ChunkBlocks}
 use Rattle.ipc_file_writer.specs.declared.blocks.FileBlocks.{FileBlocks}
 use Rattle.ipc_file_writer.specs.Blocks.{HasMore, IsChunkPlaced, SameBlocks, behind_all, block_at, blocks_at, chunk_sizes}

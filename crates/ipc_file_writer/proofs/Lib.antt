@@ -1,3 +1,4 @@
+pub mod Below
 pub mod BatchSteps
 pub mod BlockBytes
 pub mod Calling

@@ -22,33 +22,25 @@ use Rattle.arrow_spec.proofs.ReadPairs.{is_true, same_read, through}
 use Rattle.arrow_types.specs.Schemas.{Keyed, fields_in}
 use Rattle.arrow_arrays.specs.Batches.{Batch}
 use Rattle.arrow_arrays.specs.Parts.{forest}
-use Rattle.file_laws.specs.Laws.{BlockFits}
+use Rattle.laws_files.specs.FileLaws.{BlockFits}
 use Rattle.ipc_fields.specs.IpcFields.{Ids, ids_of, metadata_of}
-use Rattle.ipc_bodies.specs.Puts.{Moved}
-use Rattle.ipc_dictionaries.specs.Batches.{begun}
-use Rattle.ipc_dictionaries.specs.Columns.{columns_fault, columns_of, unless_fault}
-use Rattle.ipc_dictionaries.specs.NewDictionaries.{Sending, ToSend}
-use Rattle.ipc_dictionaries.specs.Tracker.{held_by}
-use Rattle.ipc_dictionaries.specs.Walks.{options_of}
-use Rattle.ipc_schema.specs.Footers.{file_block}
-use Rattle.ipc_write_laws.specs.Messages.{bytes_of}
-use Rattle.ipc_write.specs.declared.options.WriteOptions.{WriteOptions}
-use Rattle.ipc_write.specs.Batches.{batch_message}
-use Rattle.ipc_write.proofs.Written.{same_message}
-use Rattle.ipc_write_messages.specs.Messages.{Sizes, chunk_text, sent_sizes, sizes_of}
-use Rattle.ipc_write_messages.specs.Schemas.{StartMayBeWritten, stream_text}
-use Rattle.stream_laws.specs.Heard.{cells_held}
-use Rattle.chunk_laws.specs.Chunks.{chunk_of}
-use Rattle.chunk_laws.specs.Written.{cells_of, said_fields}
-use Rattle.chunk_laws.proofs.Chunks.{message_under}
+use Rattle.ipc_messages.specs.Below.{Moved, begun, columns_fault, columns_of, unless_fault, Sending, ToSend, held_by, options_of, file_block, WriteOptions, batch_message}
+use Rattle.laws_files.specs.Below.{bytes_of}
+use Rattle.ipc_messages.proofs.Below.{same_message}
+use Rattle.ipc_messages.specs.Messages.{Sizes, chunk_text, sent_sizes, sizes_of}
+use Rattle.ipc_messages.specs.Schemas.{StartMayBeWritten, stream_text}
+use Rattle.laws_writers.specs.Heard.{cells_held}
+use Rattle.laws_writers.specs.Chunks.{chunk_of}
+use Rattle.laws_writers.specs.Written.{cells_of, said_fields}
+use Rattle.laws_writers.proofs.Chunks.{message_under}
 use Rattle.arrow_spec.proofs.OwnPairs.{nodes_own}
-use Rattle.chunk_laws.proofs.Written.{schema_is_put}
-use Rattle.written_files.specs.Files.{Begun, FrontMeans, MayBeEnded, batch_blocks, ended, file_end, file_front, footer_of, only_begun, values_blocks, with_more}
-use Rattle.written_files.specs.Files as files
-use Rattle.written_files.specs.Laws.{EndedFrontMeansItsTable}
-use Rattle.written_files.proofs.Tables.{front_same, only_begun_means}
-use Rattle.file_chunk_laws.proofs.Chunks.{chunk_goes}
-use Rattle.file_chunk_laws.proofs.Pairs.{regular_without, schema_may_with}
+use Rattle.laws_writers.proofs.Written.{schema_is_put}
+use Rattle.laws_files.specs.Files.{Begun, FrontMeans, MayBeEnded, batch_blocks, ended, file_end, file_front, footer_of, only_begun, values_blocks, with_more}
+use Rattle.laws_files.specs.Files as files
+use Rattle.laws_files.specs.WrittenLaws.{EndedFrontMeansItsTable}
+use Rattle.laws_files.proofs.Tables.{front_same, only_begun_means}
+use Rattle.laws_writers.proofs.FileChunks.{chunk_goes}
+use Rattle.laws_writers.proofs.Pairs.{regular_without, schema_may_with}
 use Rattle.ipc_file_writer.specs.declared.file.FileCore.{FileCore}
 use Rattle.ipc_file_writer.specs.Blocks.{are_placed, behind, behind_all, block_at, blocks_at, chunk_sizes, file_blocks, is_placed}
 use Rattle.ipc_file_writer.specs.Calls.{HasSent, ending_of, file_ids, file_schema}

@@ -6,9 +6,9 @@ use Rattle.std.proofs.lemmas.List.Elements.{All-pop}
 use Rattle.std.proofs.lemmas.Bool.{leb-true}
 use Rattle.std.proofs.lemmas.List.{length-map, map-append, take-append-drop, take_more}
 use Rattle.arrow_spec.specs.declared.message.Block.{Block}
-use Rattle.ipc_schema.specs.Footers.{IsNatural, file_block}
-use Rattle.ipc_schema.proofs.Footers.{more_natural, none_natural}
-use Rattle.ipc_write_messages.specs.Messages.{Sizes}
+use Rattle.ipc_messages.specs.Below.{IsNatural, file_block}
+use Rattle.ipc_messages.proofs.Below.{more_natural, none_natural}
+use Rattle.ipc_messages.specs.Messages.{Sizes}
 use Rattle.ipc_file_writer.specs.declared.placing.MessageSizes.{MessageSizes}
 use Rattle.ipc_file_writer.specs.declared.placing.PlacedBlock.{PlacedBlock}
 use Rattle.ipc_file_writer.specs.declared.blocks.PlacedMessages.{PlacedMessages}

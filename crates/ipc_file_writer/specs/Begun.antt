@@ -2,9 +2,9 @@
 use Rattle.std.specs.Prelude.{◌≡◌, ℕ, List, false, Result, Ok, Err}
 use Rattle.arrow_spec.specs.declared.error.IpcError.{IpcError}
 use Rattle.ipc_fields.specs.IpcFields.{ids_of}
-use Rattle.ipc_write.specs.declared.options.WriteOptions.{WriteOptions}
-use Rattle.ipc_write_messages.specs.Schemas.{IsRefusedAs}
-use Rattle.ipc_write_messages.specs.declared.state.WriterState.TheVariants.{Started}
+use Rattle.ipc_messages.specs.Below.{WriteOptions}
+use Rattle.ipc_messages.specs.Schemas.{IsRefusedAs}
+use Rattle.ipc_messages.specs.declared.state.WriterState.TheVariants.{Started}
 use Rattle.ipc_file_writer.specs.Calls.{ending_of, file_ids}
 use Rattle.ipc_file_writer.specs.declared.begun.BegunFile.{BegunFile}
 use Rattle.ipc_file_writer.specs.declared.file.FileCore.{FileCore}

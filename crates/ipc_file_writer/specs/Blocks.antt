@@ -8,10 +8,8 @@ use Rattle.arrow_spec.specs.declared.error.IpcError.TheVariants.{Memory, TooLarg
 use Rattle.arrow_spec.specs.declared.message.Block.{Block}
 use Rattle.arrow_spec.specs.Files.{FileBlock}
 use Rattle.arrow_arrays.specs.Batches.{Batch}
-use Rattle.ipc_schema.specs.Footers.{IsNatural, file_block}
-use Rattle.ipc_dictionaries.specs.NewDictionaries.{ToSend}
-use Rattle.ipc_write.specs.Batches.{batch_message}
-use Rattle.ipc_write_messages.specs.Messages.{Sizes, chunk_text, sent_sizes, sizes_of, values_text}
+use Rattle.ipc_messages.specs.Below.{IsNatural, file_block, ToSend, batch_message}
+use Rattle.ipc_messages.specs.Messages.{Sizes, chunk_text, sent_sizes, sizes_of, values_text}
 use Rattle.ipc_file_writer.specs.declared.blocks.ChunkBlocks.{ChunkBlocks}
 use Rattle.ipc_file_writer.specs.declared.blocks.FileBlocks.{FileBlocks}
 use Rattle.ipc_file_writer.specs.declared.placing.MessageSizes.{MessageSizes}

@@ -14,20 +14,16 @@ use Rattle.arrow_types.specs.Schemas.{Keyed, fields_in}
 use Rattle.arrow_arrays.specs.Batches.{Batch}
 use Rattle.arrow_arrays.specs.Parts.{forest}
 use Rattle.ipc_fields.specs.IpcFields.{Ids, ids_of}
-use Rattle.ipc_bodies.specs.Puts.{Moved, NoneFalls, PutsPart}
-use Rattle.ipc_dictionaries.specs.NewDictionaries.{Sending, ToSend}
-use Rattle.ipc_dictionaries.specs.Tracker.{IsKept, held_by}
-use Rattle.ipc_dictionaries.specs.Walks.{options_of}
-use Rattle.ipc_write.specs.declared.options.WriteOptions.{WriteOptions}
-use Rattle.ipc_encode.specs.Chunks.{MayBeSent, RefusesChunk, Stops, found}
-use Rattle.ipc_write_messages.specs.declared.state.WriterState.TheVariants.{New, Started, Finished, Failed}
-use Rattle.ipc_write_messages.specs.Batches.{Suits}
-use Rattle.ipc_write_messages.specs.Fields.{AreIdsFor}
-use Rattle.ipc_write_messages.specs.Messages.{chunk_text}
-use Rattle.ipc_write_messages.specs.Puts.{Untouched}
-use Rattle.ipc_write_messages.specs.Schemas.{IsRefusedAs}
-use Rattle.ipc_write_messages.specs.States.{is_new, is_started}
-use Rattle.chunk_laws.specs.Written.{cells_of}
+use Rattle.ipc_messages.specs.Below.{Moved, NoneFalls, PutsPart, Sending, ToSend, IsKept, held_by, options_of, WriteOptions}
+use Rattle.ipc_messages.specs.Chunks.{MayBeSent, RefusesChunk, Stops, found}
+use Rattle.ipc_messages.specs.declared.state.WriterState.TheVariants.{New, Started, Finished, Failed}
+use Rattle.ipc_messages.specs.Batches.{Suits}
+use Rattle.ipc_messages.specs.Fields.{AreIdsFor}
+use Rattle.ipc_messages.specs.Messages.{chunk_text}
+use Rattle.ipc_messages.specs.Puts.{Untouched}
+use Rattle.ipc_messages.specs.Schemas.{IsRefusedAs}
+use Rattle.ipc_messages.specs.States.{is_new, is_started}
+use Rattle.laws_writers.specs.Written.{cells_of}
 use Rattle.ipc_file_writer.specs.Written.{EndsFile, HasNothing, IsFile, cells_by, own_fields}
 use Rattle.ipc_file_writer.specs.Blocks.{HasMore, SameBlocks, are_placed, chunk_sizes}
 use Rattle.ipc_file_writer.specs.Ends.{file_ending, file_start}

@@ -8,10 +8,10 @@ use Rattle.arrow_spec.specs.Layout.{Node, layout, size}
 use Rattle.arrow_spec.specs.Readings.{◌>>=◌, Reading, unless}
 use Rattle.ipc_fields.specs.IpcFields.{Ids, fields_with, metadata_of}
 use Rattle.schema_writer.specs.Serialized.{serialized}
-use Rattle.ipc_write.specs.declared.options.WriteOptions.{WriteOptions}
-use Rattle.ipc_write_messages.specs.Schemas.{stream_text}
-use Rattle.ipc_write_messages.specs.declared.pairs.StreamPairs.{StreamPairs}
-use Rattle.written_files.specs.Files.{file_end, file_front}
+use Rattle.ipc_messages.specs.Below.{WriteOptions}
+use Rattle.ipc_messages.specs.Schemas.{stream_text}
+use Rattle.ipc_messages.specs.declared.pairs.StreamPairs.{StreamPairs}
+use Rattle.laws_files.specs.Files.{file_end, file_front}
 use Rattle.ipc_file_writer.specs.Blocks.{file_blocks}
 use Rattle.ipc_file_writer.specs.declared.blocks.FileBlocks.{FileBlocks}
 use Rattle.ipc_file_writer.specs.declared.pairs.FilePairs.{FilePairs}

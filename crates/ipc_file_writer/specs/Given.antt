@@ -6,18 +6,16 @@ use Rattle.arrow_spec.specs.declared.error.IpcError.{IpcError}
 use Rattle.arrow_spec.specs.declared.error.IpcError.TheVariants.{Memory, State, TooLarge}
 use Rattle.arrow_spec.specs.Files.{TableBatch}
 use Rattle.arrow_spec.specs.Sent.{SentMessage}
-use Rattle.ipc_write_laws.specs.Streams.{WrittenBatch, batch_bytes, table_batch, written_batch}
-use Rattle.ipc_write_laws.specs.Messages.{Known, WrittenMessage, WrittenValues, batch, values, values_bytes, values_message, with_messages}
-use Rattle.ipc_bodies.specs.Puts.{Moved, NoneFalls, PutsPart}
-use Rattle.ipc_write.specs.declared.encoded.EncodedData.{EncodedData}
-use Rattle.ipc_write_messages.specs.Messages.{sizes_of}
-use Rattle.ipc_write_messages.specs.Puts.{Untouched}
-use Rattle.ipc_write_messages.specs.States.{is_started}
-use Rattle.ipc_write_messages.specs.declared.puts.Stop.{Stop}
-use Rattle.ipc_framed_messages.specs.Framed.{AreFramed, are_short, given_sizes, given_text}
+use Rattle.laws_files.specs.Below.{WrittenBatch, batch_bytes, table_batch, written_batch, Known, WrittenMessage, WrittenValues, batch, values, values_bytes, values_message, with_messages}
+use Rattle.ipc_messages.specs.Below.{Moved, NoneFalls, PutsPart, EncodedData}
+use Rattle.ipc_messages.specs.Messages.{sizes_of}
+use Rattle.ipc_messages.specs.Puts.{Untouched}
+use Rattle.ipc_messages.specs.States.{is_started}
+use Rattle.ipc_messages.specs.declared.puts.Stop.{Stop}
+use Rattle.ipc_messages.specs.Framed.{AreFramed, are_short, given_sizes, given_text}
 use Rattle.ipc_file_writer.specs.Blocks.{IsChunkPlaced, are_placed, behind_all, block_at, blocks_at, file_blocks}
 use Rattle.ipc_file_writer.specs.Calls.{HasFailed, LeavesAll}
-use Rattle.written_files.specs.Files.{MayBeAdded}
+use Rattle.laws_files.specs.Files.{MayBeAdded}
 use Rattle.ipc_file_writer.specs.Written.{IsFile, file_fields}
 use Rattle.ipc_file_writer.specs.Sending.{IsHeld, IsLeft, HasRoom}
 use Rattle.ipc_file_writer.specs.declared.blocks.FileBlocks.{FileBlocks}

@@ -4,11 +4,10 @@ use Rattle.std.specs.Io.KnownBytes.{Appends}
 use Rattle.arrow_spec.specs.declared.error.IpcError.{IpcError}
 use Rattle.arrow_spec.specs.declared.error.IpcError.TheVariants.{Memory}
 use Rattle.arrow_arrays.specs.Batches.{Batch}
-use Rattle.ipc_bodies.specs.Puts.{Moved, NoneFalls, PutsPart}
-use Rattle.ipc_dictionaries.specs.NewDictionaries.{ToSend}
-use Rattle.ipc_write_messages.specs.declared.puts.Stop.{Stop}
-use Rattle.ipc_write_messages.specs.Messages.{IsChunkPlanned, Sizes, chunk_text}
-use Rattle.ipc_write_messages.specs.Puts.{Untouched}
+use Rattle.ipc_messages.specs.Below.{Moved, NoneFalls, PutsPart, ToSend}
+use Rattle.ipc_messages.specs.declared.puts.Stop.{Stop}
+use Rattle.ipc_messages.specs.Messages.{IsChunkPlanned, Sizes, chunk_text}
+use Rattle.ipc_messages.specs.Puts.{Untouched}
 use Rattle.ipc_file_writer.specs.Blocks.{HasMore, IsChunkPlaced, PlacesChunk, SameBlocks, chunk_sizes}
 use Rattle.ipc_file_writer.specs.Calls.{MayBeAdded, RefusesMore, Stays}
 use Rattle.ipc_file_writer.specs.declared.blocks.ChunkBlocks.{ChunkBlocks}

@@ -9,13 +9,13 @@ use Rattle.arrow_spec.specs.Meaning.{file_table}
 use Rattle.arrow_spec.specs.Regular.{regular}
 use Rattle.arrow_spec.specs.WrittenSchemas.{IdsMayBeWritten, SchemaMayBeWritten}
 use Rattle.arrow_types.specs.Schemas.{fields_in}
-use Rattle.file_laws.specs.Laws.{BlockFits}
+use Rattle.laws_files.specs.FileLaws.{BlockFits}
 use Rattle.ipc_fields.specs.IpcFields.{fields_with, ids_of, metadata_of}
-use Rattle.ipc_dictionaries.specs.Tracker.{held_by}
-use Rattle.ipc_write_laws.specs.Messages.{Known}
-use Rattle.stream_laws.specs.Heard.{cells_held}
-use Rattle.chunk_laws.specs.Written.{said_fields}
-use Rattle.written_files.specs.Files.{Begun, FrontMeans, table_of}
+use Rattle.ipc_messages.specs.Below.{held_by}
+use Rattle.laws_files.specs.Below.{Known}
+use Rattle.laws_writers.specs.Heard.{cells_held}
+use Rattle.laws_writers.specs.Written.{said_fields}
+use Rattle.laws_files.specs.Files.{Begun, FrontMeans, table_of}
 use Rattle.ipc_file_writer.specs.Blocks.{file_blocks}
 use Rattle.ipc_file_writer.specs.declared.file.FileCore.{FileCore}
 

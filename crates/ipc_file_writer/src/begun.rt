@@ -2,7 +2,7 @@
 ghost use Rattle.std.specs.Prelude.{◌≡◌, ◌<◌, ◌≤◌, ◌^◌, All, IfErr, IfOk, length};
 ghost use Rattle.arrow_spec.specs.declared.error.IpcError.TheVariants.{Memory};
 ghost use Rattle.ipc_fields.specs.IpcFields.{metadata_of};
-ghost use Rattle.ipc_schema.specs.Footers.{IsNatural};
+ghost use Rattle.ipc_messages.specs.Below.{IsNatural};
 ghost use Rattle.ipc_file_writer.specs.Begun.{GoesOn, MayEnd};
 
 use crate::blocks::FileBlocks;
@@ -12,11 +12,8 @@ use crate::pairs::FilePairs;
 use arrow_arrays::Array;
 use arrow_spec::{Block, IpcError};
 use arrow_types::{ArrowSchemaRef, Metadata};
-use ipc_dictionaries::DictionaryTracker;
 use ipc_fields::IpcField;
-use ipc_schema::IpcSchema;
-use ipc_write::WriteOptions;
-use ipc_write_messages::WriterState;
+use ipc_messages::{DictionaryTracker, IpcSchema, WriteOptions, WriterState};
 use std::alloc::Global;
 use std::collections::BTreeMap;
 

@@ -1,6 +1,6 @@
 //! The blocks of a file: where its messages stand (File.fbs, Block).
 ghost use Rattle.std.specs.Prelude.{◌<◌, ◌^◌, All};
-ghost use Rattle.ipc_schema.specs.Footers.{IsNatural};
+ghost use Rattle.ipc_messages.specs.Below.{IsNatural};
 
 use arrow_spec::Block;
 

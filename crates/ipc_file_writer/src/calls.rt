@@ -3,11 +3,10 @@ ghost use Rattle.std.specs.Prelude.{◌≡◌, ◌↔◌, ◌<◌, ◌≤◌, If
 ghost use Rattle.std.specs.Rc.{rc_value};
 ghost use Rattle.arrow_spec.specs.declared.error.IpcError.TheVariants.{Memory};
 ghost use Rattle.arrow_types.specs.Schemas.{fields_in};
-ghost use Rattle.ipc_bodies.specs.Puts.{moved};
-ghost use Rattle.ipc_dictionaries.specs.Walks.{to_send};
+ghost use Rattle.ipc_messages.specs.Below.{moved, to_send};
 ghost use Rattle.ipc_fields.specs.IpcFields.{ids_of};
-ghost use Rattle.ipc_write_messages.specs.Fields.{AreIdsFor, given_ids};
-ghost use Rattle.ipc_write_messages.specs.States.{is_started, state_behind};
+ghost use Rattle.ipc_messages.specs.Fields.{AreIdsFor, given_ids};
+ghost use Rattle.ipc_messages.specs.States.{is_started, state_behind};
 ghost use Rattle.ipc_file_writer.specs.Blocks.{message_sizes};
 ghost use Rattle.ipc_file_writer.specs.Calls.{Finishes, HasNoMore, IsFresh, Sends, SetsFooterPairs, Starts, SuitsFile, Writes, takes_pairs};
 ghost use Rattle.ipc_file_writer.specs.Fields.{own_ids};
@@ -20,13 +19,11 @@ use crate::placing::{MessageSizes, chunk_blocks, planned_sizes};
 use arrow_arrays::RecordBatch;
 use arrow_spec::IpcError;
 use arrow_types::{ArrowSchema, ArrowSchemaRef, Metadata};
-use ipc_dictionaries::{DictionaryTracker, ToEncode, new_dictionaries};
 use ipc_fields::IpcField;
 use ipc_io::Sink;
-use ipc_schema::{IpcSchema, default_ipc_fields};
-use ipc_write::WriteOptions;
-use ipc_write_messages::{
-    PlannedMessage, Stop, WriterState, chunk_messages, is_of_schema, put_messages, put_whole,
+use ipc_messages::{
+    DictionaryTracker, IpcSchema, PlannedMessage, Stop, ToEncode, WriteOptions, WriterState,
+    chunk_messages, default_ipc_fields, is_of_schema, new_dictionaries, put_messages, put_whole,
 };
 use std::alloc::{AllocError, Global};
 
@@ -250,7 +247,7 @@ impl FileCore {
     /// # Errors
     ///
     /// `State` where the file is not begun, or is ended, or a put has failed; `SchemaMismatch` where a column is not of its field's
-    /// type, or there is not one for each field, or the IPC fields are others; then as of `encode_chunk` of `ipc_encode`, where
+    /// type, or there is not one for each field, or the IPC fields are others; then as of `encode_chunk` of `ipc_messages`, where
     /// dictionaries are never replaced, and `TooLarge` where a message has more than 2^31 - 1 bytes before its body or ends behind
     /// the place 2^63 - 1. Each leaves writer and sink, want of memory too where it is the first put that wants it. Behind
     /// `WriteFault`, and `Memory` of a later put, a part of the messages is put, and the writer has failed.

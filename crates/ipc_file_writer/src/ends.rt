@@ -2,8 +2,8 @@
 ghost use Rattle.std.specs.Prelude.{◌≡◌, ◌<◌, ◌^◌, IfOk, length, true};
 ghost use Rattle.arrow_types.specs.Schemas.{fields_in};
 ghost use Rattle.ipc_fields.specs.IpcFields.{fields_with, ids_of};
-ghost use Rattle.ipc_write_messages.specs.Schemas.{GivesText, StartMayBeWritten};
-ghost use Rattle.written_files.specs.Files.{file_end};
+ghost use Rattle.ipc_messages.specs.Schemas.{GivesText, StartMayBeWritten};
+ghost use Rattle.laws_files.specs.Files.{file_end};
 ghost use Rattle.ipc_file_writer.specs.Calls.{ending_of, start_of};
 ghost use Rattle.ipc_file_writer.specs.Ends.{file_start, no_pairs};
 ghost use Rattle.ipc_file_writer.specs.Written.{EndsFile, own_fields};
@@ -14,11 +14,9 @@ use crate::pairs::are_pairs;
 use crate::placing::LAST_PLACE;
 use arrow_spec::IpcError;
 use arrow_types::ArrowSchema;
-use ipc_schema::{IpcSchema, serialize_schema};
-use ipc_write::WriteOptions;
-use ipc_write_messages::{StreamPairs, lent, schema_text};
+use ipc_messages::{IpcSchema, StreamPairs, WriteOptions, lent, schema_text, serialize_schema};
+use laws_files::ended_front_means_its_table;
 use std::alloc::{AllocError, Global};
-use written_files::ended_front_means_its_table;
 
 /// `ARROW1` and two zeros.
 const FRONT: [u8; 8] = [65, 82, 82, 79, 87, 49, 0, 0];

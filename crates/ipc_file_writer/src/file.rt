@@ -5,10 +5,7 @@ ghost use Rattle.ipc_fields.specs.IpcFields.{metadata_of};
 use crate::blocks::FileBlocks;
 use crate::pairs::FilePairs;
 use arrow_types::ArrowSchemaRef;
-use ipc_dictionaries::DictionaryTracker;
-use ipc_schema::IpcSchema;
-use ipc_write::WriteOptions;
-use ipc_write_messages::WriterState;
+use ipc_messages::{DictionaryTracker, IpcSchema, WriteOptions, WriterState};
 use std::alloc::Global;
 
 /// The writer of a file without its sink, which each call that writes is lent: how batches are written, what was begun or ended,

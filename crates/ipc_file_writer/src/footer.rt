@@ -6,8 +6,7 @@ ghost use Rattle.arrow_spec.specs.Footers.{block_bytes, blocks_node};
 ghost use Rattle.arrow_spec.specs.Sent.{custom_slot};
 ghost use Rattle.arrow_flat.specs.Nodes.{KeepsSlotLimit, leads_to, node_of, slot_of};
 ghost use Rattle.ipc_fields.specs.IpcFields.{metadata_in};
-ghost use Rattle.ipc_schema.specs.Footers.{IsNatural, file_block};
-ghost use Rattle.ipc_write.specs.Metadata.{Builds, BuildsMetadata};
+ghost use Rattle.ipc_messages.specs.Below.{IsNatural, file_block, Builds, BuildsMetadata};
 ghost use Rattle.ipc_file_writer.specs.Blocks.{file_blocks};
 ghost use Rattle.ipc_file_writer.specs.Footers.{footer_table, optional_slots};
 

@@ -1,16 +1,14 @@
 //! Messages that were encoded before, as a file has them.
 ghost use Rattle.std.specs.Prelude.{◌++◌, ◌∷◌, ◌≡◌, []};
-ghost use Rattle.ipc_bodies.specs.Puts.{moved};
+ghost use Rattle.ipc_messages.specs.Below.{moved};
 ghost use Rattle.ipc_file_writer.specs.Given.{FramesMore, HasOtherScratch, PutsGiven, WritesGiven};
 
 use crate::blocks::ChunkBlocks;
 use crate::file::FileCore;
 use crate::placing::framed_sizes;
 use arrow_spec::IpcError;
-use ipc_framed_messages::{FramedMessage, framed_chunk, put_framed};
 use ipc_io::Sink;
-use ipc_write::EncodedData;
-use ipc_write_messages::Stop;
+use ipc_messages::{EncodedData, FramedMessage, Stop, framed_chunk, put_framed};
 use std::mem;
 
 /// Messages of dictionaries and of a batch, framed where they stand, and their blocks.
@@ -61,7 +59,7 @@ impl FileCore {
         }
     }
 
-    /// Puts messages of dictionaries, and behind them a batch's, as `encode_chunk` of `ipc_encode` gives them, with their bodies in
+    /// Puts messages of dictionaries, and behind them a batch's, as `encode_chunk` of `ipc_messages` gives them, with their bodies in
     /// pieces of at most 65,536 bytes, and keeps where they stand. They are put as they are: what they say is not looked at, and
     /// the writer does not know of their dictionaries, so behind such with dictionaries `write` may send these again. The file has
     /// to be begun and not ended.

@@ -14,4 +14,9 @@ mod writer;
 
 pub use begun::BegunFile;
 pub use file::FileCore;
+pub use ipc_messages::{
+    BodyBuffer, BodyPlan, Compression, DictionaryTracker, EncodedData, Record, WriteOptions,
+    encode_chunk, encode_record_batch, encode_values, message_to_bytes, pad_to_64, plan_batch,
+    plan_values, put_body, write, write_continuation, write_dictionary, write_message, write_plan,
+};
 pub use writer::FileWriter;

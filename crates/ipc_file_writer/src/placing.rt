@@ -1,14 +1,12 @@
 //! Messages that are placed one behind another, and their blocks, which a file keeps.
 ghost use Rattle.std.specs.Prelude.{◌≡◌, ◌+◌, ◌<◌, ◌≤◌, ◌^◌, ◌++◌, ◌∷◌, [], IfOk, OnOk, length, map, vec_capacity};
-ghost use Rattle.ipc_framed_messages.specs.Framed.{framed_sizes};
-ghost use Rattle.ipc_write_messages.specs.Messages.{planned_sizes};
+ghost use Rattle.ipc_messages.specs.Framed.{framed_sizes};
+ghost use Rattle.ipc_messages.specs.Messages.{planned_sizes};
 ghost use Rattle.ipc_file_writer.specs.Blocks.{Places, PlacesAll, PlacesChunk, SameBlocks, message_sizes};
 
 use crate::blocks::{ChunkBlocks, FileBlocks, PlacedMessages};
 use arrow_spec::{Block, IpcError};
-use ipc_framed_messages::FramedMessage;
-use ipc_write::pad_to_64;
-use ipc_write_messages::PlannedMessage;
+use ipc_messages::{FramedMessage, PlannedMessage, pad_to_64};
 use std::alloc::{AllocError, Global};
 
 /// The most bytes before a message's body.

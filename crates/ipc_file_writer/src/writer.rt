@@ -2,8 +2,8 @@
 ghost use Rattle.std.specs.Prelude.{[], ◌≡◌, ◌≤◌, IfErr, IfOk, MatchResult, Some, length};
 ghost use Rattle.std.specs.Rc.{rc_value};
 ghost use Rattle.arrow_spec.specs.declared.error.IpcError.TheVariants.{Memory};
-ghost use Rattle.ipc_bodies.specs.Puts.{moved};
-ghost use Rattle.ipc_write_messages.specs.Fields.{given_ids};
+ghost use Rattle.ipc_messages.specs.Below.{moved};
+ghost use Rattle.ipc_messages.specs.Fields.{given_ids};
 ghost use Rattle.ipc_file_writer.specs.Calls.{Finishes, IsBegun, IsFresh, IsNotBegun, SetsFooterPairs, Starts, Writes};
 ghost use Rattle.ipc_file_writer.specs.Fields.{own_ids};
 ghost use Rattle.ipc_file_writer.specs.Given.{HasOtherScratch, WritesGiven};
@@ -14,7 +14,7 @@ use arrow_spec::IpcError;
 use arrow_types::{ArrowSchemaRef, Metadata};
 use ipc_fields::IpcField;
 use ipc_io::{Refused, Sink};
-use ipc_write::{EncodedData, WriteOptions};
+use ipc_messages::{EncodedData, WriteOptions};
 use std::alloc::Global;
 
 /// A writer of record batches to a file, with the sink that the file goes into.

@@ -14,11 +14,11 @@ use Rattle.arrow_spec.specs.Kinds.{Kind, uses_in, values_under}
 use Rattle.arrow_spec.specs.Messages.{BatchHeader, dictionary_at, message_of, prefix_of, version_of}
 use Rattle.arrow_spec.specs.Needed.{Range, columns_looked_at, lengths, looked_at, message_range, or_nothing, ranges}
 use Rattle.arrow_spec.proofs.Projection.{on, went}
-use Rattle.file_laws.specs.Fetched.{dictionary_fetched, for_rows}
+use Rattle.laws_files.specs.Fetched.{dictionary_fetched, for_rows}
 use Rattle.ipc_schema.specs.Headers.{DictionaryTables, dictionary_message, dictionary_message_of}
 use Rattle.ipc_schema.specs.Views.{header_of}
 use Rattle.ipc_schema.specs.declared.message.DictionaryMessage.{DictionaryMessage}
-use Rattle.ipc_read_laws.specs.Held.{Held, values_of_id}
+use Rattle.ipc_projection.specs.Below.{Held, values_of_id}
 use Rattle.ipc_read.specs.Batches.{batch_fetched as buffers_fetched}
 use Rattle.ipc_read.specs.DictionaryBatches.{dictionary_fetched as values_fetched, one_column}
 use Rattle.ipc_files.specs.FileBlocks.{block_metadata, message_metadata}

@@ -12,7 +12,7 @@ use Rattle.arrow_spec.specs.Files.{Asked, FileBlock, Meta, Request, TableBatch, 
 use Rattle.arrow_spec.specs.Needed.{columns_looked_at}
 use Rattle.arrow_spec.proofs.Projection.{nothing, went}
 use Rattle.ipc_io.specs.Outside.{IsSize}
-use Rattle.ipc_read_laws.specs.Faults.{stated_of}
+use Rattle.ipc_projection.specs.Below.{stated_of}
 use Rattle.ipc_read.specs.Batches.{batch_fetched as buffers_fetched}
 use Rattle.ipc_files.specs.Blocks.{asked_under}
 use Rattle.ipc_files.specs.FileBlocks.{Fetched, PairedMessage, PrefixIn, block_metadata, block_record, message_metadata}

@@ -11,8 +11,8 @@ use Rattle.arrow_spec.specs.Messages.{RecordMessage, batch_at, is_mark, message_
 use Rattle.arrow_spec.specs.Files.{FileBlock, Meta, Request, block_body, block_message, record_batch_of, share}
 use Rattle.arrow_spec.specs.Needed.{Range, columns_looked_at, lengths, message_range, or_nothing, ranges}
 use Rattle.arrow_spec.proofs.Projection.{on, went}
-use Rattle.file_laws.specs.Fetched.{batch_fetched, for_rows}
-use Rattle.ipc_read_laws.specs.Faults.{stated_of}
+use Rattle.laws_files.specs.Fetched.{batch_fetched, for_rows}
+use Rattle.ipc_projection.specs.Below.{stated_of}
 use Rattle.ipc_read.specs.Batches.{batch_fetched as buffers_fetched}
 use Rattle.ipc_files.specs.FileBlocks.{Fetched, Lies, PairedMessage, block_metadata, block_record, message_metadata, paired_message}
 use Rattle.ipc_files.specs.Fetching.{FrontFetched, block_cost, both_of, message_cost}

@@ -22,8 +22,8 @@ use Rattle.ipc_io.specs.Outside.{IsSize}
 use Rattle.ipc_schema.specs.Headers.{dictionary_message, dictionary_message_of}
 use Rattle.ipc_schema.specs.Views.{header_of}
 use Rattle.ipc_schema.specs.declared.message.DictionaryMessage.{DictionaryMessage}
-use Rattle.ipc_read_laws.specs.Held.{Held, HasKind, HoldsCells, none_held, HasKindOf, values_of_id}
-use Rattle.transcode_laws.specs.Files.{HeaderFits}
+use Rattle.ipc_projection.specs.Below.{Held, HasKind, HoldsCells, none_held, HasKindOf, values_of_id}
+use Rattle.laws_columns.specs.Below.{HeaderFits}
 use Rattle.ipc_read.specs.DictionaryBatches.{AddsDictionary, HoldsPart, dictionary_reading, message_of}
 use Rattle.ipc_read.specs.Held.{held_in}
 use Rattle.ipc_read.specs.Sources.{bytes_in}

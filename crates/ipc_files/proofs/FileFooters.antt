@@ -9,7 +9,7 @@ use Rattle.arrow_spec.specs.Readings.{Gives, Reading, Refuses, refusals}
 use Rattle.arrow_spec.specs.Files.{Meta, Request, custom_of, file_reading, footer_of, meta_in, meta_of, to_send}
 use Rattle.arrow_spec.specs.Kinds.{Metadata}
 use Rattle.arrow_spec.specs.Messages.{footer_pairs}
-use Rattle.transcode_laws.proofs.Refusals.{custom_refuses, meta_refuses}
+use Rattle.laws_columns.proofs.Below.{custom_refuses, meta_refuses}
 use Rattle.ipc_io.specs.Outside.{IsSize}
 use Rattle.ipc_schema.proofs.Footers.{footer_cut}
 use Rattle.ipc_files.specs.FileBlocks.{Fetched, Faulted, GivesIn}

@@ -20,14 +20,13 @@ use Rattle.arrow_spec.specs.Readings.{Gives, Reading, Refuses, bind, free_of, re
 use Rattle.arrow_types.specs.Schemas.{Keyed}
 use Rattle.arrow_arrays.specs.Batches.{Batch}
 use Rattle.ipc_read.specs.Batches.{table_of}
-use Rattle.ipc_read_laws.specs.Projection.{are_columns, are_rising, chosen}
+use Rattle.ipc_projection.specs.Below.{are_columns, are_rising, chosen, Held, HoldsCells}
 use Rattle.ipc_read.proofs.Chosen.{all_chosen}
 use Rattle.ipc_projection.specs.Places.{IsPermutation, entry}
 use Rattle.ipc_projection.specs.Projections.{IsReordered, MayProject}
 use Rattle.ipc_projection.specs.declared.projection.ProjectionInfo.{ProjectionInfo}
 use Rattle.ipc_projection.proofs.Numbers.{below_each, stands_once}
 use Rattle.ipc_projection.proofs.Projected.{applied_schema, chosen_stand}
-use Rattle.ipc_read_laws.specs.Held.{Held, HoldsCells}
 use Rattle.ipc_files.specs.Blocks.{BatchRead, BlockRead, ReadsBlock, asked_under, batch_in}
 use Rattle.ipc_files.specs.Fetching.{BlockFetched}
 use Rattle.ipc_files.specs.FileViews.{meta_view}

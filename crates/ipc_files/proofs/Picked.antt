@@ -8,14 +8,10 @@ use Rattle.arrow_spec.specs.Kinds.{Fields, none, field, width}
 use Rattle.arrow_types.specs.Schemas.{Keyed}
 use Rattle.arrow_arrays.specs.Batches.{Batch}
 use Rattle.arrow_arrays.specs.Parts.{Parts}
-use Rattle.ipc_read_laws.specs.Batches.{columns_read}
-use Rattle.ipc_read_laws.specs.Held.{Held}
-use Rattle.ipc_read_laws.specs.PartsRead.{parts_read}
-use Rattle.transcode_laws.specs.Files.{AreAsked, ArePicked}
+use Rattle.ipc_projection.specs.Below.{columns_read, Held, parts_read, are_columns, are_rising, chosen, kept, are_below}
+use Rattle.laws_columns.specs.Below.{AreAsked, ArePicked}
 use Rattle.ipc_read.specs.Batches.{chosen_read}
-use Rattle.ipc_read_laws.specs.Projection.{are_columns, are_rising, chosen, kept}
 use Rattle.ipc_read.proofs.Chosen.{all_chosen}
-use Rattle.ipc_read_laws.specs.Projection.{are_below}
 use Rattle.ipc_projection.specs.Places.{StandAt}
 use Rattle.ipc_projection.specs.Projections.{IsProjection, IsReordered}
 use Rattle.ipc_projection.specs.declared.projection.ProjectionInfo.{ProjectionInfo}

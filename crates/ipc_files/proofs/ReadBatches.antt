@@ -13,14 +13,14 @@ use Rattle.arrow_spec.proofs.Projection.{on}
 use Rattle.arrow_arrays.specs.Batches.{Batch}
 use Rattle.arrow_types.specs.Schemas.{Keyed, fields_in}
 use Rattle.ipc_fields.specs.IpcFields.{Ids, fields_with}
-use Rattle.ipc_read_laws.specs.Held.{Held, HoldsCells}
+use Rattle.ipc_projection.specs.Below.{Held, HoldsCells}
 use Rattle.ipc_read.specs.Batches.{table_of}
 use Rattle.ipc_read.specs.Sources.{IsRefusal}
 use Rattle.ipc_files.specs.Blocks.{BlockRead, ReadsBlock, asked_under, batch_in}
 use Rattle.ipc_files.specs.FileBlocks.{block_record, file_block}
 use Rattle.ipc_files.specs.FileViews.{FileCause}
 use Rattle.ipc_files.proofs.BlockMessages.{batch_by_record, refused_first}
-use Rattle.ipc_read_laws.proofs.ChosenFloats.{chosen_with}
+use Rattle.ipc_projection.proofs.Below.{chosen_with}
 
 -- what is refused at a place of its own
 pub refused_place : (e : IpcError) (es : List IpcError) → Refuses e es → Refuses e (refusals (free_of es))

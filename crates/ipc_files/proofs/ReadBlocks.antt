@@ -20,11 +20,10 @@ use Rattle.arrow_spec.specs.Files.{Asked, FileBlock, Purpose, TableBatch, as_ask
 use Rattle.arrow_spec.proofs.Projection.{on, went}
 use Rattle.arrow_arrays.specs.Batches.{Batch}
 use Rattle.arrow_arrays.specs.Parts.{Parts, cells_in}
-use Rattle.ipc_read_laws.specs.Batches.{columns_read}
-use Rattle.ipc_read_laws.specs.Held.{Held}
-use Rattle.transcode_laws.specs.Files.{ArePicked, AreAsked, HeaderFits, with_columns}
-use Rattle.transcode_laws.proofs.Refusals.{none_refuses}
-use Rattle.column_laws.proofs.RisingBatches.{rising_asked, rising_refuses}
+use Rattle.ipc_projection.specs.Below.{columns_read, Held}
+use Rattle.laws_columns.specs.Below.{ArePicked, AreAsked, HeaderFits, with_columns}
+use Rattle.laws_columns.proofs.Below.{none_refuses}
+use Rattle.laws_columns.proofs.RisingBatches.{rising_asked, rising_refuses}
 use Rattle.ipc_read.specs.Batches.{batch_reading, chosen_read, columns_asked, table_of}
 use Rattle.ipc_files.specs.FileBlocks.{PairedMessage, block_record}
 use Rattle.ipc_files.specs.Blocks.{BlockRead, ReadsBlock}

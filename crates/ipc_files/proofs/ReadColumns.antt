@@ -12,7 +12,7 @@ use Rattle.arrow_types.specs.Schemas.{Keyed, fields_in}
 use Rattle.arrow_types.specs.UnionIds.{are_right}
 use Rattle.ipc_fields.specs.IpcFields.{Ids, no_fields, ids, fields_with, kind_with}
 use Rattle.ipc_read.specs.Batches.{are_column_fields, are_column_kinds, is_column_kind}
-use Rattle.ipc_read_laws.specs.Held.{values_of_id}
+use Rattle.ipc_projection.specs.Below.{values_of_id}
 
 -- ── kinds that fit ──
 

@@ -16,12 +16,11 @@ use Rattle.arrow_arrays.specs.Batches.{Batch}
 use Rattle.arrow_arrays.specs.Parts.{Parts}
 use Rattle.arrow_types.specs.Schemas.{fields_in}
 use Rattle.ipc_fields.specs.IpcFields.{ids_of}
-use Rattle.transcode_laws.specs.Files.{ArePicked, HeaderFits}
+use Rattle.laws_columns.specs.Below.{ArePicked, HeaderFits}
 use Rattle.ipc_io.specs.Outside.{IsSize}
 use Rattle.ipc_files.specs.declared.block.BlockMessage.{BlockMessage}
-use Rattle.ipc_read_laws.specs.Held.{Held, HoldsCells}
+use Rattle.ipc_projection.specs.Below.{Held, HoldsCells, are_columns, are_rising}
 use Rattle.ipc_read.specs.Batches.{batch_reading, chosen_read, table_of}
-use Rattle.ipc_read_laws.specs.Projection.{are_columns, are_rising}
 use Rattle.ipc_read.specs.Sources.{bytes_in}
 use Rattle.ipc_read.specs.declared.body.Body.{Body}
 use Rattle.ipc_files.specs.FileBlocks.{BlockIn, PairedMessage, block_record, paired_of}

@@ -19,8 +19,8 @@ use Rattle.ipc_schema.specs.Views.{header_of, message_of}
 use Rattle.ipc_schema.specs.declared.footer.Footer.{Footer}
 use Rattle.ipc_schema.specs.declared.message.DictionaryMessage.{DictionaryMessage}
 use Rattle.ipc_schema.specs.declared.message.RecordMessage.{RecordMessage}
-use Rattle.transcode_laws.specs.Files.{HeaderFits}
-use Rattle.transcode_laws.proofs.Headers as headers
+use Rattle.laws_columns.specs.Below.{HeaderFits}
+use Rattle.laws_columns.proofs.Below.Headers as headers
 use Rattle.ipc_files.specs.FileViews.{meta_view, WasRead}
 use Rattle.ipc_files.specs.declared.metadata.FileMetadata.{FileMetadata}
 use Rattle.ipc_files.proofs.ReadColumns.{fields_column}

@@ -10,11 +10,10 @@ use Rattle.arrow_spec.specs.Files.{FileBlock, columns_right}
 use Rattle.arrow_spec.specs.Kinds.{width}
 use Rattle.arrow_types.specs.Schemas.{Keyed}
 use Rattle.arrow_arrays.specs.Batches.{Batch}
-use Rattle.ipc_read_laws.specs.Projection.{are_below}
+use Rattle.ipc_projection.specs.Below.{are_below, Held}
 use Rattle.ipc_projection.specs.Projections.{IsProjection, IsReordered}
 use Rattle.ipc_projection.specs.declared.projection.ProjectionInfo.{ProjectionInfo}
 use Rattle.ipc_projection.proofs.Numbers.{below_each}
-use Rattle.ipc_read_laws.specs.Held.{Held}
 use Rattle.ipc_files.specs.Blocks.{ReadsBlock, asked_under}
 use Rattle.ipc_files.specs.Fetching.{BlockFetched}
 use Rattle.ipc_files.specs.FileViews.{meta_view}

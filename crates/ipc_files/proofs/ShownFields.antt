@@ -10,7 +10,7 @@ use Rattle.arrow_types.specs.Schemas.{Keyed}
 use Rattle.arrow_arrays.specs.Batches.{Batch}
 use Rattle.arrow_arrays.specs.Parts.{kind_in}
 use Rattle.ipc_read.specs.Batches.{kinds_of}
-use Rattle.ipc_read_laws.specs.Projection.{are_below, chosen}
+use Rattle.ipc_projection.specs.Below.{are_below, chosen}
 use Rattle.ipc_projection.specs.Places.{StandAt}
 use Rattle.ipc_projection.specs.Projections.{IsProjection, IsReordered, MayProject}
 use Rattle.ipc_projection.specs.declared.projection.ProjectionInfo.{ProjectionInfo}

@@ -8,9 +8,8 @@ use Rattle.arrow_spec.specs.Readings.{Reading, Refuses, refusals, ◌>>=◌, fre
 use Rattle.arrow_spec.specs.WrittenSchemas.{CustomMayBeWritten}
 use Rattle.arrow_spec.specs.Files.{Asked, FileBlock, Meta, Request, TableBatch, batch_of, batch_of_tables, block_body, record_batch_of, to_read}
 use Rattle.arrow_arrays.specs.Batches.{Batch}
-use Rattle.ipc_read_laws.specs.Batches.{columns_read}
-use Rattle.ipc_read_laws.specs.Held.{Held, HoldsCells}
-use Rattle.transcode_laws.specs.Files.{AreAsked, HeaderFits}
+use Rattle.ipc_projection.specs.Below.{columns_read, Held, HoldsCells}
+use Rattle.laws_columns.specs.Below.{AreAsked, HeaderFits}
 use Rattle.ipc_read.specs.Batches.{table_of}
 use Rattle.ipc_read.specs.declared.body.Body.{Body}
 use Rattle.ipc_files.specs.FileBlocks.{PairedMessage, block_record}

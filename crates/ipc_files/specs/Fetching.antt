@@ -5,7 +5,7 @@ use Rattle.arrow_spec.specs.Arrays.{Dictionaries}
 use Rattle.arrow_spec.specs.Files.{FileBlock, Meta, Request, TableBatch, batch_of, footer_of, to_read}
 use Rattle.arrow_spec.specs.Messages.{prefix_of}
 use Rattle.arrow_spec.specs.Needed.{lengths, or_nothing}
-use Rattle.file_laws.specs.Fetched.{batch_fetched}
+use Rattle.laws_files.specs.Fetched.{batch_fetched}
 use Rattle.ipc_files.specs.Blocks.{asked_under}
 use Rattle.ipc_files.specs.FileBlocks.{PairedMessage, block_metadata, block_record, message_metadata}
 

@@ -11,11 +11,11 @@ use Rattle.arrow_spec.specs.Counts.{magnitude}
 use Rattle.arrow_spec.specs.Kinds.{same}
 use Rattle.arrow_spec.specs.Needed.{lengths, or_nothing}
 use Rattle.arrow_arrays.specs.declared.array.Array.{Array}
-use Rattle.file_laws.specs.Fetched.{dictionary_fetched}
-use Rattle.transcode_laws.specs.Files.{HeaderFits}
+use Rattle.laws_files.specs.Fetched.{dictionary_fetched}
+use Rattle.laws_columns.specs.Below.{HeaderFits}
 use Rattle.ipc_schema.specs.Headers.{DictionaryTables, dictionary_message, dictionary_message_of}
 use Rattle.ipc_schema.specs.declared.message.DictionaryMessage.{DictionaryMessage}
-use Rattle.ipc_read_laws.specs.Held.{Held, HoldsCells, HasKindOf, values_of_id}
+use Rattle.ipc_projection.specs.Below.{Held, HoldsCells, HasKindOf, values_of_id}
 use Rattle.ipc_read.specs.DictionaryBatches.{HoldsPart}
 use Rattle.ipc_read.specs.Held.{held_in}
 use Rattle.ipc_files.specs.Blocks.{asked_under}

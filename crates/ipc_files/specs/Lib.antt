@@ -1,3 +1,5 @@
+pub mod BelowViews
+pub mod Below
 pub mod FileViews
 pub mod FileBlocks
 pub mod Requests

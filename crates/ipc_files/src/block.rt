@@ -5,7 +5,7 @@ ghost use Rattle.ipc_io.specs.Outside.{IsSize, SourceKept};
 ghost use Rattle.ipc_schema.specs.Headers.{dictionary_message, dictionary_message_of};
 ghost use Rattle.ipc_schema.specs.Views.{header_of, message_of};
 ghost use Rattle.arrow_spec.specs.WrittenSchemas.{CustomMayBeWritten};
-ghost use Rattle.transcode_laws.specs.Files.{HeaderFits};
+ghost use Rattle.laws_columns.specs.Below.{HeaderFits};
 ghost use Rattle.ipc_files.specs.FileBlocks.{block_header, message_metadata as metadata_at, paired_message, paired_of, Lies, PrefixIn, BlockIn, GivesIn, file_block};
 ghost use Rattle.ipc_files.specs.FileDictionaries.{DictionaryIn};
 ghost use Rattle.ipc_files.specs.FileViews.{FileCause};

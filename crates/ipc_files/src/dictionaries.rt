@@ -4,7 +4,7 @@ ghost use Rattle.arrow_spec.specs.Arrays.{Dictionaries as History};
 ghost use Rattle.ipc_io.specs.Outside.{IsSize, SourceKept};
 ghost use Rattle.ipc_read.specs.DictionaryBatches.{AddsDictionary};
 ghost use Rattle.ipc_read.specs.Held.{held_in};
-ghost use Rattle.ipc_read_laws.specs.Held.{HoldsCells};
+ghost use Rattle.ipc_projection.specs.Below.{HoldsCells};
 ghost use Rattle.ipc_files.specs.FileBlocks.{file_block};
 ghost use Rattle.ipc_files.specs.FileDictionaries.{block_values, done, DictionariesFetched, DictionaryFetched, HoldsBlock, HoldsUses, ReadsDictionaries};
 ghost use Rattle.ipc_files.specs.FileViews.{meta_view, FileCause, IsReadable};

@@ -1,3 +1,4 @@
+pub mod Below
 pub mod Places
 pub mod Projections
 pub mod Selections

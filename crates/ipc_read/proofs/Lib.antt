@@ -1,3 +1,4 @@
+pub mod Below
 pub mod Refusals
 pub mod Parts
 pub mod Counted

@@ -1,3 +1,4 @@
+pub mod Below
 pub mod DataBuffers
 pub mod Queues
 pub mod Places

@@ -12,9 +12,7 @@ use Rattle.arrow_spec.specs.Readings.{Gives, Refuses, bind, free_of, refusals}
 use Rattle.arrow_spec.proofs.Projection.{on}
 use Rattle.arrow_arrays.specs.Batches.{Batch}
 use Rattle.arrow_arrays.specs.Parts.{Forest}
-use Rattle.ipc_read_laws.specs.Held.{Held, HasKind, HoldsCells, HasKindOf, values_of_id}
-use Rattle.ipc_read.specs.Batches.{table_of}
-use Rattle.ipc_read.specs.Held.{held_in}
+use Rattle.ipc_files.specs.Below.{Held, HasKind, HoldsCells, HasKindOf, values_of_id, table_of, held_in}
 use Rattle.ipc_files.specs.Blocks.{BatchRead, batch_in}
 use Rattle.ipc_files.specs.Fetching.{BlockFetched}
 use Rattle.ipc_files.specs.FileDictionaries.{DictionariesFetched, HoldsUses, ReadsDictionaries}

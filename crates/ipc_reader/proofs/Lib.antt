@@ -1,3 +1,4 @@
+pub mod Below
 pub mod Progress
 pub mod PassedBlocks
 pub mod HeldDictionaries

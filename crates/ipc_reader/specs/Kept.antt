@@ -12,15 +12,11 @@ use Rattle.arrow_spec.specs.Readings.{Gives, Reading, Refuses, free_of, refusals
 use Rattle.arrow_arrays.specs.Batches.{Batch}
 use Rattle.arrow_arrays.specs.declared.array.Array.{Array}
 use Rattle.ipc_io.specs.Outside.{SourceKept}
-use Rattle.ipc_read_laws.specs.Held.{HoldsCells}
-use Rattle.ipc_read.specs.Batches.{table_of}
-use Rattle.ipc_read.specs.Held.{held_in}
-use Rattle.ipc_projection.specs.declared.projection.ProjectionInfo.{ProjectionInfo}
+use Rattle.ipc_files.specs.Below.{HoldsCells, table_of, held_in, ProjectionInfo, MayProject}
 use Rattle.ipc_files.specs.Blocks.{BatchRead, batch_in}
 use Rattle.ipc_files.specs.FileDictionaries.{AreHeld, DictionariesFetched, FirstFetched, HoldsUses}
 use Rattle.ipc_files.specs.Fetching.{BlockFetched}
 use Rattle.ipc_files.specs.FileViews.{meta_view, FileCause}
-use Rattle.ipc_projection.specs.Projections.{MayProject}
 use Rattle.ipc_files.specs.declared.metadata.FileMetadata.{FileMetadata}
 use Rattle.ipc_reader.specs.declared.kept.KeptDictionaries.{KeptDictionaries}
 use Rattle.ipc_reader.specs.declared.kept.KeptDictionaries.TheVariants.{NotRead, Held, Refused}

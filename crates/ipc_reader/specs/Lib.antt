@@ -1,3 +1,4 @@
+pub mod Below
 pub mod Cursors
 pub mod Kept
 pub mod Reads

@@ -6,14 +6,13 @@ use Rattle.arrow_spec.specs.Files.{FileBlock}
 use Rattle.arrow_spec.specs.Readings.{Gives}
 use Rattle.arrow_arrays.specs.Batches.{Batch}
 use Rattle.ipc_io.specs.Outside.{SourceKept}
-use Rattle.ipc_schema.specs.Views.{message_of}
-use Rattle.ipc_schema.specs.declared.message.RecordMessage.{RecordMessage}
+use Rattle.ipc_files.specs.BelowViews.{message_of}
+use Rattle.ipc_files.specs.Below.{RecordMessage, MayProject}
 use Rattle.ipc_files.specs.FileBlocks.{GivesIn, block_header}
 use Rattle.ipc_files.specs.Fetching.{MetadataFetched}
 use Rattle.ipc_files.specs.FileViews.{meta_view, FileCause}
 use Rattle.ipc_files.specs.RowCounts.{MessagesFetched, blocks_passed}
 use Rattle.ipc_files.specs.Selections.{HasFields, schema_shown}
-use Rattle.ipc_projection.specs.Projections.{MayProject}
 use Rattle.ipc_files.specs.Requests.{asked}
 use Rattle.ipc_reader.specs.Cursors.{block_after, left_after}
 use Rattle.ipc_reader.specs.Kept.{FetchedBy, GivesBy, KeepsFile, KeptAfter, KeptBehind, ReadUnderKept, is_refused}

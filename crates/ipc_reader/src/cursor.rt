@@ -5,15 +5,14 @@ ghost use Rattle.arrow_spec.specs.declared.error.IpcError.TheVariants.{Memory};
 ghost use Rattle.arrow_spec.specs.Files.{columns_right};
 ghost use Rattle.ipc_files.specs.FileViews.{IsReadable, meta_view};
 ghost use Rattle.ipc_files.specs.Selections.{IsMade, schema_shown};
-ghost use Rattle.ipc_projection.specs.Projections.{MayProject, numbers_in};
+ghost use Rattle.ipc_files.specs.Below.{MayProject, numbers_in};
 ghost use Rattle.ipc_reader.specs.Kept.{KeepsUses};
 ghost use Rattle.ipc_reader.specs.declared.kept.KeptDictionaries.TheVariants.{NotRead};
 
 use crate::kept::KeptDictionaries;
 use arrow_spec::IpcError;
 use arrow_types::ArrowSchemaRef;
-use ipc_files::FileMetadata;
-use ipc_projection::{ProjectionInfo, projection_of};
+use ipc_files::{FileMetadata, ProjectionInfo, projection_of};
 use std::alloc::Global;
 use std::mem;
 

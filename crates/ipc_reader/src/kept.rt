@@ -8,9 +8,10 @@ ghost use Rattle.ipc_reader.specs.Kept.{is_refused, KeepsUses, ReadsHeld, TakesH
 ghost use Rattle.ipc_reader.specs.declared.kept.KeptDictionaries.TheVariants.{NotRead};
 
 use arrow_spec::IpcError;
-use ipc_files::{Dictionaries, FileMetadata, check_columns, read_file_dictionaries};
+use ipc_files::{
+    Dictionaries, FileMetadata, ProjectionInfo, check_columns, read_file_dictionaries,
+};
 use ipc_io::Source;
-use ipc_projection::ProjectionInfo;
 use std::alloc::Global;
 use std::mem;
 

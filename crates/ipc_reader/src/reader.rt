@@ -7,7 +7,7 @@ ghost use Rattle.arrow_spec.specs.Files.{columns_right};
 ghost use Rattle.ipc_io.specs.Outside.{IsSize};
 ghost use Rattle.ipc_files.specs.FileViews.{IsReadable};
 ghost use Rattle.ipc_files.specs.Selections.{IsMade, schema_shown};
-ghost use Rattle.ipc_projection.specs.Projections.{MayProject, numbers_in};
+ghost use Rattle.ipc_files.specs.Below.{MayProject, numbers_in};
 ghost use Rattle.ipc_reader.specs.Reads.{NextBatch, NextMessage, SkipsBlocks};
 ghost use Rattle.ipc_reader.specs.declared.kept.KeptDictionaries.TheVariants.{NotRead};
 
@@ -15,9 +15,8 @@ use crate::cursor::FileCursor;
 use arrow_arrays::RecordBatch;
 use arrow_spec::IpcError;
 use arrow_types::ArrowSchemaRef;
-use ipc_files::{FileMetadata, RecordMessage};
+use ipc_files::{FileMetadata, ProjectionInfo, RecordMessage};
 use ipc_io::{Refused, Source};
-use ipc_projection::ProjectionInfo;
 use std::alloc::Global;
 
 /// A cursor over a file's record batches with the file's source.

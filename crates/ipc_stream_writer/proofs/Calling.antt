@@ -12,17 +12,16 @@ use Rattle.arrow_arrays.specs.Batches.{Batch}
 use Rattle.ipc_fields.specs.IpcFields.{Ids, fields_with, ids_of, metadata_of}
 use Rattle.ipc_fields.specs.declared.ipc_field.IpcField.{IpcField}
 use Rattle.ipc_bodies.specs.Puts.{Moved, NoneFalls}
-use Rattle.ipc_dictionaries.specs.Tracker.{IsKept, held_by}
-use Rattle.ipc_dictionaries.specs.declared.tracker.DictionaryTracker.{DictionaryTracker}
-use Rattle.ipc_write_messages.specs.declared.puts.Stop.{Stop}
-use Rattle.ipc_write_messages.specs.declared.schema.StreamStart.{StreamStart}
-use Rattle.ipc_write_messages.specs.declared.state.WriterState.TheVariants.{Started}
+use Rattle.ipc_messages.specs.Below.{IsKept, held_by, DictionaryTracker}
+use Rattle.ipc_messages.specs.declared.puts.Stop.{Stop}
+use Rattle.ipc_messages.specs.declared.schema.StreamStart.{StreamStart}
+use Rattle.ipc_messages.specs.declared.state.WriterState.TheVariants.{Started}
 use Rattle.ipc_stream_writer.specs.declared.stream.StreamCore.{StreamCore}
 use Rattle.ipc_stream_writer.specs.Calls.{Finishes, HasBegun, LeavesAll, Sends, Starts, Stays, SuitsStream, Writes}
-use Rattle.ipc_write_messages.specs.Fields.{AreIdsFor}
-use Rattle.ipc_write_messages.specs.Puts.{StopsIn, Untouched, counted}
-use Rattle.ipc_write_messages.specs.Schemas.{Begins, IsStart, SchemaIsSaid, StartMayBeWritten, stream_text}
-use Rattle.ipc_write_messages.specs.States.{is_new, is_started, state_behind}
+use Rattle.ipc_messages.specs.Fields.{AreIdsFor}
+use Rattle.ipc_messages.specs.Puts.{StopsIn, Untouched, counted}
+use Rattle.ipc_messages.specs.Schemas.{Begins, IsStart, SchemaIsSaid, StartMayBeWritten, stream_text}
+use Rattle.ipc_messages.specs.States.{is_new, is_started, state_behind}
 use Rattle.ipc_stream_writer.specs.Written.{IsWritten}
 use Rattle.ipc_stream_writer.proofs.Meaning.{begun_written, sent_written, still_written}
 

@@ -1,3 +1,4 @@
+pub mod Below
 pub mod Meaning
 pub mod Calling
 pub mod Sending

@@ -18,22 +18,17 @@ use Rattle.arrow_arrays.specs.Parts.{forest}
 use Rattle.ipc_fields.specs.IpcFields.{fields_with, ids_of, metadata_of}
 use Rattle.ipc_fields.specs.declared.ipc_field.IpcField.{IpcField}
 use Rattle.ipc_bodies.specs.Puts.{Moved}
-use Rattle.ipc_dictionaries.specs.Batches.{begun}
-use Rattle.ipc_dictionaries.specs.Columns.{columns_fault, columns_of, unless_fault}
-use Rattle.ipc_dictionaries.specs.NewDictionaries.{Sending}
-use Rattle.ipc_dictionaries.specs.Tracker.{IsKept, held_by}
-use Rattle.ipc_dictionaries.specs.Walks.{options_of}
+use Rattle.ipc_messages.specs.Below.{begun, columns_fault, columns_of, unless_fault, Sending, IsKept, held_by, options_of, WriteOptions}
 use Rattle.ipc_write_laws.specs.Messages.{WrittenMessage, bytes_of, ended_stream, stream_so_far}
 use Rattle.ipc_write_laws.proofs.Messages.{messages_front_means, messages_stream_means}
-use Rattle.ipc_write_messages.specs.Messages.{chunk_text}
-use Rattle.ipc_write_messages.specs.Puts.{counted}
-use Rattle.ipc_write_messages.specs.Schemas.{SchemaIsSaid, stream_text}
-use Rattle.ipc_write_messages.specs.declared.pairs.StreamPairs.{StreamPairs}
-use Rattle.ipc_write.specs.declared.options.WriteOptions.{WriteOptions}
-use Rattle.stream_laws.specs.Heard.{cells_held}
-use Rattle.chunk_laws.specs.Chunks.{chunk_of}
-use Rattle.chunk_laws.specs.Written.{ArePut, cells_of, said_fields}
-use Rattle.chunk_laws.proofs.Written.{chunk_is_put, schema_is_put}
+use Rattle.ipc_messages.specs.Messages.{chunk_text}
+use Rattle.ipc_messages.specs.Puts.{counted}
+use Rattle.ipc_messages.specs.Schemas.{SchemaIsSaid, stream_text}
+use Rattle.ipc_messages.specs.declared.pairs.StreamPairs.{StreamPairs}
+use Rattle.laws_writers.specs.Heard.{cells_held}
+use Rattle.laws_writers.specs.Chunks.{chunk_of}
+use Rattle.laws_writers.specs.Written.{ArePut, cells_of, said_fields}
+use Rattle.laws_writers.proofs.Written.{chunk_is_put, schema_is_put}
 use Rattle.ipc_stream_writer.specs.declared.stream.StreamCore.{StreamCore}
 use Rattle.ipc_stream_writer.specs.Calls.{HasSent, Stays}
 use Rattle.ipc_stream_writer.specs.Written.{IsEnded, IsWritten, stream_fields}

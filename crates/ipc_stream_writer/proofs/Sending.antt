@@ -8,21 +8,15 @@ use Rattle.arrow_arrays.specs.Parts.{Parts, forest}
 use Rattle.ipc_fields.specs.IpcFields.{ids_of}
 use Rattle.ipc_fields.specs.declared.ipc_field.IpcField.{IpcField}
 use Rattle.ipc_bodies.specs.Puts.{Moved}
-use Rattle.ipc_dictionaries.specs.Batches.{Sends as Found}
-use Rattle.ipc_dictionaries.specs.Changes.{undone}
-use Rattle.ipc_dictionaries.specs.Tracker.{held_by}
-use Rattle.ipc_dictionaries.specs.Walks.{to_send}
-use Rattle.ipc_dictionaries.specs.declared.sending.NewDictionaries.{NewDictionaries}
-use Rattle.ipc_dictionaries.specs.declared.tracker.DictionaryTracker.{DictionaryTracker}
-use Rattle.ipc_dictionaries.specs.declared.walk.ToEncode.{ToEncode}
-use Rattle.ipc_encode.specs.Chunks.{RefusesChunk}
-use Rattle.ipc_encode.proofs.ChunkSteps.{kept_again, stops_behind, stops_found}
-use Rattle.ipc_write_messages.specs.declared.puts.Stop.{Stop}
+use Rattle.ipc_messages.specs.Below.{Sends as Found, undone, held_by, to_send, NewDictionaries, DictionaryTracker, ToEncode}
+use Rattle.ipc_messages.specs.Chunks.{RefusesChunk}
+use Rattle.ipc_messages.proofs.ChunkSteps.{kept_again, stops_behind, stops_found}
+use Rattle.ipc_messages.specs.declared.puts.Stop.{Stop}
 use Rattle.ipc_stream_writer.specs.declared.stream.StreamCore.{StreamCore}
 use Rattle.ipc_stream_writer.specs.Calls.{SendCause, Sends, Stays}
 use Rattle.ipc_stream_writer.proofs.Meaning.{still_written}
-use Rattle.ipc_write_messages.specs.Puts.{SendStops, SendsChunk, Untouched, counted}
-use Rattle.ipc_write_messages.specs.States.{state_behind}
+use Rattle.ipc_messages.specs.Puts.{SendStops, SendsChunk, Untouched, counted}
+use Rattle.ipc_messages.specs.States.{state_behind}
 
 -- what is found of a batch's dictionaries is not to be sent
 pub not_found : (encode : List ℕ → List ℕ) (r : Result (Unit {0}) IpcError) (e : IpcError) (m : Moved) (old new : StreamCore) (b : Batch) (arrays : List Parts) (fields : List IpcField) → IsErrAnd r (λ f. f ≡ e) → arrays ≡ b.arrays → fields ≡ old.fields.items

@@ -14,21 +14,18 @@ use Rattle.arrow_arrays.specs.Parts.{forest}
 use Rattle.ipc_fields.specs.IpcFields.{Ids, fields_with, ids_of, metadata_of}
 use Rattle.ipc_bodies.specs.Puts.{Moved, NoneFalls, PutsPart}
 use Rattle.ipc_bodies.specs.declared.encoding.Encoding.{Encoding}
-use Rattle.ipc_dictionaries.specs.NewDictionaries.{Sending, ToSend}
-use Rattle.ipc_dictionaries.specs.Tracker.{IsKept, held_by}
-use Rattle.ipc_dictionaries.specs.Walks.{options_of}
-use Rattle.ipc_write.specs.declared.options.WriteOptions.{WriteOptions}
-use Rattle.ipc_encode.specs.Chunks.{MayBeSent, RefusesChunk, Stops, found}
-use Rattle.ipc_write_messages.specs.declared.state.WriterState.TheVariants.{New, Started, Finished, Failed}
+use Rattle.ipc_messages.specs.Below.{Sending, ToSend, IsKept, held_by, options_of, WriteOptions}
+use Rattle.ipc_messages.specs.Chunks.{MayBeSent, RefusesChunk, Stops, found}
+use Rattle.ipc_messages.specs.declared.state.WriterState.TheVariants.{New, Started, Finished, Failed}
 use Rattle.ipc_stream_writer.specs.declared.stream.StreamCore.{StreamCore}
-use Rattle.ipc_write_messages.specs.Batches.{Suits}
-use Rattle.ipc_write_messages.specs.Fields.{AreIdsFor}
-use Rattle.ipc_write_messages.specs.Messages.{chunk_text}
-use Rattle.ipc_write_messages.specs.Puts.{Untouched, counted}
-use Rattle.ipc_write_messages.specs.Schemas.{IsNoStart, SchemaIsSaid, stream_text}
-use Rattle.ipc_write_messages.specs.States.{is_new, is_started}
-use Rattle.ipc_write_messages.specs.declared.pairs.StreamPairs.{StreamPairs}
-use Rattle.chunk_laws.specs.Written.{cells_of}
+use Rattle.ipc_messages.specs.Batches.{Suits}
+use Rattle.ipc_messages.specs.Fields.{AreIdsFor}
+use Rattle.ipc_messages.specs.Messages.{chunk_text}
+use Rattle.ipc_messages.specs.Puts.{Untouched, counted}
+use Rattle.ipc_messages.specs.Schemas.{IsNoStart, SchemaIsSaid, stream_text}
+use Rattle.ipc_messages.specs.States.{is_new, is_started}
+use Rattle.ipc_messages.specs.declared.pairs.StreamPairs.{StreamPairs}
+use Rattle.laws_writers.specs.Written.{cells_of}
 use Rattle.ipc_stream_writer.specs.Written.{IsEnded, IsWritten}
 
 -- a writer that has written nothing, of some options and an encoding

@@ -5,11 +5,11 @@ use Rattle.arrow_spec.specs.Kinds.{Fields, bare}
 use Rattle.arrow_spec.specs.Streams.{closed, stream_table, unended}
 use Rattle.arrow_types.specs.Schemas.{fields_in}
 use Rattle.ipc_fields.specs.IpcFields.{ids_of, metadata_of}
-use Rattle.ipc_dictionaries.specs.Tracker.{held_by}
+use Rattle.ipc_messages.specs.Below.{held_by}
 use Rattle.ipc_write_laws.specs.Messages.{WrittenMessage, stream_so_far}
-use Rattle.ipc_write_messages.specs.Puts.{counted}
-use Rattle.ipc_write_messages.specs.declared.pairs.StreamPairs.{StreamPairs}
-use Rattle.chunk_laws.specs.Written.{ArePut, said_fields}
+use Rattle.ipc_messages.specs.Puts.{counted}
+use Rattle.ipc_messages.specs.declared.pairs.StreamPairs.{StreamPairs}
+use Rattle.laws_writers.specs.Written.{ArePut, said_fields}
 use Rattle.ipc_stream_writer.specs.declared.stream.StreamCore.{StreamCore}
 
 -- the fields of the stream's schema under the stream's ids, as its message says them

@@ -5,24 +5,22 @@ ghost use Rattle.arrow_spec.specs.declared.error.IpcError.TheVariants.{Memory};
 ghost use Rattle.ipc_bodies.specs.Encodings.{text_of};
 ghost use Rattle.ipc_bodies.specs.Puts.{moved};
 ghost use Rattle.ipc_bodies.specs.declared.encoding.Encoding.TheVariants.{Bytes};
-ghost use Rattle.ipc_write_messages.specs.Fields.{given_ids};
-ghost use Rattle.ipc_write_messages.specs.Puts.{counted};
+ghost use Rattle.ipc_messages.specs.Fields.{given_ids};
+ghost use Rattle.ipc_messages.specs.Puts.{counted};
 ghost use Rattle.ipc_stream_writer.specs.Calls.{Finishes, IsFresh, Sends, SetsMessagePairs, Starts, Stays, SuitsStream, Writes};
-ghost use Rattle.ipc_write_messages.specs.States.{is_started, state_behind};
-ghost use Rattle.ipc_write_messages.specs.declared.state.WriterState.TheVariants.{Started};
+ghost use Rattle.ipc_messages.specs.States.{is_started, state_behind};
+ghost use Rattle.ipc_messages.specs.declared.state.WriterState.TheVariants.{Started};
 
 use crate::stream::StreamCore;
 use arrow_arrays::RecordBatch;
 use arrow_spec::IpcError;
 use arrow_types::{ArrowSchema, Metadata};
 use ipc_bodies::Encoding;
-use ipc_dictionaries::{DictionaryTracker, new_dictionaries};
 use ipc_fields::IpcField;
 use ipc_io::Sink;
-use ipc_write::WriteOptions;
-use ipc_write_messages::{
-    Stop, StreamPairs, StreamStart, WriterState, is_of_schema, put_whole_as, send_chunk_as,
-    stream_start,
+use ipc_messages::{
+    DictionaryTracker, Stop, StreamPairs, StreamStart, WriteOptions, WriterState, is_of_schema,
+    new_dictionaries, put_whole_as, send_chunk_as, stream_start,
 };
 use std::alloc::Global;
 
@@ -238,7 +236,7 @@ impl StreamCore {
     ///
     /// `State` where the stream is not begun, or is ended, or a put has failed; `SchemaMismatch` where a column is not of its
     /// field's type, or there is not one for each field, or the IPC fields are others; then as of `encode_chunk` of
-    /// `ipc_encode`. Each leaves writer and sink, want of memory too where it is the first put that wants it. Behind `WriteFault`,
+    /// `ipc_messages`. Each leaves writer and sink, want of memory too where it is the first put that wants it. Behind `WriteFault`,
     /// and `Memory` of a later put, a part of the messages is put, and the writer has failed.
     pub fn write<W: Sink>(
         &mut self,

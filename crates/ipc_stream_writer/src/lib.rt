@@ -6,5 +6,10 @@ mod stream;
 mod writer;
 
 pub use ipc_bodies::Encoding;
+pub use ipc_messages::{
+    DictionaryTracker, NewDictionaries, ToEncode, WriteOptions, dictionaries_to_encode,
+    encode_chunk, encode_chunk_amortized, encode_dictionary, encode_new_dictionaries,
+    new_dictionaries,
+};
 pub use stream::StreamCore;
 pub use writer::StreamWriter;

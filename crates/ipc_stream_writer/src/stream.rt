@@ -2,15 +2,13 @@
 ghost use Rattle.std.specs.Prelude.{◌≡◌, ◌≤◌, ℤ, length, true};
 ghost use Rattle.arrow_spec.specs.Readings.{is_absent};
 ghost use Rattle.ipc_fields.specs.IpcFields.{metadata_of};
-ghost use Rattle.ipc_dictionaries.specs.Tracker.{held_by};
-ghost use Rattle.ipc_write_messages.specs.States.{is_new, may_be_started};
+ghost use Rattle.ipc_messages.specs.Below.{held_by};
+ghost use Rattle.ipc_messages.specs.States.{is_new, may_be_started};
 
 use arrow_types::ArrowSchema;
 use ipc_bodies::Encoding;
-use ipc_dictionaries::DictionaryTracker;
 use ipc_fields::IpcField;
-use ipc_write::WriteOptions;
-use ipc_write_messages::{StreamPairs, WriterState};
+use ipc_messages::{DictionaryTracker, StreamPairs, WriteOptions, WriterState};
 use std::alloc::Global;
 
 /// The writer of a stream without its sink, which each call that writes is lent: how batches are written, whether the bytes of the

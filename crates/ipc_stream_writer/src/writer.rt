@@ -4,7 +4,7 @@ ghost use Rattle.arrow_spec.specs.declared.error.IpcError.TheVariants.{Memory};
 ghost use Rattle.ipc_bodies.specs.Puts.{moved};
 ghost use Rattle.ipc_bodies.specs.declared.encoding.Encoding.TheVariants.{Bytes};
 ghost use Rattle.ipc_stream_writer.specs.Calls.{Finishes, IsFresh, SetsMessagePairs, Starts, Writes};
-ghost use Rattle.ipc_write_messages.specs.Fields.{given_ids};
+ghost use Rattle.ipc_messages.specs.Fields.{given_ids};
 
 use crate::stream::StreamCore;
 use arrow_arrays::RecordBatch;
@@ -12,7 +12,7 @@ use arrow_spec::IpcError;
 use arrow_types::{ArrowSchema, Metadata};
 use ipc_fields::IpcField;
 use ipc_io::{Refused, Sink};
-use ipc_write::WriteOptions;
+use ipc_messages::WriteOptions;
 use std::alloc::Global;
 
 /// A writer of record batches to a stream, with the sink that the bytes of the stream go into.

@@ -14,7 +14,7 @@ use Rattle.arrow_spec.specs.Streams.{Framed, framed, next_message, stream_prefix
 use Rattle.arrow_spec.proofs.Projection.{on}
 use Rattle.ipc_fields.specs.Causes.{Decodes}
 use Rattle.ipc_fields.proofs.Steps.{refuses}
-use Rattle.ipc_schema.proofs.Items.{signed-front}
+use Rattle.ipc_files.proofs.Below.{signed-front}
 use Rattle.ipc_files.proofs.BlockMessages.{bind_twice, refused_first}
 use Rattle.ipc_streams.specs.Feeds.{Takes}
 use Rattle.ipc_streams.specs.Frames.{GivesFront, GivesLength, IsLength, prefix_length, stated_length}

@@ -1,3 +1,4 @@
+pub mod Below
 pub mod Pulled
 pub mod Handed
 pub mod HeadsRead

@@ -6,7 +6,7 @@ use Rattle.arrow_spec.specs.Kinds.{width}
 use Rattle.arrow_types.specs.Schemas.{fields_in}
 use Rattle.ipc_fields.specs.IpcFields.{ids_of}
 use Rattle.ipc_read_laws.specs.Held.{Held, HasFields, HasKinds, values_of_id}
-use Rattle.ipc_read.specs.Batches.{are_column_kinds, is_column_kind}
+use Rattle.ipc_files.specs.Below.{are_column_kinds, is_column_kind}
 use Rattle.ipc_files.proofs.FieldCounts.{fields_counted}
 use Rattle.ipc_files.proofs.FieldWidths.{width_in, width_with}
 use Rattle.ipc_read_laws.proofs.HeldUses.{each_use, each_value, held_fields}

@@ -17,7 +17,7 @@ use Rattle.arrow_spec.proofs.Projection.{ok-place, on}
 use Rattle.arrow_spec.proofs.ReadPairs.{same_read, through}
 use Rattle.ipc_fields.specs.Causes.{RefusesBytes}
 use Rattle.ipc_fields.proofs.Steps.{refuses}
-use Rattle.ipc_schema.specs.Headers.{DictionaryTables, dictionary_message}
+use Rattle.ipc_files.specs.Below.{DictionaryTables, dictionary_message}
 use Rattle.ipc_files.proofs.BlockMessages.{bind_ok, bind_twice, refused_first}
 use Rattle.ipc_files.proofs.ReadBatches.{refused_place}
 use Rattle.schema_reader.specs.Messages.{taken_by}

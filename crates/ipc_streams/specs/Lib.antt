@@ -1,3 +1,4 @@
+pub mod Below
 pub mod Feeds
 pub mod Frames
 pub mod Bodies

@@ -4,8 +4,7 @@ use Rattle.arrow_spec.specs.declared.error.IpcError.{IpcError}
 use Rattle.arrow_spec.specs.Counts.{first_place}
 use Rattle.arrow_arrays.specs.Batches.{Batch}
 use Rattle.ipc_read_laws.specs.Batches.{columns_read}
-use Rattle.ipc_read.specs.Batches.{table_of}
-use Rattle.transcode_laws.specs.Files.{AreAsked}
+use Rattle.ipc_files.specs.Below.{table_of, AreAsked, MayProject}
 use Rattle.std.specs.Rc.{rc_value}
 use Rattle.arrow_spec.specs.Arrays.{Dictionaries}
 use Rattle.arrow_spec.specs.declared.message.MetadataVersion.{MetadataVersion}
@@ -16,7 +15,6 @@ use Rattle.arrow_spec.specs.Readings.{Gives, Reading}
 use Rattle.arrow_spec.specs.Streams.{Reader}
 use Rattle.ipc_read_laws.specs.Held.{Held}
 use Rattle.ipc_files.specs.Selections.{numbers_read, schema_shown}
-use Rattle.ipc_projection.specs.Projections.{MayProject}
 use Rattle.arrow_types.specs.Schemas.{Keyed}
 use Rattle.ipc_streams.specs.declared.columns.StreamColumns.{StreamColumns}
 use Rattle.ipc_streams.specs.Starts.{stream_schema}

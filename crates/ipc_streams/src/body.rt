@@ -6,8 +6,8 @@ ghost use Rattle.ipc_streams.specs.Bodies.{GivesBody};
 
 use crate::pull::pull_up_to;
 use arrow_spec::{IpcError, OutOfSpecKind};
+use ipc_files::Body;
 use ipc_io::{Failed, Feed, Got, Source};
-use ipc_read::Body;
 use std::alloc::Global;
 
 /// The bytes of a body, as a source that never fails.

@@ -4,12 +4,12 @@ ghost use Rattle.std.specs.Rc.{rc_value};
 ghost use Rattle.arrow_spec.specs.Files.{columns_right};
 ghost use Rattle.arrow_spec.specs.declared.error.IpcError.TheVariants.{Memory};
 ghost use Rattle.ipc_files.specs.Selections.{IsMade};
-ghost use Rattle.ipc_projection.specs.Projections.{MayProject, numbers_in};
+ghost use Rattle.ipc_files.specs.Below.{MayProject, numbers_in};
 ghost use Rattle.ipc_streams.specs.Starts.{IsReadable};
 
 use crate::metadata::StreamMetadata;
 use arrow_spec::IpcError;
-use ipc_projection::{ProjectionInfo, projection_of};
+use ipc_files::{ProjectionInfo, projection_of};
 use std::alloc::Global;
 
 /// The metadata of a stream, and what is read for the columns that are asked for; without a projection all are.

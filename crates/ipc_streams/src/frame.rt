@@ -7,8 +7,8 @@ ghost use Rattle.ipc_streams.specs.Frames.{GivesFront, GivesLength, stated_lengt
 
 use crate::pull::pull_up_to;
 use arrow_spec::{IpcError, OutOfSpecKind};
+use ipc_files::is_continuation;
 use ipc_io::Feed;
-use ipc_schema::is_continuation;
 use std::alloc::Global;
 
 /// What stands next in a stream: fewer than four bytes, the end mark, or a message, by its metadata.

@@ -8,14 +8,10 @@ ghost use Rattle.arrow_spec.specs.Readings.{Gives};
 ghost use Rattle.arrow_spec.specs.Streams.{Reader};
 ghost use Rattle.arrow_arrays.specs.Parts.{kind_in};
 ghost use Rattle.ipc_fields.specs.Causes.{IsOfBytes};
-ghost use Rattle.ipc_schema.specs.Headers.{dictionary_message_of};
-ghost use Rattle.ipc_schema.specs.Views.{message_of};
+ghost use Rattle.ipc_files.specs.Below.{dictionary_message_of, kinds_of, table_of, AddsDictionary, held_in, Answers, IsRefusal};
+ghost use Rattle.ipc_files.specs.BelowViews.{message_of};
 ghost use Rattle.ipc_read_laws.specs.Held.{HoldsCells};
-ghost use Rattle.ipc_read.specs.Batches.{kinds_of, table_of};
-ghost use Rattle.ipc_read.specs.DictionaryBatches.{AddsDictionary};
-ghost use Rattle.ipc_read.specs.Held.{held_in};
 ghost use Rattle.ipc_read_laws.specs.Projection.{chosen, columns_of};
-ghost use Rattle.ipc_read.specs.Sources.{Answers, IsRefusal};
 ghost use Rattle.ipc_files.specs.Selections.{HasFields, numbers_read};
 ghost use Rattle.ipc_streams.specs.Readers.{IsReader, IsRising, ReadsRising, batch_read, fields_shown};
 ghost use Rattle.ipc_streams.specs.Starts.{HoldsValues, stream_schema};
@@ -25,9 +21,10 @@ use crate::columns::StreamColumns;
 use arrow_arrays::RecordBatch;
 use arrow_spec::IpcError;
 use arrow_types::ArrowSchemaRef;
-use ipc_projection::apply_projection;
-use ipc_read::{Dictionaries, check_kinds, read_dictionary_batch, read_record_batch};
-use ipc_schema::{DictionaryMessage, RecordMessage};
+use ipc_files::{
+    Dictionaries, DictionaryMessage, RecordMessage, apply_projection, check_kinds,
+    read_dictionary_batch, read_record_batch,
+};
 use std::alloc::Global;
 
 impl StreamColumns {

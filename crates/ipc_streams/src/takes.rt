@@ -8,8 +8,8 @@ use crate::head::read_head;
 use crate::state::StreamState;
 use arrow_arrays::RecordBatch;
 use arrow_spec::{Counted, IpcError};
+use ipc_files::{message_metadata, read_dictionary_message, read_record_message};
 use ipc_io::Feed;
-use ipc_schema::{message_metadata, read_dictionary_message, read_record_message};
 use std::alloc::Global;
 
 /// How many dictionary messages may stand before a record batch.

@@ -13,11 +13,11 @@ use Rattle.ipc_io.specs.Outside.{AppendsPrefix, IsHeld, Puts, PutHasCause, Rose}
 use Rattle.ipc_io.proofs.Known.{AppendsPrefix-within, AppendsPrefix-after, Appends-kept_nil}
 use Rattle.ipc_transcode.specs.declared.conversion.Summary.{Summary}
 use Rattle.ipc_bodies.specs.declared.encoding.Encoding.TheVariants.{Bytes, HexText}
-use Rattle.ipc_files.proofs.ReadFiles.{told}
+use Rattle.ipc_transcode.proofs.Below.{told}
 use Rattle.std.proofs.KnownBytes.{Keeps-refl}
 use Rattle.ipc_tool.specs.Refusal.{shelf_refusal}
 use Rattle.ipc_tool.specs.StreamPuts.{AddsStreamPart, shown_as}
-use Rattle.transcode_laws.specs.Files.{IsFrontOf, IsStreamOf}
+use Rattle.laws_transcode.specs.Files.{IsFrontOf, IsStreamOf}
 use Rattle.ipc_bodies.specs.Encodings.{text_of}
 use Rattle.ipc_transcode.specs.Transcode.{AddsStream, AddsPiece, AddsPart, Transcodes}
 use Rattle.ipc_tool.specs.Run.{AddsBefore}

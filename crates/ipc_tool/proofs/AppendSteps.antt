@@ -5,14 +5,14 @@ use Rattle.std.specs.Io.KnownBytes.{Appends, Keeps}
 use Rattle.arrow_spec.specs.declared.error.IpcError.{IpcError}
 use Rattle.arrow_spec.specs.declared.error.IpcError.TheVariants as errors
 use Rattle.arrow_spec.specs.Words.{Held}
-use Rattle.ipc_append_stream.specs.Appended.{IsNotAppended, RefusalSays}
-use Rattle.ipc_append_stream.specs.declared.stream.WholeStream.{WholeStream}
+use Rattle.ipc_append.specs.Appended.{IsNotAppended, RefusalSays}
+use Rattle.ipc_append.specs.declared.stream.WholeStream.{WholeStream}
 use Rattle.ipc_disk.specs.Places.{IsReplaced}
 use Rattle.ipc_io.specs.Outside.{Closes, IsHeld, Rose}
 use Rattle.ipc_tool.specs.Appends.{CountRefused, IsReadStream, PlaceAppended, PlaceNotAppended, PlaceRefused, append_options, count_text}
 use Rattle.ipc_tool.specs.Run.{AppendCause, IsAppendedTo, Outside}
 use Rattle.ipc_tool.specs.declared.refusal.Refusal.{Refusal}
-use Rattle.ipc_write.specs.declared.options.WriteOptions.{WriteOptions}
+use Rattle.ipc_append.specs.Below.{WriteOptions}
 
 -- ── the place ──
 

@@ -13,14 +13,11 @@ use Rattle.ipc_io.specs.Faults.{put_error}
 use Rattle.ipc_io.specs.Outside.{Puts}
 use Rattle.ipc_io.specs.declared.outside.PutError.{PutError}
 use Rattle.ipc_io.specs.declared.outside.PutError.TheVariants as put
-use Rattle.ipc_files.specs.FileViews.{meta_view, FileCause}
-use Rattle.ipc_files.specs.RowCounts.{CountCause, file_row_count}
+use Rattle.ipc_transcode.specs.Below.{meta_view, FileCause, CountCause, file_row_count, FileMetadata}
 use Rattle.ipc_tool.specs.TextPuts.{AddsText, AddsTextPart, PrintCause, file_text, row_count_text}
 use Rattle.ipc_tool.specs.declared.request.FileText.{FileText}
 use Rattle.ipc_tool.specs.declared.request.FileText.TheVariants as texts
-use Rattle.ipc_files.specs.declared.metadata.FileMetadata.{FileMetadata}
-use Rattle.ipc_files.proofs.Errors.{file_cause}
-use Rattle.ipc_files.proofs.ReadFiles.{told}
+use Rattle.ipc_transcode.proofs.Below.{file_cause, told}
 
 -- what is made of a reading's value is refused where the reading is
 same_refusals : {A B : Type 0} (r : Reading A) (f : A → B) → refusals (r >>= λ x. Ok (f x)) ≡ refusals r

@@ -4,11 +4,11 @@ use Rattle.std.specs.Io.KnownBytes.{Keeps}
 use Rattle.arrow_spec.specs.declared.error.IpcError.{IpcError}
 use Rattle.arrow_spec.specs.declared.error.IpcError.TheVariants as errors
 use Rattle.arrow_spec.specs.Words.{Held, bytes_of_hex}
-use Rattle.ipc_append_stream.specs.Appended.{IsAppended, IsNotAppended, RefusalSays}
-use Rattle.ipc_append_stream.specs.Wholes.{IsWhole, RefusesStream}
-use Rattle.ipc_append_stream.specs.declared.stream.WholeStream.{WholeStream}
+use Rattle.ipc_append.specs.Appended.{IsAppended, IsNotAppended, RefusalSays}
+use Rattle.ipc_append.specs.Wholes.{IsWhole, RefusesStream}
+use Rattle.ipc_append.specs.declared.stream.WholeStream.{WholeStream}
 use Rattle.ipc_disk.specs.Places.{IsReplaced}
-use Rattle.ipc_files.specs.FileViews.{FileCause}
+use Rattle.ipc_transcode.specs.Below.{FileCause}
 use Rattle.ipc_io.specs.declared.outside.ShelfError.{ShelfError}
 use Rattle.ipc_io.specs.declared.outside.ShelfError.TheVariants as shelf
 use Rattle.ipc_io.specs.Outside.{AppendsPrefix, IsHeld, Lacks, Rose}
@@ -16,7 +16,7 @@ use Rattle.ipc_tool.specs.Input.{HexCause}
 use Rattle.ipc_tool.specs.Refusal.{shelf_refusal}
 use Rattle.ipc_tool.specs.declared.refusal.Refusal.{Refusal}
 use Rattle.ipc_tool.specs.declared.refusal.Refusal.TheVariants.{Ipc}
-use Rattle.ipc_write.specs.declared.options.WriteOptions.{WriteOptions}
+use Rattle.ipc_append.specs.Below.{WriteOptions}
 
 -- how batches are appended: dictionaries that go on with those of the file are written as deltas
 abbrev pub append_options : WriteOptions

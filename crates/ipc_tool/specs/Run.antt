@@ -8,8 +8,8 @@ use Rattle.arrow_spec.specs.Files.{Request}
 use Rattle.arrow_spec.specs.Words.{Held, source_of}
 use Rattle.ipc_tool.specs.Asked.{Command, StreamAsked, TextAsked, of_append, of_stream, of_text}
 use Rattle.ipc_io.specs.Outside.{Rose, Stands, Lacks, AppendsPrefix, IsHeld}
-use Rattle.ipc_append_stream.specs.Targets.{HasOtherFields}
-use Rattle.ipc_append_stream.specs.declared.stream.WholeStream.{WholeStream}
+use Rattle.ipc_append.specs.Targets.{HasOtherFields}
+use Rattle.ipc_append.specs.declared.stream.WholeStream.{WholeStream}
 use Rattle.ipc_tool.specs.Appends.{CountRefused, InputCause, IsReadStream, KeepsOthers, PlaceAppended, PlaceRefused, count_text}
 use Rattle.ipc_tool.specs.Refusal.{number_of, line_of}
 use Rattle.ipc_tool.specs.Request.{WordsCause, command_of}

@@ -7,7 +7,7 @@ use Rattle.arrow_spec.specs.declared.error.IpcError.TheVariants as errors
 use Rattle.arrow_spec.specs.Readings.{Reading, ◌>>=◌, IsAmong, refusals}
 use Rattle.arrow_spec.specs.SchemaText.{schema_text_of}
 use Rattle.ipc_io.specs.Outside.{AppendsPrefix, Rose}
-use Rattle.ipc_files.specs.RowCounts.{file_row_count}
+use Rattle.ipc_transcode.specs.Below.{file_row_count}
 use Rattle.ipc_tool.specs.declared.request.FileText.{FileText}
 use Rattle.ipc_tool.specs.declared.request.FileText.TheVariants as texts
 

@@ -4,7 +4,7 @@ ghost use Rattle.std.specs.Io.{ReadsAtMost, WritesAtMost};
 ghost use Rattle.std.specs.Io.KnownBytes.{ReadConsumes, WriteAppends};
 ghost use Rattle.ipc_io.specs.Outside.{PutsFront};
 
-use ipc_schema::{Failed, Feed, PutError, Sink};
+use ipc_transcode::{Failed, Feed, PutError, Sink};
 use std::io::{ErrorKind, Read, Write};
 
 /// A reader that is read to its end. It tells the bytes that its reader tells.

@@ -7,10 +7,9 @@ ghost use Rattle.ipc_tool.specs.Run.{AddsCount, AppendCause, AppendSays, IsAppen
 
 use crate::input::read_hex;
 use crate::refusal::Refusal;
-use ipc_append_stream::{WholeStream, append_stream, read_whole};
+use ipc_append::{WholeStream, WriteOptions, append_stream, read_whole};
 use ipc_disk::PlaceShelf;
-use ipc_schema::{Failed, Feed, Sink};
-use ipc_write::WriteOptions;
+use ipc_transcode::{Failed, Feed, Sink};
 use std::alloc::{AllocError, Global};
 
 // Bytes in memory that are handed out from the front and never fail.

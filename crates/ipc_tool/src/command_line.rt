@@ -13,7 +13,7 @@ use crate::program::run;
 use crate::refusal::Refusal;
 use arrow_spec::IpcError;
 use ipc_disk::PlaceShelf;
-use ipc_schema::{Feed, Sink};
+use ipc_transcode::{Feed, Sink};
 use ipc_words::help_text;
 use std::alloc::{AllocError, Global};
 use std::env;

@@ -3,7 +3,7 @@ ghost use Rattle.std.specs.Prelude.{◌≡◌, None};
 ghost use Rattle.ipc_io.specs.Outside.{OpenHasCause};
 
 use ipc_disk::{FileDisk, PlaceShelf};
-use ipc_schema::{Shelf, ShelfError};
+use ipc_transcode::{Shelf, ShelfError};
 use std::fs::{self, OpenOptions};
 use std::io::{self, ErrorKind};
 use std::os::unix::fs::FileExt;

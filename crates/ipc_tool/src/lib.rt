@@ -17,7 +17,11 @@ mod text_output;
 pub use adapters::{InputFeed, OutputSink};
 pub use command_line::{answer, status_of_process};
 pub use folder::FolderShelf;
-pub use ipc_transcode::{Summary, transcode};
+pub use ipc_append::{StreamReader, StreamState, read_stream_metadata};
+pub use ipc_transcode::{
+    FileCursor, FileMetadata, FileReader, RecordMessage, Summary, get_row_count,
+    get_row_count_from_blocks, read_file_metadata, transcode,
+};
 pub use note::note_refusal;
 pub use program::run;
 pub use refusal::{Refusal, status};

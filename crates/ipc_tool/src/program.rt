@@ -21,7 +21,7 @@ use crate::request::{Command, FileText, StreamOptions, read_command};
 use crate::stream_output::write_stream;
 use crate::text_output::write_text;
 use ipc_disk::PlaceShelf;
-use ipc_schema::{Failed, Feed, Got, Shelf, Sink, Source};
+use ipc_transcode::{Failed, Feed, Got, Shelf, Sink, Source};
 use std::alloc::Global;
 
 // Bytes in memory that never fail.

@@ -9,8 +9,7 @@ ghost use Rattle.ipc_tool.specs.StreamPuts.{AddsStreamPart, shown_as};
 
 use crate::request::StreamOptions;
 use arrow_spec::IpcError;
-use ipc_schema::{Sink, Source};
-use ipc_transcode::{Encoding, Summary, transcode_as};
+use ipc_transcode::{Encoding, Sink, Source, Summary, transcode_as};
 use std::alloc::Global;
 
 // Transcodes the columns and rows asked for, in an encoding.

@@ -7,9 +7,8 @@ ghost use Rattle.ipc_io.specs.Outside.{SourceKept, SinkKept};
 
 use crate::request::FileText;
 use arrow_spec::IpcError;
-use ipc_files::{get_row_count, metadata_of, read_file_schema};
-use ipc_schema::{Sink, Source};
 use ipc_text::schema_text;
+use ipc_transcode::{Sink, Source, get_row_count, metadata_of, read_file_schema};
 use std::alloc::{AllocError, Global};
 
 /// A number of rows in decimal digits, and a line feed.

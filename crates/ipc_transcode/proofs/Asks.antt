@@ -10,9 +10,8 @@ use Rattle.arrow_spec.specs.Kinds.{width}
 use Rattle.arrow_spec.specs.Readings.{◌>>=◌, Reading, Refuses, bind, refusals, unless}
 use Rattle.ipc_bodies.specs.Encodings.{text_of}
 use Rattle.ipc_bodies.specs.declared.encoding.Encoding.{Encoding}
-use Rattle.ipc_files.specs.FileViews.{FileCause, FileSays, file_custom, meta_view}
-use Rattle.ipc_files.specs.declared.metadata.FileMetadata.{FileMetadata}
-use Rattle.transcode_laws.proofs.Readings.{columns_refused}
+use Rattle.ipc_reader.specs.Below.{FileCause, FileSays, file_custom, meta_view, FileMetadata}
+use Rattle.laws_transcode.proofs.Readings.{columns_refused}
 use Rattle.ipc_transcode.specs.declared.conversion.Summary.{Summary}
 use Rattle.ipc_transcode.specs.Sends.{FileRefused, SendCause, SendsFile}
 use Rattle.ipc_transcode.proofs.Fronts.{none_put}

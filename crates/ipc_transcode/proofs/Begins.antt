@@ -21,26 +21,20 @@ use Rattle.ipc_bodies.specs.Encodings.{text_of}
 use Rattle.ipc_bodies.specs.Puts.{Moved, PutsPart}
 use Rattle.ipc_bodies.specs.declared.encoding.Encoding.{Encoding}
 use Rattle.ipc_bodies.proofs.Encoded.{text_of-append}
-use Rattle.ipc_dictionaries.specs.Tracker.{held_by}
-use Rattle.ipc_files.specs.FileViews.{file_custom}
-use Rattle.ipc_files.specs.declared.metadata.FileMetadata.{FileMetadata}
-use Rattle.ipc_files.specs.Selections.{schema_shown}
+use Rattle.ipc_stream_writer.specs.Below.{held_by, SchemaIsSaid, stream_text, is_new, said_fields}
+use Rattle.ipc_reader.specs.Below.{file_custom, FileMetadata, schema_shown}
 use Rattle.ipc_reader.specs.declared.cursor.FileCursor.{FileCursor}
 use Rattle.ipc_write_laws.proofs.Messages.{messages_front_means}
-use Rattle.ipc_write_messages.specs.Schemas.{SchemaIsSaid, stream_text}
-use Rattle.ipc_write_messages.specs.States.{is_new}
-use Rattle.ipc_write_messages.proofs.Lengths.{length-message}
-use Rattle.schema_writer.specs.Defaults.{IsNumbered}
-use Rattle.chunk_laws.specs.Written.{said_fields}
-use Rattle.chunk_laws.proofs.Written.{schema_is_put}
+use Rattle.ipc_stream_writer.proofs.Below.{length-message, schema_is_put}
+use Rattle.laws_sent.specs.Below.{IsNumbered}
 use Rattle.ipc_stream_writer.specs.Calls.{HasBegun, LeavesAll, StartCause, StartFailed}
 use Rattle.ipc_stream_writer.specs.declared.stream.StreamCore.{StreamCore}
-use Rattle.transcode_laws.specs.Files.{AreAsked, IsSentFile}
-use Rattle.transcode_laws.proofs.SentBatches.{none_table}
-use Rattle.sent_schemas.specs.Laws.{AreStarted, file_message}
-use Rattle.sent_schemas.specs.SentFields.{AreSentFields}
-use Rattle.sent_schemas.proofs.SentFields.{are_sent_fields}
-use Rattle.sent_schemas.proofs.Starts.{begun_sent, refused_as_file}
+use Rattle.laws_transcode.specs.Files.{AreAsked, IsSentFile}
+use Rattle.laws_transcode.proofs.SentBatches.{none_table}
+use Rattle.laws_sent.specs.SchemaLaws.{AreStarted, file_message}
+use Rattle.laws_sent.specs.SentFields.{AreSentFields}
+use Rattle.laws_sent.proofs.SentFields.{are_sent_fields}
+use Rattle.laws_sent.proofs.Starts.{begun_sent, refused_as_file}
 use Rattle.ipc_transcode.specs.Sends.{BatchesSoFar, BeginsStream, IsNewWriter, IsReadBy, IsUnsent, Refused, Sending, SentRows, SentSoFar, meta_in, schema_of_reader}
 use Rattle.ipc_transcode.proofs.Fronts.{IsNext, IsOfSink, none_put, piece_stopped, table_sent}
 use Rattle.ipc_transcode.proofs.NextBatches.{asked_by}

@@ -11,29 +11,22 @@ use Rattle.arrow_arrays.specs.Parts as parts
 use Rattle.arrow_arrays.specs.Heads.{values_kind}
 use Rattle.arrow_arrays.specs.Parts.{Parts, Forest, also, fault_each, forest, kind_in}
 use Rattle.ipc_fields.specs.IpcFields.{Ids}
-use Rattle.ipc_dictionaries.specs.Columns.{columns_fault, columns_of}
-use Rattle.ipc_dictionaries.specs.Tracker.{values_in}
-use Rattle.ipc_read_laws.specs.Held.{Held}
-use Rattle.ipc_read_laws.specs.PartsRead.{parts_or_empty}
-use Rattle.ipc_read_laws.specs.PlainKinds.{plain_fields}
-use Rattle.ipc_read.specs.Batches.{table_of}
-use Rattle.ipc_write.specs.Batches.{written_batch_of}
+use Rattle.ipc_stream_writer.specs.Below.{columns_fault, columns_of, values_in}
+use Rattle.laws_sent.specs.Below.{Held, parts_or_empty, plain_fields}
+use Rattle.ipc_reader.specs.Below.{table_of, written_batch_of, BlockRead, HoldsUses, WasRead, file_custom}
 use Rattle.ipc_write_laws.specs.Streams.{written_batch}
-use Rattle.transcode_laws.specs.Files.{BatchSent, IsSentFile}
-use Rattle.part_laws.specs.Parts.{PartTree}
-use Rattle.part_laws.specs.Laws.{AreReadParts}
-use Rattle.part_laws.specs.ReadUnder.{AreReadUnder, IsReadUnder, held_of}
-use Rattle.part_laws.proofs.HeldParts.{fields_sound}
-use Rattle.part_laws.proofs.NextParts.{columns_of_fields, columns_under, order_asked}
-use Rattle.part_laws.proofs.ReadParts.{parts_asked}
-use Rattle.sent_dictionaries.specs.Laws.{AreFileColumns, ColumnsAreRight}
-use Rattle.ipc_files.specs.Blocks.{BlockRead}
-use Rattle.ipc_files.specs.FileDictionaries.{HoldsUses}
-use Rattle.ipc_files.specs.FileViews.{WasRead, file_custom}
-use Rattle.ipc_read_laws.proofs.HeldUses.{each_use, held_fields}
+use Rattle.laws_transcode.specs.Files.{BatchSent, IsSentFile}
+use Rattle.laws_sent.specs.Parts.{PartTree}
+use Rattle.laws_sent.specs.PartLaws.{AreReadParts}
+use Rattle.laws_sent.specs.ReadUnder.{AreReadUnder, IsReadUnder, held_of}
+use Rattle.laws_sent.proofs.HeldParts.{fields_sound}
+use Rattle.laws_sent.proofs.NextParts.{columns_of_fields, columns_under, order_asked}
+use Rattle.laws_sent.proofs.ReadParts.{parts_asked}
+use Rattle.laws_sent.specs.DictionaryLaws.{AreFileColumns, ColumnsAreRight}
+use Rattle.laws_sent.proofs.Below.{each_use, held_fields}
 use Rattle.ipc_transcode.specs.Sends.{Sending, asked_in, fields_in_request, meta_in}
-use Rattle.sent_schemas.specs.SentFields.{AreSentFields}
-use Rattle.sent_schemas.proofs.SentFields.{fields_read}
+use Rattle.laws_sent.specs.SentFields.{AreSentFields}
+use Rattle.laws_sent.proofs.SentFields.{fields_read}
 use Rattle.ipc_transcode.proofs.SentBlocks.{AreSent, block_may, block_means}
 
 -- what holds of a batch that was read of a block, under the parts of dictionaries

@@ -8,17 +8,14 @@ use Rattle.arrow_arrays.specs.Batches.{Batch}
 use Rattle.arrow_arrays.specs.Parts.{fault_each, forest}
 use Rattle.ipc_bodies.specs.Encodings.{text_of}
 use Rattle.ipc_bodies.specs.Puts.{Moved}
-use Rattle.ipc_files.specs.FileViews.{meta_view}
-use Rattle.ipc_files.specs.Requests.{asked}
-use Rattle.ipc_projection.specs.Projections.{MayProject}
-use Rattle.ipc_files.specs.declared.metadata.FileMetadata.{FileMetadata}
+use Rattle.ipc_reader.specs.Below.{meta_view, asked, MayProject, FileMetadata}
 use Rattle.ipc_reader.specs.Kept.{GivesBy, HoldsFile, KeptAfter, ReadUnderKept}
 use Rattle.ipc_reader.specs.Reads.{NextBatch}
 use Rattle.ipc_reader.specs.declared.cursor.FileCursor.{FileCursor}
 use Rattle.ipc_reader.specs.declared.kept.KeptDictionaries.{KeptDictionaries}
 use Rattle.ipc_stream_writer.specs.Calls.{HasWritten, LeavesAll, WriteCause, WriteFailed}
 use Rattle.ipc_stream_writer.specs.declared.stream.StreamCore.{StreamCore}
-use Rattle.sent_dictionaries.specs.Laws.{ColumnsAreRight, FileDictionariesAreSent}
+use Rattle.laws_sent.specs.DictionaryLaws.{ColumnsAreRight, FileDictionariesAreSent}
 use Rattle.ipc_transcode.specs.Sends.{IsReadBy, IsWriter, Sending, SendsNext, SendsOne, SentSoFar, meta_in, schema_of_reader}
 use Rattle.ipc_transcode.proofs.NextBatches.{Answer, block_there, blocks_as, fields_by, none_left, read_refused, same_place, step}
 use Rattle.ipc_transcode.proofs.Writes.{refused, written}

@@ -12,17 +12,16 @@ use Rattle.arrow_spec.specs.Meaning.{file_table}
 use Rattle.arrow_spec.specs.Readings.{Reading, meaning, refusals}
 use Rattle.arrow_spec.specs.Streams.{end_mark}
 use Rattle.arrow_spec.proofs.ReadPairs.{same_read}
-use Rattle.file_laws.proofs.Cuts.{file-cut}
+use Rattle.laws_files.proofs.Cuts.{file-cut}
 use Rattle.ipc_bodies.specs.Encodings.{text_of}
 use Rattle.ipc_bodies.specs.Puts.{Moved, PutsPart}
-use Rattle.ipc_files.specs.FileViews.{file_custom}
+use Rattle.ipc_reader.specs.Below.{file_custom}
 use Rattle.ipc_reader.specs.declared.cursor.FileCursor.{FileCursor}
-use Rattle.ipc_write_messages.specs.Puts.{counted}
-use Rattle.ipc_write_messages.specs.States.{is_started}
+use Rattle.ipc_stream_writer.specs.Below.{counted, is_started}
 use Rattle.ipc_stream_writer.specs.Calls.{HasFailed, HasFinished, LeavesAll}
 use Rattle.ipc_stream_writer.specs.declared.stream.StreamCore.{StreamCore}
-use Rattle.transcode_laws.specs.Files.{BatchesSent, HasRead, IsSentFile, IsStreamOf}
-use Rattle.transcode_laws.proofs.SentBatches.{none_sent, whole_table}
+use Rattle.laws_transcode.specs.Files.{BatchesSent, HasRead, IsSentFile, IsStreamOf}
+use Rattle.laws_transcode.proofs.SentBatches.{none_sent, whole_table}
 use Rattle.ipc_transcode.specs.declared.conversion.Summary.{Summary}
 use Rattle.ipc_transcode.specs.Sends.{BatchesSoFar, IsReadBy, IsWriter, Refused, Sending, SentSoFar, asked_in, meta_in, schema_of_reader}
 use Rattle.ipc_transcode.specs.Transcode.{Transcodes}

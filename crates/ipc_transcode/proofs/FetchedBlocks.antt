@@ -10,15 +10,10 @@ use Rattle.arrow_spec.specs.Readings.{Reading, meaning}
 use Rattle.arrow_spec.proofs.Projection.{went}
 use Rattle.arrow_spec.proofs.ReadPairs.{same_read}
 use Rattle.arrow_arrays.specs.Batches.{Batch}
-use Rattle.file_laws.specs.Fetched.{batch_fetched}
-use Rattle.transcode_laws.specs.Files.{BatchesSent, HasRead, asked_of, left_of}
-use Rattle.transcode_laws.proofs.SentBatches.{none_sent}
-use Rattle.ipc_files.specs.FileDictionaries.{FirstFetched, dictionaries_cost}
-use Rattle.ipc_files.specs.FileViews.{meta_view}
-use Rattle.ipc_files.specs.Fetching.{BlockFetched, block_cost}
-use Rattle.ipc_files.specs.Requests.{asked}
-use Rattle.ipc_projection.specs.Projections.{MayProject}
-use Rattle.ipc_files.specs.declared.metadata.FileMetadata.{FileMetadata}
+use Rattle.laws_files.specs.Fetched.{batch_fetched}
+use Rattle.laws_transcode.specs.Files.{BatchesSent, HasRead, asked_of, left_of}
+use Rattle.laws_transcode.proofs.SentBatches.{none_sent}
+use Rattle.ipc_reader.specs.Below.{FirstFetched, dictionaries_cost, meta_view, BlockFetched, block_cost, asked, MayProject, FileMetadata}
 use Rattle.ipc_reader.specs.Kept.{FetchedBy}
 use Rattle.ipc_reader.specs.Reads.{NextBatch}
 use Rattle.ipc_reader.specs.declared.cursor.FileCursor.{FileCursor}

@@ -5,10 +5,7 @@ use Rattle.std.specs.Rc.{rc_value}
 use Rattle.arrow_spec.specs.Files.{Request, TableBatch, columns_right}
 use Rattle.arrow_spec.specs.Kinds.{width}
 use Rattle.ipc_bodies.specs.declared.encoding.Encoding.{Encoding}
-use Rattle.ipc_files.specs.Fetching.{FooterFetched}
-use Rattle.ipc_files.specs.FileViews.{FileSays, WasRead, file_custom, meta_view}
-use Rattle.ipc_projection.specs.Projections.{MayProject}
-use Rattle.ipc_files.specs.declared.metadata.FileMetadata.{FileMetadata}
+use Rattle.ipc_reader.specs.Below.{FooterFetched, FileSays, WasRead, file_custom, meta_view, MayProject, FileMetadata}
 use Rattle.ipc_reader.specs.declared.cursor.FileCursor.{FileCursor}
 use Rattle.ipc_reader.specs.declared.kept.KeptDictionaries.TheVariants.{NotRead}
 use Rattle.ipc_stream_writer.specs.declared.stream.StreamCore.{StreamCore}

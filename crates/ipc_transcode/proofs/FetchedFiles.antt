@@ -11,14 +11,11 @@ use Rattle.arrow_spec.specs.Meaning.{file_table}
 use Rattle.arrow_spec.specs.Needed.{Range, all_need, lengths, or_nothing}
 use Rattle.arrow_spec.proofs.Projection.{nothing, went}
 use Rattle.arrow_spec.proofs.ReadPairs.{same_read}
-use Rattle.file_laws.specs.Fetched.{batch_fetched, batches_fetched, dictionary_fetched, fetched as ranges_fetched}
-use Rattle.file_laws.proofs.NeededParts.{batches_depend, dictionaries_depend, meta-footer, parts_are}
-use Rattle.transcode_laws.specs.Files.{HasRead, asked_of}
-use Rattle.ipc_files.specs.Fetching.{FooterFetched, block_cost}
-use Rattle.ipc_files.specs.FileDictionaries.{dictionaries_cost, dictionary_cost}
-use Rattle.ipc_files.specs.FileViews.{FileSays, file_custom}
-use Rattle.ipc_files.proofs.Fetching.{answer_or, block_fetched}
-use Rattle.ipc_files.proofs.FetchedFiles.{batch_parts}
+use Rattle.laws_files.specs.Fetched.{batch_fetched, batches_fetched, dictionary_fetched, fetched as ranges_fetched}
+use Rattle.laws_files.proofs.NeededParts.{batches_depend, dictionaries_depend, meta-footer, parts_are}
+use Rattle.laws_transcode.specs.Files.{HasRead, asked_of}
+use Rattle.ipc_reader.specs.Below.{FooterFetched, block_cost, dictionaries_cost, dictionary_cost, FileSays, file_custom}
+use Rattle.ipc_reader.proofs.Below.{answer_or, block_fetched, batch_parts}
 use Rattle.ipc_transcode.specs.Fetching.{FetchesSome, FileFetched, blocks_cost, cost_up_to}
 use Rattle.ipc_transcode.specs.Sends.{Sending, asked_in, meta_in}
 

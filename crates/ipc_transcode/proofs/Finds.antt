@@ -10,18 +10,11 @@ use Rattle.arrow_spec.specs.Kinds.{Fields}
 use Rattle.arrow_spec.specs.Sent.{all_may_be_sent, dictionary_messages, may_be_sent}
 use Rattle.arrow_arrays.specs.Parts.{Forest, rows_in}
 use Rattle.ipc_fields.specs.IpcFields.{Ids}
-use Rattle.ipc_dictionaries.specs.Batches.{begun}
-use Rattle.ipc_dictionaries.specs.Columns.{columns_fault, columns_of, unless_fault}
-use Rattle.ipc_dictionaries.specs.NewDictionaries.{Sending, ToSend, arrays_sent}
-use Rattle.ipc_dictionaries.specs.Tracker.{held_by}
-use Rattle.ipc_dictionaries.specs.Walks.{options_of}
-use Rattle.ipc_dictionaries.specs.declared.tracker.DictionaryTracker.{DictionaryTracker}
-use Rattle.ipc_encode.specs.Chunks.{found}
-use Rattle.ipc_encode.specs.Messages.{Refuses, RefusesOne, all_fit, fits}
-use Rattle.ipc_read_laws.specs.Held.{Held}
-use Rattle.ipc_write.proofs.PlannedMessages.{short_is_sent, short_then_sent}
-use Rattle.part_laws.specs.Parts.{PartTree}
-use Rattle.sent_dictionaries.specs.Laws.{AreFileColumns, FileDictionariesAreSent, SendsNoMore, SendsValues, sent_message}
+use Rattle.ipc_stream_writer.specs.Below.{begun, columns_fault, columns_of, unless_fault, Sending, ToSend, arrays_sent, held_by, options_of, DictionaryTracker, found, Refuses, RefusesOne, all_fit, fits}
+use Rattle.laws_sent.specs.Below.{Held}
+use Rattle.ipc_reader.proofs.Below.{short_is_sent, short_then_sent}
+use Rattle.laws_sent.specs.Parts.{PartTree}
+use Rattle.laws_sent.specs.DictionaryLaws.{AreFileColumns, FileDictionariesAreSent, SendsNoMore, SendsValues, sent_message}
 use Rattle.ipc_transcode.specs.Sends.{send_options}
 
 -- ── limits ──

@@ -8,19 +8,19 @@ use Rattle.arrow_spec.specs.Files.{ArrowTable, Request, TableBatch, file_reading
 use Rattle.arrow_spec.specs.Kinds.{bare}
 use Rattle.arrow_spec.specs.Readings.{meaning}
 use Rattle.arrow_spec.specs.Streams.{stream_table, unended}
-use Rattle.transcode_laws.specs.Files.{IsFrontOf, IsStreamOf, StopsBehind}
-use Rattle.transcode_laws.specs.Files.{table_asked}
+use Rattle.laws_transcode.specs.Files.{IsFrontOf, IsStreamOf, StopsBehind}
+use Rattle.laws_transcode.specs.Files.{table_asked}
 use Rattle.ipc_bodies.specs.Encodings.{text_of}
 use Rattle.ipc_bodies.specs.Puts.{Moved, PutsPart}
 use Rattle.ipc_bodies.specs.declared.encoding.Encoding.{Encoding}
 use Rattle.ipc_bodies.proofs.Encoded.{text_of-append}
 use Rattle.ipc_fields.specs.IpcFields.{metadata_of}
-use Rattle.ipc_files.specs.FileViews.{file_custom}
+use Rattle.ipc_reader.specs.Below.{file_custom}
 use Rattle.ipc_io.specs.Outside.{AppendsPrefix}
 use Rattle.ipc_io.proofs.Known.{AppendsPrefix-after}
 use Rattle.ipc_stream_writer.specs.Written.{stream_fields, table_with}
 use Rattle.ipc_stream_writer.specs.declared.stream.StreamCore.{StreamCore}
-use Rattle.ipc_write_messages.specs.declared.pairs.StreamPairs.{StreamPairs}
+use Rattle.ipc_stream_writer.specs.Below.{StreamPairs}
 use Rattle.ipc_transcode.specs.Sends.{Sending, fields_in_request, meta_in}
 use Rattle.ipc_transcode.specs.Transcode.{AddsFront, AddsFrontOrNone, AddsPart, AddsPiece}
 

@@ -1,3 +1,4 @@
+pub mod Below
 pub mod Refusing
 pub mod Fronts
 pub mod SentBlocks

@@ -14,34 +14,24 @@ use Rattle.arrow_arrays.specs.Batches.{Batch}
 use Rattle.arrow_arrays.specs.Parts.{fault_each, forest}
 use Rattle.ipc_fields.specs.IpcFields.{Ids, ids_of}
 use Rattle.ipc_bodies.specs.Encodings.{text_of}
-use Rattle.ipc_read.specs.Held.{held_in}
-use Rattle.ipc_files.specs.Blocks.{batch_in}
-use Rattle.ipc_files.specs.FileDictionaries.{HoldsUses}
-use Rattle.ipc_files.specs.FileBlocks.{file_block}
-use Rattle.ipc_files.specs.declared.metadata.FileMetadata.{FileMetadata}
-use Rattle.ipc_files.specs.FileViews.{FileCause, file_custom, meta_view}
-use Rattle.ipc_files.specs.Requests.{asked}
-use Rattle.ipc_files.specs.Selections.{schema_shown}
-use Rattle.ipc_projection.specs.Projections.{MayProject}
-use Rattle.ipc_files.proofs.Picked.{picked_from}
-use Rattle.ipc_files.proofs.Selected.{asked_below}
-use Rattle.ipc_projection.specs.declared.projection.ProjectionInfo.{ProjectionInfo}
-use Rattle.sent_schemas.proofs.SentFields.{are_sent_fields}
+use Rattle.ipc_reader.specs.Below.{held_in, batch_in, HoldsUses, file_block, FileMetadata, FileCause, file_custom, meta_view, asked, schema_shown, MayProject, ProjectionInfo}
+use Rattle.ipc_reader.proofs.Below.{picked_from, asked_below}
+use Rattle.laws_sent.proofs.SentFields.{are_sent_fields}
 use Rattle.ipc_reader.specs.Kept.{GivesBy, HeldParts, KeepsFile, ReadUnderKept, dictionaries_in, first_in, is_refused}
 use Rattle.ipc_reader.specs.declared.cursor.FileCursor.{FileCursor}
 use Rattle.ipc_reader.specs.declared.kept.KeptDictionaries.TheVariants.{Held, NotRead}
 use Rattle.ipc_reader.proofs.HeldDictionaries.{held_uses}
 use Rattle.ipc_stream_writer.specs.declared.stream.StreamCore.{StreamCore}
-use Rattle.transcode_laws.specs.Files.{AreAsked, BatchesSent, HasRead, IsSentFile, StopsBehind, left_of}
-use Rattle.transcode_laws.proofs.Readings.{on_err}
-use Rattle.transcode_laws.proofs.Refusals.{dictionaries_refuse_so}
-use Rattle.transcode_laws.proofs.SentBatches.{block_stops, none_sent, none_table, part_table}
-use Rattle.part_laws.specs.Parts.{PartTree}
-use Rattle.part_laws.specs.Laws.{AreReadParts}
-use Rattle.part_laws.proofs.NextParts.{held_parts}
-use Rattle.sent_dictionaries.specs.Laws.{ColumnsAreRight, FileDictionariesAreSent}
+use Rattle.laws_transcode.specs.Files.{AreAsked, BatchesSent, HasRead, IsSentFile, StopsBehind, left_of}
+use Rattle.laws_transcode.proofs.Readings.{on_err}
+use Rattle.laws_transcode.proofs.Refusals.{dictionaries_refuse_so}
+use Rattle.laws_transcode.proofs.SentBatches.{block_stops, none_sent, none_table, part_table}
+use Rattle.laws_sent.specs.Parts.{PartTree}
+use Rattle.laws_sent.specs.PartLaws.{AreReadParts}
+use Rattle.laws_sent.proofs.NextParts.{held_parts}
+use Rattle.laws_sent.specs.DictionaryLaws.{ColumnsAreRight, FileDictionariesAreSent}
 use Rattle.ipc_transcode.specs.Sends.{BatchesSoFar, IsReadBy, IsWriter, Refused, Sending, SentSoFar, asked_in, fields_in_request, meta_in, schema_of_reader}
-use Rattle.sent_schemas.specs.SentFields.{AreSentFields}
+use Rattle.laws_sent.specs.SentFields.{AreSentFields}
 use Rattle.ipc_transcode.specs.Transcode.{AddsFront}
 use Rattle.ipc_transcode.proofs.Blocks.{IsOfBlock, faultless, of_file}
 use Rattle.ipc_transcode.proofs.Finds.{Finds, finds_first, finds_none}

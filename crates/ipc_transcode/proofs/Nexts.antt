@@ -7,18 +7,10 @@ use Rattle.arrow_types.specs.Schemas.{fields_in}
 use Rattle.arrow_arrays.specs.Batches.{Batch}
 use Rattle.arrow_arrays.specs.Parts.{forest}
 use Rattle.ipc_fields.specs.IpcFields.{ids_of, metadata_of}
-use Rattle.ipc_dictionaries.specs.Batches.{begun}
-use Rattle.ipc_dictionaries.specs.Columns.{columns_fault, columns_of}
-use Rattle.ipc_dictionaries.specs.NewDictionaries.{Sending}
-use Rattle.ipc_dictionaries.specs.Walks.{options_of}
+use Rattle.ipc_stream_writer.specs.Below.{begun, columns_fault, columns_of, Sending, options_of, MayBeSent, chunk_text, StreamPairs, chunk_of, cells_of}
 use Rattle.ipc_write_laws.specs.Messages.{ended_stream, stream_so_far}
 use Rattle.ipc_write_laws.proofs.Messages.{messages_front_means, messages_stream_means}
-use Rattle.ipc_encode.specs.Chunks.{MayBeSent}
-use Rattle.ipc_write_messages.specs.Messages.{chunk_text}
-use Rattle.ipc_write_messages.specs.declared.pairs.StreamPairs.{StreamPairs}
-use Rattle.chunk_laws.specs.Chunks.{chunk_of}
-use Rattle.chunk_laws.specs.Written.{cells_of}
-use Rattle.chunk_laws.proofs.Written.{chunk_is_put}
+use Rattle.ipc_stream_writer.proofs.Below.{chunk_is_put}
 use Rattle.ipc_stream_writer.specs.Calls.{found_before}
 use Rattle.ipc_stream_writer.specs.Written.{IsWritten, stream_fields, table_with}
 use Rattle.ipc_stream_writer.specs.declared.stream.StreamCore.{StreamCore}

@@ -6,14 +6,11 @@ use Rattle.arrow_spec.specs.Kinds.{have_same_kinds, width}
 use Rattle.arrow_types.specs.Schemas.{fields_in}
 use Rattle.arrow_arrays.specs.Batches.{Batch}
 use Rattle.arrow_arrays.specs.Parts.{forest}
-use Rattle.ipc_dictionaries.specs.Columns.{columns_of}
-use Rattle.ipc_files.specs.FileViews.{WasRead, meta_view}
-use Rattle.ipc_files.specs.Selections.{HasFields}
-use Rattle.ipc_projection.specs.Projections.{MayProject}
-use Rattle.ipc_files.specs.declared.metadata.FileMetadata.{FileMetadata}
+use Rattle.ipc_stream_writer.specs.Below.{columns_of}
+use Rattle.ipc_reader.specs.Below.{WasRead, meta_view, HasFields, MayProject, FileMetadata}
 use Rattle.ipc_reader.specs.Reads.{NextBatch}
 use Rattle.ipc_reader.specs.declared.cursor.FileCursor.{FileCursor}
-use Rattle.sent_dictionaries.proofs.Right.{kinds_of_schema}
+use Rattle.laws_sent.proofs.Right.{kinds_of_schema}
 use Rattle.ipc_transcode.specs.Sends.{IsReader, schema_of_reader}
 
 pub reader_of : (file : FileMetadata) (c : FileCursor) (columns : Option (List ℕ)) → c.metadata ≡ file → MayProject (rc_value file.schema) columns c.projection → columns_right columns (width (meta_view file).schema.fields) ≡ Ok tt → WasRead file → IsReader c

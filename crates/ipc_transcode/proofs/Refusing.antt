@@ -5,7 +5,7 @@ use Rattle.arrow_spec.specs.declared.error.IpcError.TheVariants as errors
 use Rattle.arrow_spec.specs.Readings.{Reading, IsAmong, refusals}
 use Rattle.arrow_spec.specs.Files.{Request, ArrowTable, file_reading, to_send}
 use Rattle.arrow_spec.specs.Meaning.{file_table, may}
-use Rattle.transcode_laws.proofs.Sent.{sent_or_too_large}
+use Rattle.laws_transcode.proofs.Sent.{sent_or_too_large}
 use Rattle.ipc_io.specs.Outside.{Stands, Rose}
 use Rattle.ipc_transcode.specs.Transcode.{TranscodeCause, IsSmallRefusal}
 

@@ -8,18 +8,13 @@ use Rattle.arrow_spec.specs.Files.{Asked, FileBlock, Purpose, batch_of, batch_of
 use Rattle.arrow_spec.specs.Sent.{may_be_sent}
 use Rattle.arrow_spec.proofs.Projection.{on}
 use Rattle.arrow_arrays.specs.Batches.{Batch}
-use Rattle.ipc_read_laws.specs.Held.{Held, HoldsCells, HoldsFields}
+use Rattle.laws_sent.specs.Below.{Held, HoldsCells, HoldsFields}
 use Rattle.ipc_write_laws.specs.Streams.{written_batch}
 use Rattle.arrow_arrays.specs.Carried.{are_carried}
-use Rattle.transcode_laws.specs.Files.{asked_fields}
-use Rattle.transcode_laws.proofs.Batches.{tables_refused}
-use Rattle.column_laws.proofs.ReadBatches.{read_batch_sent}
-use Rattle.ipc_write.specs.Batches.{written_batch_of}
-use Rattle.ipc_read.specs.Batches.{table_of}
-use Rattle.ipc_files.specs.FileBlocks.{block_record}
-use Rattle.ipc_files.specs.Blocks.{BlockRead}
-use Rattle.ipc_files.proofs.BlockMessages.{batch_by_record}
-use Rattle.ipc_files.proofs.ReadBlocks.{block_refuses, follows}
+use Rattle.laws_transcode.specs.Files.{asked_fields}
+use Rattle.laws_transcode.proofs.Batches.{tables_refused}
+use Rattle.ipc_reader.proofs.Below.{read_batch_sent, batch_by_record, block_refuses, follows}
+use Rattle.ipc_reader.specs.Below.{written_batch_of, table_of, block_record, BlockRead}
 
 -- arrays are read of the fields that are asked for; what is held of the dictionaries that were read are arrays of the values' kinds
 pub record AreSent (a : Asked) (h : Held) : Type 0 where

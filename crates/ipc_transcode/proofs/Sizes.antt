@@ -11,12 +11,11 @@ use Rattle.arrow_spec.specs.Messages.{BatchHeader}
 use Rattle.arrow_spec.specs.Readings.{natural}
 use Rattle.arrow_spec.proofs.ReadPairs.{same_read, through}
 use Rattle.arrow_arrays.specs.Batches.{Batch}
-use Rattle.ipc_dictionaries.specs.NewDictionaries.{ToSend}
-use Rattle.ipc_write.specs.Batches.{batch_message, is_within, written_batch_of}
+use Rattle.ipc_stream_writer.specs.Below.{ToSend, chunk_text}
+use Rattle.ipc_reader.specs.Below.{batch_message, is_within, written_batch_of}
 use Rattle.ipc_write_laws.specs.Streams.{batch_bytes}
-use Rattle.ipc_write_messages.specs.Messages.{chunk_text}
-use Rattle.ipc_write_messages.proofs.Lengths.{length-batch}
-use Rattle.transcode_laws.specs.Files.{HeaderFits}
+use Rattle.ipc_stream_writer.proofs.Below.{length-batch}
+use Rattle.laws_transcode.specs.Files.{HeaderFits}
 
 few_of : (n : ℤ) (rows : ℕ) → FitsSigned w64 n → natural n ≡ Ok rows → rows < 2 ^ 63
 few_of (pos n) rows fits h = let same : n ≡ rows = same_read n rows h in omega (arith, fits.sfits, same)

@@ -10,28 +10,22 @@ use Rattle.arrow_spec.specs.Files.{columns_right}
 use Rattle.arrow_spec.specs.Kinds.{width}
 use Rattle.arrow_spec.specs.Readings.{IsAmong, refusals}
 use Rattle.arrow_types.specs.Schemas.{Keyed, fields_in}
-use Rattle.chunk_laws.proofs.Refusals.{refused_chosen}
+use Rattle.ipc_stream_writer.proofs.Below.{refused_chosen}
 use Rattle.ipc_bodies.specs.Encodings.{text_of}
 use Rattle.ipc_bodies.specs.Puts.{Moved}
 use Rattle.ipc_bodies.specs.declared.encoding.Encoding.{Encoding}
-use Rattle.ipc_dictionaries.specs.Walks.{options_of}
+use Rattle.ipc_stream_writer.specs.Below.{options_of, stream_text, is_new, StreamPairs}
 use Rattle.ipc_fields.specs.IpcFields.{Ids, ids_of}
-use Rattle.ipc_files.specs.FileViews.{WasRead, meta_view}
-use Rattle.ipc_files.specs.declared.metadata.FileMetadata.{FileMetadata}
-use Rattle.ipc_read_laws.specs.PlainKinds.{plain_fields}
+use Rattle.ipc_reader.specs.Below.{WasRead, meta_view, FileMetadata, WriteOptions}
+use Rattle.laws_sent.specs.Below.{plain_fields, IsNumbered}
 use Rattle.ipc_reader.specs.declared.cursor.FileCursor.{FileCursor}
-use Rattle.ipc_write.specs.declared.options.WriteOptions.{WriteOptions}
-use Rattle.ipc_write_messages.specs.Schemas.{stream_text}
-use Rattle.ipc_write_messages.specs.States.{is_new}
-use Rattle.ipc_write_messages.specs.declared.pairs.StreamPairs.{StreamPairs}
 use Rattle.ipc_stream_writer.specs.Calls.{HasBegun, LeavesAll, StartCause, StartFailed}
 use Rattle.ipc_stream_writer.specs.declared.stream.StreamCore.{StreamCore}
-use Rattle.schema_writer.specs.Defaults.{IsNumbered}
-use Rattle.transcode_laws.specs.Files.{AreAsked}
-use Rattle.sent_schemas.specs.Laws.{AreStarted}
-use Rattle.sent_schemas.proofs.SentFields.{are_sent_fields}
-use Rattle.sent_schemas.proofs.SentMessages.{begun_readable}
-use Rattle.sent_schemas.proofs.Starts.{why_refused}
+use Rattle.laws_transcode.specs.Files.{AreAsked}
+use Rattle.laws_sent.specs.SchemaLaws.{AreStarted}
+use Rattle.laws_sent.proofs.SentFields.{are_sent_fields}
+use Rattle.laws_sent.proofs.SentMessages.{begun_readable}
+use Rattle.laws_sent.proofs.Starts.{why_refused}
 use Rattle.ipc_transcode.specs.Sends.{IsNewWriter, IsReader, IsWriter, SendCause, schema_of_reader}
 use Rattle.ipc_transcode.proofs.NextBatches.{asked_by}
 use Rattle.ipc_transcode.proofs.WriteCauses.{put_cause}

@@ -8,9 +8,7 @@ use Rattle.arrow_spec.specs.Kinds.{width}
 use Rattle.ipc_bodies.specs.Encodings.{text_of}
 use Rattle.ipc_bodies.specs.Puts.{Moved}
 use Rattle.ipc_bodies.specs.declared.encoding.Encoding.{Encoding}
-use Rattle.ipc_files.specs.FileViews.{FileSays, WasRead, file_custom, meta_view}
-use Rattle.ipc_files.specs.declared.metadata.FileMetadata.{FileMetadata}
-use Rattle.ipc_projection.specs.Projections.{MayProject}
+use Rattle.ipc_reader.specs.Below.{FileSays, WasRead, file_custom, meta_view, FileMetadata, MayProject}
 use Rattle.ipc_reader.specs.declared.cursor.FileCursor.{FileCursor}
 use Rattle.ipc_reader.specs.declared.kept.KeptDictionaries.TheVariants.{NotRead}
 use Rattle.ipc_stream_writer.specs.Calls.{Finishes}

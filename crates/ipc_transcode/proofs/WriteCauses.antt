@@ -13,22 +13,16 @@ use Rattle.ipc_fields.specs.IpcFields.{Ids, fields_with, ids_of}
 use Rattle.ipc_bodies.specs.Encodings.{text_of}
 use Rattle.ipc_bodies.specs.Puts.{Moved, PutsPart}
 use Rattle.ipc_bodies.specs.declared.encoding.Encoding.{Encoding}
-use Rattle.ipc_dictionaries.specs.Batches.{begun}
-use Rattle.ipc_dictionaries.specs.Columns.{columns_fault, columns_of, unless_fault}
-use Rattle.ipc_dictionaries.specs.NewDictionaries.{Options, ToSend, arrays_sent}
-use Rattle.ipc_dictionaries.specs.Walks.{options_of}
-use Rattle.ipc_encode.specs.Chunks.{RefusesChunk, Stops}
-use Rattle.ipc_encode.specs.Messages.{RefusesOne}
+use Rattle.ipc_stream_writer.specs.Below.{begun, columns_fault, columns_of, unless_fault, Options, ToSend, arrays_sent, options_of, RefusesChunk, Stops, RefusesOne, is_started}
 use Rattle.ipc_reader.specs.Reads.{NextBatch}
 use Rattle.ipc_reader.specs.declared.cursor.FileCursor.{FileCursor}
-use Rattle.ipc_write.specs.declared.options.WriteOptions.{WriteOptions}
-use Rattle.ipc_write_messages.specs.States.{is_started}
-use Rattle.chunk_laws.proofs.Causes.{IsOfChunk, batch_refused}
+use Rattle.ipc_reader.specs.Below.{WriteOptions}
+use Rattle.ipc_stream_writer.proofs.Below.{IsOfChunk, batch_refused}
 use Rattle.ipc_stream_writer.specs.Calls.{LeavesAll, WriteCause, WriteFailed, found_before}
 use Rattle.ipc_stream_writer.specs.declared.stream.StreamCore.{StreamCore}
-use Rattle.sent_dictionaries.proofs.Right.{columns_right}
-use Rattle.sent_dictionaries.proofs.Unreplaced.{none_replaced}
-use Rattle.sent_schemas.proofs.SayableFields.{numberable}
+use Rattle.laws_sent.proofs.Right.{columns_right}
+use Rattle.laws_sent.proofs.Unreplaced.{none_replaced}
+use Rattle.laws_sent.proofs.SayableFields.{numberable}
 use Rattle.ipc_transcode.specs.Sends.{IsReader, IsWriter, SendCause, schema_of_reader}
 use Rattle.ipc_transcode.proofs.Readers.{next_kinds}
 

@@ -18,33 +18,22 @@ use Rattle.arrow_arrays.specs.Parts.{forest}
 use Rattle.ipc_fields.specs.IpcFields.{ids_of}
 use Rattle.ipc_bodies.specs.Encodings.{text_of}
 use Rattle.ipc_bodies.specs.Puts.{Moved, PutsPart}
-use Rattle.ipc_dictionaries.specs.Columns.{columns_of}
-use Rattle.ipc_dictionaries.specs.NewDictionaries.{Sending as Walk}
-use Rattle.ipc_dictionaries.specs.Tracker.{held_by}
-use Rattle.ipc_encode.specs.Chunks.{MayBeSent, RefusesChunk, Stops}
-use Rattle.ipc_encode.specs.Messages.{all_fit}
-use Rattle.ipc_read.specs.Batches.{table_of}
-use Rattle.ipc_read.specs.Held.{held_in}
+use Rattle.ipc_stream_writer.specs.Below.{columns_of, Sending as Walk, held_by, MayBeSent, RefusesChunk, Stops, all_fit, chunk_text, is_started, cells_of, said_fields}
+use Rattle.ipc_reader.specs.Below.{table_of, held_in, file_custom, is_within, written_batch_of, Plans}
 use Rattle.ipc_reader.specs.Kept.{HeldParts}
 use Rattle.ipc_reader.specs.declared.cursor.FileCursor.{FileCursor}
 use Rattle.ipc_reader.specs.declared.kept.KeptDictionaries.TheVariants.{Held}
-use Rattle.ipc_files.specs.FileViews.{file_custom}
-use Rattle.ipc_write.specs.Batches.{is_within, written_batch_of}
-use Rattle.ipc_write.specs.Outcomes.{Plans}
-use Rattle.ipc_write.proofs.Written.{beyond_is_not_sent, same_message, within_is_sent}
+use Rattle.ipc_reader.proofs.Below.{beyond_is_not_sent, same_message, within_is_sent}
 use Rattle.ipc_write_laws.specs.Streams.{written_batch}
-use Rattle.ipc_write_messages.specs.Messages.{chunk_text}
-use Rattle.ipc_write_messages.specs.States.{is_started}
-use Rattle.chunk_laws.specs.Written.{cells_of, said_fields}
 use Rattle.ipc_stream_writer.specs.Calls.{HasWritten, LeavesAll, WriteCause, WriteFailed, found_before}
 use Rattle.ipc_stream_writer.specs.declared.stream.StreamCore.{StreamCore}
-use Rattle.transcode_laws.specs.Files.{BatchSent, BatchesSent, HasRead, StopsBehind, left_of}
-use Rattle.transcode_laws.proofs.Files.{large_dictionaries_refuse}
-use Rattle.transcode_laws.proofs.SentBatches.{block_stops, one_more_sent, part_table}
-use Rattle.part_laws.specs.Parts.{PartTree}
-use Rattle.sent_dictionaries.specs.Laws.{SendsNoMore}
+use Rattle.laws_transcode.specs.Files.{BatchSent, BatchesSent, HasRead, StopsBehind, left_of}
+use Rattle.laws_transcode.proofs.Files.{large_dictionaries_refuse}
+use Rattle.laws_transcode.proofs.SentBatches.{block_stops, one_more_sent, part_table}
+use Rattle.laws_sent.specs.Parts.{PartTree}
+use Rattle.laws_sent.specs.DictionaryLaws.{SendsNoMore}
 use Rattle.ipc_transcode.specs.Sends.{BatchesSoFar, IsReadBy, IsWriter, Refused, Sending, SendsOne, SentSoFar, asked_in, fields_in_request, meta_in, schema_of_reader, send_options}
-use Rattle.sent_schemas.specs.SentFields.{AreSentFields}
+use Rattle.laws_sent.specs.SentFields.{AreSentFields}
 use Rattle.ipc_transcode.specs.Transcode.{AddsFront}
 use Rattle.ipc_transcode.proofs.Blocks.{IsOfBlock, are_sent, batch_sent, suits}
 use Rattle.ipc_transcode.proofs.Finds.{Finds}

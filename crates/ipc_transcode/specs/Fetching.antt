@@ -4,10 +4,9 @@ use Rattle.arrow_spec.specs.Files.{FileBlock, Meta, Request, TableBatch, batches
 use Rattle.arrow_spec.specs.Arrays.{Dictionaries}
 use Rattle.arrow_spec.specs.Meaning.{file_table}
 use Rattle.arrow_spec.specs.Needed.{lengths}
-use Rattle.file_laws.specs.Fetched.{fetched as ranges_fetched}
-use Rattle.transcode_laws.specs.Files.{HasRead}
-use Rattle.ipc_files.specs.Fetching.{block_cost}
-use Rattle.ipc_files.specs.FileDictionaries.{dictionaries_cost}
+use Rattle.laws_files.specs.Fetched.{fetched as ranges_fetched}
+use Rattle.laws_transcode.specs.Files.{HasRead}
+use Rattle.ipc_reader.specs.Below.{block_cost, dictionaries_cost}
 use Rattle.ipc_transcode.specs.Sends.{Sending, asked_in, meta_in}
 
 -- what is fetched of some blocks, of which such batches were read

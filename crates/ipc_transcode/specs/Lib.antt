@@ -1,3 +1,4 @@
+pub mod Below
 pub mod Transcode
 pub mod Sends
 pub mod Fetching

@@ -9,33 +9,22 @@ use Rattle.arrow_spec.specs.Files.{Asked, Meta, Request, TableBatch, columns_rig
 use Rattle.arrow_spec.specs.Kinds.{Fields, width}
 use Rattle.arrow_spec.specs.Readings.{Refuses, refusals}
 use Rattle.arrow_types.specs.Schemas.{Keyed, fields_in}
-use Rattle.transcode_laws.specs.Files.{BatchesSent, HasRead, IsSentFile, asked_of, left_of}
+use Rattle.laws_transcode.specs.Files.{BatchesSent, HasRead, IsSentFile, asked_of, left_of}
 use Rattle.ipc_fields.specs.IpcFields.{ids_of, metadata_of}
 use Rattle.ipc_bodies.specs.Encodings.{text_of}
 use Rattle.ipc_bodies.specs.declared.encoding.Encoding.{Encoding}
-use Rattle.ipc_dictionaries.specs.Shapes.{are_apart}
-use Rattle.ipc_dictionaries.specs.Tracker.{held_by}
-use Rattle.ipc_dictionaries.specs.Walks.{options_of}
+use Rattle.ipc_stream_writer.specs.Below.{are_apart, held_by, options_of, StreamPairs, New, Started}
 use Rattle.ipc_io.specs.Outside.{Rose}
-use Rattle.ipc_read.specs.Held.{held_in}
-use Rattle.ipc_read_laws.specs.PlainKinds.{plain_fields}
-use Rattle.ipc_files.specs.FileDictionaries.{HoldsUses}
-use Rattle.ipc_files.specs.FileViews.{FileSays, WasRead, file_custom, meta_view}
-use Rattle.ipc_files.specs.declared.metadata.FileMetadata.{FileMetadata}
-use Rattle.ipc_files.specs.Selections.{schema_shown}
-use Rattle.ipc_projection.specs.Projections.{MayProject}
+use Rattle.ipc_reader.specs.Below.{held_in, HoldsUses, FileSays, WasRead, file_custom, meta_view, FileMetadata, schema_shown, MayProject, WriteOptions}
+use Rattle.laws_sent.specs.Below.{plain_fields, IsNumbered}
 use Rattle.ipc_reader.specs.Kept.{HeldParts}
 use Rattle.ipc_reader.specs.declared.cursor.FileCursor.{FileCursor}
 use Rattle.ipc_reader.specs.declared.kept.KeptDictionaries.TheVariants.{Held, NotRead}
-use Rattle.ipc_write.specs.declared.options.WriteOptions.{WriteOptions}
-use Rattle.ipc_write_messages.specs.declared.pairs.StreamPairs.{StreamPairs}
-use Rattle.ipc_write_messages.specs.declared.state.WriterState.TheVariants.{New, Started}
-use Rattle.schema_writer.specs.Defaults.{IsNumbered}
 use Rattle.ipc_stream_writer.specs.Written.{IsWritten}
 use Rattle.ipc_stream_writer.specs.declared.stream.StreamCore.{StreamCore}
-use Rattle.part_laws.specs.Parts.{PartTree}
-use Rattle.part_laws.specs.Laws.{AreReadParts}
-use Rattle.sent_dictionaries.specs.Laws.{SendsNoMore}
+use Rattle.laws_sent.specs.Parts.{PartTree}
+use Rattle.laws_sent.specs.PartLaws.{AreReadParts}
+use Rattle.laws_sent.specs.DictionaryLaws.{SendsNoMore}
 use Rattle.ipc_transcode.specs.Transcode.{AddsPart, Transcodes}
 use Rattle.ipc_transcode.specs.declared.conversion.Summary.{Summary}
 

@@ -5,7 +5,7 @@ use Rattle.arrow_spec.specs.declared.error.IpcError.{IpcError}
 use Rattle.arrow_spec.specs.declared.error.IpcError.TheVariants as errors
 use Rattle.arrow_spec.specs.Files as files
 use Rattle.arrow_spec.specs.Files.{Request, ArrowTable, «all»}
-use Rattle.transcode_laws.specs.Files.{IsFrontOf, IsStreamOf, StopsBehind}
+use Rattle.laws_transcode.specs.Files.{IsFrontOf, IsStreamOf, StopsBehind}
 use Rattle.arrow_spec.specs.Meaning.{file_table, may}
 use Rattle.ipc_io.specs.Outside.{AppendsPrefix, Rose}
 use Rattle.ipc_transcode.specs.declared.conversion.Summary.{Summary}

@@ -2,16 +2,16 @@
 ghost use Rattle.std.specs.Prelude.{◌≡◌, ◌≤◌, true, IfOk, IfErr, IfSome, IsSome};
 ghost use Rattle.arrow_spec.specs.Meaning.{file_table};
 ghost use Rattle.ipc_io.specs.Outside.{Stands, SourceKept, SinkKept};
-ghost use Rattle.ipc_read_laws.specs.Projection.{columns_of};
+ghost use Rattle.laws_sent.specs.Below.{columns_of};
 ghost use Rattle.ipc_transcode.specs.Fetching.{FileFetched};
-ghost use Rattle.ipc_files.specs.Requests.{asked};
+ghost use Rattle.ipc_reader.specs.Below.{asked};
 ghost use Rattle.ipc_bodies.specs.Encodings.{text_of};
 ghost use Rattle.ipc_transcode.specs.Transcode.{Transcodes, AddsPart, TranscodeCause, IsSmallRefusal};
 
 use crate::send::send_file;
 use arrow_spec::IpcError;
 use ipc_bodies::Encoding;
-use ipc_schema::{Sink, Source};
+use ipc_reader::{Sink, Source};
 use std::alloc::Global;
 
 /// What was written: the number of record batches, the sum of their rows, and the number of bytes of the stream.

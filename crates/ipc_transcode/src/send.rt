@@ -7,10 +7,8 @@ ghost use Rattle.arrow_spec.specs.Kinds.{width};
 ghost use Rattle.ipc_fields.specs.IpcFields.{metadata_of};
 ghost use Rattle.ipc_io.specs.Outside.{IsSize, SinkKept, SourceKept};
 ghost use Rattle.ipc_bodies.specs.Encodings.{text_of};
-ghost use Rattle.ipc_read_laws.specs.Projection.{columns_of};
-ghost use Rattle.ipc_files.specs.FileViews.{WasRead, file_custom, meta_view};
-ghost use Rattle.ipc_files.specs.Requests.{asked};
-ghost use Rattle.ipc_projection.specs.Projections.{numbers_in};
+ghost use Rattle.laws_sent.specs.Below.{columns_of};
+ghost use Rattle.ipc_reader.specs.Below.{WasRead, file_custom, meta_view, asked, numbers_in};
 ghost use Rattle.ipc_stream_writer.specs.Calls.{IsFresh};
 ghost use Rattle.ipc_transcode.specs.Fetching.{FetchesSome, FetchesTo, FileFetched};
 ghost use Rattle.ipc_transcode.specs.Sends.{BeginsStream, IsNewWriter, IsReadBy, IsReader, IsUnsent, IsWriter, SendCause, Sending, SendsAll, SendsFile, SendsNext, SentRows, SentSoFar, schema_of_reader, send_options};
@@ -19,12 +17,10 @@ use crate::conversion::Summary;
 use arrow_spec::IpcError;
 use ipc_bodies::Encoding;
 use ipc_fields::copy_if_any;
-use ipc_files::{FileMetadata, read_file_metadata};
 use ipc_io::{Sink, Source};
-use ipc_reader::FileCursor;
-use ipc_stream_writer::StreamCore;
-use ipc_write::WriteOptions;
-use sent_schemas::types_have_no_ids;
+use ipc_reader::{FileCursor, FileMetadata, read_file_metadata};
+use ipc_stream_writer::{StreamCore, WriteOptions};
+use laws_sent::types_have_no_ids;
 use std::alloc::Global;
 
 /// How the stream is written: what goes on of a dictionary is sent as a delta.

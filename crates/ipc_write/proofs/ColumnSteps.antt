@@ -10,7 +10,7 @@ use Rattle.arrow_arrays.specs.Nodes.{counts_in}
 use Rattle.arrow_arrays.specs.Parts.{Parts, rows_in}
 use Rattle.arrow_arrays.specs.PartsOf.{parts_of, all_parts_of}
 use Rattle.arrow_arrays.specs.declared.array.Array.{Array}
-use Rattle.ipc_write_laws.specs.Streams.{pieces_of}
+use Rattle.ipc_write_arrays.specs.Below.{pieces_of}
 use Rattle.ipc_write_arrays.specs.Trims.{sent}
 use Rattle.ipc_write_arrays.specs.Outputs.{Outputs, outputs, written_behind}
 use Rattle.ipc_write_arrays.specs.Pieces.{nodes_in, pieces_in}

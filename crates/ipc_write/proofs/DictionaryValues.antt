@@ -10,7 +10,7 @@ use Rattle.arrow_spec.specs.Sent.{node_rows}
 use Rattle.arrow_arrays.specs.Nodes.{counts_in}
 use Rattle.arrow_arrays.specs.Parts.{Parts, leaf, nested, rows_in, fault_in}
 use Rattle.arrow_arrays.specs.Heads.{head_rows}
-use Rattle.ipc_write_laws.specs.Messages.{message_of_values}
+use Rattle.ipc_write_arrays.specs.Below.{message_of_values}
 use Rattle.ipc_write_arrays.specs.Outputs.{Outputs, written_behind}
 use Rattle.ipc_write_arrays.specs.Pieces.{nodes_in, pieces_in}
 use Rattle.ipc_write_arrays.specs.Trims.{sent}

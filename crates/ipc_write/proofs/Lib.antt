@@ -1,3 +1,4 @@
+pub mod Below
 pub mod Laying
 pub mod Putting
 mod Headers

@@ -11,10 +11,8 @@ use Rattle.arrow_arrays.specs.LeafParts.{LeafParts, binary_views, text_views}
 use Rattle.arrow_arrays.specs.Parts.{Parts, Forest, leaf, nested, none as no_parts, also, kind_in, rows_in, cells_in, fault_in}
 use Rattle.arrow_arrays.specs.PartsOf.{parts_of, all_parts_of}
 use Rattle.arrow_arrays.specs.declared.array.Array.{Array}
-use Rattle.ipc_write_laws.specs.Columns.{Means}
+use Rattle.ipc_write_arrays.specs.Below.{Means, plain_kind, AreOf}
 use Rattle.ipc_fields.proofs.SameKinds.{same_itself}
-use Rattle.ipc_read_laws.specs.PlainKinds.{plain_kind}
-use Rattle.ipc_write_laws.specs.Streams.{AreOf}
 use Rattle.ipc_write_arrays.specs.Dictionaries.{is_alike, HoldsValues}
 use Rattle.ipc_write_arrays.specs.Outputs.{LeafMayHaveOrder, MayHaveOrder, MayHaveOrderEach}
 use Rattle.ipc_write_arrays.specs.Pieces.{column_in, with_kind, IsMeant}

@@ -7,8 +7,7 @@ use Rattle.arrow_spec.specs.Flat.{Order, little}
 use Rattle.arrow_arrays.specs.LeafParts.{LeafParts, binary_views, text_views}
 use Rattle.arrow_arrays.specs.Nodes.{counts_in, counts_each, leaf_counts_in}
 use Rattle.arrow_arrays.specs.Parts.{Parts, Forest, leaf, nested, none, also}
-use Rattle.ipc_write_laws.specs.Columns.{WrittenColumn}
-use Rattle.ipc_write_laws.specs.Streams.{written_of}
+use Rattle.ipc_write_arrays.specs.Below.{WrittenColumn, written_of}
 use Rattle.ipc_write_arrays.specs.Outputs.{Outputs, written_behind}
 use Rattle.ipc_write_arrays.specs.Pieces.{column_in, head_pieces, leaf_pieces, nodes_in, pieces_in, tree_pieces, trees_pieces}
 use Rattle.ipc_write_arrays.specs.Trims.{sent}

@@ -8,7 +8,7 @@ use Rattle.arrow_spec.specs.Framing.{body_bytes, message_bytes, prefixed}
 use Rattle.arrow_spec.specs.Sent.{message, batch_node, may_be_sent}
 use Rattle.arrow_spec.proofs.NextMessages.{length-layout}
 use Rattle.arrow_arrays.specs.Batches.{Batch}
-use Rattle.ipc_write_laws.specs.Streams.{written_of, body_for, written_batch, batch_bytes}
+use Rattle.ipc_write_arrays.specs.Below.{written_of, body_for, written_batch, batch_bytes}
 use Rattle.ipc_write.specs.Batches.{columns_pieces, batch_message, batch_body, is_within, written_batch_of}
 use Rattle.ipc_write.specs.Outcomes.{message_frame, metadata_frame}
 use Rattle.ipc_write.proofs.ColumnSteps.{same_pieces}

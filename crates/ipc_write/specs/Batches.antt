@@ -8,8 +8,7 @@ use Rattle.arrow_spec.specs.Framing.{body_bytes}
 use Rattle.arrow_spec.specs.Sent.{SentMessage, message, batch_node}
 use Rattle.arrow_arrays.specs.Batches.{Batch}
 use Rattle.arrow_arrays.specs.Parts.{Parts}
-use Rattle.ipc_write_laws.specs.Columns.{WrittenColumn}
-use Rattle.ipc_write_laws.specs.Streams.{WrittenBatch, written_of}
+use Rattle.ipc_write_arrays.specs.Below.{WrittenColumn, WrittenBatch, written_of}
 use Rattle.ipc_write_arrays.specs.Pieces.{pieces_in, column_in}
 use Rattle.ipc_write.specs.Compaction.{top}
 

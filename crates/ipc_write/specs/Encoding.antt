@@ -10,7 +10,7 @@ use Rattle.arrow_spec.specs.Layout.{layout}
 use Rattle.arrow_spec.specs.WrittenSchemas.{CustomMayBeWritten}
 use Rattle.arrow_arrays.specs.Batches.{Batch}
 use Rattle.arrow_arrays.specs.Parts.{Parts, cells_in, fault_each, forest, kind_in, rows_in}
-use Rattle.ipc_write_laws.specs.Columns.{WrittenColumn, Means}
+use Rattle.ipc_write_arrays.specs.Below.{WrittenColumn, Means}
 use Rattle.ipc_write_arrays.specs.Dictionaries.{is_alike, first_kind, other_fields, HoldsValuesAt}
 use Rattle.ipc_write_arrays.specs.Pieces.{with_kind}
 use Rattle.ipc_write_arrays.specs.Outputs.{Outputs, outputs, written_behind}

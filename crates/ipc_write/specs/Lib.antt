@@ -1,3 +1,5 @@
+pub mod BelowWrittenParts
+pub mod Below
 pub mod Encoding
 pub mod Metadata
 pub mod Planned

@@ -8,8 +8,7 @@ use Rattle.arrow_spec.specs.Layout.{layout}
 use Rattle.arrow_spec.specs.Framing.{body_bytes}
 use Rattle.arrow_spec.specs.Sent.{SentMessage}
 use Rattle.arrow_arrays.specs.Parts.{Parts, rows_in}
-use Rattle.ipc_write_laws.specs.Streams.{written_of}
-use Rattle.ipc_write_laws.specs.Messages.{message_of_values}
+use Rattle.ipc_write_arrays.specs.Below.{written_of, message_of_values}
 use Rattle.ipc_write_arrays.specs.Pieces.{IsMeant, column_in, pieces_in}
 use Rattle.ipc_write.specs.Planned.{NodesFit, is_short}
 use Rattle.ipc_write.specs.declared.encoded.BodyPlan.{BodyPlan}

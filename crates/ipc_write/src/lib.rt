@@ -20,7 +20,9 @@ pub use encoded::{BodyPlan, EncodedData};
 pub use frame::{
     message_to_bytes, pad_to_64, write_continuation, write_message, write_plan, write_plan_as,
 };
-pub use ipc_bodies::{BodyBuffer, put_body};
+pub use ipc_bodies::{BodyBuffer, Encoding, put_body, put_body_as, put_bytes_as};
+pub use ipc_io::{PutError, Sink};
+pub use ipc_schema::{IpcSchema, default_ipc_fields, schema_message, serialize_schema};
 pub use ipc_write_arrays::write;
 pub use options::{Compression, WriteOptions};
 pub use record::Record;

@@ -1,3 +1,4 @@
+pub mod Below
 pub mod Adding
 pub mod Behind
 pub mod TrimLaws

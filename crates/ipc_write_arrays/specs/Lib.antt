@@ -1,3 +1,4 @@
+pub mod Below
 pub mod Trims
 pub mod CutsOf
 pub mod Dictionaries

@@ -11,4 +11,5 @@ mod outputs;
 mod trees;
 
 pub use array::{plan, write};
+pub use arrow_buffers::{BinaryViewArrayGeneric, Bitmap, Buffer, ViewType};
 pub use outputs::Outputs;

@@ -1,23 +1,16 @@
-//! Flatbuffers, types, numbers, buffers, arrays and batches, and the texts of errors. All of it is tests.
+//! What no case of a file says: calls at each type of numbers, flatbuffers that are built, pieces of bytes, items that are selected,
+//! records, objects over memory, and the texts of errors. All of it is tests.
 #![tactic(auto)]
 
-#[cfg(test)]
-mod arrays;
-#[cfg(test)]
-mod batches;
-#[cfg(test)]
-mod bodies;
-#[cfg(test)]
-mod buffers;
 #[cfg(test)]
 mod error_texts;
 #[cfg(test)]
 mod flatbuffers;
 #[cfg(test)]
-mod layouts;
+mod memory;
 #[cfg(test)]
 mod numbers;
 #[cfg(test)]
-mod types;
+mod parts;
 #[cfg(test)]
-mod writing;
+mod records;

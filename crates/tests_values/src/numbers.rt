@@ -13,19 +13,18 @@ fn is_written_as<T: NativeType + PartialEq>(value: T, little: &[u8], big: &[u8])
         && T::from_be_bytes(big) == value
 }
 
+/// The number 1 in 16 bytes, lowest first and highest first.
+const ONE_LOW: [u8; 16] = [1, 0, 0, 0, 0, 0, 0, 0, 0, 0, 0, 0, 0, 0, 0, 0];
+
+const ONE_HIGH: [u8; 16] = [0, 0, 0, 0, 0, 0, 0, 0, 0, 0, 0, 0, 0, 0, 0, 1];
+
 #[test]
 fn signed_numbers_as_bytes(rt: HostRuntime) {
     assert!(rt; is_written_as(-2i8, b"\xFE", b"\xFE"));
     assert!(rt; is_written_as(-2i16, b"\xFE\xFF", b"\xFF\xFE"));
     assert!(rt; is_written_as(0x0102_0304i32, b"\x04\x03\x02\x01", b"\x01\x02\x03\x04"));
     assert!(rt; is_written_as(-1i64, &[0xff; 8], &[0xff; 8]));
-    assert!(rt;
-        is_written_as(
-            1i128,
-            b"\x01\0\0\0\0\0\0\0\0\0\0\0\0\0\0\0",
-            b"\0\0\0\0\0\0\0\0\0\0\0\0\0\0\0\x01"
-        )
-    );
+    assert!(rt; is_written_as(1i128, &ONE_LOW, &ONE_HIGH));
 }
 
 #[test]
@@ -90,15 +89,22 @@ fn takes_every_index<K: DictionaryKey>() -> bool {
 }
 
 #[test]
-fn offsets_and_keys(rt: HostRuntime) {
+fn offsets_end(rt: HostRuntime) {
     assert!(rt; offsets_end_at(-1i32, 0x8000_0000));
     assert!(rt; offsets_end_at(-1i64, 0x8000_0000_0000_0000));
+}
+
+#[test]
+fn signed_keys_end(rt: HostRuntime) {
     assert!(rt; keys_end_at::<i8>(128) && keys_end_at::<i16>(32_768));
     assert!(rt; keys_end_at::<i32>(0x8000_0000) && keys_end_at::<i64>(0x8000_0000_0000_0000));
-    assert!(rt;
-        keys_end_at::<u8>(256) && keys_end_at::<u16>(65_536) && keys_end_at::<u32>(0x1_0000_0000)
-    );
+    assert!(rt; DictionaryKey::to_usize(-1i8).is_none());
+}
+
+#[test]
+fn unsigned_and_wide_keys_end(rt: HostRuntime) {
+    assert!(rt; keys_end_at::<u8>(256) && keys_end_at::<u16>(65_536));
+    assert!(rt; keys_end_at::<u32>(0x1_0000_0000));
     assert!(rt; takes_every_index::<u64>() && takes_every_index::<i128>());
     assert!(rt; DictionaryKey::to_usize(0x1_0000_0000_0000_0000i128).is_none());
-    assert!(rt; DictionaryKey::to_usize(-1i8).is_none());
 }

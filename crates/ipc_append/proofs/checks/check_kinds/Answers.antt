@@ -1,7 +1,7 @@
 use Rattle.std.proofs.Common.{None}
 use Rattle.arrow_spec.specs.Features.{chosen_floats}
 use Rattle.ipc_append.proofs.Appending.{kinds_told}
-use Rattle.ipc_files.specs.FileViews.{meta_view}
+use Rattle.ipc_streams.specs.Below.{meta_view}
 use Rattle.ipc_append.proofs.checks.check_kinds.Goals as goal
 
 pub returns : goal.returns

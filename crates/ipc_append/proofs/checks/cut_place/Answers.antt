@@ -1,5 +1,5 @@
 use Rattle.std.proofs.Common.{arith, sym, ◌∙◌}
-use Rattle.ipc_dictionaries.proofs.PartSteps.{handed}
+use Rattle.ipc_file_writer.proofs.Below.{handed}
 use Rattle.ipc_append.specs.Appends.{cut_place}
 use Rattle.ipc_append.specs.Places.{Tells}
 use Rattle.ipc_append.proofs.Cutting.{IsPlain, big_endian, compressed, cut_at, end_refused, floats_refused, is_asked, many_pairs, not_asked, too_far}

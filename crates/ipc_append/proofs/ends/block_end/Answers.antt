@@ -3,7 +3,7 @@ use Rattle.std.proofs.lemmas.Int.{to_z-of_z}
 use Rattle.arrow_spec.specs.Readings.{IsAmong, natural, refusals}
 use Rattle.ipc_append.proofs.Places.{body_refused, end_is, metadata_refused, offset_refused, widened}
 use Rattle.ipc_append.specs.Places.{Tells, block_end}
-use Rattle.ipc_dictionaries.proofs.PartSteps.{handed}
+use Rattle.ipc_file_writer.proofs.Below.{handed}
 use Rattle.ipc_append.proofs.ends.block_end.Goals as goal
 
 pub returns-in_err-offset : goal.returns-in_err-offset

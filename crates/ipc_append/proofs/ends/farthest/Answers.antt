@@ -1,7 +1,7 @@
 use Rattle.std.proofs.Common.{◌+◌, ap, arith, drop, ◌∙◌}
 use Rattle.ipc_append.proofs.Places.{all_done, one_more, one_refused}
 use Rattle.ipc_append.specs.Places.{Tells, farthest}
-use Rattle.ipc_dictionaries.proofs.PartSteps.{handed}
+use Rattle.ipc_file_writer.proofs.Below.{handed}
 use Rattle.ipc_append.proofs.ends.farthest.Goals as goal
 
 pub returns-in_err-behind : goal.returns-in_err-behind

@@ -2,7 +2,7 @@ use Rattle.std.proofs.Common.{ap, sym, subst, ◌∙◌}
 use Rattle.arrow_spec.specs.Readings.{IsAmong, refusals}
 use Rattle.ipc_append.proofs.Places.{dictionary_refused, end_found, no_batch, none_there, past_end, record_refused, some_there}
 use Rattle.ipc_append.specs.Places.{Tells, farthest, last_end}
-use Rattle.ipc_dictionaries.proofs.PartSteps.{handed}
+use Rattle.ipc_file_writer.proofs.Below.{handed}
 use Rattle.ipc_append.proofs.ends.last_end.Goals as goal
 
 pub returns-then-is_empty : goal.returns-then-is_empty

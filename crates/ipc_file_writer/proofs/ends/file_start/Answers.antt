@@ -1,7 +1,7 @@
 use Rattle.arrow_types.specs.Schemas.{fields_in}
-use Rattle.ipc_dictionaries.proofs.PartSteps.{handed}
+use Rattle.ipc_messages.proofs.Below.{handed}
 use Rattle.ipc_fields.specs.IpcFields.{ids_of}
-use Rattle.ipc_write_messages.specs.Schemas.{GivesText}
+use Rattle.ipc_messages.specs.Schemas.{GivesText}
 use Rattle.ipc_file_writer.specs.Ends.{file_start}
 use Rattle.ipc_file_writer.proofs.Ending.{front_then, start_given, start_refused}
 use Rattle.ipc_file_writer.proofs.ends.file_start.Goals as goal

@@ -2,7 +2,7 @@ use Rattle.std.proofs.Common.{ap, arith, map, ◌∙◌}
 use Rattle.std.specs.List.{flat_map}
 use Rattle.std.proofs.lemmas.List.{take_all}
 use Rattle.arrow_spec.specs.Footers.{block_bytes}
-use Rattle.ipc_schema.specs.Footers.{file_block}
+use Rattle.ipc_messages.specs.Below.{file_block}
 use Rattle.ipc_file_writer.proofs.BlockBytes.{bytes_more}
 use Rattle.ipc_file_writer.proofs.footer.blocks_bytes.Goals as goal
 

@@ -2,7 +2,7 @@ use Rattle.std.proofs.Common.{arith}
 use Rattle.std.proofs.lemmas.List.{length-map}
 use Rattle.arrow_flat.specs.Nodes.{node_of}
 use Rattle.ipc_fields.specs.IpcFields.{metadata_in}
-use Rattle.ipc_schema.specs.Footers.{file_block}
+use Rattle.ipc_messages.specs.Below.{file_block}
 use Rattle.ipc_file_writer.specs.Blocks.{file_blocks}
 use Rattle.ipc_file_writer.proofs.FooterNodes.{many_dictionaries, many_records}
 use Rattle.ipc_file_writer.proofs.footer.footer_bytes.Goals as goal

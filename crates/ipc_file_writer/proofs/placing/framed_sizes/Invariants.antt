@@ -1,5 +1,5 @@
 use Rattle.std.proofs.Common.{◌≡◌, map, take}
-use Rattle.ipc_framed_messages.specs.Framed.{framed_sizes}
+use Rattle.ipc_messages.specs.Framed.{framed_sizes}
 use Rattle.ipc_file_writer.specs.Blocks.{message_sizes}
 use Rattle.ipc_file_writer.proofs.placing.framed_sizes.Given as goal
 

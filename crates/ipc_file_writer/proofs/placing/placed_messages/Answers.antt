@@ -1,6 +1,6 @@
 use Rattle.std.proofs.Common.{arith, inr, map}
 use Rattle.std.proofs.lemmas.List.{take_all}
-use Rattle.ipc_dictionaries.proofs.PartSteps.{handed}
+use Rattle.ipc_messages.proofs.Below.{handed}
 use Rattle.ipc_file_writer.specs.Blocks.{PlacesAll, message_sizes}
 use Rattle.ipc_file_writer.proofs.PlacedBlocks.{all_blocks, no_blocks, one_less, one_more}
 use Rattle.ipc_file_writer.proofs.placing.placed_messages.Goals as goal

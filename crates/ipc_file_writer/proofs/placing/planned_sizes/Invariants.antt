@@ -1,5 +1,5 @@
 use Rattle.std.proofs.Common.{◌≡◌, map, take}
-use Rattle.ipc_write_messages.specs.Messages.{planned_sizes}
+use Rattle.ipc_messages.specs.Messages.{planned_sizes}
 use Rattle.ipc_file_writer.specs.Blocks.{message_sizes}
 use Rattle.ipc_file_writer.proofs.placing.planned_sizes.Given as goal
 

@@ -5,13 +5,13 @@ use Rattle.arrow_types.specs.Schemas.{fields_in}
 use Rattle.ipc_fields.specs.IpcFields.{fields_with, ids_of}
 use Rattle.ipc_read.specs.Batches.{are_column_kinds}
 use Rattle.ipc_read.specs.Held.{held_in}
-use Rattle.ipc_read_laws.specs.Projection.{columns_of}
+use Rattle.ipc_projection.specs.Below.{columns_of}
 use Rattle.ipc_files.specs.Blocks.{asked_under}
 use Rattle.ipc_files.specs.Fetching.{BlockFetched}
 use Rattle.ipc_files.specs.FileViews.{meta_view}
 use Rattle.ipc_files.specs.Requests.{asked}
 use Rattle.ipc_files.proofs.Errors.{is_err}
-use Rattle.ipc_read_laws.proofs.ChosenFloats.{chosen_with}
+use Rattle.ipc_projection.proofs.Below.{chosen_with}
 use Rattle.ipc_files.proofs.ReadBatches.{batch_given, block_given, indexed, kinds_cause, kinds_refused}
 use Rattle.ipc_files.proofs.ReadColumns.{columns_read}
 use Rattle.ipc_files.proofs.ReadFiles.{of_err}

@@ -2,14 +2,14 @@ use Rattle.std.proofs.Common.{◌≡◌, Ok, Err, subst, sym, true}
 use Rattle.std.specs.Rc.{rc_value}
 use Rattle.ipc_fields.specs.IpcFields.{ids_of}
 use Rattle.ipc_read.specs.Held.{held_in}
-use Rattle.ipc_read_laws.specs.Projection.{are_columns, columns_of}
+use Rattle.ipc_projection.specs.Below.{are_columns, columns_of}
 use Rattle.ipc_files.specs.Blocks.{asked_under}
 use Rattle.ipc_files.specs.FileBlocks.{file_block, paired_of}
 use Rattle.ipc_files.specs.FileViews.{meta_view}
 use Rattle.ipc_files.specs.Requests.{asked}
 use Rattle.ipc_files.proofs.Errors.{is_err}
 use Rattle.ipc_files.proofs.FetchedFiles.{block_front, block_whole}
-use Rattle.ipc_read_laws.proofs.HeldUses.{each_use, held_fields}
+use Rattle.ipc_projection.proofs.Below.{each_use, held_fields}
 use Rattle.ipc_files.proofs.ReadColumns.{columns_read}
 use Rattle.ipc_files.proofs.FieldCounts.{field_count}
 use Rattle.ipc_files.proofs.ReadFiles.{block_answer, block_paired, block_unpaired, file_width, given_in, message_err, refused_in, same_order}

@@ -3,9 +3,9 @@ use Rattle.std.proofs.lemmas.Int.{to_z-of_z}
 use Rattle.std.specs.Rc.{rc_value}
 use Rattle.arrow_spec.specs.Arrays.{Dictionaries}
 use Rattle.ipc_read.specs.Held.{held_in}
-use Rattle.ipc_read_laws.specs.Held.{HoldsCells}
+use Rattle.ipc_projection.specs.Below.{HoldsCells}
 use Rattle.ipc_fields.specs.IpcFields.{ids_of, metadata_of}
-use Rattle.ipc_read_laws.proofs.HeldUses.{each_use, each_value}
+use Rattle.ipc_projection.proofs.Below.{each_use, each_value}
 use Rattle.ipc_files.specs.FileBlocks.{file_block}
 use Rattle.ipc_files.specs.FileDictionaries.{HoldsBlock, done}
 use Rattle.ipc_files.specs.FileViews.{meta_view}

@@ -6,12 +6,12 @@ use Rattle.arrow_spec.specs.Features.{chosen_floats}
 use Rattle.arrow_types.specs.Schemas.{fields_in}
 use Rattle.ipc_fields.specs.IpcFields.{ids_of}
 use Rattle.ipc_read.specs.Batches.{are_column_kinds}
-use Rattle.ipc_read_laws.specs.Projection.{are_rising, columns_of}
+use Rattle.ipc_projection.specs.Below.{are_rising, columns_of}
 use Rattle.ipc_read.specs.Sources.{Answers}
 use Rattle.ipc_files.specs.FileViews.{meta_view}
 use Rattle.ipc_files.specs.Selections.{numbers_read}
 use Rattle.ipc_files.proofs.InOrder.{floats_asked, made_rising}
-use Rattle.ipc_read_laws.proofs.ChosenFloats.{chosen_with}
+use Rattle.ipc_projection.proofs.Below.{chosen_with}
 use Rattle.ipc_files.proofs.ReadColumns.{columns_read}
 use Rattle.ipc_files.proofs.ordered.check_columns.Goals as goal
 

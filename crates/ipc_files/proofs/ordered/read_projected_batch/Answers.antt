@@ -3,7 +3,7 @@ use Rattle.std.specs.Prelude.{option_copied}
 use Rattle.std.specs.Rc.{rc_value}
 use Rattle.ipc_read.specs.Batches.{kinds_of}
 use Rattle.ipc_read.specs.Held.{held_in}
-use Rattle.ipc_read_laws.specs.Projection.{are_columns, are_rising, chosen, columns_of}
+use Rattle.ipc_projection.specs.Below.{are_columns, are_rising, chosen, columns_of}
 use Rattle.ipc_files.specs.Selections.{numbers_read}
 use Rattle.ipc_projection.specs.Projections.{MayProject}
 use Rattle.ipc_files.proofs.Errors.{is_err}

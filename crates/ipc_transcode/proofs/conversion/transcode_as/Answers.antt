@@ -1,5 +1,5 @@
-use Rattle.ipc_read_laws.specs.Projection.{columns_of}
-use Rattle.ipc_files.specs.Requests.{asked}
+use Rattle.laws_sent.specs.Below.{columns_of}
+use Rattle.ipc_reader.specs.Below.{asked}
 use Rattle.ipc_transcode.proofs.Asking.{cause_of, part_of, whole_of}
 use Rattle.ipc_transcode.proofs.Refusing.{complete_by_cause}
 use Rattle.ipc_transcode.proofs.conversion.transcode_as.Goals as goal

@@ -2,8 +2,8 @@ use Rattle.std.proofs.Common.{◌≡◌, None, Ok, Err, sym, ◌∙◌, subst}
 use Rattle.arrow_types.specs.Schemas.{fields_in}
 use Rattle.ipc_bodies.specs.Encodings.{text_of}
 use Rattle.ipc_bodies.specs.Puts.{moved}
-use Rattle.ipc_files.proofs.Errors.{is_err}
-use Rattle.ipc_read_laws.specs.PlainKinds.{plain_fields}
+use Rattle.ipc_reader.proofs.Below.{is_err}
+use Rattle.laws_sent.specs.Below.{plain_fields}
 use Rattle.ipc_stream_writer.specs.Calls.{Starts}
 use Rattle.ipc_transcode.specs.Sends.{IsNewWriter}
 use Rattle.ipc_transcode.proofs.Begins.{begins, begun, new_of}

@@ -1,6 +1,6 @@
 use Rattle.std.proofs.Common.{◌<◌, IfSome, ◌≡◌, ℕ, Option, Ok, Err, ◌+◌, ◌^◌, ◌∙◌, sym, ap, subst, arith}
 use Rattle.ipc_io.proofs.Kept.{sink_kept_on, source_kept_on}
-use Rattle.ipc_files.proofs.Errors.{is_err}
+use Rattle.ipc_reader.proofs.Below.{is_err}
 use Rattle.ipc_transcode.specs.Sends.{IsWriter, schema_of_reader}
 use Rattle.ipc_transcode.specs.declared.conversion.Summary.{Summary}
 use Rattle.ipc_transcode.proofs.AllBatches.{NextOf, SentSome, no_more, one_more, refused}

@@ -1,10 +1,7 @@
 use Rattle.std.proofs.Common.{◌≡◌, Ok, Err, length, refl, sym, subst}
-use Rattle.ipc_read_laws.specs.Projection.{columns_of}
-use Rattle.ipc_files.specs.Requests.{asked}
-use Rattle.ipc_files.proofs.Errors.{is_err}
-use Rattle.ipc_files.proofs.ReadFiles.{file_width}
-use Rattle.ipc_files.proofs.Selected.{right_of_file}
-use Rattle.ipc_projection.specs.Projections.{MayProject}
+use Rattle.laws_sent.specs.Below.{columns_of}
+use Rattle.ipc_reader.specs.Below.{asked, MayProject}
+use Rattle.ipc_reader.proofs.Below.{is_err, file_width, right_of_file}
 use Rattle.arrow_spec.specs.Files.{columns_right}
 use Rattle.std.specs.Rc.{rc_value}
 use Rattle.ipc_transcode.proofs.Asks.{columns_not_right, numbers_cause, wrong_as}

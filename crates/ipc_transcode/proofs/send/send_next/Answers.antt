@@ -1,10 +1,10 @@
 use Rattle.std.proofs.Common.{◌≡◌, Some, Ok, Err, refl, subst}
-use Rattle.ipc_files.proofs.Errors.{is_err}
+use Rattle.ipc_reader.proofs.Below.{is_err}
 use Rattle.ipc_reader.specs.Reads.{NextBatch}
 use Rattle.ipc_transcode.proofs.Calls.{next_none, next_not_written, next_refused, next_written}
 use Rattle.ipc_transcode.proofs.WriteCauses.{write_cause}
-use Rattle.sent_dictionaries.proofs.FileSent.{file_sent}
-use Rattle.sent_dictionaries.proofs.Right.{columns_right}
+use Rattle.laws_sent.proofs.FileSent.{file_sent}
+use Rattle.laws_sent.proofs.Right.{columns_right}
 use Rattle.ipc_transcode.proofs.FetchedBlocks.{next_fetches}
 use Rattle.ipc_transcode.proofs.send.send_next.Goals as goal
 

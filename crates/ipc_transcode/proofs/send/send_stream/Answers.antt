@@ -1,6 +1,6 @@
 use Rattle.std.proofs.Common.{◌≡◌, ◌≤◌, Err, refl, arith}
 use Rattle.ipc_bodies.specs.Puts.{moved}
-use Rattle.ipc_files.proofs.Errors.{is_err}
+use Rattle.ipc_reader.proofs.Below.{is_err}
 use Rattle.ipc_transcode.proofs.Streams.{batches_refused, end_refused, stream_sent}
 use Rattle.ipc_transcode.proofs.FetchedCalls.{stream_fetched}
 use Rattle.ipc_transcode.proofs.send.send_stream.Goals as goal

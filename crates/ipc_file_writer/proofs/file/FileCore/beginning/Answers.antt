@@ -2,7 +2,7 @@ use Rattle.std.proofs.Common.{subst}
 use Rattle.std.specs.Prelude.{IfOk}
 use Rattle.arrow_types.specs.Schemas.{fields_in}
 use Rattle.ipc_fields.specs.IpcFields.{fields_with}
-use Rattle.ipc_write_messages.specs.Schemas.{GivesText, StartMayBeWritten}
+use Rattle.ipc_messages.specs.Schemas.{GivesText, StartMayBeWritten}
 use Rattle.ipc_file_writer.specs.Calls.{file_ids}
 use Rattle.ipc_file_writer.specs.Ends.{file_start, no_pairs}
 use Rattle.ipc_file_writer.proofs.file.FileCore.beginning.Goals as goal

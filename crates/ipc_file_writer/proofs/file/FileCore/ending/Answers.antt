@@ -6,13 +6,13 @@ use Rattle.arrow_spec.specs.WrittenSchemas.{Ascend}
 use Rattle.arrow_spec.specs.declared.error.IpcError.TheVariants.{TooLarge}
 use Rattle.arrow_flat.specs.Nodes.{node_of}
 use Rattle.arrow_types.specs.Schemas.{fields_in}
-use Rattle.ipc_dictionaries.proofs.PartSteps.{handed}
+use Rattle.ipc_messages.proofs.Below.{handed}
 use Rattle.ipc_fields.specs.IpcFields.{metadata_in, metadata_of}
 use Rattle.schema_writer.specs.Serialized.{serialized}
-use Rattle.ipc_write.specs.Metadata.{BuildsMetadata}
-use Rattle.ipc_write_messages.specs.Schemas.{GivesText}
+use Rattle.ipc_messages.specs.Below.{BuildsMetadata}
+use Rattle.ipc_messages.specs.Schemas.{GivesText}
 use Rattle.ipc_file_writer.specs.Calls.{ending_of, file_ids, file_schema}
-use Rattle.written_files.specs.Files.{file_end}
+use Rattle.laws_files.specs.Files.{file_end}
 use Rattle.ipc_file_writer.proofs.Meaning.{ended_file}
 use Rattle.ipc_file_writer.proofs.Ending.{ending_refused, footer_far, footer_given, footer_is, footer_large, footer_refused, lent_as}
 use Rattle.ipc_file_writer.proofs.file.FileCore.ending.Goals as goal

@@ -1,7 +1,7 @@
 use Rattle.std.proofs.Common.{◌≡◌, false, inl, refl, subst, sym, true, ◌∙◌}
 use Rattle.std.specs.Io.KnownBytes.{Appends}
-use Rattle.ipc_write_messages.specs.States.{is_started}
-use Rattle.ipc_write_messages.proofs.Putting.{untouched}
+use Rattle.ipc_messages.specs.States.{is_started}
+use Rattle.ipc_messages.proofs.Putting.{untouched}
 use Rattle.ipc_file_writer.proofs.Calling.{leaves, not_ended}
 use Rattle.ipc_file_writer.proofs.file.FileCore.finish.Goals as goal
 

@@ -1,7 +1,7 @@
 use Rattle.std.proofs.Common.{refl, subst}
 use Rattle.arrow_types.specs.Schemas.{fields_in}
 use Rattle.ipc_fields.specs.IpcFields.{ids_of}
-use Rattle.ipc_write_messages.specs.Fields.{AreIdsFor}
+use Rattle.ipc_messages.specs.Fields.{AreIdsFor}
 use Rattle.ipc_file_writer.specs.Fields.{own_ids}
 use Rattle.ipc_file_writer.proofs.file.FileCore.new.Goals as goal
 

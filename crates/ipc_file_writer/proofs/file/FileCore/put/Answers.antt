@@ -1,5 +1,5 @@
 use Rattle.std.proofs.Common.{map, refl}
-use Rattle.ipc_dictionaries.specs.Walks.{to_send}
+use Rattle.ipc_messages.specs.Below.{to_send}
 use Rattle.ipc_file_writer.proofs.BatchSteps.{all_put}
 use Rattle.ipc_file_writer.proofs.file.FileCore.put.Goals as goal
 

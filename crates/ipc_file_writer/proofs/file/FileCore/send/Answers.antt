@@ -1,7 +1,7 @@
 use Rattle.std.proofs.Common.{Ok, ap, refl, ◌∙◌}
 use Rattle.arrow_arrays.specs.PartsOf.{all_parts_of}
-use Rattle.ipc_write_messages.specs.States.{state_behind}
-use Rattle.ipc_write_messages.proofs.Finding.{found_in}
+use Rattle.ipc_messages.specs.States.{state_behind}
+use Rattle.ipc_messages.proofs.Finding.{found_in}
 use Rattle.ipc_file_writer.proofs.BatchSteps.{not_sent, undone_so}
 use Rattle.ipc_file_writer.proofs.file.FileCore.send.Goals as goal
 

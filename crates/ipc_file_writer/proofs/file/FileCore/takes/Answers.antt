@@ -1,4 +1,4 @@
-use Rattle.ipc_write_messages.specs.Fields.{given_ids}
+use Rattle.ipc_messages.specs.Fields.{given_ids}
 use Rattle.ipc_file_writer.proofs.Calling.{suits_as}
 use Rattle.ipc_file_writer.proofs.file.FileCore.takes.Goals as goal
 

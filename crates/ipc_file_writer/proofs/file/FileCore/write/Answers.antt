@@ -1,7 +1,7 @@
 use Rattle.std.proofs.Common.{◌≡◌, false, inl, inr, refl, sym, true, true≢false, ◌∙◌}
-use Rattle.ipc_write_messages.specs.Fields.{given_ids}
-use Rattle.ipc_write_messages.specs.States.{is_started}
-use Rattle.ipc_write_messages.proofs.Putting.{untouched}
+use Rattle.ipc_messages.specs.Fields.{given_ids}
+use Rattle.ipc_messages.specs.States.{is_started}
+use Rattle.ipc_messages.proofs.Putting.{untouched}
 use Rattle.ipc_file_writer.proofs.Calling.{as_written, leaves}
 use Rattle.ipc_file_writer.proofs.file.FileCore.write.Goals as goal
 

@@ -1,5 +1,5 @@
 use Rattle.std.proofs.Common.{Err, inr, subst, sym}
-use Rattle.ipc_bodies.specs.Puts.{moved}
+use Rattle.ipc_messages.specs.Below.{moved}
 use Rattle.ipc_file_writer.specs.Calls.{HasBegun, Starts}
 use Rattle.ipc_file_writer.proofs.writer.FileWriter.try_new.Goals as goal
 

@@ -5,9 +5,8 @@ use Rattle.ipc_files.proofs.Errors.{is_err}
 use Rattle.ipc_files.proofs.ReadFiles.{of_err}
 use Rattle.ipc_files.specs.FileViews.{meta_view}
 use Rattle.ipc_files.specs.Selections.{HasFields, IsMade, schema_shown}
-use Rattle.ipc_projection.specs.Projections.{MayProject}
+use Rattle.ipc_files.specs.Below.{MayProject, ProjectionInfo}
 use Rattle.ipc_files.specs.Requests.{asked}
-use Rattle.ipc_projection.specs.declared.projection.ProjectionInfo.{ProjectionInfo}
 use Rattle.ipc_reader.proofs.HeldDictionaries.{batch_goes, batch_stops, cause_since, fetched_going, fetched_stopping, file_kept, goes_kept, ok_none, read_goes, stops_kept}
 use Rattle.ipc_reader.proofs.cursor.FileCursor.read_current.Goals as goal
 

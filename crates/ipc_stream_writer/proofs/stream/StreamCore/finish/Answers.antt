@@ -1,7 +1,7 @@
 use Rattle.std.proofs.Common.{◌≡◌, inl, refl, sym, ◌∙◌, true, false}
 use Rattle.ipc_bodies.specs.Encodings.{text_of}
-use Rattle.ipc_write_messages.specs.States.{is_started}
-use Rattle.ipc_write_messages.proofs.Putting.{untouched}
+use Rattle.ipc_messages.specs.States.{is_started}
+use Rattle.ipc_messages.proofs.Putting.{untouched}
 use Rattle.ipc_stream_writer.proofs.Calling.{finish_stopped, leaves}
 use Rattle.ipc_stream_writer.proofs.Meaning.{ended_written}
 use Rattle.ipc_stream_writer.proofs.stream.StreamCore.finish.Goals as goal

@@ -1,9 +1,9 @@
 use Rattle.std.proofs.Common.{◌≡◌, inl, refl, sym, ◌∙◌, true, false}
 use Rattle.ipc_bodies.specs.Encodings.{text_of}
-use Rattle.ipc_write_messages.specs.Fields.{given_ids}
-use Rattle.ipc_write_messages.specs.States.{is_new}
-use Rattle.ipc_write_messages.proofs.Beginning.{text_plain}
-use Rattle.ipc_write_messages.proofs.Putting.{untouched}
+use Rattle.ipc_messages.specs.Fields.{given_ids}
+use Rattle.ipc_messages.specs.States.{is_new}
+use Rattle.ipc_messages.proofs.Beginning.{text_plain}
+use Rattle.ipc_messages.proofs.Putting.{untouched}
 use Rattle.ipc_stream_writer.proofs.Calling.{has_begun, leaves, none_is, not_begun, start_stopped}
 use Rattle.ipc_stream_writer.proofs.stream.StreamCore.start.Goals as goal
 

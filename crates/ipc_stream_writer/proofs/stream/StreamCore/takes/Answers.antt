@@ -1,7 +1,7 @@
 use Rattle.std.proofs.Common.{subst, sym}
 use Rattle.ipc_fields.specs.IpcFields.{ids_of}
-use Rattle.ipc_write_messages.specs.Batches.{Suits}
-use Rattle.ipc_write_messages.specs.Fields.{given_ids}
+use Rattle.ipc_messages.specs.Batches.{Suits}
+use Rattle.ipc_messages.specs.Fields.{given_ids}
 use Rattle.ipc_stream_writer.proofs.stream.StreamCore.takes.Goals as goal
 
 pub returns : goal.returns

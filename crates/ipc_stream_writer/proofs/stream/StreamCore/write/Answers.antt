@@ -1,8 +1,8 @@
 use Rattle.std.proofs.Common.{◌≡◌, inl, inr, refl, sym, ◌∙◌, true, false, true≢false}
 use Rattle.ipc_bodies.specs.Encodings.{text_of}
-use Rattle.ipc_write_messages.specs.Fields.{given_ids}
-use Rattle.ipc_write_messages.specs.States.{is_started}
-use Rattle.ipc_write_messages.proofs.Putting.{untouched}
+use Rattle.ipc_messages.specs.Fields.{given_ids}
+use Rattle.ipc_messages.specs.States.{is_started}
+use Rattle.ipc_messages.proofs.Putting.{untouched}
 use Rattle.ipc_stream_writer.proofs.Calling.{as_written, leaves}
 use Rattle.ipc_stream_writer.proofs.stream.StreamCore.write.Goals as goal
 

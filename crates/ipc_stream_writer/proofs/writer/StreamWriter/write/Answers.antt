@@ -2,7 +2,7 @@ use Rattle.std.proofs.Common.{subst}
 use Rattle.ipc_bodies.specs.Encodings.{text_of}
 use Rattle.ipc_bodies.specs.Puts.{moved}
 use Rattle.ipc_bodies.specs.declared.encoding.Encoding.{Encoding}
-use Rattle.ipc_write_messages.specs.Fields.{given_ids}
+use Rattle.ipc_messages.specs.Fields.{given_ids}
 use Rattle.ipc_stream_writer.specs.Calls.{Writes}
 use Rattle.ipc_stream_writer.proofs.writer.StreamWriter.write.Goals as goal
 

@@ -1,7 +1,7 @@
 use Rattle.std.proofs.Common.{◌≡◌, ◌∙◌, Err, ap, refl}
 use Rattle.std.specs.Rc.{rc_value}
-use Rattle.ipc_read.specs.Held.{held_in}
-use Rattle.ipc_schema.specs.Views.{message_of}
+use Rattle.ipc_files.specs.Below.{held_in}
+use Rattle.ipc_files.specs.BelowViews.{message_of}
 use Rattle.ipc_files.specs.Selections.{numbers_read}
 use Rattle.ipc_files.proofs.Errors.{is_err}
 use Rattle.ipc_files.proofs.InOrder.{floats_asked, may_reorder, none_shown}

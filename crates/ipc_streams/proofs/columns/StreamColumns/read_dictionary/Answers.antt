@@ -1,7 +1,6 @@
 use Rattle.std.proofs.Common.{ap, rules, w64}
 use Rattle.std.proofs.lemmas.Int.{to_z-of_z}
-use Rattle.ipc_read.specs.Held.{held_in}
-use Rattle.ipc_read.specs.declared.body.Body.{Body}
+use Rattle.ipc_files.specs.Below.{held_in, Body}
 use Rattle.ipc_streams.specs.Starts.{stream_schema}
 use Rattle.ipc_streams.proofs.ReadBatches.{dictionary_added, values_kept}
 use Rattle.ipc_streams.proofs.StreamSchemas.{field_count, held_values, may_read_values}

@@ -1,5 +1,5 @@
 use Rattle.std.proofs.Common.{◌≡◌, ◌<◌, ◌-◌, Err, IfSome, Ok, ap, arith, refl, rules, subst, sym}
-use Rattle.ipc_read.specs.Held.{held_in}
+use Rattle.ipc_files.specs.Below.{held_in}
 use Rattle.ipc_files.proofs.Errors.{is_err}
 use Rattle.ipc_files.proofs.ReadFiles.{of_err}
 use Rattle.ipc_files.specs.Selections.{HasFields}

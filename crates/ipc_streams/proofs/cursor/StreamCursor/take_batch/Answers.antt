@@ -1,9 +1,8 @@
 use Rattle.std.proofs.Common.{◌≡◌, ◌∙◌, Err, ap, refl, rules}
 use Rattle.ipc_fields.specs.IpcFields.{metadata_of}
 use Rattle.arrow_arrays.specs.Batches.{Batch}
-use Rattle.ipc_read.specs.Batches.{table_of}
-use Rattle.ipc_read.specs.Held.{held_in}
-use Rattle.ipc_schema.specs.Views.{message_of}
+use Rattle.ipc_files.specs.Below.{table_of, held_in}
+use Rattle.ipc_files.specs.BelowViews.{message_of}
 use Rattle.ipc_files.proofs.Errors.{is_err}
 use Rattle.ipc_streams.specs.Starts.{stream_schema}
 use Rattle.ipc_streams.proofs.Handed.{decoded_cause, of_bytes}

@@ -1,6 +1,5 @@
 use Rattle.std.proofs.Common.{◌≡◌, Err, refl, rules}
-use Rattle.ipc_read.specs.Held.{held_in}
-use Rattle.ipc_schema.specs.Headers.{dictionary_message_of}
+use Rattle.ipc_files.specs.Below.{held_in, dictionary_message_of}
 use Rattle.ipc_files.proofs.Errors.{is_err}
 use Rattle.ipc_streams.specs.Starts.{stream_schema}
 use Rattle.ipc_streams.proofs.Handed.{decoded_cause, of_bytes_in}

@@ -1,0 +1,14 @@
+//! The words of cases: numbers, bits, bytes and types, the fields and schemas of types, and what stands in a value's place.
+#![tactic(auto)]
+
+mod columns;
+mod fault;
+mod types;
+mod words;
+
+pub use columns::{fields_of, schema_of};
+pub use fault::Fault;
+pub use types::{index_type, type_of};
+pub use words::{
+    bits, bytes, bytes_of, count, halves, long, number, numbers, pair, parts, rest, word,
+};

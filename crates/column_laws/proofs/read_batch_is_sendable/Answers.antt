@@ -1,5 +1,0 @@
-use Rattle.column_laws.proofs.ReadBatches.{read_batch_sendable}
-use Rattle.column_laws.proofs.read_batch_is_sendable.Goals as goal
-
-pub returns : goal.returns
-returns c = read_batch_sendable

@@ -1,9 +1,0 @@
-//! What a writer of a file puts for a batch may be put into a file, so that the file means it. Each function's contract is a law, proved in `proofs/`.
-#![tactic(auto)]
-
-ghost use Rattle.file_chunk_laws.specs.Laws.{ChunkGoesIntoFile};
-
-/// A file goes on with a batch and what of its dictionaries is sent before it, where none of them is replaced (Arrow Columnar Format, "IPC File Format").
-pub fn chunk_goes_into_file()
-    ensures { ChunkGoesIntoFile }
-{}

@@ -1,9 +1,0 @@
-pub mod Cuts
-mod SameBuffers
-mod SameParts
-pub mod NeededParts
-mod TooLarge
-mod FooterTables
-mod FetchedParts
-mod TooLargeAt
-mod NoRows

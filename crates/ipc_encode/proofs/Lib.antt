@@ -1,2 +1,0 @@
-pub mod MessageSteps
-pub mod ChunkSteps

@@ -1,0 +1,12 @@
+pub mod Below
+pub mod MessageSteps
+pub mod ChunkSteps
+pub mod Beginning
+pub mod Columns
+pub mod Finding
+pub mod Floats
+pub mod GivenFields
+pub mod Lengths
+pub mod Planning
+pub mod Putting
+pub mod Framing

@@ -1,0 +1,11 @@
+pub mod Below
+pub mod Encoded
+pub mod Chunks
+pub mod States
+pub mod Features
+pub mod Fields
+pub mod Batches
+pub mod Schemas
+pub mod Messages
+pub mod Puts
+pub mod Framed

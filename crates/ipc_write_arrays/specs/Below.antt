@@ -1,0 +1,15 @@
+-- What crates below say, handed on to those above.
+pub use Rattle.arrow_buffers.specs.Layouts.{is_view}
+pub use Rattle.arrow_buffers.specs.Rows.{bytes_cell, has_rows, is_valid, masked, masked_by, part}
+pub use Rattle.arrow_buffers.specs.Views.{Views, buffer_at, has_bad_view, has_bad_view_text, is_good_view, is_no_text_view, long_bytes, view_at, view_bytes, view_cells, view_fault, view_rows}
+pub use Rattle.arrow_buffers.specs.declared.error.ArrayError.{ArrayError}
+pub use Rattle.ipc_read_laws.specs.Batches.{columns_read}
+pub use Rattle.ipc_read_laws.specs.Held.{HasKinds, Held, HoldsCells, HoldsFields, HoldsKinds, values_of_id}
+pub use Rattle.ipc_read_laws.specs.LayoutFaults.{contents_of}
+pub use Rattle.ipc_read_laws.specs.PartsRead.{forest_read, parts_in, parts_or_empty, parts_read, parts_under, validity_read, views_read}
+pub use Rattle.ipc_read_laws.specs.PlainKinds.{plain_fields, plain_kind}
+pub use Rattle.ipc_read_laws.specs.WrittenParts.{head_lengths, head_written, leaf_lengths_in, offset_bytes, places_length, validity_bytes, variable_lengths, width_bytes, written_each, written_in, written_on}
+pub use Rattle.ipc_write_laws.specs.Columns.{Means, WrittenColumn}
+pub use Rattle.ipc_write_laws.specs.Messages.{message_of_values}
+pub use Rattle.ipc_write_laws.specs.Streams.{AreOf, WrittenBatch, batch_bytes, body_for, pieces_of, written_batch, written_of}
+pub use Rattle.ipc_read_laws.specs.WrittenParts as WrittenParts

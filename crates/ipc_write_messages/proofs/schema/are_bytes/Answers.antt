@@ -1,4 +1,0 @@
-use Rattle.ipc_write_messages.proofs.schema.are_bytes.Goals as goal
-
-pub returns : goal.returns
-returns c = λ i. (c.type_inv.bytes i).fits

@@ -1,0 +1,10 @@
+pub mod Below
+pub mod CarriedFields
+pub mod Pieces
+pub mod LaidRows
+pub mod TreeLengths
+pub mod TopColumns
+pub mod ReadValues
+pub mod ReadColumns
+pub mod ReadBatches
+pub mod RisingBatches

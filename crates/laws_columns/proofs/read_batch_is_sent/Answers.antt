@@ -1,0 +1,5 @@
+use Rattle.laws_columns.proofs.ReadBatches.{read_batch_sent}
+use Rattle.laws_columns.proofs.read_batch_is_sent.Goals as goal
+
+pub returns : goal.returns
+returns c = read_batch_sent

@@ -1,0 +1,15 @@
+pub mod Below
+pub mod Readings
+pub mod Dictionaries
+pub mod Batches
+pub mod Refusals
+pub mod Numbers
+pub mod Headers
+pub mod Sent
+pub mod ReadTables
+pub mod ChosenColumns
+pub mod AskedFloats
+pub mod AskedSchemas
+pub mod SentBatches
+pub mod Files
+pub mod Histories

@@ -1,0 +1,48 @@
+use Rattle.std.proofs.Common.{◌≡◌, ℕ, [], ◌∷◌, Some, None, refl, true}
+use Rattle.std.specs.Prelude.{pos}
+use Rattle.laws_worked.proofs.Vectors.{int32_file, int32_stream}
+use Rattle.arrow_spec.specs.declared.types.IntegerType.TheVariants.{Int32}
+use Rattle.arrow_spec.specs.Readings.{bind}
+use Rattle.arrow_spec.specs.Sent.{schema_message, written, batch_message, dictionary_messages, may_be_sent}
+use Rattle.arrow_spec.specs.Flat.{root, table_at, slot, items, text}
+use Rattle.arrow_spec.specs.Schema.{pairs_from, pairs_of, choice, integer_at, decimal_at, time_at, timestamp_at, ids_at, union_at, type_at, encoding_at, head_at, fields_by, field_at, schema_of}
+use Rattle.arrow_spec.specs.Messages.{batch_at, prefix_of, message_of, version_of, custom_pairs, dictionary_at}
+use Rattle.arrow_spec.specs.Layout.{size}
+use Rattle.arrow_spec.specs.Kinds.{field, none, integer}
+use Rattle.arrow_spec.specs.Cells as cells
+use Rattle.arrow_spec.specs.Arrays.{buf, valid, unsigned_in}
+use Rattle.arrow_spec.specs.Faults.{count_faults, node_faults, range_faults, bitmap_faults, validity_faults, numbers_faults, offsets_faults, bytes_faults, utf8_faults, is_good_view, view_parts_faults, views_faults, view_text_faults, key_faults, union_faults, column_faults}
+use Rattle.arrow_spec.specs.Columns.{columns_at}
+use Rattle.arrow_spec.specs.Meaning.{file_table}
+use Rattle.arrow_spec.specs.Files.{footer_of, meta_in, meta_of, custom_of, batch_of_tables, block_message, batch_of, batches_of, dictionary_of, dictionaries_of, file_reading, ArrowTable}
+use Rattle.arrow_spec.specs.Streams.{stream_prefix, framed, next_message, body_in, stream_batch, stream_dictionary, stream_step, stream_batches, first_message, schema_message_of, stream_head, stream_reading, stream_table, body_length, behind_messages, closed}
+use Rattle.std.specs.Str.{is_utf8, chars}
+use lib.Utf8.{encode}
+
+unfoldable pub computed : ℕ
+unfolding custom_pairs custom_of stream_head bind schema_message written batch_message dictionary_messages may_be_sent root table_at slot items text pairs_from pairs_of choice integer_at decimal_at time_at timestamp_at ids_at union_at type_at encoding_at head_at fields_by field_at schema_of batch_at prefix_of message_of version_of buf valid unsigned_in count_faults node_faults range_faults bitmap_faults validity_faults numbers_faults offsets_faults bytes_faults utf8_faults is_good_view view_parts_faults views_faults view_text_faults key_faults union_faults column_faults columns_at footer_of meta_in meta_of batch_of_tables block_message batch_of batches_of dictionary_of dictionaries_of dictionary_at size file_reading file_table is_utf8 chars encode stream_prefix framed next_message body_in stream_batch stream_dictionary stream_step stream_batches first_message schema_message_of stream_reading stream_table body_length behind_messages
+computed = 0
+
+abbrev pub int32_table : ArrowTable
+int32_table = record { metadata = []; custom = []; fields = field (97 ∷ []) true [] (integer Int32) none; batches = record { rows = 3; columns = (cells.number (pos 1) ∷ cells.null ∷ cells.number (pos 3) ∷ []) ∷ []; custom = [] } ∷ [] }
+
+pub int32_file-table : file_table int32_file (record { columns = Some (0 ∷ []); limit = Some 3 }) ≡ Some int32_table
+unfolding computed
+int32_file-table = refl
+
+-- a batch keeps its rows where no column is asked for
+pub int32_file-no_columns : file_table int32_file (record { columns = Some []; limit = None }) ≡ Some (record { metadata = []; custom = []; fields = none; batches = record { rows = 3; columns = []; custom = [] } ∷ [] })
+unfolding computed
+int32_file-no_columns = refl
+
+pub int32_file-cut : file_table int32_file (record { columns = None; limit = Some 2 }) ≡ Some (record int32_table { batches = record { rows = 2; columns = (cells.number (pos 1) ∷ cells.null ∷ []) ∷ []; custom = [] } ∷ [] })
+unfolding computed
+int32_file-cut = refl
+
+pub int32_stream-table : stream_table int32_stream None ≡ Some int32_table
+unfolding computed
+int32_stream-table = refl
+
+pub int32_stream-closed : closed int32_stream
+unfolding computed
+int32_stream-closed = refl

@@ -1,2 +1,0 @@
-pub mod SentFields
-pub mod Laws

@@ -1,5 +1,0 @@
-use Rattle.written_files.proofs.Tables as law
-use Rattle.written_files.proofs.ended_front_means_its_table.Goals as goal
-
-pub returns : goal.returns
-returns c = law.ended_means c.footer_reads_back.ensures

@@ -1,5 +1,0 @@
-use Rattle.written_files.proofs.Tables as law
-use Rattle.written_files.proofs.more_of_a_file_means_its_table.Goals as goal
-
-pub returns : goal.returns
-returns c = law.more_means c.footer_reads_back.ensures
