@@ -1,5 +1,5 @@
 -- What an array is seen as: the tree of its parts, how many rows it has and what stands in them. (Arrow Columnar Format, "Physical Memory Layout".)
-use Rattle.std.specs.Prelude.{ℕ, suc, ◌+◌, List, [], ◌∷◌, Bool, Option, Some, None}
+use Rattle.std.specs.Prelude.{ℕ, suc, ◌+◌, List, [], ◌∷◌, Bool, true, false, Option, Some, None}
 use Rattle.arrow_spec.specs.Kinds.{Kind}
 use Rattle.arrow_spec.specs.Cells.{Cell}
 use Rattle.arrow_buffers.specs.declared.error.ArrayError.{ArrayError}
@@ -26,6 +26,11 @@ forest (p ∷ ps) = also p (forest ps)
 abbrev pub kind_in : Parts → Kind
 kind_in (leaf l) = leaf_kind_in l
 kind_in (nested h cs) = head_kind h
+
+-- whether arrays stand in it
+abbrev pub has_children : Parts → Bool
+has_children (leaf p) = false
+has_children (nested h cs) = true
 
 -- how many rows it has
 abbrev pub rows_in : Parts → ℕ

@@ -1,9 +1,9 @@
 //! The array of any kind. A contract sees it as the tree of its parts.
-ghost use Rattle.std.specs.Prelude.{◌≡◌, ◌+◌, ◌≤◌, length, None, IfOk, IfNone, IfSome};
+ghost use Rattle.std.specs.Prelude.{◌≡◌, ◌+◌, ◌≤◌, length, false, None, IfOk, IfNone, IfSome};
 ghost use Rattle.std.specs.Option.{option_map};
 ghost use Rattle.arrow_types.specs.KindOf.{kind_of};
 ghost use Rattle.arrow_buffers.specs.Rows.{part};
-ghost use Rattle.arrow_arrays.specs.Parts.{kind_in, rows_in, validity_in, null_rows_in, cells_in, part_of, fault_in};
+ghost use Rattle.arrow_arrays.specs.Parts.{has_children, kind_in, rows_in, validity_in, null_rows_in, cells_in, part_of, fault_in};
 ghost use Rattle.arrow_arrays.specs.PartsOf.{parts_of};
 ghost use Rattle.arrow_arrays.specs.declared.array.Array.TheVariants as arrays;
 ghost use Rattle.arrow_arrays.specs.declared.array.ListArray.{ListArray};
@@ -411,6 +411,16 @@ impl Model for DictionaryArray {
 /// An array, which shares its memory with those that were cloned from it.
 pub type ArrayRef = Array;
 
+/// The array of a kind over a copy of what it holds.
+macro_rules! copied {
+    ($kind:ident, $array:ident, $alloc:ident) => {
+        match $array.try_clone($alloc) {
+            Ok(copy) => Ok(Array::$kind(copy)),
+            Err(error) => Err(error),
+        }
+    };
+}
+
 impl Array {
     /// The array of lists that this is, if it is one.
     pub fn into_list(self) -> Option<ListArray>
@@ -613,32 +623,13 @@ impl Array {
         ensures cells { cells_in (parts_of self.new) ≡ part offset rows (cells_in (parts_of self.old)) }
     {
         match self {
-            Array::Null(array) => array.narrow(offset, rows),
-            Array::Boolean(array) => array.narrow(offset, rows),
-            Array::Int8(array) => narrow_numbers(array, offset, rows),
-            Array::Int16(array) => narrow_numbers(array, offset, rows),
-            Array::Int32(array) => narrow_numbers(array, offset, rows),
-            Array::Int64(array) => narrow_numbers(array, offset, rows),
-            Array::Int128(array) => narrow_numbers(array, offset, rows),
-            Array::UInt8(array) => narrow_numbers(array, offset, rows),
-            Array::UInt16(array) => narrow_numbers(array, offset, rows),
-            Array::UInt32(array) => narrow_numbers(array, offset, rows),
-            Array::UInt64(array) => narrow_numbers(array, offset, rows),
-            Array::DaysMs(array) => narrow_numbers(array, offset, rows),
-            Array::MonthsDaysNs(array) => narrow_numbers(array, offset, rows),
-            Array::Binary(array) => array.narrow(offset, rows),
-            Array::LargeBinary(array) => array.narrow(offset, rows),
-            Array::Utf8(array) => array.narrow(offset, rows),
-            Array::LargeUtf8(array) => array.narrow(offset, rows),
-            Array::BinaryView(array) => array.narrow(offset, rows),
-            Array::Utf8View(array) => array.narrow(offset, rows),
-            Array::FixedSizeBinary(array) => array.narrow(offset, rows),
             Array::List(array) => array.narrow(offset, rows),
             Array::FixedSizeList(array) => array.narrow(offset, rows),
             Array::Map(array) => array.narrow(offset, rows),
             Array::Struct(array) => array.narrow(offset, rows),
             Array::Union(array) => array.narrow(offset, rows),
             Array::Dictionary(array) => array.narrow(offset, rows),
+            leaf => narrow_leaf(leaf, offset, rows),
         }
     }
 
@@ -659,32 +650,75 @@ impl Array {
         ensures { IfOk result (λ a. parts_of a ≡ parts_of self.now) }
     {
         match self {
-            Array::Null(array) => Ok(Array::Null(array.try_clone(alloc)?)),
-            Array::Boolean(array) => Ok(Array::Boolean(array.try_clone(alloc)?)),
-            Array::Int8(array) => Ok(Array::Int8(array.try_clone(alloc)?)),
-            Array::Int16(array) => Ok(Array::Int16(array.try_clone(alloc)?)),
-            Array::Int32(array) => Ok(Array::Int32(array.try_clone(alloc)?)),
-            Array::Int64(array) => Ok(Array::Int64(array.try_clone(alloc)?)),
-            Array::Int128(array) => Ok(Array::Int128(array.try_clone(alloc)?)),
-            Array::UInt8(array) => Ok(Array::UInt8(array.try_clone(alloc)?)),
-            Array::UInt16(array) => Ok(Array::UInt16(array.try_clone(alloc)?)),
-            Array::UInt32(array) => Ok(Array::UInt32(array.try_clone(alloc)?)),
-            Array::UInt64(array) => Ok(Array::UInt64(array.try_clone(alloc)?)),
-            Array::DaysMs(array) => Ok(Array::DaysMs(array.try_clone(alloc)?)),
-            Array::MonthsDaysNs(array) => Ok(Array::MonthsDaysNs(array.try_clone(alloc)?)),
-            Array::Binary(array) => Ok(Array::Binary(array.try_clone(alloc)?)),
-            Array::LargeBinary(array) => Ok(Array::LargeBinary(array.try_clone(alloc)?)),
-            Array::Utf8(array) => Ok(Array::Utf8(array.try_clone(alloc)?)),
-            Array::LargeUtf8(array) => Ok(Array::LargeUtf8(array.try_clone(alloc)?)),
-            Array::BinaryView(array) => Ok(Array::BinaryView(array.try_clone(alloc)?)),
-            Array::Utf8View(array) => Ok(Array::Utf8View(array.try_clone(alloc)?)),
-            Array::FixedSizeBinary(array) => Ok(Array::FixedSizeBinary(array.try_clone(alloc)?)),
-            Array::List(array) => Ok(Array::List(array.try_clone(alloc)?)),
-            Array::FixedSizeList(array) => Ok(Array::FixedSizeList(array.try_clone(alloc)?)),
-            Array::Map(array) => Ok(Array::Map(array.try_clone(alloc)?)),
-            Array::Struct(array) => Ok(Array::Struct(array.try_clone(alloc)?)),
-            Array::Union(array) => Ok(Array::Union(array.try_clone(alloc)?)),
-            Array::Dictionary(array) => Ok(Array::Dictionary(array.try_clone(alloc)?)),
+            Array::List(array) => copied!(List, array, alloc),
+            Array::FixedSizeList(array) => copied!(FixedSizeList, array, alloc),
+            Array::Map(array) => copied!(Map, array, alloc),
+            Array::Struct(array) => copied!(Struct, array, alloc),
+            Array::Union(array) => copied!(Union, array, alloc),
+            Array::Dictionary(array) => copied!(Dictionary, array, alloc),
+            leaf => clone_leaf(alloc, leaf),
         }
+    }
+}
+
+/// A second owner of the parts of an array in which no arrays stand.
+fn clone_leaf(alloc: Global, array: &Array) -> Result<Array, AllocError>
+    requires { has_children (parts_of array.now) ≡ false }
+    ensures { IfOk result (λ a. parts_of a ≡ parts_of array.now) }
+{
+    match array {
+        Array::Null(array) => copied!(Null, array, alloc),
+        Array::Boolean(array) => copied!(Boolean, array, alloc),
+        Array::Int8(array) => copied!(Int8, array, alloc),
+        Array::Int16(array) => copied!(Int16, array, alloc),
+        Array::Int32(array) => copied!(Int32, array, alloc),
+        Array::Int64(array) => copied!(Int64, array, alloc),
+        Array::Int128(array) => copied!(Int128, array, alloc),
+        Array::UInt8(array) => copied!(UInt8, array, alloc),
+        Array::UInt16(array) => copied!(UInt16, array, alloc),
+        Array::UInt32(array) => copied!(UInt32, array, alloc),
+        Array::UInt64(array) => copied!(UInt64, array, alloc),
+        Array::DaysMs(array) => copied!(DaysMs, array, alloc),
+        Array::MonthsDaysNs(array) => copied!(MonthsDaysNs, array, alloc),
+        Array::Binary(array) => copied!(Binary, array, alloc),
+        Array::LargeBinary(array) => copied!(LargeBinary, array, alloc),
+        Array::Utf8(array) => copied!(Utf8, array, alloc),
+        Array::LargeUtf8(array) => copied!(LargeUtf8, array, alloc),
+        Array::BinaryView(array) => copied!(BinaryView, array, alloc),
+        Array::Utf8View(array) => copied!(Utf8View, array, alloc),
+        Array::FixedSizeBinary(array) => copied!(FixedSizeBinary, array, alloc),
+        _ => unreachable!(),
+    }
+}
+
+/// Leaves only the part of an array in which no arrays stand.
+fn narrow_leaf(array: &mut Array, offset: usize, rows: usize)
+    requires leaf { has_children (parts_of array.old) ≡ false }
+    requires room { offset + rows ≤ rows_in (parts_of array.old) }
+    ensures parts { parts_of array.new ≡ part_of offset rows (parts_of array.old) }
+    ensures cells { cells_in (parts_of array.new) ≡ part offset rows (cells_in (parts_of array.old)) }
+{
+    match array {
+        Array::Null(array) => array.narrow(offset, rows),
+        Array::Boolean(array) => array.narrow(offset, rows),
+        Array::Int8(array) => narrow_numbers(array, offset, rows),
+        Array::Int16(array) => narrow_numbers(array, offset, rows),
+        Array::Int32(array) => narrow_numbers(array, offset, rows),
+        Array::Int64(array) => narrow_numbers(array, offset, rows),
+        Array::Int128(array) => narrow_numbers(array, offset, rows),
+        Array::UInt8(array) => narrow_numbers(array, offset, rows),
+        Array::UInt16(array) => narrow_numbers(array, offset, rows),
+        Array::UInt32(array) => narrow_numbers(array, offset, rows),
+        Array::UInt64(array) => narrow_numbers(array, offset, rows),
+        Array::DaysMs(array) => narrow_numbers(array, offset, rows),
+        Array::MonthsDaysNs(array) => narrow_numbers(array, offset, rows),
+        Array::Binary(array) => array.narrow(offset, rows),
+        Array::LargeBinary(array) => array.narrow(offset, rows),
+        Array::Utf8(array) => array.narrow(offset, rows),
+        Array::LargeUtf8(array) => array.narrow(offset, rows),
+        Array::BinaryView(array) => array.narrow(offset, rows),
+        Array::Utf8View(array) => array.narrow(offset, rows),
+        Array::FixedSizeBinary(array) => array.narrow(offset, rows),
+        _ => unreachable!(),
     }
 }

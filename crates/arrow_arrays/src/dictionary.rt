@@ -264,11 +264,12 @@ impl DictionaryArray {
     pub fn try_clone(&self, alloc: Global) -> Result<DictionaryArray, AllocError>
         ensures { IfOk result (λ a. a ≡ self.now) }
     {
-        let parts = clone_each(alloc, self.parts.as_slice())?;
+        let dtype = self.dtype.try_clone(alloc)?;
+        let keys = self.keys.try_clone(alloc)?;
         Ok(DictionaryArray {
-            dtype: self.dtype.try_clone(alloc)?,
-            keys: self.keys.try_clone(alloc)?,
-            parts,
+            dtype,
+            keys,
+            parts: clone_each(alloc, self.parts.as_slice())?,
         })
     }
 }

@@ -10,6 +10,7 @@ ghost use Rattle.arrow_arrays.specs.PartsOf.{only};
 
 use crate::array::{Array, FixedSizeListArray};
 use crate::list::is_of;
+use crate::structs::clone_child;
 use arrow_buffers::{ArrayError, Bitmap, clone_validity, narrow_validity, nulls_in, validity_has};
 use arrow_types::ArrowDataType;
 use std::alloc::{AllocError, Global};
@@ -175,11 +176,10 @@ impl FixedSizeListArray {
     {
         let dtype = self.dtype.try_clone(alloc)?;
         let validity = clone_validity(&self.validity)?;
-        let values = self.values.try_clone(alloc)?;
         Ok(FixedSizeListArray {
             dtype,
             rows: self.rows,
-            values: Box::new(alloc, values)?,
+            values: clone_child(alloc, &self.values)?,
             validity,
         })
     }

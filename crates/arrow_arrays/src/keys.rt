@@ -161,16 +161,31 @@ impl DictionaryKeys {
         ensures index { IfOk result (λ k. index_in k ≡ index_in self.now) }
         ensures validity { IfOk result (λ k. key_validity_in k ≡ key_validity_in self.now) }
     {
-        match self {
-            DictionaryKeys::Int8(keys) => Ok(DictionaryKeys::Int8(keys.try_clone(alloc)?)),
-            DictionaryKeys::Int16(keys) => Ok(DictionaryKeys::Int16(keys.try_clone(alloc)?)),
-            DictionaryKeys::Int32(keys) => Ok(DictionaryKeys::Int32(keys.try_clone(alloc)?)),
-            DictionaryKeys::Int64(keys) => Ok(DictionaryKeys::Int64(keys.try_clone(alloc)?)),
-            DictionaryKeys::Int128(keys) => Ok(DictionaryKeys::Int128(keys.try_clone(alloc)?)),
-            DictionaryKeys::UInt8(keys) => Ok(DictionaryKeys::UInt8(keys.try_clone(alloc)?)),
-            DictionaryKeys::UInt16(keys) => Ok(DictionaryKeys::UInt16(keys.try_clone(alloc)?)),
-            DictionaryKeys::UInt32(keys) => Ok(DictionaryKeys::UInt32(keys.try_clone(alloc)?)),
-            DictionaryKeys::UInt64(keys) => Ok(DictionaryKeys::UInt64(keys.try_clone(alloc)?)),
+        copied(alloc, self)
+    }
+}
+
+macro_rules! copied_as {
+    ($kind:ident, $keys:ident, $alloc:ident) => {
+        match $keys.try_clone($alloc) {
+            Ok(copy) => Ok(DictionaryKeys::$kind(copy)),
+            Err(error) => Err(error),
         }
+    };
+}
+
+fn copied(alloc: Global, keys: &DictionaryKeys) -> Result<DictionaryKeys, AllocError>
+    ensures { IfOk result (λ k. k ≡ keys.now) }
+{
+    match keys {
+        DictionaryKeys::Int8(keys) => copied_as!(Int8, keys, alloc),
+        DictionaryKeys::Int16(keys) => copied_as!(Int16, keys, alloc),
+        DictionaryKeys::Int32(keys) => copied_as!(Int32, keys, alloc),
+        DictionaryKeys::Int64(keys) => copied_as!(Int64, keys, alloc),
+        DictionaryKeys::Int128(keys) => copied_as!(Int128, keys, alloc),
+        DictionaryKeys::UInt8(keys) => copied_as!(UInt8, keys, alloc),
+        DictionaryKeys::UInt16(keys) => copied_as!(UInt16, keys, alloc),
+        DictionaryKeys::UInt32(keys) => copied_as!(UInt32, keys, alloc),
+        DictionaryKeys::UInt64(keys) => copied_as!(UInt64, keys, alloc),
     }
 }

@@ -13,6 +13,7 @@ ghost use Rattle.arrow_arrays.specs.PartsOf.{parts_of, only};
 
 use crate::array::{Array, ListArray};
 use crate::offsets::ListOffsets;
+use crate::structs::clone_child;
 use arrow_buffers::{ArrayError, Bitmap, clone_validity, narrow_validity, nulls_in, validity_has};
 use arrow_types::{ArrowDataType, Field};
 use std::alloc::{AllocError, Global};
@@ -178,12 +179,14 @@ impl ListArray {
     pub fn try_clone(&self, alloc: Global) -> Result<ListArray, AllocError>
         ensures { IfOk result (λ a. a ≡ self.now) }
     {
-        let values = self.values.try_clone(alloc)?;
+        let dtype = self.dtype.try_clone(alloc)?;
+        let offsets = self.offsets.try_clone()?;
+        let validity = clone_validity(&self.validity)?;
         Ok(ListArray {
-            dtype: self.dtype.try_clone(alloc)?,
-            offsets: self.offsets.try_clone()?,
-            values: Box::new(alloc, values)?,
-            validity: clone_validity(&self.validity)?,
+            dtype,
+            offsets,
+            values: clone_child(alloc, &self.values)?,
+            validity,
         })
     }
 }

@@ -13,6 +13,7 @@ ghost use Rattle.arrow_arrays.specs.PartsOf.{parts_of, only};
 
 use crate::array::{Array, MapArray};
 use crate::list::is_of;
+use crate::structs::clone_child;
 use arrow_buffers::{
     ArrayError, Bitmap, Buffer, clone_validity, narrow_validity, nulls_in, range_of, rise_within,
     validity_has,
@@ -158,12 +159,14 @@ impl MapArray {
     pub fn try_clone(&self, alloc: Global) -> Result<MapArray, AllocError>
         ensures { IfOk result (λ a. a ≡ self.now) }
     {
-        let field = self.field.try_clone(alloc)?;
+        let dtype = self.dtype.try_clone(alloc)?;
+        let offsets = self.offsets.try_clone()?;
+        let validity = clone_validity(&self.validity)?;
         Ok(MapArray {
-            dtype: self.dtype.try_clone(alloc)?,
-            offsets: self.offsets.try_clone()?,
-            field: Box::new(alloc, field)?,
-            validity: clone_validity(&self.validity)?,
+            dtype,
+            offsets,
+            field: clone_child(alloc, &self.field)?,
+            validity,
         })
     }
 }

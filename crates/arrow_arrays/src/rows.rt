@@ -1,5 +1,5 @@
 //! The rows of an array, one by one.
-ghost use Rattle.std.specs.Prelude.{suc, ◌≡◌, ◌*◌, ◌≤◌, ◌<◌, length, Some, slice_get};
+ghost use Rattle.std.specs.Prelude.{false, suc, ◌≡◌, ◌*◌, ◌≤◌, ◌<◌, length, Some, slice_get};
 ghost use Rattle.std.specs.Option.{ForSome, option_map};
 ghost use Rattle.arrow_spec.specs.Cells as cells;
 ghost use Rattle.arrow_spec.specs.Flat.{little};
@@ -9,7 +9,7 @@ ghost use Rattle.arrow_buffers.specs.Variable.{variable_cells, variable_rows};
 ghost use Rattle.arrow_buffers.specs.Views.{view_cells, view_rows};
 ghost use Rattle.arrow_arrays.specs.LeafParts.{numbers, as_bytes, leaf_cells_in};
 ghost use Rattle.arrow_arrays.specs.Heads.{listed, mapped, sized, structured, tagged, indexed};
-ghost use Rattle.arrow_arrays.specs.Parts.{nested, rows_in, cells_in, tree_size, trees_size};
+ghost use Rattle.arrow_arrays.specs.Parts.{has_children, nested, rows_in, cells_in, tree_size, trees_size};
 ghost use Rattle.arrow_arrays.specs.PartsOf.{parts_of};
 ghost use Rattle.arrow_arrays.specs.RowCells.{cell_of, Inside, value_size};
 
@@ -199,6 +199,39 @@ fn dictionary_in(array: &DictionaryArray, row: usize) -> RowValue<'_>
     }
 }
 
+/// What stands in a row of an array in which no arrays stand.
+fn leaf_row(array: &Array, row: usize) -> RowValue<'_>
+    requires leaf { has_children (parts_of array.now) ≡ false }
+    requires below { row < rows_in (parts_of array.now) }
+    ensures cell { slice_get (cells_in (parts_of array.now)) row ≡ Some (cell_of result) }
+    ensures inside { Inside result }
+    ensures smaller { value_size result ≤ 3 * tree_size (parts_of array.now) }
+{
+    match array {
+        Array::Null(_) => RowValue::Null,
+        Array::Boolean(array) => bit_in(array, row),
+        Array::Int8(array) => number_in(array, row),
+        Array::Int16(array) => number_in(array, row),
+        Array::Int32(array) => number_in(array, row),
+        Array::Int64(array) => number_in(array, row),
+        Array::Int128(array) => number_in(array, row),
+        Array::UInt8(array) => number_in(array, row),
+        Array::UInt16(array) => number_in(array, row),
+        Array::UInt32(array) => number_in(array, row),
+        Array::UInt64(array) => number_in(array, row),
+        Array::DaysMs(array) => number_in(array, row),
+        Array::MonthsDaysNs(array) => number_in(array, row),
+        Array::Binary(array) => variable_in(array, row),
+        Array::LargeBinary(array) => variable_in(array, row),
+        Array::Utf8(array) => variable_in(array, row),
+        Array::LargeUtf8(array) => variable_in(array, row),
+        Array::BinaryView(array) => view_in(array, row),
+        Array::Utf8View(array) => view_in(array, row),
+        Array::FixedSizeBinary(array) => fixed_in(array, row),
+        _ => unreachable!(),
+    }
+}
+
 impl Array {
     /// What stands in a row. The call goes as deep as dictionaries stand in one another.
     #[cycle(row)]
@@ -209,32 +242,13 @@ impl Array {
         ensures smaller { value_size result ≤ 3 * tree_size (parts_of self.now) }
     {
         match self {
-            Array::Null(_) => RowValue::Null,
-            Array::Boolean(array) => bit_in(array, row),
-            Array::Int8(array) => number_in(array, row),
-            Array::Int16(array) => number_in(array, row),
-            Array::Int32(array) => number_in(array, row),
-            Array::Int64(array) => number_in(array, row),
-            Array::Int128(array) => number_in(array, row),
-            Array::UInt8(array) => number_in(array, row),
-            Array::UInt16(array) => number_in(array, row),
-            Array::UInt32(array) => number_in(array, row),
-            Array::UInt64(array) => number_in(array, row),
-            Array::DaysMs(array) => number_in(array, row),
-            Array::MonthsDaysNs(array) => number_in(array, row),
-            Array::Binary(array) => variable_in(array, row),
-            Array::LargeBinary(array) => variable_in(array, row),
-            Array::Utf8(array) => variable_in(array, row),
-            Array::LargeUtf8(array) => variable_in(array, row),
-            Array::BinaryView(array) => view_in(array, row),
-            Array::Utf8View(array) => view_in(array, row),
-            Array::FixedSizeBinary(array) => fixed_in(array, row),
             Array::List(array) => list_in(array, row),
             Array::FixedSizeList(array) => sized_in(array, row),
             Array::Map(array) => map_in(array, row),
             Array::Struct(array) => struct_in(array, row),
             Array::Union(array) => union_in(array, row),
             Array::Dictionary(array) => dictionary_in(array, row),
+            leaf => leaf_row(leaf, row),
         }
     }
 }

@@ -144,12 +144,13 @@ impl StructArray {
     pub fn try_clone(&self, alloc: Global) -> Result<StructArray, AllocError>
         ensures { IfOk result (λ a. a ≡ self.now) }
     {
-        let values = clone_each(alloc, self.values.as_slice())?;
+        let dtype = self.dtype.try_clone(alloc)?;
+        let validity = clone_validity(&self.validity)?;
         Ok(StructArray {
-            dtype: self.dtype.try_clone(alloc)?,
+            dtype,
             rows: self.rows,
-            values,
-            validity: clone_validity(&self.validity)?,
+            values: clone_each(alloc, self.values.as_slice())?,
+            validity,
         })
     }
 }
@@ -176,4 +177,12 @@ pub fn clone_each(alloc: Global, arrays: &[Array]) -> Result<Vec<Array>, AllocEr
         clones.push(array.try_clone(alloc)?)?;
     }
     Ok(clones)
+}
+
+/// A second owner of an array, in a box of its own.
+#[cycle(copy)]
+pub(crate) fn clone_child(alloc: Global, array: &Array) -> Result<Box<Array>, AllocError>
+    ensures { IfOk result (λ a. parts_of a.value ≡ parts_of array.now) }
+{
+    Ok(Box::new(alloc, array.try_clone(alloc)?)?)
 }

@@ -316,12 +316,14 @@ impl UnionArray {
     pub fn try_clone(&self, alloc: Global) -> Result<UnionArray, AllocError>
         ensures { IfOk result (λ a. a ≡ self.now) }
     {
-        let fields = clone_each(alloc, self.fields.as_slice())?;
+        let dtype = self.dtype.try_clone(alloc)?;
+        let types = self.types.try_clone()?;
+        let offsets = clone_offsets(&self.offsets)?;
         Ok(UnionArray {
-            dtype: self.dtype.try_clone(alloc)?,
-            types: self.types.try_clone()?,
-            fields,
-            offsets: clone_offsets(&self.offsets)?,
+            dtype,
+            types,
+            fields: clone_each(alloc, self.fields.as_slice())?,
+            offsets,
         })
     }
 }

@@ -1,17 +1,25 @@
 //! Fields and schemas as words: `a=int8 b=list item=utf8!`.
 use crate::fault::Fault;
 use crate::types::{children, types_of};
+use crate::words::Answer;
 use arrow_types::{ArrowSchema, Field};
-use std::alloc::Global;
 
 /// Fields, each by `NAME=TYPE` and the types of its children, with `!` behind the type of one without nulls.
-pub fn fields_of(alloc: Global, words: &[&str]) -> Result<Vec<Field>, Fault> {
-    let mut types = types_of(alloc, words)?;
+pub fn fields_of(answer: &mut Answer, words: &[&str]) -> Vec<Field> {
+    let mut types = types_of(answer, words);
     let count = types.len();
-    children(alloc, &mut types, count)
+    let fields = children(answer.alloc(), &mut types, count);
+    answer.list(fields)
 }
 
 /// The schema of these fields.
-pub fn schema_of(alloc: Global, words: &[&str]) -> Result<ArrowSchema, Fault> {
-    Ok(ArrowSchema::from_fields(alloc, fields_of(alloc, words)?)?)
+pub fn schema_of(answer: &mut Answer, words: &[&str]) -> ArrowSchema {
+    let fields = fields_of(answer, words);
+    match ArrowSchema::from_fields(answer.alloc(), fields) {
+        Ok(schema) => schema,
+        Err(_) => {
+            answer.fail(Fault::Memory);
+            ArrowSchema::new(answer.alloc())
+        }
+    }
 }

@@ -10,5 +10,6 @@ pub use columns::{fields_of, schema_of};
 pub use fault::Fault;
 pub use types::{index_type, type_of};
 pub use words::{
-    bits, bytes, bytes_of, count, halves, long, number, numbers, pair, parts, rest, word,
+    Answer, add_bytes, bits, bytes, bytes_of, counts, halves, hex_bytes, numbers, pair, parts,
+    repeat, rest, word,
 };

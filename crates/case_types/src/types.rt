@@ -1,6 +1,6 @@
 //! Types as words, each in front of its children: `list int8`, `struct(2) a=int8 b=utf8!`.
 use crate::fault::Fault;
-use crate::words::{count, numbers, parts};
+use crate::words::{Answer, numbers, parts};
 use arrow_types::{
     ArrowDataType, ExtensionType, Field, IntegerType, IntervalUnit, TimeUnit, UnionMode, UnionType,
 };
@@ -71,11 +71,9 @@ fn interval_unit(word: &str) -> Result<IntervalUnit, Fault> {
 }
 
 /// Precision and scale.
-fn decimal(word: &str) -> Result<(usize, usize), Fault> {
-    match word.split_once(',') {
-        Some((precision, scale)) => Ok((count(precision)?, count(scale)?)),
-        None => Err(Fault::Words),
-    }
+fn decimal(answer: &mut Answer, word: &str) -> (usize, usize) {
+    let (precision, scale) = word.split_once(',').unwrap_or(("", ""));
+    (answer.count(precision), answer.count(scale))
 }
 
 /// A unit, with a zone behind it or none.
@@ -91,15 +89,15 @@ fn timestamp(alloc: Global, word: &str) -> Result<ArrowDataType, Fault> {
 }
 
 /// A type with a parameter that is no type.
-fn sized_type(name: &str, word: &str) -> Result<ArrowDataType, Fault> {
+fn sized_type(answer: &mut Answer, name: &str, word: &str) -> Result<ArrowDataType, Fault> {
     match name {
-        "fixed_binary" => Ok(ArrowDataType::FixedSizeBinary(count(word)?)),
+        "fixed_binary" => Ok(ArrowDataType::FixedSizeBinary(answer.count(word))),
         "decimal" => {
-            let (precision, scale) = decimal(word)?;
+            let (precision, scale) = decimal(answer, word);
             Ok(ArrowDataType::Decimal(precision, scale))
         }
         "decimal256" => {
-            let (precision, scale) = decimal(word)?;
+            let (precision, scale) = decimal(answer, word);
             Ok(ArrowDataType::Decimal256(precision, scale))
         }
         "time32" => Ok(ArrowDataType::Time32(time_unit(word)?)),
@@ -173,30 +171,28 @@ pub fn index_type(word: &str) -> Result<IntegerType, Fault> {
     }
 }
 
-fn ids(alloc: Global, word: &str) -> Result<Vec<i32>, Fault> {
-    let mut ids = Vec::new(alloc);
-    for id in &numbers(alloc, word)? {
+fn ids(answer: &mut Answer, word: &str) -> Vec<i32> {
+    let mut ids = Vec::new(answer.alloc());
+    for id in &numbers(answer, word) {
         match i32::try_from(*id) {
-            Ok(id) => ids.push(id)?,
-            Err(_) => return Err(Fault::Words),
+            Ok(id) => answer.done(ids.push(id)),
+            Err(_) => answer.refuse(),
         }
     }
-    Ok(ids)
+    ids
 }
 
 /// `dense:5,7` over as many children as there are ids.
-fn union(alloc: Global, word: &str, types: &mut Types) -> Result<ArrowDataType, Fault> {
-    let Some((mode, listed)) = word.split_once(':') else {
-        return Err(Fault::Words);
-    };
-    let ids = ids(alloc, listed)?;
-    let fields = children(alloc, types, ids.len())?;
+fn union(answer: &mut Answer, word: &str, types: &mut Types) -> Result<ArrowDataType, Fault> {
+    let (mode, listed) = word.split_once(':').unwrap_or(("", ""));
+    let ids = ids(answer, listed);
+    let fields = children(answer.alloc(), types, ids.len())?;
     let union = UnionType {
         fields,
         ids: Some(ids),
         mode: UnionMode::sparse(mode == "sparse"),
     };
-    Ok(ArrowDataType::Union(Box::new(alloc, union)?))
+    Ok(ArrowDataType::Union(Box::new(answer.alloc(), union)?))
 }
 
 /// The type of the keys, and `ordered` behind it or not.
@@ -221,50 +217,55 @@ fn extension(alloc: Global, word: &str, types: &mut Types) -> Result<ArrowDataTy
     Ok(ArrowDataType::Extension(Box::new(alloc, extension)?))
 }
 
-fn fixed_list(alloc: Global, word: &str, types: &mut Types) -> Result<ArrowDataType, Fault> {
-    let size = count(word)?;
-    Ok(ArrowDataType::FixedSizeList(child(alloc, types)?, size))
+fn fixed_list(answer: &mut Answer, word: &str, types: &mut Types) -> Result<ArrowDataType, Fault> {
+    let size = answer.count(word);
+    Ok(ArrowDataType::FixedSizeList(child(answer.alloc(), types)?, size))
 }
 
 /// A type over one other.
 fn listed_type(
-    alloc: Global,
+    answer: &mut Answer,
     name: &str,
     word: &str,
     types: &mut Types,
 ) -> Result<ArrowDataType, Fault> {
     match name {
-        "list" => Ok(ArrowDataType::List(child(alloc, types)?)),
-        "large_list" => Ok(ArrowDataType::LargeList(child(alloc, types)?)),
-        "map" => Ok(ArrowDataType::Map(child(alloc, types)?, word == "sorted")),
-        _ => sized_type(name, word),
+        "list" => Ok(ArrowDataType::List(child(answer.alloc(), types)?)),
+        "large_list" => Ok(ArrowDataType::LargeList(child(answer.alloc(), types)?)),
+        "map" => Ok(ArrowDataType::Map(child(answer.alloc(), types)?, word == "sorted")),
+        _ => sized_type(answer, name, word),
     }
 }
 
-fn structs(alloc: Global, word: &str, types: &mut Types) -> Result<ArrowDataType, Fault> {
-    Ok(ArrowDataType::Struct(children(alloc, types, count(word)?)?))
+fn structs(answer: &mut Answer, word: &str, types: &mut Types) -> Result<ArrowDataType, Fault> {
+    let count = answer.count(word);
+    Ok(ArrowDataType::Struct(children(answer.alloc(), types, count)?))
 }
 
 /// A type over others.
 fn nested_type(
-    alloc: Global,
+    answer: &mut Answer,
     name: &str,
     word: &str,
     types: &mut Types,
 ) -> Result<ArrowDataType, Fault> {
     match name {
-        "fixed_list" => fixed_list(alloc, word, types),
-        "struct" => structs(alloc, word, types),
-        "union" => union(alloc, word, types),
-        "dictionary" => dictionary(alloc, word, types),
-        "extension" => extension(alloc, word, types),
-        "timestamp" => timestamp(alloc, word),
-        _ => listed_type(alloc, name, word, types),
+        "fixed_list" => fixed_list(answer, word, types),
+        "struct" => structs(answer, word, types),
+        "union" => union(answer, word, types),
+        "dictionary" => dictionary(answer.alloc(), word, types),
+        "extension" => extension(answer.alloc(), word, types),
+        "timestamp" => timestamp(answer.alloc(), word),
+        _ => listed_type(answer, name, word, types),
     }
 }
 
 /// The type of a word, over those that stand behind it.
-fn read_word<'a>(alloc: Global, word: &'a str, types: &mut Types<'a>) -> Result<Named<'a>, Fault> {
+fn read_word<'a>(
+    answer: &mut Answer,
+    word: &'a str,
+    types: &mut Types<'a>,
+) -> Result<Named<'a>, Fault> {
     let (name, rest) = word.split_once('=').unwrap_or(("", word));
     let (rest, is_nullable) = match rest.strip_suffix('!') {
         Some(rest) => (rest, false),
@@ -273,7 +274,7 @@ fn read_word<'a>(alloc: Global, word: &'a str, types: &mut Types<'a>) -> Result<
     let (kind, parameter) = parts(rest);
     let dtype = match plain_type(kind) {
         Some(dtype) => dtype,
-        None => nested_type(alloc, kind, parameter, types)?,
+        None => nested_type(answer, kind, parameter, types)?,
     };
     Ok(Named {
         name,
@@ -283,16 +284,24 @@ fn read_word<'a>(alloc: Global, word: &'a str, types: &mut Types<'a>) -> Result<
 }
 
 /// The types that no other word is in front of. Words are read from the last one on, so that children stand before what is over them.
-pub(crate) fn types_of<'a>(alloc: Global, words: &'a [&'a str]) -> Result<Types<'a>, Fault> {
-    let mut types = Vec::new(alloc);
+pub(crate) fn types_of<'a>(answer: &mut Answer, words: &'a [&'a str]) -> Types<'a> {
+    let mut types = Vec::new(answer.alloc());
     for word in words.iter().rev() {
-        let named = read_word(alloc, *word, &mut types)?;
-        types.push(named)?;
+        match read_word(answer, *word, &mut types) {
+            Ok(named) => answer.done(types.push(named)),
+            Err(fault) => answer.fail(fault),
+        }
     }
-    Ok(types)
+    types
 }
 
-/// The type of these words.
-pub fn type_of(alloc: Global, words: &[&str]) -> Result<ArrowDataType, Fault> {
-    inner(&mut types_of(alloc, words)?)
+/// The type of these words, or that of nulls.
+pub fn type_of(answer: &mut Answer, words: &[&str]) -> ArrowDataType {
+    match types_of(answer, words).pop() {
+        Some(named) => named.dtype,
+        None => {
+            answer.refuse();
+            ArrowDataType::Null
+        }
+    }
 }

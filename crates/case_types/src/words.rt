@@ -1,13 +1,153 @@
-//! Numbers, bits and bytes as words.
+//! Answers as they are made, and numbers, bits and bytes as words.
 use crate::fault::Fault;
 use hex::decode;
-use std::alloc::Global;
+use std::alloc::{AllocError, Global};
 
-/// The word at a place.
-pub fn word<'a>(words: &'a [&'a str], at: usize) -> Result<&'a str, Fault> {
+/// The answer of a call as it is made: its text, or the first fault that was met.
+///
+/// What is asked of words that do not say it is a fault of the answer, and 0 or nothing in its place, so that a call is read and made
+/// without a way out at each word.
+#[derive(Drop)]
+pub struct Answer {
+    alloc: Global,
+    text: String,
+    fault: Option<Fault>,
+}
+
+impl Answer {
+    /// No text, and no fault.
+    pub fn new(alloc: Global) -> Answer {
+        Answer {
+            alloc,
+            text: String::new(alloc),
+            fault: None,
+        }
+    }
+
+    /// The allocator of all that a call makes.
+    pub fn alloc(&self) -> Global {
+        self.alloc
+    }
+
+    /// Whether there is no fault.
+    pub fn is_well(&self) -> bool {
+        self.fault.is_none()
+    }
+
+    /// The text, or the fault in its place.
+    pub fn into_text(self) -> Result<String, Fault> {
+        match self.fault {
+            None => Ok(self.text),
+            Some(fault) => Err(fault),
+        }
+    }
+
+    /// There is a fault.
+    pub fn fail(&mut self, fault: Fault) {
+        if self.fault.is_none() {
+            self.fault = Some(fault);
+        }
+    }
+
+    /// The words are none of a call.
+    pub fn refuse(&mut self) {
+        self.fail(Fault::Words);
+    }
+
+    /// Adds a text.
+    pub fn say(&mut self, text: &str) {
+        if self.text.push_str(text).is_err() {
+            self.fail(Fault::Memory);
+        }
+    }
+
+    /// Adds a text that was made.
+    pub fn tell(&mut self, text: Result<String, AllocError>) {
+        match text {
+            Ok(text) => self.say(&text),
+            Err(_) => self.fail(Fault::Memory),
+        }
+    }
+
+    /// What is done gives nothing but a fault.
+    pub fn done<E: Into<Fault>>(&mut self, done: Result<(), E>) {
+        if let Err(error) = done {
+            self.fail(error.into());
+        }
+    }
+
+    /// A list that was made, or an empty one.
+    pub fn list<T: Drop, E: Into<Fault>>(&mut self, list: Result<Vec<T>, E>) -> Vec<T> {
+        match list {
+            Ok(list) => list,
+            Err(error) => {
+                self.fail(error.into());
+                Vec::new(self.alloc)
+            }
+        }
+    }
+
+    /// What was made, or none.
+    pub fn value<T: Drop, E: Into<Fault>>(&mut self, made: Result<T, E>) -> Option<T> {
+        match made {
+            Ok(value) => Some(value),
+            Err(error) => {
+                self.fail(error.into());
+                None
+            }
+        }
+    }
+
+    /// A count, in decimal digits.
+    pub fn count(&mut self, word: &str) -> usize {
+        match word.parse::<usize>() {
+            Ok(count) => count,
+            Err(_) => {
+                self.refuse();
+                0
+            }
+        }
+    }
+
+    /// A number of 64 bits.
+    pub fn long(&mut self, word: &str) -> i64 {
+        match word.parse::<i64>() {
+            Ok(number) => number,
+            Err(_) => {
+                self.refuse();
+                0
+            }
+        }
+    }
+
+    fn plain_number(&mut self, word: &str) -> i128 {
+        match word.parse::<i128>() {
+            Ok(number) => number,
+            Err(_) => {
+                self.refuse();
+                0
+            }
+        }
+    }
+
+    /// A number, in decimal digits; or numbers of 32, 32 and 64 bits joined by slashes, from the lowest bits up.
+    pub fn number(&mut self, word: &str) -> i128 {
+        let Some((first, rest)) = word.split_once('/') else {
+            return self.plain_number(word);
+        };
+        let (second, third) = rest.split_once('/').unwrap_or((rest, "0"));
+        let low = self.plain_number(first) & 0xffff_ffff;
+        let middle = self.plain_number(second) & 0xffff_ffff;
+        let high = self.plain_number(third);
+        low | middle.wrapping_shl(32) | high.wrapping_shl(64)
+    }
+}
+
+/// The word at a place, or no character.
+pub fn word<'a>(words: &'a [&'a str], at: usize) -> &'a str {
     match words.get(at) {
-        Some(word) => Ok(*word),
-        None => Err(Fault::Words),
+        Some(word) => *word,
+        None => "",
     }
 }
 
@@ -39,131 +179,113 @@ pub fn parts(word: &str) -> (&str, &str) {
     }
 }
 
-/// A count, in decimal digits.
-pub fn count(word: &str) -> Result<usize, Fault> {
-    match word.parse::<usize>() {
-        Ok(count) => Ok(count),
-        Err(_) => Err(Fault::Words),
-    }
-}
-
-/// A number of 64 bits.
-pub fn long(word: &str) -> Result<i64, Fault> {
-    match word.parse::<i64>() {
-        Ok(number) => Ok(number),
-        Err(_) => Err(Fault::Words),
-    }
-}
-
-fn plain_number(word: &str) -> Result<i128, Fault> {
-    match word.parse::<i128>() {
-        Ok(number) => Ok(number),
-        Err(_) => Err(Fault::Words),
-    }
-}
-
-/// A number, in decimal digits; or numbers of 32, 32 and 64 bits joined by slashes, from the lowest bits up.
-pub fn number(word: &str) -> Result<i128, Fault> {
-    let Some((first, rest)) = word.split_once('/') else {
-        return plain_number(word);
-    };
-    let (second, third) = rest.split_once('/').unwrap_or((rest, "0"));
-    let low = plain_number(first)? & 0xffff_ffff;
-    let middle = plain_number(second)? & 0xffff_ffff;
-    let high = plain_number(third)?;
-    Ok(low | middle.wrapping_shl(32) | high.wrapping_shl(64))
-}
-
-fn listed(alloc: Global, word: &str) -> Result<Vec<i128>, Fault> {
-    let mut numbers = Vec::new(alloc);
+fn listed(answer: &mut Answer, word: &str) -> Vec<i128> {
+    let mut numbers = Vec::new(answer.alloc());
     for part in word.split(',') {
-        numbers.push(number(part)?)?;
+        let number = answer.number(part);
+        answer.done(numbers.push(number));
     }
-    Ok(numbers)
+    numbers
 }
 
-fn the_same(alloc: Global, one: &str, times: &str) -> Result<Vec<i128>, Fault> {
-    let (times, one) = (count(times)?, number(one)?);
-    Ok(vec![in alloc; one; times]?)
+fn the_same(answer: &mut Answer, one: &str, times: &str) -> Vec<i128> {
+    let (one, times) = (answer.number(one), answer.count(times));
+    let numbers = vec![in answer.alloc(); one; times];
+    answer.list(numbers)
 }
 
 /// Numbers joined by commas, or one so many times, as `7*128`; `-` is none.
-pub fn numbers(alloc: Global, word: &str) -> Result<Vec<i128>, Fault> {
+pub fn numbers(answer: &mut Answer, word: &str) -> Vec<i128> {
     if word == "-" {
-        return Ok(Vec::new(alloc));
+        return Vec::new(answer.alloc());
     }
     match word.split_once('*') {
-        Some((one, times)) => the_same(alloc, one, times),
-        None => listed(alloc, word),
+        Some((one, times)) => the_same(answer, one, times),
+        None => listed(answer, word),
     }
+}
+
+/// Counts joined by commas; no character is none.
+pub fn counts(answer: &mut Answer, word: &str) -> Vec<usize> {
+    let mut counts = Vec::new(answer.alloc());
+    if word.is_empty() {
+        return counts;
+    }
+    for part in word.split(',') {
+        let count = answer.count(part);
+        answer.done(counts.push(count));
+    }
+    counts
 }
 
 /// Two numbers joined by a sign.
-pub fn pair(word: &str, sign: char) -> Result<(i64, i64), Fault> {
-    match word.split_once(sign) {
-        Some((first, second)) => Ok((long(first)?, long(second)?)),
-        None => Err(Fault::Words),
-    }
+pub fn pair(answer: &mut Answer, word: &str, sign: char) -> (i64, i64) {
+    let (first, second) = word.split_once(sign).unwrap_or(("", ""));
+    (answer.long(first), answer.long(second))
 }
 
-fn hex_bytes(alloc: Global, word: &str) -> Result<Vec<u8>, Fault> {
-    match decode(alloc, word) {
-        Ok(bytes) => Ok(bytes),
-        Err(_) => Err(Fault::Words),
+/// The bytes of hex digits.
+pub fn hex_bytes(answer: &mut Answer, word: &str) -> Vec<u8> {
+    match decode(answer.alloc(), word) {
+        Ok(bytes) => bytes,
+        Err(_) => {
+            answer.refuse();
+            Vec::new(answer.alloc())
+        }
     }
 }
 
 /// The same bytes so many times.
-fn repeated(alloc: Global, word: &str, times: &str) -> Result<Vec<u8>, Fault> {
-    let times = count(times)?;
-    let bytes = hex_bytes(alloc, word)?;
-    let mut all = Vec::new(alloc);
+pub fn repeat(answer: &mut Answer, all: &mut Vec<u8>, bytes: &[u8], times: usize) {
     for _ in 0..times {
-        all.extend_from_slice(&bytes)?;
+        answer.done(all.extend_from_slice(bytes));
     }
-    Ok(all)
 }
 
-/// Bytes in hex digits, or so many times, as `00*64`, or behind an apostrophe as they stand; `-` is none.
-pub fn bytes(alloc: Global, word: &str) -> Result<Vec<u8>, Fault> {
-    if word == "-" {
-        return Ok(Vec::new(alloc));
-    }
+/// Adds the bytes of hex digits, or so many times, as `00*64`, or behind an apostrophe as they stand; of `-` none.
+pub fn add_bytes(answer: &mut Answer, all: &mut Vec<u8>, word: &str) {
     if let Some(text) = word.strip_prefix('\'') {
-        return Ok(text.as_bytes().to_vec(alloc)?);
+        return answer.done(all.extend_from_slice(text.as_bytes()));
     }
-    match word.split_once('*') {
-        Some((word, times)) => repeated(alloc, word, times),
-        None => hex_bytes(alloc, word),
+    if word != "-" {
+        let (digits, times) = word.split_once('*').unwrap_or((word, "1"));
+        let bytes = hex_bytes(answer, digits);
+        let times = answer.count(times);
+        repeat(answer, all, &bytes, times);
     }
+}
+
+/// The bytes of a word.
+pub fn bytes(answer: &mut Answer, word: &str) -> Vec<u8> {
+    let mut all = Vec::new(answer.alloc());
+    add_bytes(answer, &mut all, word);
+    all
 }
 
 /// The bytes of several words, one behind another.
-pub fn bytes_of(alloc: Global, words: &[&str]) -> Result<Vec<u8>, Fault> {
-    let mut all = Vec::new(alloc);
+pub fn bytes_of(answer: &mut Answer, words: &[&str]) -> Vec<u8> {
+    let mut all = Vec::new(answer.alloc());
     for word in words {
-        all.extend_from_slice(&bytes(alloc, *word)?)?;
+        add_bytes(answer, &mut all, *word);
     }
-    Ok(all)
+    all
 }
 
-/// Bits from the first row on, packed from the lowest bit of a byte up, and how many they are.
-pub fn bits(alloc: Global, word: &str) -> Result<(Vec<u8>, usize), Fault> {
-    let mut packed = Vec::new(alloc);
+/// Bits from the first row on, packed from the lowest bit of a byte up.
+pub fn bits(answer: &mut Answer, word: &str) -> Vec<u8> {
+    let mut packed = Vec::new(answer.alloc());
     let mut byte = 0u8;
     let mut mask = 1u8;
     for digit in word.bytes() {
         if digit == b'1' {
             byte |= mask;
         }
-        if mask == 128 {
-            packed.push(byte)?;
+        mask = mask.rotate_left(1);
+        if mask == 1 {
+            answer.done(packed.push(byte));
             byte = 0;
-            mask = 1;
-        } else {
-            mask = mask.wrapping_shl(1);
         }
     }
-    packed.push(byte)?;
-    Ok((packed, word.len()))
+    answer.done(packed.push(byte));
+    packed
 }

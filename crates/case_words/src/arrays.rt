@@ -7,123 +7,142 @@ use arrow_buffers::{
     NullArray, PrimitiveArray, TextRows, VariableArray, ViewType,
 };
 use arrow_types::{NativeType, Offset};
-use case_types::{Fault, bits, bytes, count, halves, numbers, rest, word};
-use std::alloc::Global;
+use case_types::{Answer, Fault, bits, bytes, halves, numbers, rest, word};
 
 /// Numbers of a width, each in its lowest bytes.
-pub fn items<T: NativeType>(alloc: Global, word: &str) -> Result<Buffer<T>, Fault> {
-    let mut items = Vec::new(alloc);
-    for number in &numbers(alloc, word)? {
+pub fn items<T: NativeType>(answer: &mut Answer, word: &str) -> Result<Buffer<T>, Fault> {
+    let mut items = Vec::new(answer.alloc());
+    for number in &numbers(answer, word) {
         let bytes = number.to_le_bytes();
         match bytes.get(..T::WIDTH) {
-            Some(bytes) => items.push(T::from_le_bytes(bytes))?,
-            None => return Err(Fault::Words),
+            Some(bytes) => answer.done(items.push(T::from_le_bytes(bytes))),
+            None => answer.refuse(),
         }
     }
     Ok(Buffer::from_vec(items)?)
 }
 
 /// As many bits as there are digits.
-pub fn bitmap(alloc: Global, word: &str) -> Result<Bitmap, Fault> {
-    let (packed, count) = bits(alloc, word)?;
+pub fn bitmap(answer: &mut Answer, word: &str) -> Option<Bitmap> {
+    let packed = bits(answer, word);
+    let count = word.len();
     if packed.len() < count / 8 + 1 {
-        return Err(Fault::Words);
+        answer.refuse();
+        return None;
     }
-    Ok(Bitmap::from_vec(packed, count)?)
+    answer.value(Bitmap::from_vec(packed, count))
 }
 
-pub(crate) fn of_numbers<T: NativeType>(made: Made) -> Result<PrimitiveArray<T>, Fault> {
-    let values = items(made.alloc, word(made.words, 0)?)?;
-    let validity = made.validity()?;
-    Ok(PrimitiveArray::try_new(made.dtype()?, values, validity)?)
+/// The bytes of a word as a buffer.
+pub fn bytes_buffer(answer: &mut Answer, word: &str) -> Result<Buffer<u8>, Fault> {
+    Ok(Buffer::from_bytes(bytes(answer, word))?)
 }
 
-fn of_bits(made: Made) -> Result<Array, Fault> {
-    let values = bitmap(made.alloc, word(made.words, 0)?)?;
-    let validity = made.validity()?;
-    Ok(Array::Boolean(BooleanArray::try_new(made.dtype()?, values, validity)?))
+pub(crate) fn of_numbers<T: NativeType>(
+    answer: &mut Answer,
+    made: Made,
+) -> Result<PrimitiveArray<T>, Fault> {
+    let values = items(answer, word(made.words, 0))?;
+    let validity = made.validity(answer);
+    Ok(PrimitiveArray::try_new(made.dtype(answer), values, validity)?)
 }
 
-fn of_bytes(made: Made) -> Result<Array, Fault> {
-    let values = Buffer::from_bytes(bytes(made.alloc, word(made.words, 0)?)?)?;
-    let validity = made.validity()?;
-    let array = FixedSizeBinaryArray::try_new(made.dtype()?, values, validity)?;
+fn of_bits(answer: &mut Answer, made: Made) -> Result<Array, Fault> {
+    let validity = made.validity(answer);
+    match bitmap(answer, word(made.words, 0)) {
+        Some(values) => {
+            Ok(Array::Boolean(BooleanArray::try_new(made.dtype(answer), values, validity)?))
+        }
+        None => Err(Fault::Words),
+    }
+}
+
+fn of_bytes(answer: &mut Answer, made: Made) -> Result<Array, Fault> {
+    let values = bytes_buffer(answer, word(made.words, 0))?;
+    let validity = made.validity(answer);
+    let array = FixedSizeBinaryArray::try_new(made.dtype(answer), values, validity)?;
     Ok(Array::FixedSizeBinary(array))
 }
 
 /// Offsets, and the bytes that they lead into.
-fn between<O: Offset, V: ViewType>(made: Made) -> Result<VariableArray<O, V>, Fault> {
-    let offsets = items(made.alloc, word(made.words, 0)?)?;
-    let values = Buffer::from_bytes(bytes(made.alloc, word(made.words, 1)?)?)?;
-    let validity = made.validity()?;
-    Ok(VariableArray::try_new(made.dtype()?, offsets, values, validity)?)
+fn between<O: Offset, V: ViewType>(
+    answer: &mut Answer,
+    made: Made,
+) -> Result<VariableArray<O, V>, Fault> {
+    let offsets = items(answer, word(made.words, 0))?;
+    let values = bytes_buffer(answer, word(made.words, 1))?;
+    let validity = made.validity(answer);
+    Ok(VariableArray::try_new(made.dtype(answer), offsets, values, validity)?)
 }
 
 /// The buffers that views lead into.
-fn held(made: Made) -> Result<Vec<Buffer<u8>>, Fault> {
-    let mut buffers = Vec::new(made.alloc);
+fn held(answer: &mut Answer, made: Made) -> Result<Vec<Buffer<u8>>, Fault> {
+    let mut buffers = Vec::new(answer.alloc());
     for word in rest(made.words, 1) {
-        buffers.push(Buffer::from_bytes(bytes(made.alloc, *word)?)?)?;
+        buffers.push(bytes_buffer(answer, *word)?)?;
     }
     Ok(buffers)
 }
 
-fn views<V: ViewType>(made: Made) -> Result<BinaryViewArrayGeneric<V>, Fault> {
-    let buffers = held(made)?;
-    let views = Buffer::from_bytes(bytes(made.alloc, word(made.words, 0)?)?)?;
-    let validity = made.validity()?;
-    Ok(BinaryViewArrayGeneric::try_new(made.dtype()?, views, buffers, validity)?)
+fn views<V: ViewType>(answer: &mut Answer, made: Made) -> Result<BinaryViewArrayGeneric<V>, Fault> {
+    let views = bytes_buffer(answer, word(made.words, 0))?;
+    let buffers = held(answer, made)?;
+    let validity = made.validity(answer);
+    Ok(BinaryViewArrayGeneric::try_new(made.dtype(answer), views, buffers, validity)?)
 }
 
-fn nulls(made: Made) -> Result<Array, Fault> {
-    let rows = count(word(made.words, 0)?)?;
-    Ok(Array::Null(NullArray::try_new(made.dtype()?, rows)?))
+fn nulls(answer: &mut Answer, made: Made) -> Result<Array, Fault> {
+    let rows = answer.count(word(made.words, 0));
+    Ok(Array::Null(NullArray::try_new(made.dtype(answer), rows)?))
 }
 
 /// An array of numbers, where the word names their width.
-fn of_width(name: &str, made: Made) -> Result<Array, Fault> {
+fn of_width(answer: &mut Answer, name: &str, made: Made) -> Result<Array, Fault> {
     match name {
-        "i8" => Ok(Array::Int8(of_numbers(made)?)),
-        "i16" => Ok(Array::Int16(of_numbers(made)?)),
-        "i32" => Ok(Array::Int32(of_numbers(made)?)),
-        "i64" => Ok(Array::Int64(of_numbers(made)?)),
-        "i128" => Ok(Array::Int128(of_numbers(made)?)),
-        "u8" => Ok(Array::UInt8(of_numbers(made)?)),
-        "u16" => Ok(Array::UInt16(of_numbers(made)?)),
-        "u32" => Ok(Array::UInt32(of_numbers(made)?)),
-        "u64" => Ok(Array::UInt64(of_numbers(made)?)),
-        "days" => Ok(Array::DaysMs(of_numbers(made)?)),
-        "months" => Ok(Array::MonthsDaysNs(of_numbers(made)?)),
+        "i8" => Ok(Array::Int8(of_numbers(answer, made)?)),
+        "i16" => Ok(Array::Int16(of_numbers(answer, made)?)),
+        "i32" => Ok(Array::Int32(of_numbers(answer, made)?)),
+        "i64" => Ok(Array::Int64(of_numbers(answer, made)?)),
+        "i128" => Ok(Array::Int128(of_numbers(answer, made)?)),
+        "u8" => Ok(Array::UInt8(of_numbers(answer, made)?)),
+        "u16" => Ok(Array::UInt16(of_numbers(answer, made)?)),
+        "u32" => Ok(Array::UInt32(of_numbers(answer, made)?)),
+        "u64" => Ok(Array::UInt64(of_numbers(answer, made)?)),
+        "days" => Ok(Array::DaysMs(of_numbers(answer, made)?)),
+        "months" => Ok(Array::MonthsDaysNs(of_numbers(answer, made)?)),
         _ => Err(Fault::Words),
     }
 }
 
 /// An array without children.
-pub(crate) fn leaf(name: &str, made: Made) -> Result<Array, Fault> {
+pub(crate) fn leaf(answer: &mut Answer, name: &str, made: Made) -> Result<Array, Fault> {
     match name {
-        "nulls" => nulls(made),
-        "bits" => of_bits(made),
-        "bytes" => of_bytes(made),
-        "strings" => Ok(Array::Binary(between::<i32, ByteRows>(made)?)),
-        "large_strings" => Ok(Array::LargeBinary(between::<i64, ByteRows>(made)?)),
-        "texts" => Ok(Array::Utf8(between::<i32, TextRows>(made)?)),
-        "large_texts" => Ok(Array::LargeUtf8(between::<i64, TextRows>(made)?)),
-        "string_views" => Ok(Array::BinaryView(views::<ByteRows>(made)?)),
-        "text_views" => Ok(Array::Utf8View(views::<TextRows>(made)?)),
-        _ => of_width(name, made),
+        "nulls" => nulls(answer, made),
+        "bits" => of_bits(answer, made),
+        "bytes" => of_bytes(answer, made),
+        "strings" => Ok(Array::Binary(between::<i32, ByteRows>(answer, made)?)),
+        "large_strings" => Ok(Array::LargeBinary(between::<i64, ByteRows>(answer, made)?)),
+        "texts" => Ok(Array::Utf8(between::<i32, TextRows>(answer, made)?)),
+        "large_texts" => Ok(Array::LargeUtf8(between::<i64, TextRows>(answer, made)?)),
+        "string_views" => Ok(Array::BinaryView(views::<ByteRows>(answer, made)?)),
+        "text_views" => Ok(Array::Utf8View(views::<TextRows>(answer, made)?)),
+        _ => of_width(answer, name, made),
     }
 }
 
 /// The array of `TYPE | PARTS`, with `valid BITS` behind them where it has a validity. Children are those that were made last, which
 /// it takes.
-pub fn array_of(alloc: Global, arrays: &mut Vec<Array>, words: &[&str]) -> Result<Array, Fault> {
+pub fn array_of(
+    answer: &mut Answer,
+    arrays: &mut Vec<Array>,
+    words: &[&str],
+) -> Result<Array, Fault> {
     let (types, parts) = halves(words, "|");
     let (parts, valid) = halves(parts, "valid");
     let made = Made {
-        alloc,
         types,
         words: rest(parts, 1),
         valid: valid.first().copied(),
     };
-    nested(word(parts, 0)?, made, arrays)
+    nested(answer, word(parts, 0), made, arrays)
 }

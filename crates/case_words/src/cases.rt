@@ -1,7 +1,6 @@
 //! Files of cases, run call by call.
-use case_types::Fault;
+use case_types::{Answer, Fault};
 use std::alloc::{AllocError, Global};
-use std::fmt::Write;
 use std::process::ExitCode;
 use std::{env, fs};
 
@@ -10,19 +9,23 @@ pub trait Case: Drop {
     /// Nothing yet.
     fn new(alloc: Global) -> Self;
 
+    /// A case begins: what the calls of the one before left is forgotten.
+    fn forget(&mut self, alloc: Global);
+
     /// Makes the call of these words, of which the first is its name, and tells what it gives.
-    fn answer(&mut self, alloc: Global, words: &[&str]) -> Result<String, Fault>;
+    fn answer(&mut self, rt: &HostRuntime, answer: &mut Answer, words: &[&str]);
 }
 
 /// What was found up to a line.
 #[derive(Drop)]
 struct Run<C: Case> {
     case: C,
+    /// The calls of the file, and how many of all were answered otherwise.
     calls: usize,
     others: usize,
-    /// The line of the last call, its answer, and what the file says that it is.
+    /// The line of the last call, its words, and what the file says that its answer is.
     line: usize,
-    answered: String,
+    call: String,
     wanted: String,
     /// What was answered otherwise.
     report: String,
@@ -34,14 +37,14 @@ fn new_run<C: Case>(alloc: Global) -> Run<C> {
         calls: 0,
         others: 0,
         line: 0,
-        answered: String::new(alloc),
+        call: String::new(alloc),
         wanted: String::new(alloc),
         report: String::new(alloc),
     }
 }
 
 /// An answer, or what stands in its place.
-fn text_of(alloc: Global, answer: Result<String, Fault>) -> Result<String, AllocError> {
+pub fn text_of(alloc: Global, answer: Result<String, Fault>) -> Result<String, AllocError> {
     match answer {
         Ok(text) => Ok(text),
         Err(Fault::Memory) => Err(AllocError),
@@ -49,24 +52,40 @@ fn text_of(alloc: Global, answer: Result<String, Fault>) -> Result<String, Alloc
     }
 }
 
-fn answer_of<C: Case>(alloc: Global, case: &mut C, line: &str) -> Result<String, AllocError> {
-    let words: Vec<&str> = line.split_whitespace().collect(alloc)?;
-    text_of(alloc, case.answer(alloc, words.as_slice()))
+fn answer_of<C: Case>(rt: &HostRuntime, case: &mut C, line: &str) -> Result<String, AllocError> {
+    let words: Vec<&str> = line.split_whitespace().collect(rt.alloc())?;
+    let mut answer = Answer::new(rt.alloc());
+    case.answer(rt, &mut answer, words.as_slice());
+    text_of(rt.alloc(), answer.into_text())
 }
 
-fn add(report: &mut String, line: usize, answered: &str) -> Result<(), AllocError> {
-    write!(report, "line {line}:\n{answered}\n")
-}
-
-/// Compares the last call's answer with what is wanted.
-fn judge<C: Case>(run: &mut Run<C>) -> Result<(), AllocError> {
-    if run.answered != run.wanted {
-        run.others = run.others.wrapping_add(1);
-        add(&mut run.report, run.line, &run.answered)?;
+/// Makes the call of the lines before, and compares its answer with what is wanted.
+fn judge<C: Case>(rt: &HostRuntime, run: &mut Run<C>) -> Result<(), AllocError> {
+    if run.call.is_empty() {
+        return Ok(());
     }
-    run.answered.clear();
+    run.calls = run.calls.wrapping_add(1);
+    let answered = answer_of(rt, &mut run.case, run.call.as_str())?;
+    if answered != run.wanted {
+        let line = run.line;
+        run.report.push_str(format!(in rt.alloc(); "line {line}:\n{answered}\n")?.as_str())?;
+        run.others = run.others.wrapping_add(1);
+    }
+    run.call.clear();
     run.wanted.clear();
     Ok(())
+}
+
+/// The line of a call, or of its front.
+fn begin<C: Case>(run: &mut Run<C>, number: usize, line: &str) -> Result<(), AllocError> {
+    run.line = number;
+    match line.split_once(" =>") {
+        Some((call, wanted)) => {
+            run.call.push_str(call)?;
+            run.wanted.push_str(wanted.trim_start())
+        }
+        None => run.call.push_str(line),
+    }
 }
 
 /// A line of an answer of several lines.
@@ -77,22 +96,9 @@ fn want<C: Case>(run: &mut Run<C>, wanted: &str) -> Result<(), AllocError> {
     run.wanted.push_str(wanted)
 }
 
-/// A call, with its answer behind it or on the next lines.
-fn call<C: Case>(alloc: Global, run: &mut Run<C>, line: &str) -> Result<(), AllocError> {
-    run.calls = run.calls.wrapping_add(1);
-    match line.split_once(" =>") {
-        Some((call, wanted)) => {
-            run.wanted.push_str(wanted.trim_start())?;
-            run.answered = answer_of(alloc, &mut run.case, call)?;
-        }
-        None => run.answered = answer_of(alloc, &mut run.case, line)?,
-    }
-    Ok(())
-}
-
 /// One line of a file.
-fn read_line<C: Case>(
-    alloc: Global,
+fn take<C: Case>(
+    rt: &HostRuntime,
     run: &mut Run<C>,
     number: usize,
     line: &str,
@@ -100,42 +106,54 @@ fn read_line<C: Case>(
     if let Some(wanted) = line.strip_prefix("= ") {
         return want(run, wanted);
     }
+    if let Some(words) = line.strip_prefix("+ ") {
+        run.call.push_str(" ")?;
+        return run.call.push_str(words);
+    }
     if line.is_empty() || line.starts_with('#') {
         return Ok(());
     }
-    judge(run)?;
+    judge(rt, run)?;
     if line.starts_with("== ") {
-        run.case = C::new(alloc);
+        run.case.forget(rt.alloc());
         return Ok(());
     }
-    run.line = number;
-    call(alloc, run, line)
+    begin(run, number, line)
 }
 
-fn run_text<C: Case>(alloc: Global, text: &str) -> Result<Run<C>, AllocError> {
-    let mut run = new_run(alloc);
+/// The lines of a file.
+fn take_all<C: Case>(rt: &HostRuntime, run: &mut Run<C>, text: &str) -> Result<(), AllocError> {
     for (number, line) in text.lines().enumerate() {
-        read_line(alloc, &mut run, number.wrapping_add(1), line)?;
+        take(rt, run, number.wrapping_add(1), line)?;
     }
-    judge(&mut run)?;
-    Ok(run)
+    judge(rt, run)?;
+    run.case.forget(rt.alloc());
+    Ok(())
 }
 
-/// Runs a file of the folder, and tells how many of its calls were answered otherwise.
-fn run_file<C: Case>(rt: &HostRuntime, name: &str) -> Result<usize, &'static str> {
+/// What was found in a file is told, and forgotten.
+fn tell<C: Case>(rt: &HostRuntime, run: &mut Run<C>, name: &str) -> Result<(), &'static str> {
+    let (calls, report) = (run.calls, run.report.as_str());
+    if println!(rt; "{name}: {calls} calls\n{report}").is_err() {
+        return Err("nothing can be printed");
+    }
+    run.calls = 0;
+    run.report.clear();
+    Ok(())
+}
+
+/// Runs a file of the folder.
+fn run_file<C: Case>(rt: &HostRuntime, run: &mut Run<C>, name: &str) -> Result<(), &'static str> {
     let Ok(text) = fs::read_to_string(rt, name) else {
         return Err("a file cannot be read");
     };
-    let Ok(run) = run_text::<C>(rt.alloc(), &text) else {
+    if take_all(rt, run, &text).is_err() {
         return Err("no memory");
-    };
-    let (calls, report) = (run.calls, run.report.as_str());
-    match println!(rt; "{name}: {calls} calls\n{report}") {
-        Ok(()) => Ok(run.others),
-        Err(_) => Err("nothing can be printed"),
     }
+    tell(rt, run, name)
 }
 
+/// Runs the files one after another, and tells whether all was answered as they say.
 fn run_named<C: Case>(rt: &HostRuntime) -> Result<bool, &'static str> {
     let Ok(arguments) = env::args(rt) else {
         return Err("no words");
@@ -143,13 +161,11 @@ fn run_named<C: Case>(rt: &HostRuntime) -> Result<bool, &'static str> {
     let Ok(names) = arguments.skip(1).collect::<Vec<String>>(rt.alloc()) else {
         return Err("no memory");
     };
-    let mut is_well = true;
+    let mut run = new_run::<C>(rt.alloc());
     for name in &names {
-        if run_file::<C>(rt, name)? != 0 {
-            is_well = false;
-        }
+        run_file(rt, &mut run, name)?;
     }
-    Ok(is_well)
+    Ok(run.others == 0)
 }
 
 /// Runs the cases of the files that the program's words name. What is answered otherwise than a file says is printed with its line,

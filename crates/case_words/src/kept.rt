@@ -1,21 +1,23 @@
 //! The arrays of a case, the last made last.
-use crate::shown::counts;
+use crate::shown::say_counts;
 use arrow_arrays::Array;
-use case_types::Fault;
-use std::alloc::Global;
+use case_types::{Answer, Fault};
 
 /// Keeps an array, and tells its rows.
-pub fn keep(alloc: Global, arrays: &mut Vec<Array>, array: Array) -> Result<String, Fault> {
-    let text = counts(alloc, &array);
-    arrays.push(array)?;
-    Ok(text?)
+pub fn keep(answer: &mut Answer, arrays: &mut Vec<Array>, array: Array) {
+    say_counts(answer, &array);
+    answer.done(arrays.push(array));
 }
 
-/// The array that was made last.
-pub fn last(arrays: &[Array]) -> Result<&Array, Fault> {
-    match arrays.last() {
-        Some(array) => Ok(array),
-        None => Err(Fault::Words),
+/// Keeps an array that was made, or tells why there is none.
+pub fn keep_made<E: Into<Fault>>(
+    answer: &mut Answer,
+    arrays: &mut Vec<Array>,
+    made: Result<Array, E>,
+) {
+    match made {
+        Ok(array) => keep(answer, arrays, array),
+        Err(error) => answer.fail(error.into()),
     }
 }
 
@@ -37,10 +39,10 @@ pub fn part(arrays: &mut Vec<Array>, from: usize, rows: usize) -> Result<Array, 
     Ok(array.sliced(from, rows))
 }
 
-/// Whether the last two arrays are equal.
-pub fn same(arrays: &[Array]) -> Result<&'static str, Fault> {
-    match arrays {
-        [.., one, other] => Ok(if one == other { "same" } else { "other" }),
-        _ => Err(Fault::Words),
+/// Tells whether the last two are equal.
+pub fn say_same<T: PartialEq>(answer: &mut Answer, all: &[T]) {
+    match all {
+        [.., one, other] => answer.say(if one == other { "same" } else { "other" }),
+        _ => answer.refuse(),
     }
 }

@@ -2,13 +2,11 @@
 use crate::arrays::bitmap;
 use arrow_buffers::Bitmap;
 use arrow_types::ArrowDataType;
-use case_types::{Fault, type_of};
-use std::alloc::Global;
+use case_types::{Answer, type_of};
 
 /// What an array is made of, but its children, as words: nothing is owned until the array is made.
 #[derive(Clone, Copy)]
 pub(crate) struct Made<'a> {
-    pub(crate) alloc: Global,
     pub(crate) types: &'a [&'a str],
     /// What stands behind the first word of the parts, but for the validity.
     pub(crate) words: &'a [&'a str],
@@ -16,14 +14,14 @@ pub(crate) struct Made<'a> {
 }
 
 impl Made<'_> {
-    pub(crate) fn dtype(&self) -> Result<ArrowDataType, Fault> {
-        type_of(self.alloc, self.types)
+    pub(crate) fn dtype(&self, answer: &mut Answer) -> ArrowDataType {
+        type_of(answer, self.types)
     }
 
-    pub(crate) fn validity(&self) -> Result<Option<Bitmap>, Fault> {
+    pub(crate) fn validity(&self, answer: &mut Answer) -> Option<Bitmap> {
         match self.valid {
-            Some(word) => Ok(Some(bitmap(self.alloc, word)?)),
-            None => Ok(None),
+            Some(word) => bitmap(answer, word),
+            None => None,
         }
     }
 }

@@ -7,12 +7,15 @@ use arrow_arrays::{
     StructArray, UnionArray,
 };
 use arrow_buffers::Buffer;
-use case_types::{Fault, count, rest, word};
-use std::alloc::Global;
+use case_types::{Answer, Fault, rest, word};
 
 /// So many arrays that were made last, in order.
-fn take_each(alloc: Global, arrays: &mut Vec<Array>, count: usize) -> Result<Vec<Array>, Fault> {
-    let mut children = Vec::new(alloc);
+fn take_each(
+    answer: &mut Answer,
+    arrays: &mut Vec<Array>,
+    count: usize,
+) -> Result<Vec<Array>, Fault> {
+    let mut children = Vec::new(answer.alloc());
     for _ in 0..count {
         children.push(take(arrays)?)?;
     }
@@ -20,126 +23,122 @@ fn take_each(alloc: Global, arrays: &mut Vec<Array>, count: usize) -> Result<Vec
     Ok(children)
 }
 
-fn small(made: Made) -> Result<ListOffsets, Fault> {
-    Ok(ListOffsets::Small(items(made.alloc, word(made.words, 0)?)?))
+/// Offsets of 32 bits, or of 64.
+fn offsets(answer: &mut Answer, made: Made, is_large: bool) -> Result<ListOffsets, Fault> {
+    let word = word(made.words, 0);
+    if is_large {
+        Ok(ListOffsets::Large(items(answer, word)?))
+    } else {
+        Ok(ListOffsets::Small(items(answer, word)?))
+    }
 }
 
-fn large(made: Made) -> Result<ListOffsets, Fault> {
-    Ok(ListOffsets::Large(items(made.alloc, word(made.words, 0)?)?))
-}
-
-fn lists(made: Made, offsets: ListOffsets, arrays: &mut Vec<Array>) -> Result<Array, Fault> {
-    let validity = made.validity()?;
-    let dtype = made.dtype()?;
+fn lists(
+    answer: &mut Answer,
+    made: Made,
+    is_large: bool,
+    arrays: &mut Vec<Array>,
+) -> Result<Array, Fault> {
+    let offsets = offsets(answer, made, is_large)?;
     let items = take(arrays)?;
-    let array = ListArray::try_new(made.alloc, dtype, offsets, items, validity)?;
+    let (dtype, validity) = (made.dtype(answer), made.validity(answer));
+    let array = ListArray::try_new(answer.alloc(), dtype, offsets, items, validity)?;
     Ok(Array::List(array))
 }
 
 /// How many rows.
-fn fixed_lists(made: Made, arrays: &mut Vec<Array>) -> Result<Array, Fault> {
-    let rows = count(word(made.words, 0)?)?;
-    let validity = made.validity()?;
-    let dtype = made.dtype()?;
+fn fixed_lists(answer: &mut Answer, made: Made, arrays: &mut Vec<Array>) -> Result<Array, Fault> {
+    let rows = answer.count(word(made.words, 0));
     let items = take(arrays)?;
-    let array = FixedSizeListArray::try_new(made.alloc, dtype, rows, items, validity)?;
+    let (dtype, validity) = (made.dtype(answer), made.validity(answer));
+    let array = FixedSizeListArray::try_new(answer.alloc(), dtype, rows, items, validity)?;
     Ok(Array::FixedSizeList(array))
 }
 
 /// How many rows, and how many children.
-fn structs(made: Made, arrays: &mut Vec<Array>) -> Result<Array, Fault> {
-    let rows = count(word(made.words, 0)?)?;
-    let wanted = count(word(made.words, 1)?)?;
-    let validity = made.validity()?;
-    let dtype = made.dtype()?;
-    let columns = take_each(made.alloc, arrays, wanted)?;
+fn structs(answer: &mut Answer, made: Made, arrays: &mut Vec<Array>) -> Result<Array, Fault> {
+    let rows = answer.count(word(made.words, 0));
+    let wanted = answer.count(word(made.words, 1));
+    let columns = take_each(answer, arrays, wanted)?;
+    let (dtype, validity) = (made.dtype(answer), made.validity(answer));
     Ok(Array::Struct(StructArray::try_new(dtype, rows, columns, validity)?))
 }
 
-fn maps(made: Made, arrays: &mut Vec<Array>) -> Result<Array, Fault> {
-    let offsets = items(made.alloc, word(made.words, 0)?)?;
-    let validity = made.validity()?;
-    let dtype = made.dtype()?;
+fn maps(answer: &mut Answer, made: Made, arrays: &mut Vec<Array>) -> Result<Array, Fault> {
+    let offsets = items(answer, word(made.words, 0))?;
     let entries = take(arrays)?;
-    let array = MapArray::try_new(made.alloc, dtype, offsets, entries, validity)?;
+    let (dtype, validity) = (made.dtype(answer), made.validity(answer));
+    let array = MapArray::try_new(answer.alloc(), dtype, offsets, entries, validity)?;
     Ok(Array::Map(array))
 }
 
 /// Places of rows, or `none`.
-fn places(made: Made) -> Result<Option<Buffer<i32>>, Fault> {
-    match word(made.words, 1)? {
+fn places(answer: &mut Answer, made: Made) -> Result<Option<Buffer<i32>>, Fault> {
+    match word(made.words, 1) {
         "none" => Ok(None),
-        places => Ok(Some(items(made.alloc, places)?)),
+        places => Ok(Some(items(answer, places)?)),
     }
 }
 
 /// Types, places or `none`, and how many children.
-fn unions(made: Made, arrays: &mut Vec<Array>) -> Result<Array, Fault> {
-    let wanted = count(word(made.words, 2)?)?;
-    let types = items(made.alloc, word(made.words, 0)?)?;
-    let places = places(made)?;
-    let dtype = made.dtype()?;
-    let children = take_each(made.alloc, arrays, wanted)?;
-    Ok(Array::Union(UnionArray::try_new(dtype, types, children, places)?))
+fn unions(answer: &mut Answer, made: Made, arrays: &mut Vec<Array>) -> Result<Array, Fault> {
+    let wanted = answer.count(word(made.words, 2));
+    let types = items(answer, word(made.words, 0))?;
+    let places = places(answer, made)?;
+    let children = take_each(answer, arrays, wanted)?;
+    Ok(Array::Union(UnionArray::try_new(made.dtype(answer), types, children, places)?))
 }
 
 /// Keys of a width, under a type of their own.
-fn keys(made: Made) -> Result<DictionaryKeys, Fault> {
-    let name = word(made.words, 0)?;
+fn keys(answer: &mut Answer, made: Made) -> Result<DictionaryKeys, Fault> {
+    let name = word(made.words, 0);
     let made = Made {
-        alloc: made.alloc,
         types: &[name],
         words: rest(made.words, 1),
         valid: made.valid,
     };
     match name {
-        "int8" => Ok(DictionaryKeys::Int8(of_numbers(made)?)),
-        "int16" => Ok(DictionaryKeys::Int16(of_numbers(made)?)),
-        "int32" => Ok(DictionaryKeys::Int32(of_numbers(made)?)),
-        "int64" => Ok(DictionaryKeys::Int64(of_numbers(made)?)),
-        "uint8" => Ok(DictionaryKeys::UInt8(of_numbers(made)?)),
-        "uint16" => Ok(DictionaryKeys::UInt16(of_numbers(made)?)),
-        "uint32" => Ok(DictionaryKeys::UInt32(of_numbers(made)?)),
-        "uint64" => Ok(DictionaryKeys::UInt64(of_numbers(made)?)),
+        "int8" => Ok(DictionaryKeys::Int8(of_numbers(answer, made)?)),
+        "int16" => Ok(DictionaryKeys::Int16(of_numbers(answer, made)?)),
+        "int32" => Ok(DictionaryKeys::Int32(of_numbers(answer, made)?)),
+        "int64" => Ok(DictionaryKeys::Int64(of_numbers(answer, made)?)),
+        "uint8" => Ok(DictionaryKeys::UInt8(of_numbers(answer, made)?)),
+        "uint16" => Ok(DictionaryKeys::UInt16(of_numbers(answer, made)?)),
+        "uint32" => Ok(DictionaryKeys::UInt32(of_numbers(answer, made)?)),
+        "uint64" => Ok(DictionaryKeys::UInt64(of_numbers(answer, made)?)),
         _ => Err(Fault::Words),
     }
 }
 
-/// Values by themselves.
-fn over_one(made: Made, arrays: &mut Vec<Array>) -> Result<Array, Fault> {
-    let keys = keys(made)?;
-    let dtype = made.dtype()?;
-    let values = take(arrays)?;
-    let array = DictionaryArray::try_new(made.alloc, dtype, keys, values)?;
+/// The type of the keys, the keys, and how many parts of values; `one` are values by themselves.
+fn dictionary(answer: &mut Answer, made: Made, arrays: &mut Vec<Array>) -> Result<Array, Fault> {
+    let keys = keys(answer, made)?;
+    let dtype = made.dtype(answer);
+    let array = match word(made.words, 2) {
+        "one" => DictionaryArray::try_new(answer.alloc(), dtype, keys, take(arrays)?)?,
+        parts => {
+            let wanted = answer.count(parts);
+            DictionaryArray::try_from_parts(dtype, keys, take_each(answer, arrays, wanted)?)?
+        }
+    };
     Ok(Array::Dictionary(array))
 }
 
-/// Values in so many parts.
-fn over_parts(made: Made, arrays: &mut Vec<Array>, wanted: usize) -> Result<Array, Fault> {
-    let keys = keys(made)?;
-    let dtype = made.dtype()?;
-    let parts = take_each(made.alloc, arrays, wanted)?;
-    Ok(Array::Dictionary(DictionaryArray::try_from_parts(dtype, keys, parts)?))
-}
-
-/// The type of the keys, the keys, and how many parts of values; `one` are values by themselves.
-fn dictionary(made: Made, arrays: &mut Vec<Array>) -> Result<Array, Fault> {
-    match word(made.words, 2)? {
-        "one" => over_one(made, arrays),
-        parts => over_parts(made, arrays, count(parts)?),
-    }
-}
-
 /// The array of a name's parts, over those that were made last.
-pub(crate) fn nested(name: &str, made: Made, arrays: &mut Vec<Array>) -> Result<Array, Fault> {
+pub(crate) fn nested(
+    answer: &mut Answer,
+    name: &str,
+    made: Made,
+    arrays: &mut Vec<Array>,
+) -> Result<Array, Fault> {
     match name {
-        "lists" => lists(made, small(made)?, arrays),
-        "large_lists" => lists(made, large(made)?, arrays),
-        "fixed_lists" => fixed_lists(made, arrays),
-        "structs" => structs(made, arrays),
-        "maps" => maps(made, arrays),
-        "unions" => unions(made, arrays),
-        "keys" => dictionary(made, arrays),
-        _ => leaf(name, made),
+        "lists" => lists(answer, made, false, arrays),
+        "large_lists" => lists(answer, made, true, arrays),
+        "fixed_lists" => fixed_lists(answer, made, arrays),
+        "structs" => structs(answer, made, arrays),
+        "maps" => maps(answer, made, arrays),
+        "unions" => unions(answer, made, arrays),
+        "keys" => dictionary(answer, made, arrays),
+        _ => leaf(answer, name, made),
     }
 }

@@ -6,29 +6,23 @@ ghost use Rattle.arrow_buffers.specs.Rows.{is_valid};
 use arrow_arrays::{Array, DictionaryArray};
 use arrow_buffers::{Bitmap, PrimitiveArray};
 use arrow_types::NativeType;
+use case_types::Answer;
 use hex::encode;
-use std::alloc::{AllocError, Global};
 use std::convert::AsSlice;
-use std::fmt::Write;
 
 /// How many rows there are, and how many of them are null.
-pub fn counts(alloc: Global, array: &Array) -> Result<String, AllocError> {
+pub fn say_counts(answer: &mut Answer, array: &Array) {
     let (rows, nulls) = (array.len(), array.null_count());
-    format!(in alloc; "{rows} rows, {nulls} null")
+    answer.tell(format!(in answer.alloc(); "{rows} rows, {nulls} null"));
 }
 
 /// Bytes as hex digits; `-` where there are none.
-pub fn hex_text(alloc: Global, bytes: &[u8]) -> Result<String, AllocError> {
-    let mut text = String::new(alloc);
-    push_bytes(alloc, &mut text, bytes)?;
-    Ok(text)
-}
-
-pub(crate) fn push_bytes(alloc: Global, text: &mut String, bytes: &[u8]) -> Result<(), AllocError> {
+pub fn say_bytes(answer: &mut Answer, bytes: &[u8]) {
     if bytes.is_empty() {
-        return text.push_str("-");
+        answer.say("-");
+    } else {
+        answer.tell(encode(answer.alloc(), bytes));
     }
-    text.push_str(encode(alloc, bytes)?.as_str())
 }
 
 /// The bytes up to the last that is not zero.
@@ -40,7 +34,7 @@ pub(crate) fn front(bytes: &[u8]) -> &[u8] {
 }
 
 /// Whether a row is valid: every row where there is no validity, or none of that row.
-fn is_valid_at(validity: Option<&Bitmap>, row: usize) -> bool
+pub fn is_valid_at(validity: Option<&Bitmap>, row: usize) -> bool
     ensures { result ≡ is_valid (option_map (λ bits. bits.now) validity.entry) row }
 {
     match validity {
@@ -49,140 +43,119 @@ fn is_valid_at(validity: Option<&Bitmap>, row: usize) -> bool
     }
 }
 
-fn push_number<T: NativeType>(
-    alloc: Global,
-    text: &mut String,
-    array: &PrimitiveArray<T>,
-    row: usize,
-) -> Result<(), AllocError> {
-    if row >= array.len() {
-        return Ok(());
+fn say_number<T: NativeType>(answer: &mut Answer, array: &PrimitiveArray<T>, row: usize) {
+    if row < array.len() {
+        say_bytes(answer, array.value(row).to_be_bytes().as_slice());
     }
-    push_bytes(alloc, text, array.value(row).to_be_bytes().as_slice())
 }
 
-fn push_optional(alloc: Global, text: &mut String, bytes: Option<&[u8]>) -> Result<(), AllocError> {
+fn say_optional(answer: &mut Answer, bytes: Option<&[u8]>) {
     match bytes {
-        Some(bytes) => push_bytes(alloc, text, bytes),
-        None => text.push_str("none"),
+        Some(bytes) => say_bytes(answer, bytes),
+        None => answer.say("none"),
     }
 }
 
 /// A row of bytes.
-fn push_string(
-    alloc: Global,
-    text: &mut String,
-    array: &Array,
-    row: usize,
-) -> Result<(), AllocError> {
+fn say_string(answer: &mut Answer, array: &Array, row: usize) {
     match array {
-        Array::Binary(array) if row < array.len() => push_bytes(alloc, text, array.value(row)),
-        Array::LargeBinary(array) if row < array.len() => push_bytes(alloc, text, array.value(row)),
-        Array::Utf8(array) if row < array.len() => push_bytes(alloc, text, array.value(row)),
-        Array::LargeUtf8(array) if row < array.len() => push_bytes(alloc, text, array.value(row)),
-        Array::FixedSizeBinary(array) if row < array.len() => {
-            push_bytes(alloc, text, array.value(row))
-        }
-        Array::BinaryView(array) if row < array.len() => {
-            push_optional(alloc, text, array.value(row))
-        }
-        Array::Utf8View(array) if row < array.len() => push_optional(alloc, text, array.value(row)),
-        _ => Ok(()),
+        Array::Binary(array) if row < array.len() => say_bytes(answer, array.value(row)),
+        Array::LargeBinary(array) if row < array.len() => say_bytes(answer, array.value(row)),
+        Array::Utf8(array) if row < array.len() => say_bytes(answer, array.value(row)),
+        Array::LargeUtf8(array) if row < array.len() => say_bytes(answer, array.value(row)),
+        Array::FixedSizeBinary(array) if row < array.len() => say_bytes(answer, array.value(row)),
+        Array::BinaryView(array) if row < array.len() => say_optional(answer, array.value(row)),
+        Array::Utf8View(array) if row < array.len() => say_optional(answer, array.value(row)),
+        _ => {}
     }
 }
 
 /// The items between which a row stands, or the child and the row of it.
-fn push_range(text: &mut String, array: &Array, row: usize) -> Result<(), AllocError> {
-    let (from, to) = match array {
-        Array::List(array) if row < array.len() => array.range(row),
+fn range_of(array: &Array, row: usize) -> Option<(usize, usize)> {
+    match array {
+        Array::List(array) if row < array.len() => Some(array.range(row)),
         Array::FixedSizeList(array) if row < array.len() => {
             let (from, count) = array.range(row);
-            (from, from.wrapping_add(count))
+            Some((from, from.wrapping_add(count)))
         }
-        Array::Map(array) if row < array.len() => array.range(row),
-        Array::Union(array) if row < array.len() => array.index(row),
-        _ => return Ok(()),
-    };
-    write!(text, "{from}:{to}")
+        Array::Map(array) if row < array.len() => Some(array.range(row)),
+        Array::Union(array) if row < array.len() => Some(array.index(row)),
+        _ => None,
+    }
 }
 
 /// A key, and the part and the row that it leads to.
-fn push_key(text: &mut String, array: &DictionaryArray, row: usize) -> Result<(), AllocError> {
-    if row >= array.len() || !is_valid_at(array.validity(), row) {
-        return Ok(());
+fn say_key(answer: &mut Answer, array: &DictionaryArray, row: usize) {
+    if row < array.len() && is_valid_at(array.validity(), row) {
+        let (part, place) = array.index(row);
+        let key = array.key_value(row);
+        answer.tell(format!(in answer.alloc(); "{key}={part}:{place}"));
     }
-    let (part, place) = array.index(row);
-    let key = array.key_value(row);
-    write!(text, "{key}={part}:{place}")
 }
 
 /// A row of numbers of one width.
-fn push_value(
-    alloc: Global,
-    text: &mut String,
-    array: &Array,
-    row: usize,
-) -> Result<(), AllocError> {
+fn say_value(answer: &mut Answer, array: &Array, row: usize) {
     match array {
         Array::Boolean(array) if row < array.len() => {
-            text.push_str(if array.value(row) { "1" } else { "0" })
+            answer.say(if array.value(row) { "1" } else { "0" })
         }
-        Array::Int8(array) => push_number(alloc, text, array, row),
-        Array::Int16(array) => push_number(alloc, text, array, row),
-        Array::Int32(array) => push_number(alloc, text, array, row),
-        Array::Int64(array) => push_number(alloc, text, array, row),
-        Array::Int128(array) => push_number(alloc, text, array, row),
-        Array::UInt8(array) => push_number(alloc, text, array, row),
-        Array::UInt16(array) => push_number(alloc, text, array, row),
-        Array::UInt32(array) => push_number(alloc, text, array, row),
-        Array::UInt64(array) => push_number(alloc, text, array, row),
-        Array::DaysMs(array) => push_number(alloc, text, array, row),
-        Array::MonthsDaysNs(array) => push_number(alloc, text, array, row),
-        _ => Ok(()),
+        Array::Int8(array) => say_number(answer, array, row),
+        Array::Int16(array) => say_number(answer, array, row),
+        Array::Int32(array) => say_number(answer, array, row),
+        Array::Int64(array) => say_number(answer, array, row),
+        Array::Int128(array) => say_number(answer, array, row),
+        Array::UInt8(array) => say_number(answer, array, row),
+        Array::UInt16(array) => say_number(answer, array, row),
+        Array::UInt32(array) => say_number(answer, array, row),
+        Array::UInt64(array) => say_number(answer, array, row),
+        Array::DaysMs(array) => say_number(answer, array, row),
+        Array::MonthsDaysNs(array) => say_number(answer, array, row),
+        _ => {}
     }
 }
 
-fn push_row(alloc: Global, text: &mut String, array: &Array, row: usize) -> Result<(), AllocError> {
-    push_value(alloc, text, array, row)?;
-    push_string(alloc, text, array, row)?;
-    match array {
-        Array::Dictionary(array) => push_key(text, array, row),
-        _ => push_range(text, array, row),
+fn say_row(answer: &mut Answer, array: &Array, row: usize) {
+    say_value(answer, array, row);
+    say_string(answer, array, row);
+    if let Array::Dictionary(array) = array {
+        say_key(answer, array, row);
+    }
+    if let Some((from, to)) = range_of(array, row) {
+        answer.tell(format!(in answer.alloc(); "{from}:{to}"));
     }
 }
 
-/// The rows of an array, each by what its kind tells of it, or `null`.
-pub fn rows(alloc: Global, array: &Array) -> Result<String, AllocError> {
-    let mut text = String::from_str(alloc, "rows")?;
+/// A row of an array by what its kind tells of it, or `null`.
+pub fn say_one(answer: &mut Answer, array: &Array, row: usize) {
+    if is_valid_at(array.validity(), row) {
+        say_row(answer, array, row);
+    } else {
+        answer.say("null");
+    }
+}
+
+/// The rows of an array, in order.
+pub fn say_rows(answer: &mut Answer, array: &Array) {
     for row in 0..array.len() {
-        text.push_str(" ")?;
-        if is_valid_at(array.validity(), row) {
-            push_row(alloc, &mut text, array, row)?;
-        } else {
-            text.push_str("null")?;
-        }
+        answer.say(" ");
+        say_one(answer, array, row);
     }
-    Ok(text)
 }
 
 /// The same, also of what is held under rows that are null.
-pub fn cells(alloc: Global, array: &Array) -> Result<String, AllocError> {
-    let mut text = String::from_str(alloc, "cells")?;
+pub fn say_cells(answer: &mut Answer, array: &Array) {
     for row in 0..array.len() {
-        text.push_str(" ")?;
-        push_row(alloc, &mut text, array, row)?;
+        answer.say(" ");
+        say_row(answer, array, row);
     }
-    Ok(text)
 }
 
 /// Bytes as hex digits, 64 bytes a line.
-pub fn hex_lines(alloc: Global, bytes: &[u8]) -> Result<String, AllocError> {
-    let mut text = String::new(alloc);
-    for chunk in bytes.chunks(64) {
-        if !text.is_empty() {
-            text.push_str("\n")?;
+pub fn say_lines(answer: &mut Answer, bytes: &[u8]) {
+    for (line, chunk) in bytes.chunks(64).enumerate() {
+        if line > 0 {
+            answer.say("\n");
         }
-        push_bytes(alloc, &mut text, chunk)?;
+        say_bytes(answer, chunk);
     }
-    Ok(text)
 }

@@ -1,9 +1,8 @@
 //! The tables of a column and its body, as words.
-use crate::shown::{front, push_bytes};
+use crate::shown::{front, say_bytes};
 use arrow_spec::{FieldNode, IpcBuffer};
-use case_types::{Fault, bytes_of, long, pair};
-use std::alloc::{AllocError, Global};
-use std::fmt::Write;
+use case_types::{Answer, add_bytes, pair};
+use std::alloc::Global;
 
 /// What columns are written as, or read from.
 #[derive(Drop)]
@@ -19,63 +18,38 @@ pub struct Tables {
 }
 
 /// Rows and nulls of each node.
-fn nodes(alloc: Global, nodes: &[FieldNode]) -> Result<String, AllocError> {
-    let mut text = String::from_str(alloc, "nodes")?;
+fn say_nodes(answer: &mut Answer, nodes: &[FieldNode]) {
+    answer.say("nodes");
     for node in nodes {
-        write!(text, " {}/{}", node.length, node.null_count)?;
+        let (rows, nulls) = (node.length, node.null_count);
+        answer.tell(format!(in answer.alloc(); " {rows}/{nulls}"));
     }
-    Ok(text)
 }
 
 /// The line `buffers PLACE+LENGTH ..`.
-pub fn buffers_line(alloc: Global, buffers: &[IpcBuffer]) -> Result<String, AllocError> {
-    let mut text = String::from_str(alloc, "buffers")?;
+pub fn say_buffers(answer: &mut Answer, buffers: &[IpcBuffer]) {
+    answer.say("buffers");
     for buffer in buffers {
-        write!(text, " {}+{}", buffer.offset, buffer.length)?;
+        let (place, length) = (buffer.offset, buffer.length);
+        answer.tell(format!(in answer.alloc(); " {place}+{length}"));
     }
-    Ok(text)
 }
 
-fn views(alloc: Global, views: &[i64]) -> Result<String, AllocError> {
-    let mut text = String::from_str(alloc, "views")?;
+fn say_views(answer: &mut Answer, views: &[i64]) {
+    answer.say("views");
     for count in views {
-        write!(text, " {count}")?;
+        answer.tell(format!(in answer.alloc(); " {count}"));
     }
-    Ok(text)
 }
 
 /// The line `body LENGTH HEX ..`: a body's length, and what each 64 bytes of it hold, but for the zeros at their end.
-pub fn body_line(alloc: Global, body: &[u8]) -> Result<String, AllocError> {
+pub fn say_body(answer: &mut Answer, body: &[u8]) {
     let length = body.len();
-    let mut text = format!(in alloc; "body {length}")?;
+    answer.tell(format!(in answer.alloc(); "body {length}"));
     for chunk in body.chunks(64) {
-        text.push_str(" ")?;
-        push_bytes(alloc, &mut text, front(chunk))?;
+        answer.say(" ");
+        say_bytes(answer, front(chunk));
     }
-    Ok(text)
-}
-
-fn put_nodes(tables: &mut Tables, words: &[&str]) -> Result<(), Fault> {
-    for word in words {
-        let (length, null_count) = pair(*word, '/')?;
-        tables.nodes.push(FieldNode { length, null_count })?;
-    }
-    Ok(())
-}
-
-fn put_buffers(tables: &mut Tables, words: &[&str]) -> Result<(), Fault> {
-    for word in words {
-        let (offset, length) = pair(*word, '+')?;
-        tables.buffers.push(IpcBuffer { offset, length })?;
-    }
-    Ok(())
-}
-
-fn put_views(tables: &mut Tables, words: &[&str]) -> Result<(), Fault> {
-    for word in words {
-        tables.views.push(long(*word)?)?;
-    }
-    Ok(())
 }
 
 impl Tables {
@@ -90,31 +64,44 @@ impl Tables {
     }
 
     /// The three lines `nodes ROWS/NULLS ..`, `buffers PLACE+LENGTH ..` and `views COUNT ..`.
-    pub fn lines_without_body(&self, alloc: Global) -> Result<String, AllocError> {
-        let nodes = nodes(alloc, &self.nodes)?;
-        let buffers = buffers_line(alloc, &self.buffers)?;
-        let views = views(alloc, &self.views)?;
-        format!(in alloc; "{nodes}\n{buffers}\n{views}")
+    pub fn say_without_body(&self, answer: &mut Answer) {
+        say_nodes(answer, &self.nodes);
+        answer.say("\n");
+        say_buffers(answer, &self.buffers);
+        answer.say("\n");
+        say_views(answer, &self.views);
     }
 
     /// The same, and the line `body LENGTH HEX ..`.
-    pub fn lines(&self, alloc: Global) -> Result<String, AllocError> {
-        let lines = self.lines_without_body(alloc)?;
-        let body = body_line(alloc, &self.body)?;
-        format!(in alloc; "{lines}\n{body}")
+    pub fn say(&self, answer: &mut Answer) {
+        self.say_without_body(answer);
+        answer.say("\n");
+        say_body(answer, &self.body);
     }
 
-    /// Adds what a line says: of the body its bytes, of the others the same words as those of `lines`.
-    pub fn put(&mut self, alloc: Global, name: &str, words: &[&str]) -> Result<(), Fault> {
+    fn put_word(&mut self, answer: &mut Answer, name: &str, word: &str) {
         match name {
-            "nodes" => put_nodes(self, words),
-            "buffers" => put_buffers(self, words),
-            "views" => put_views(self, words),
-            "body" => {
-                let bytes = bytes_of(alloc, words)?;
-                Ok(self.body.extend_from_slice(&bytes)?)
+            "nodes" => {
+                let (length, null_count) = pair(answer, word, '/');
+                answer.done(self.nodes.push(FieldNode { length, null_count }));
             }
-            _ => Err(Fault::Words),
+            "buffers" => {
+                let (offset, length) = pair(answer, word, '+');
+                answer.done(self.buffers.push(IpcBuffer { offset, length }));
+            }
+            "views" => {
+                let count = answer.long(word);
+                answer.done(self.views.push(count));
+            }
+            "body" => add_bytes(answer, &mut self.body, word),
+            _ => answer.refuse(),
+        }
+    }
+
+    /// Adds what a line says: of the body its bytes, of the others the same words as those of `say`.
+    pub fn put(&mut self, answer: &mut Answer, name: &str, words: &[&str]) {
+        for word in words {
+            self.put_word(answer, name, *word);
         }
     }
 }

@@ -1,17 +1,14 @@
-//! Words of cases that say bytes and devices: bytes under names, what a run is lent, where it fails, and how what is put compares.
+//! What a run is lent, as cases say it: bytes under names, the files and the input, where devices fail, and how what is put compares.
 #![tactic(auto)]
 
-mod bytes;
-mod case;
-mod devices;
-mod fault;
-mod words;
+mod comparison;
+mod names;
+mod objects;
+mod outside;
+mod sink;
 
-pub use bytes::{Named, add};
-pub use case::{
-    Case, compare_file, compare_front, compare_output, damage, fail, forget, give, know, limit,
-    new_case, same_front, stand, sum,
-};
-pub use devices::{Devices, Failing, NotingSink, make_devices, output};
-pub use fault::Fault;
-pub use words::{behind, number, numbers, word};
+pub use comparison::{say_compared, say_sum};
+pub use names::{Names, add, bytes_of};
+pub use objects::{Objects, call_sink};
+pub use outside::{Devices, Outside};
+pub use sink::NotingSink;

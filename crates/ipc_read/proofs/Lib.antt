@@ -1,4 +1,3 @@
-pub mod Below
 pub mod Refusals
 pub mod Parts
 pub mod Counted

@@ -1,4 +1,3 @@
-pub mod Below
 pub mod DataBuffers
 pub mod Queues
 pub mod Places

@@ -34,13 +34,7 @@ pub use dictionary_batches::read_dictionary_batch;
 pub use held::{are_held_for, is_held_for};
 pub use integers::magnitude;
 pub use ipc_schema::{
-    BatchHeader, DictionaryMessage, Failed, Feed, Footer, Got, IpcSchema, MemorySink, MemorySource,
-    Message, MessageHeader, PutError, RecordMessage, Shelf, ShelfError, Sink, Source,
-    decode_footer_len, default_ipc_fields, deserialize_footer, deserialize_record_blocks,
-    deserialize_schema, deserialize_schema_and_blocks, footer_metadata, is_continuation,
-    message_metadata, message_prefix, metadata_length, read_dictionary_message,
-    read_message_header, read_record_message, read_schema, schema_message, schema_to_bytes,
-    serialize_schema,
+    BatchHeader, MemorySink, MemorySource, Source, default_ipc_fields, read_record_message,
 };
 pub use leaf::{read_boolean, read_fixed_size_binary, read_null, read_primitive};
 pub use read_children::{read_fixed_size_list, read_list, read_map, read_struct, read_union};

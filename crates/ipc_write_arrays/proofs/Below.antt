@@ -1,9 +1,4 @@
 -- What crates below say, handed on to those above.
-pub use Rattle.arrow_buffers.proofs.Fixed.{quotient}
-pub use Rattle.arrow_buffers.proofs.Parts.{length-part, shift-from_on}
-pub use Rattle.arrow_buffers.proofs.Rows.{fine_here, none_below, none_from, null_here}
-pub use Rattle.arrow_buffers.proofs.ViewParts.{Seen, good_row, view_sound}
-pub use Rattle.arrow_buffers.proofs.Views.{by_prefix, leads, long_good, long_view, short_good, short_view}
 pub use Rattle.ipc_read_laws.proofs.ChosenFloats.{chosen_with}
 pub use Rattle.ipc_read_laws.proofs.HeldUses.{Agrees, join, plain_same, split, uses_one}
 pub use Rattle.ipc_read_laws.proofs.KindCases.{like_itself}

@@ -1,8 +1,4 @@
 -- What crates below say, handed on to those above.
-pub use Rattle.arrow_buffers.specs.Layouts.{is_view}
-pub use Rattle.arrow_buffers.specs.Rows.{bytes_cell, has_rows, is_valid, masked, masked_by, part}
-pub use Rattle.arrow_buffers.specs.Views.{Views, buffer_at, has_bad_view, has_bad_view_text, is_good_view, is_no_text_view, long_bytes, view_at, view_bytes, view_cells, view_fault, view_rows}
-pub use Rattle.arrow_buffers.specs.declared.error.ArrayError.{ArrayError}
 pub use Rattle.ipc_read_laws.specs.Batches.{columns_read}
 pub use Rattle.ipc_read_laws.specs.Held.{HasKinds, Held, HoldsCells, HoldsFields, HoldsKinds, values_of_id}
 pub use Rattle.ipc_read_laws.specs.LayoutFaults.{contents_of}

@@ -11,5 +11,4 @@ mod outputs;
 mod trees;
 
 pub use array::{plan, write};
-pub use arrow_buffers::{BinaryViewArrayGeneric, Bitmap, Buffer, ViewType};
 pub use outputs::Outputs;

@@ -1,6 +1,5 @@
 //! Bytes beside those that are wanted.
-use case_words::Fault;
-use std::alloc::Global;
+use case_words::Answer;
 
 /// How many bytes are equal from the front on.
 fn equal_bytes(bytes: &[u8], wanted: &[u8]) -> usize {
@@ -13,15 +12,15 @@ fn equal_bytes(bytes: &[u8], wanted: &[u8]) -> usize {
     length
 }
 
-/// How bytes stand to those that are wanted.
-pub fn compared(alloc: Global, bytes: &[u8], wanted: &[u8]) -> Result<String, Fault> {
+/// Tells how bytes stand to those that are wanted.
+pub fn compare(answer: &mut Answer, bytes: &[u8], wanted: &[u8]) {
     let (length, all) = (bytes.len(), wanted.len());
-    if bytes == wanted {
-        return Ok(String::from_str(alloc, "same")?);
-    }
-    if wanted.starts_with(bytes) {
-        return Ok(format!(in alloc; "the first {length} of {all} bytes")?);
-    }
     let equal = equal_bytes(bytes, wanted);
-    Ok(format!(in alloc; "{length} bytes, other from byte {equal}")?)
+    if equal < length {
+        answer.tell(format!(in answer.alloc(); "{length} bytes, other from byte {equal}"));
+    } else if length < all {
+        answer.tell(format!(in answer.alloc(); "the first {length} of {all} bytes"));
+    } else {
+        answer.say("same");
+    }
 }

@@ -1,52 +1,49 @@
 //! IPC fields as words.
 use crate::options::{behind, front, has};
-use case_words::{Fault, count, parts};
+use case_words::{Answer, parts};
 use ipc_fields::IpcField;
-use std::alloc::Global;
 
-/// An id, or `-`, and in parentheses how many of the words behind it are below it.
-fn id_of(word: &str) -> Result<(Option<i64>, usize), Fault> {
-    let (id, below) = parts(word);
-    let below = if below.is_empty() { 0 } else { count(below)? };
-    if id == "-" {
-        return Ok((None, below));
-    }
-    match id.parse::<i64>() {
-        Ok(id) => Ok((Some(id), below)),
-        Err(_) => Err(Fault::Words),
-    }
-}
-
-fn lasts(alloc: Global, fields: &mut Vec<IpcField>, count: usize) -> Result<Vec<IpcField>, Fault> {
-    let mut below = Vec::new(alloc);
+/// So many fields that were read last.
+fn lasts(answer: &mut Answer, fields: &mut Vec<IpcField>, count: usize) -> Vec<IpcField> {
+    let mut lasts = Vec::new(answer.alloc());
     for _ in 0..count {
         match fields.pop() {
-            Some(field) => below.push(field)?,
-            None => return Err(Fault::Words),
+            Some(field) => answer.done(lasts.push(field)),
+            None => answer.refuse(),
         }
     }
-    Ok(below)
+    lasts
 }
 
-fn put_field(alloc: Global, fields: &mut Vec<IpcField>, word: &str) -> Result<(), Fault> {
-    let (dictionary_id, below) = id_of(word)?;
-    let below = lasts(alloc, fields, below)?;
-    fields.push(IpcField {
-        fields: below,
+/// An id, or `-`, and in parentheses how many of the words behind it are below it.
+fn put_field(answer: &mut Answer, fields: &mut Vec<IpcField>, word: &str) {
+    let (id, below) = parts(word);
+    let below = if below.is_empty() {
+        0
+    } else {
+        answer.count(below)
+    };
+    let dictionary_id = if id == "-" {
+        None
+    } else {
+        Some(answer.long(id))
+    };
+    let field = IpcField {
+        fields: lasts(answer, fields, below),
         dictionary_id,
-    })?;
-    Ok(())
+    };
+    answer.done(fields.push(field));
 }
 
 /// The IPC fields behind `ids`, each in front of what is below it: `0(1) 1`.
-pub fn ids_of(alloc: Global, words: &[&str]) -> Result<Option<Vec<IpcField>>, Fault> {
+pub fn ids_of(answer: &mut Answer, words: &[&str]) -> Option<Vec<IpcField>> {
     if !has(words, "ids") {
-        return Ok(None);
+        return None;
     }
-    let mut fields = Vec::new(alloc);
+    let mut fields = Vec::new(answer.alloc());
     for word in front(behind(words, "ids")).iter().rev() {
-        put_field(alloc, &mut fields, *word)?;
+        put_field(answer, &mut fields, *word);
     }
     fields.reverse();
-    Ok(Some(fields))
+    Some(fields)
 }

@@ -11,8 +11,8 @@ mod options;
 mod shown;
 
 pub use batches::{any_array, any_batch};
-pub use comparison::compared;
+pub use comparison::compare;
 pub use ids::ids_of;
 pub use names::Names;
-pub use options::{behind, front, has, numbers_of, optional_count, optional_counts, pair_of};
-pub use shown::{batch_text, pairs_text, values_text};
+pub use options::{front, has, numbers_of, optional_count, optional_counts, pair_of};
+pub use shown::{say_batch, say_pairs, say_values};

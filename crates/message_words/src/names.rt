@@ -1,5 +1,5 @@
 //! Bytes under names.
-use case_words::{Fault, bytes, rest, word};
+use case_words::{Answer, add_bytes, rest, word};
 use std::alloc::Global;
 
 #[derive(Drop)]
@@ -15,6 +15,7 @@ pub struct Names {
 }
 
 impl Names {
+    /// No name.
     pub fn new(alloc: Global) -> Names {
         Names {
             held: Vec::new(alloc),
@@ -31,23 +32,25 @@ impl Names {
     }
 
     /// The bytes of names and of hex digits, one behind the other.
-    pub fn bytes_of(&self, alloc: Global, words: &[&str]) -> Result<Vec<u8>, Fault> {
-        let mut all = Vec::new(alloc);
+    pub fn bytes_of(&self, answer: &mut Answer, words: &[&str]) -> Vec<u8> {
+        let mut all = Vec::new(answer.alloc());
         for word in words {
             match self.get(*word) {
-                Some(named) => all.extend_from_slice(named)?,
-                None => all.extend_from_slice(&bytes(alloc, *word)?)?,
+                Some(bytes) => answer.done(all.extend_from_slice(bytes)),
+                None => add_bytes(answer, &mut all, *word),
             }
         }
-        Ok(all)
+        all
     }
 
-    /// `name NAME PARTS`.
-    pub fn put(&mut self, alloc: Global, words: &[&str]) -> Result<usize, Fault> {
-        let name = String::from_str(alloc, word(words, 0)?)?;
-        let bytes = self.bytes_of(alloc, rest(words, 1))?;
+    /// `name NAME PARTS`, and how many bytes they are.
+    pub fn put(&mut self, answer: &mut Answer, words: &[&str]) {
+        let bytes = self.bytes_of(answer, rest(words, 1));
         let length = bytes.len();
-        self.held.push(Named { name, bytes })?;
-        Ok(length)
+        answer.tell(format!(in answer.alloc(); "{length} bytes"));
+        match String::from_str(answer.alloc(), word(words, 0)) {
+            Ok(name) => answer.done(self.held.push(Named { name, bytes })),
+            Err(error) => answer.fail(error.into()),
+        }
     }
 }

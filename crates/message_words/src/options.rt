@@ -2,7 +2,7 @@
 ghost use Rattle.std.specs.Prelude.{◌≤◌, length, IfOk};
 
 use arrow_types::Metadata;
-use case_words::{Fault, count, halves};
+use case_words::{Answer, Fault, counts, halves, word};
 use std::alloc::Global;
 
 /// The words in front of the first bar or `ids`.
@@ -13,7 +13,7 @@ pub fn front<'a>(words: &'a [&'a str]) -> &'a [&'a str] {
 }
 
 /// The words behind a mark.
-pub fn behind<'a>(words: &'a [&'a str], mark: &str) -> &'a [&'a str] {
+pub(crate) fn behind<'a>(words: &'a [&'a str], mark: &str) -> &'a [&'a str] {
     let (_, behind) = halves(words, mark);
     behind
 }
@@ -23,64 +23,61 @@ pub fn has(words: &[&str], name: &str) -> bool {
     words.contains(&name)
 }
 
-/// The word behind a name.
-pub fn named<'a>(words: &'a [&'a str], name: &str) -> Option<&'a str> {
-    behind(words, name).first().copied()
+/// The word behind a name, or no character.
+fn named<'a>(words: &'a [&'a str], name: &str) -> &'a str {
+    word(behind(words, name), 0)
 }
 
 /// The count behind a name.
-pub fn optional_count(words: &[&str], name: &str) -> Result<Option<usize>, Fault> {
+pub fn optional_count(answer: &mut Answer, words: &[&str], name: &str) -> Option<usize> {
     match named(words, name) {
-        Some(word) => Ok(Some(count(word)?)),
-        None => Ok(None),
+        "" => None,
+        word => Some(answer.count(word)),
     }
-}
-
-fn counts(alloc: Global, word: &str) -> Result<Vec<usize>, Fault> {
-    let mut counts = Vec::new(alloc);
-    if word == "-" {
-        return Ok(counts);
-    }
-    for part in word.split(',') {
-        counts.push(count(part)?)?;
-    }
-    Ok(counts)
 }
 
 /// The counts, joined by commas, behind a name; `-` is none of them.
-pub fn optional_counts(
-    alloc: Global,
-    words: &[&str],
-    name: &str,
-) -> Result<Option<Vec<usize>>, Fault> {
+pub fn optional_counts(answer: &mut Answer, words: &[&str], name: &str) -> Option<Vec<usize>> {
     match named(words, name) {
-        Some(word) => Ok(Some(counts(alloc, word)?)),
-        None => Ok(None),
+        "" => None,
+        "-" => Some(Vec::new(answer.alloc())),
+        word => Some(counts(answer, word)),
     }
 }
 
 /// The numbers of calls behind a name, or none.
-pub fn numbers_of(alloc: Global, words: &[&str], name: &str) -> Result<Vec<u64>, Fault> {
-    let mut numbers = Vec::new(alloc);
-    if let Some(word) = named(words, name) {
-        for part in word.split(',') {
-            numbers.push(count(part)? as u64)?;
-        }
+pub fn numbers_of(answer: &mut Answer, words: &[&str], name: &str) -> Vec<u64> {
+    let mut numbers = Vec::new(answer.alloc());
+    for count in &counts(answer, named(words, name)) {
+        answer.done(numbers.push(*count as u64));
     }
-    Ok(numbers)
+    numbers
 }
 
-/// The pair `KEY=VALUE`.
-pub fn pair_of(alloc: Global, word: &str) -> Result<Metadata, Fault>
+fn one_pair(alloc: Global, key: &str, value: &str) -> Result<Metadata, Fault>
     ensures { IfOk result (λ pairs. length pairs.entries ≤ 1) }
 {
-    let Some((key, value)) = word.split_once('=') else {
-        return Err(Fault::Words);
-    };
     let mut pairs = Metadata::new(alloc);
     drop(pairs.insert(
         String::from_str(alloc, key)?,
         String::from_str(alloc, value)?,
     )?);
     Ok(pairs)
+}
+
+/// The pair `KEY=VALUE`.
+pub fn pair_of(answer: &mut Answer, word: &str) -> Metadata
+    ensures { length result.entries ≤ 1 }
+{
+    let Some((key, value)) = word.split_once('=') else {
+        answer.refuse();
+        return Metadata::new(answer.alloc());
+    };
+    match one_pair(answer.alloc(), key, value) {
+        Ok(pairs) => pairs,
+        Err(fault) => {
+            answer.fail(fault);
+            Metadata::new(answer.alloc())
+        }
+    }
 }

@@ -1,107 +1,67 @@
 //! Runs whose device fails at its first call, its second and so on.
-use crate::runs::{asked, devices_of, status_of, told};
-use crate::shown::push_line;
-use device_words::{Case, Devices, Fault, Named, behind, fail, same_front, word};
-use std::alloc::{AllocError, Global};
+use crate::groups::{Group, add};
+use crate::runs::{run_words, say_status};
+use case_words::{Answer, rest, word};
+use device_words::{NotingSink, Outside};
 
-/// Runs that end in one way, in a row.
-#[derive(Drop)]
-struct Group {
-    answer: String,
-    /// How much was put, but where the output fails, which may be at any place.
-    put: Option<usize>,
-    /// Whether what was put is the front of what a whole run puts.
-    is_front: bool,
-    /// The least number of bytes that the first file has from its front as before.
-    kept: usize,
+/// What a run puts whose device does not fail.
+fn whole(answer: &mut Answer, outside: &mut Outside, device: &str, words: &[&str]) -> NotingSink {
+    outside.fail_at(answer, device, Vec::new(answer.alloc()));
+    let mut devices = outside.devices(answer);
+    let mut output = outside.output(answer);
+    let _ = run_words(answer, &mut devices, &mut output, words);
+    output
 }
 
-/// How many bytes the first file has from its front as before.
-fn kept(files: &[Named], devices: &Devices) -> usize {
-    let Some(file) = files.first() else {
-        return 0;
-    };
-    match devices.shelf.bytes(file.name.as_str()) {
-        Some(bytes) => same_front(bytes, file.bytes.as_slice()),
-        None => 0,
-    }
-}
-
-/// A run more.
-fn add(groups: &mut Vec<Group>, group: Group) -> Result<(), AllocError> {
-    if let Some(last) = groups.last_mut() {
-        let is_same = last.put == group.put && last.is_front == group.is_front;
-        if is_same && last.answer == group.answer {
-            last.kept = last.kept.min(group.kept);
-            return Ok(());
-        }
-    }
-    groups.push(group)?;
-    Ok(())
-}
-
-/// One run, beside what a whole run puts.
-fn attempt(alloc: Global, case: &Case, words: &[&str], whole: &[u8]) -> Result<Group, Fault> {
-    let asked = asked(alloc, words)?;
-    let mut devices = devices_of(alloc, case)?;
-    let status = status_of(alloc, &mut devices, asked.as_slice());
-    let put = devices.output.bytes();
-    Ok(Group {
-        answer: told(alloc, status, devices.notes.bytes())?,
-        put: Some(put.len()),
-        is_front: whole.starts_with(put),
-        kept: kept(case.files.as_slice(), &devices),
-    })
-}
-
-/// What a run puts whose devices do not fail.
-fn whole(alloc: Global, case: &Case, words: &[&str]) -> Result<Vec<u8>, Fault> {
-    let asked = asked(alloc, words)?;
-    let mut devices = devices_of(alloc, case)?;
-    let _ = status_of(alloc, &mut devices, asked.as_slice());
-    Ok(devices.output.bytes().to_vec(alloc)?)
-}
-
-fn line_of(alloc: Global, group: &Group) -> Result<String, AllocError> {
-    let (answer, kept) = (group.answer.as_str(), group.kept);
-    let other = if group.is_front {
-        ""
+/// How much was put, but where the output fails, which may be at any place; and whether it is the front of what a whole run puts.
+fn say_put(answer: &mut Answer, device: &str, put: &[u8], whole: &[u8]) {
+    if device == "output" {
+        answer.say(", a front");
     } else {
-        " of other bytes"
-    };
-    match group.put {
-        Some(put) => format!(in alloc; "{answer}, {put} put{other}, {kept} kept"),
-        None => format!(in alloc; "{answer}, a front{other}, {kept} kept"),
+        let length = put.len();
+        answer.tell(format!(in answer.alloc(); ", {length} put"));
+    }
+    if !whole.starts_with(put) {
+        answer.say(" of other bytes");
     }
 }
 
-fn lines_of(alloc: Global, groups: &[Group]) -> Result<String, AllocError> {
-    let mut text = String::new(alloc);
-    for group in groups {
-        push_line(&mut text, line_of(alloc, group)?.as_str())?;
-    }
-    Ok(text)
+/// One run, whose status is given.
+fn attempt(
+    answer: &mut Answer,
+    outside: &Outside,
+    device: &str,
+    words: &[&str],
+    whole: &[u8],
+    groups: &mut Vec<Group>,
+) -> u8 {
+    let mut devices = outside.devices(answer);
+    let mut output = outside.output(answer);
+    let status = run_words(answer, &mut devices, &mut output, words);
+    let mut told = Answer::new(answer.alloc());
+    say_status(&mut told, status, devices.notes.bytes());
+    say_put(&mut told, device, output.bytes(), whole);
+    add(answer, groups, told, outside.kept(&devices.shelf));
+    status
 }
 
 /// `each DEVICE WORD..`: runs up to one that is not refused, each with what it put and how much it kept of the first file.
-pub(crate) fn run_each(alloc: Global, case: &mut Case, words: &[&str]) -> Result<String, Fault> {
-    let (device, words) = (word(words, 0)?, behind(words, 1));
-    fail(alloc, &mut case.failing, &[device])?;
-    let whole = whole(alloc, case, words)?;
-    let mut groups = Vec::new(alloc);
-    for call in 1..1000 {
-        let number = format!(in alloc; "{call}")?;
-        fail(alloc, &mut case.failing, &[device, number.as_str()])?;
-        let mut group = attempt(alloc, case, words, whole.as_slice())?;
-        if device == "output" {
-            group.put = None;
-        }
-        let is_last = group.answer.as_str() == "0";
-        add(&mut groups, group)?;
-        if is_last {
+pub(crate) fn run_each(answer: &mut Answer, outside: &mut Outside, words: &[&str]) {
+    let (device, words) = (word(words, 0), rest(words, 1));
+    let whole = whole(answer, outside, device, words);
+    let mut groups = Vec::new(answer.alloc());
+    for call in 0u64..999 {
+        let calls = answer.list(vec![in answer.alloc(); call]);
+        outside.fail_at(answer, device, calls);
+        if attempt(answer, outside, device, words, whole.bytes(), &mut groups) == 0 {
             break;
         }
     }
-    fail(alloc, &mut case.failing, &[device])?;
-    Ok(lines_of(alloc, groups.as_slice())?)
+    outside.fail_at(answer, device, Vec::new(answer.alloc()));
+    let mut end = "";
+    for group in &groups {
+        let (text, kept) = (group.text.as_str(), group.least);
+        answer.tell(format!(in answer.alloc(); "{end}{text}, {kept} kept"));
+        end = "\n";
+    }
 }

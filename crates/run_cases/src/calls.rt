@@ -1,87 +1,116 @@
 //! The calls of cases.
-use crate::attempts::run_each;
 use crate::cuts::cut_each;
-use crate::readers::{
-    count_rows, count_some, pass, read_file, read_metadata, read_stream, state_rows,
-    transcode_bytes,
-};
-use crate::runs::{answer_words, run_here, run_words};
+use crate::readers::read;
+use crate::runs::{run_named, say_text};
+use crate::streams::{read_stream, transcode_words};
+use case_words::{Answer, Case, rest, word};
 use device_words::{
-    Case, Fault, behind, compare_file, compare_front, compare_output, damage, fail, give, know,
-    limit, stand, sum, word,
+    Names, NotingSink, Objects, Outside, bytes_of, call_sink, say_compared, say_sum,
 };
 use std::alloc::Global;
-use std::str::from_utf8;
 
-/// Nothing is answered where something is set.
-fn silent(alloc: Global, done: Result<(), Fault>) -> Result<String, Fault> {
-    done?;
-    Ok(String::new(alloc))
+/// Bytes that stay known from file to file, what stands around a run to the end of a case, and what the last run put.
+#[derive(Drop)]
+pub(crate) struct Calls {
+    known: Names<u8>,
+    outside: Outside,
+    output: NotingSink,
+    objects: Objects,
 }
 
-/// `text`: what the last run put, as lines. Where the last one has no end, ` ..` stands behind it.
-fn text(alloc: Global, output: &[u8]) -> Result<String, Fault> {
-    let Ok(text) = from_utf8(output) else {
-        return Err(Fault::Words);
-    };
-    Ok(match text.strip_suffix('\n') {
-        Some(lines) => String::from_str(alloc, lines)?,
-        None => format!(in alloc; "{text} ..")?,
-    })
+/// `output WORD..`: whether the last run put these bytes.
+fn compare_output(answer: &mut Answer, known: &Names<u8>, output: &[u8], words: &[&str]) {
+    let wanted = bytes_of(answer, known, words);
+    say_compared(answer, output, &wanted);
 }
 
-/// `longest`: the length of the last run's longest put.
-fn longest(alloc: Global, case: &Case) -> Result<String, Fault> {
-    let length = case.longest;
-    Ok(format!(in alloc; "{length}")?)
+/// `begins WORD..`: whether what the last run put begins with these bytes.
+fn compare_front(answer: &mut Answer, known: &Names<u8>, output: &[u8], words: &[&str]) {
+    let wanted = bytes_of(answer, known, words);
+    let length = wanted.len().min(output.len());
+    say_compared(answer, &output[..length], &wanted);
 }
 
-/// Sets what the calls behind it are made over.
-fn prepare(alloc: Global, case: &mut Case, name: &str, words: &[&str]) -> Result<(), Fault> {
-    match name {
-        "bytes" => know(alloc, case, words),
-        "file" => stand(alloc, case, words),
-        "input" => give(alloc, case, words),
-        "fails" => fail(alloc, &mut case.failing, words),
-        "room" => limit(&mut case.failing, words),
-        "unreadable" => damage(&mut case.failing, words),
-        _ => Err(Fault::Words),
+/// `holds NAME WORD..`: whether a file has these bytes.
+fn compare_file(answer: &mut Answer, known: &Names<u8>, outside: &Outside, words: &[&str]) {
+    let wanted = bytes_of(answer, known, rest(words, 1));
+    match outside.file(word(words, 0)) {
+        Some(bytes) => say_compared(answer, bytes, &wanted),
+        None => answer.say("no such file"),
     }
 }
 
-/// Runs and compares.
-fn answer_of(
-    rt: &HostRuntime,
-    case: &mut Case,
+/// Reads and compares, and refuses what is no call.
+fn look(
+    answer: &mut Answer,
+    known: &Names<u8>,
+    outside: &Outside,
+    output: &NotingSink,
     name: &str,
     words: &[&str],
-) -> Result<String, Fault> {
-    let alloc = rt.alloc();
+) {
     match name {
-        "run" => run_words(alloc, case, words),
-        "answer" => answer_words(alloc, case, words),
-        "here" => run_here(rt, case, words),
-        "each" => run_each(alloc, case, words),
-        "cuts" => cut_each(alloc, case, words),
-        "output" => compare_output(alloc, case, words),
-        "begins" => compare_front(alloc, case, words),
-        "holds" => compare_file(alloc, case, words),
-        "sum" => sum(alloc, case.output.as_slice()),
-        "text" => text(alloc, case.output.as_slice()),
-        "longest" => longest(alloc, case),
-        "transcode" => transcode_bytes(alloc, case, words),
-        "reader" => read_file(alloc, case, words),
-        "stream" => read_stream(alloc, case, words),
-        "metadata" => read_metadata(alloc, case, words),
-        "messages" => state_rows(alloc, case, words),
-        "rows" => count_rows(alloc, case, words),
-        "rows_from" => count_some(alloc, case, words),
-        "place" => pass(alloc, case, words),
-        _ => silent(alloc, prepare(alloc, case, name, words)),
+        "output" => compare_output(answer, known, output.bytes(), words),
+        "begins" => compare_front(answer, known, output.bytes(), words),
+        "holds" => compare_file(answer, known, outside, words),
+        "sum" => say_sum(answer, output.bytes()),
+        "text" => say_text(answer, output.bytes()),
+        "longest" => answer.tell(format!(in answer.alloc(); "{}", output.longest())),
+        "stream" => read_stream(answer, known, outside, words),
+        _ => read(answer, known, outside, name, words),
     }
 }
 
-/// What a call is answered by.
-pub(crate) fn answer(rt: &HostRuntime, case: &mut Case, words: &[&str]) -> Result<String, Fault> {
-    answer_of(rt, case, word(words, 0)?, behind(words, 1))
+/// Whether a call puts bytes into an output that it makes.
+fn put(
+    answer: &mut Answer,
+    known: &Names<u8>,
+    outside: &Outside,
+    output: &mut NotingSink,
+    name: &str,
+    words: &[&str],
+) -> bool {
+    match name {
+        "transcode" => transcode_words(answer, known, outside, output, words),
+        "cuts" => cut_each(answer, known, outside, output, words),
+        "sink" => call_sink(answer, known, outside, output, words),
+        _ => return false,
+    }
+    true
+}
+
+impl Case for Calls {
+    fn new(alloc: Global) -> Calls {
+        Calls {
+            known: Names::new(alloc),
+            outside: Outside::new(alloc),
+            output: NotingSink::empty(alloc),
+            objects: Objects::new(alloc),
+        }
+    }
+
+    /// The known bytes stay.
+    fn forget(&mut self, alloc: Global) {
+        self.outside = Outside::new(alloc);
+        self.output = NotingSink::empty(alloc);
+        self.objects = Objects::new(alloc);
+    }
+
+    fn answer(&mut self, rt: &HostRuntime, answer: &mut Answer, words: &[&str]) {
+        let (name, words) = (word(words, 0), rest(words, 1));
+        let Calls {
+            known,
+            outside,
+            output,
+            objects,
+        } = self;
+        let is_made = known.know(answer, name, words)
+            || outside.prepare(answer, known, name, words)
+            || objects.call(answer, known, outside, name, words)
+            || run_named(rt, answer, outside, output, name, words)
+            || put(answer, known, outside, output, name, words);
+        if !is_made {
+            look(answer, known, outside, output, name, words);
+        }
+    }
 }

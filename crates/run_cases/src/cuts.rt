@@ -1,75 +1,61 @@
 //! Bytes that end early, at one place after another.
-use crate::readers::{read_stream, transcode_bytes};
-use crate::shown::{fault_text, push_line};
-use device_words::{Case, Fault, behind, number, word};
-use std::alloc::{AllocError, Global};
+use crate::asked::bytes;
+use crate::groups::{Group, add};
+use crate::streams::{read_bytes, transcode_bytes};
+use case_words::{Answer, rest, word};
+use device_words::{Names, NotingSink, Outside};
 
-/// Lengths in a row with one answer.
-#[derive(Drop)]
-struct Group {
-    from: usize,
-    to: usize,
-    answer: String,
-}
-
-/// The answer on the first bytes, in one line.
+/// The answer on the first bytes.
 fn answer_at(
-    alloc: Global,
-    case: &mut Case,
+    answer: &mut Answer,
+    known: &Names<u8>,
+    outside: &Outside,
+    output: &mut NotingSink,
     words: &[&str],
     length: usize,
-) -> Result<String, Fault> {
-    let end = format!(in alloc; "cut={length}")?;
-    let mut all = behind(words, 1).to_vec(alloc)?;
-    all.push(end.as_str())?;
-    let answered = match word(words, 0)? {
-        "transcode" => transcode_bytes(alloc, case, all.as_slice()),
-        "stream" => read_stream(alloc, case, all.as_slice()),
-        _ => Err(Fault::Words),
-    };
-    match answered {
-        Ok(text) => Ok(text),
-        Err(fault) => Ok(fault_text(alloc, fault)?),
-    }
-}
-
-fn add(groups: &mut Vec<Group>, length: usize, answer: String) -> Result<(), AllocError> {
-    if let Some(last) = groups.last_mut() {
-        if last.answer == answer {
-            last.to = length;
-            return Ok(());
+) {
+    match word(words, 0) {
+        "transcode" => {
+            let mut bytes = bytes(answer, known, rest(words, 1));
+            bytes.truncate(length);
+            transcode_bytes(answer, outside, output, bytes, words);
         }
+        "stream" => {
+            let mut bytes = bytes(answer, known, rest(words, 2));
+            bytes.truncate(length);
+            read_bytes(answer, outside, bytes, rest(words, 1));
+        }
+        _ => answer.refuse(),
     }
-    groups.push(Group {
-        from: length,
-        to: length,
-        answer,
-    })?;
-    Ok(())
 }
 
-fn push_group(alloc: Global, text: &mut String, group: &Group) -> Result<(), AllocError> {
-    let (from, to) = (group.from, group.to);
-    push_line(text, format!(in alloc; "{from} to {to}:")?.as_str())?;
-    for line in group.answer.lines() {
-        text.push_str(" ")?;
-        text.push_str(line)?;
-        text.push_str(";")?;
+fn say_group(answer: &mut Answer, group: &Group) {
+    let (from, to) = (group.least, group.greatest);
+    answer.tell(format!(in answer.alloc(); "{from} to {to}:"));
+    for line in group.text.lines() {
+        answer.tell(format!(in answer.alloc(); " {line};"));
     }
-    Ok(())
 }
 
 /// `cuts FROM TO CALL ..`: what a call gives of bytes of each of these lengths, the second among them.
-pub(crate) fn cut_each(alloc: Global, case: &mut Case, words: &[&str]) -> Result<String, Fault> {
-    let (from, to) = (number(word(words, 0)?)?, number(word(words, 1)?)?);
-    let mut groups = Vec::new(alloc);
+pub(crate) fn cut_each(
+    answer: &mut Answer,
+    known: &Names<u8>,
+    outside: &Outside,
+    output: &mut NotingSink,
+    words: &[&str],
+) {
+    let (from, to) = (answer.count(word(words, 0)), answer.count(word(words, 1)));
+    let mut groups = Vec::new(answer.alloc());
     for length in from..=to {
-        let answer = answer_at(alloc, case, behind(words, 2), length)?;
-        add(&mut groups, length, answer)?;
+        let mut at = Answer::new(answer.alloc());
+        answer_at(&mut at, known, outside, output, rest(words, 2), length);
+        add(answer, &mut groups, at, length);
     }
-    let mut text = String::new(alloc);
+    let mut end = "";
     for group in &groups {
-        push_group(alloc, &mut text, group)?;
+        answer.say(end);
+        say_group(answer, group);
+        end = "\n";
     }
-    Ok(text)
 }

@@ -1,167 +1,98 @@
-//! Calls below a run: `transcode`, the readers of files and of streams, and counts of rows.
-use crate::shown::{push_line, push_next};
-use device_words::{Case, Fault, add, behind, number, numbers, output, word};
-use ipc_schema::{IpcError, MemoryFeed, MemorySource};
+//! Files that are read call by call, their footers, and counts of rows.
+use crate::asked::{bytes, columns, from, limit};
+use crate::shown::say_next;
+use case_words::{Answer, Fault, rest, word};
+use device_words::{Names, Outside};
+use ipc_schema::{IpcError, MemorySource};
 use ipc_tool::{
-    FileCursor, FileMetadata, FileReader, RecordMessage, StreamReader, StreamState, get_row_count,
-    get_row_count_from_blocks, read_file_metadata, read_stream_metadata, transcode,
+    FileCursor, FileMetadata, FileReader, RecordMessage, get_row_count, get_row_count_from_blocks,
+    read_file_metadata,
 };
-use std::alloc::{AllocError, Global};
-use std::fmt::Write;
-
-/// What is asked of bytes: `columns=LIST`, `limit=N`, `from=BLOCK`, and the words of the bytes.
-#[derive(Drop)]
-struct Asked {
-    columns: Option<Vec<usize>>,
-    limit: Option<usize>,
-    from: usize,
-    bytes: Vec<u8>,
-}
-
-/// What one word asks.
-fn ask(alloc: Global, case: &Case, asked: &mut Asked, word: &str) -> Result<(), Fault> {
-    match word.split_once('=') {
-        Some(("columns", list)) => asked.columns = Some(numbers(alloc, list)?),
-        Some(("limit", rows)) => asked.limit = Some(number(rows)?),
-        Some(("from", block)) => asked.from = number(block)?,
-        _ => add(alloc, case.known.as_slice(), &mut asked.bytes, word)?,
-    }
-    Ok(())
-}
-
-fn ask_all(alloc: Global, case: &Case, asked: &mut Asked, words: &[&str]) -> Result<(), Fault> {
-    for word in words {
-        ask(alloc, case, asked, word)?;
-    }
-    Ok(())
-}
-
-fn asked_of(alloc: Global, case: &Case, words: &[&str]) -> Result<Asked, Fault> {
-    let mut asked = Asked {
-        columns: None,
-        limit: None,
-        from: 0,
-        bytes: Vec::new(alloc),
-    };
-    ask_all(alloc, case, &mut asked, words)?;
-    Ok(asked)
-}
-
-/// A source over bytes, which fails where the case says.
-fn source(alloc: Global, case: &Case, bytes: Vec<u8>) -> Result<MemorySource, Fault> {
-    let failing = case.failing.file.to_vec(alloc)?;
-    Ok(MemorySource::new(bytes, failing, case.failing.places.to_vec(alloc)?))
-}
-
-/// `transcode ..`: how many batches, rows and bytes were put.
-pub(crate) fn transcode_bytes(
-    alloc: Global,
-    case: &mut Case,
-    words: &[&str],
-) -> Result<String, Fault> {
-    let Asked {
-        columns,
-        limit,
-        from: _,
-        bytes,
-    } = asked_of(alloc, case, words)?;
-    let mut source = source(alloc, case, bytes)?;
-    let mut sink = output(alloc, &case.failing)?;
-    let answer = transcode(alloc, &mut source, &mut sink, columns.as_deref(), limit);
-    case.output = sink.bytes().to_vec(alloc)?;
-    case.longest = sink.longest();
-    let summary = answer?;
-    let (batches, rows, bytes) = (summary.batches, summary.rows, summary.bytes);
-    Ok(format!(in alloc; "{batches} batches, {rows} rows, {bytes} bytes")?)
-}
+use std::alloc::Global;
 
 /// `reader CALLS ..`: what so many calls of a file's reader give, one to three.
-pub(crate) fn read_file(alloc: Global, case: &Case, words: &[&str]) -> Result<String, Fault> {
-    let calls = number(word(words, 0)?)?;
-    let Asked {
-        columns,
-        limit,
-        from,
-        bytes,
-    } = asked_of(alloc, case, behind(words, 1))?;
-    let mut source = source(alloc, case, bytes)?;
-    let metadata = read_file_metadata(alloc, &mut source)?;
-    let mut reader = match FileReader::new(alloc, source, metadata, columns, limit) {
+fn read_file(answer: &mut Answer, mut source: MemorySource, words: &[&str]) -> Result<(), Fault> {
+    let metadata = read_file_metadata(answer.alloc(), &mut source)?;
+    let columns = columns(answer, words);
+    let limit = limit(answer, words);
+    let mut reader = match FileReader::new(answer.alloc(), source, metadata, columns, limit) {
         Ok(reader) => reader,
         Err(refused) => return Err(Fault::Ipc(refused.error)),
     };
-    reader.set_current_block(from);
-    let mut text = String::new(alloc);
-    push_next(&mut text, reader.next())?;
+    reader.set_current_block(from(answer, words));
+    let calls = answer.count(word(words, 0));
+    say_next(answer, reader.next());
     if calls > 1 {
-        push_next(&mut text, reader.next())?;
+        answer.say("\n");
+        say_next(answer, reader.next());
     }
     if calls > 2 {
-        push_next(&mut text, reader.next())?;
+        answer.say("\n");
+        say_next(answer, reader.next());
     }
-    Ok(text)
+    Ok(())
 }
 
 /// `place ROWS ..`: the block at which so many rows end, and what is left of them.
-pub(crate) fn pass(alloc: Global, case: &Case, words: &[&str]) -> Result<String, Fault> {
-    let rows = number(word(words, 0)?)? as u64;
-    let Asked {
-        columns: _,
-        limit: _,
-        from,
-        bytes,
-    } = asked_of(alloc, case, behind(words, 1))?;
-    let mut source = source(alloc, case, bytes)?;
-    let metadata = read_file_metadata(alloc, &mut source)?;
-    let mut reader = FileReader::new_with_projection_info(alloc, source, metadata, None, None);
-    reader.set_current_block(from);
+fn pass(answer: &mut Answer, mut source: MemorySource, words: &[&str]) -> Result<(), Fault> {
+    let metadata = read_file_metadata(answer.alloc(), &mut source)?;
+    let mut reader = FileReader::new_with_projection_info(
+        answer.alloc(),
+        source,
+        metadata,
+        None,
+        None,
+    );
+    reader.set_current_block(from(answer, words));
+    let rows = answer.count(word(words, 0)) as u64;
     let left = reader.skip_blocks_till_limit(rows)?;
     let block = reader.get_current_block();
-    Ok(format!(in alloc; "block {block}, {left} rows")?)
+    answer.tell(format!(in answer.alloc(); "block {block}, {left} rows"));
+    Ok(())
+}
+
+fn say_count(answer: &mut Answer, rows: i64) {
+    answer.tell(format!(in answer.alloc(); "{rows} rows"));
 }
 
 /// `rows ..`
-pub(crate) fn count_rows(alloc: Global, case: &Case, words: &[&str]) -> Result<String, Fault> {
-    let bytes = asked_of(alloc, case, words)?.bytes;
-    let mut source = source(alloc, case, bytes)?;
-    let rows = get_row_count(alloc, &mut source)?;
-    Ok(format!(in alloc; "{rows} rows")?)
+fn count_rows(answer: &mut Answer, mut source: MemorySource) -> Result<(), Fault> {
+    let rows = get_row_count(answer.alloc(), &mut source)?;
+    say_count(answer, rows);
+    Ok(())
 }
 
 /// `rows_from BLOCK ..`: those of the blocks from one on.
-pub(crate) fn count_some(alloc: Global, case: &Case, words: &[&str]) -> Result<String, Fault> {
-    let from = number(word(words, 0)?)?;
-    let bytes = asked_of(alloc, case, behind(words, 1))?.bytes;
-    let mut source = source(alloc, case, bytes)?;
-    let metadata = read_file_metadata(alloc, &mut source)?;
-    let blocks = metadata.blocks.as_slice();
+fn count_some(answer: &mut Answer, mut source: MemorySource, words: &[&str]) -> Result<(), Fault> {
+    let from = answer.count(word(words, 0));
+    let blocks = read_file_metadata(answer.alloc(), &mut source)?.blocks;
     let from = from.min(blocks.len());
-    let rows = get_row_count_from_blocks(alloc, &mut source, &blocks[from..])?;
-    Ok(format!(in alloc; "{rows} rows")?)
+    let rows = get_row_count_from_blocks(answer.alloc(), &mut source, &blocks[from..])?;
+    say_count(answer, rows);
+    Ok(())
 }
 
-fn push_stated(
-    text: &mut String,
-    next: Option<Result<RecordMessage, IpcError>>,
-) -> Result<(), Fault> {
+fn say_stated(answer: &mut Answer, next: Option<Result<RecordMessage, IpcError>>) {
     match next {
-        None => Ok(text.push_str(" end")?),
-        Some(Ok(message)) => Ok(write!(text, " {}", message.header.length)?),
-        Some(Err(error)) => Err(Fault::Ipc(error)),
+        None => answer.say(" end"),
+        Some(Ok(message)) => {
+            let rows = message.header.length;
+            answer.tell(format!(in answer.alloc(); " {rows}"));
+        }
+        Some(Err(error)) => answer.fail(error.into()),
     }
 }
 
 /// `messages ..`: the rows that the messages of a file's batches state, in three calls.
-pub(crate) fn state_rows(alloc: Global, case: &Case, words: &[&str]) -> Result<String, Fault> {
-    let bytes = asked_of(alloc, case, words)?.bytes;
-    let mut source = source(alloc, case, bytes)?;
+fn state_rows(answer: &mut Answer, mut source: MemorySource) -> Result<(), Fault> {
+    let alloc = answer.alloc();
     let metadata = read_file_metadata(alloc, &mut source)?;
     let mut cursor = FileCursor::new(alloc, metadata, None, Some(0))?;
-    let mut text = String::from_str(alloc, "rows")?;
-    push_stated(&mut text, cursor.next_record_batch(alloc, &mut source))?;
-    push_stated(&mut text, cursor.next_record_batch(alloc, &mut source))?;
-    push_stated(&mut text, cursor.next_record_batch(alloc, &mut source))?;
-    Ok(text)
+    answer.say("rows");
+    say_stated(answer, cursor.next_record_batch(alloc, &mut source));
+    say_stated(answer, cursor.next_record_batch(alloc, &mut source));
+    say_stated(answer, cursor.next_record_batch(alloc, &mut source));
+    Ok(())
 }
 
 /// Whether a copy of a file's metadata has its schema, its blocks and its size.
@@ -172,75 +103,55 @@ fn has_equal_copy(alloc: Global, metadata: &FileMetadata) -> Result<bool, Fault>
 }
 
 /// `metadata ..`: how many fields, blocks and pairs of its own a file's footer has, its size, and how a copy compares.
-pub(crate) fn read_metadata(alloc: Global, case: &Case, words: &[&str]) -> Result<String, Fault> {
-    let bytes = asked_of(alloc, case, words)?.bytes;
-    let mut source = source(alloc, case, bytes)?;
-    let metadata = read_file_metadata(alloc, &mut source)?;
+fn say_metadata(answer: &mut Answer, mut source: MemorySource) -> Result<(), Fault> {
+    let metadata = read_file_metadata(answer.alloc(), &mut source)?;
     let pairs = match &metadata.custom_metadata {
         None => 0,
         Some(pairs) => pairs.len(),
     };
-    let copy = if has_equal_copy(alloc, &metadata)? {
-        "same"
-    } else {
-        "other"
-    };
     let (fields, blocks, size) = (metadata.schema.len(), metadata.blocks.len(), metadata.size);
-    Ok(format!(in alloc;
-        "{fields} fields, {blocks} blocks, {pairs} pairs, {size} bytes, copy {copy}"
-    )?)
+    answer.tell(format!(in answer.alloc();
+        "{fields} fields, {blocks} blocks, {pairs} pairs, {size} bytes, copy "
+    ));
+    let is_same = has_equal_copy(answer.alloc(), &metadata)?;
+    answer.say(if is_same { "same" } else { "other" });
+    Ok(())
 }
 
-fn push_state(
-    text: &mut String,
-    next: Option<Result<StreamState, IpcError>>,
-) -> Result<(), AllocError> {
-    match next {
-        None => push_next(text, None),
-        Some(Err(error)) => push_next(text, Some(Err(error))),
-        Some(Ok(StreamState::Some(batch))) => push_next(text, Some(Ok(batch))),
-        Some(Ok(StreamState::Waiting)) => push_line(text, "waiting"),
+fn read_source(
+    answer: &mut Answer,
+    source: MemorySource,
+    name: &str,
+    words: &[&str],
+) -> Result<(), Fault> {
+    match name {
+        "reader" => read_file(answer, source, words),
+        "place" => pass(answer, source, words),
+        "rows" => count_rows(answer, source),
+        "rows_from" => count_some(answer, source, words),
+        "messages" => state_rows(answer, source),
+        "metadata" => say_metadata(answer, source),
+        _ => {
+            drop(source);
+            Err(Fault::Words)
+        }
     }
 }
 
-fn states(
-    alloc: Global,
-    reader: &mut StreamReader<MemoryFeed>,
-    calls: usize,
-) -> Result<String, Fault> {
-    let mut text = String::new(alloc);
-    push_state(&mut text, reader.next())?;
-    if calls > 1 {
-        push_state(&mut text, reader.next())?;
-    }
-    if calls > 2 {
-        push_state(&mut text, reader.next())?;
-    }
-    push_line(
-        &mut text,
-        if reader.is_finished() {
-            "finished"
-        } else {
-            "not finished"
-        },
-    )?;
-    Ok(text)
-}
-
-/// `stream CALLS ..`: what so many calls of a stream's reader give, one to three, and whether it is finished then.
-pub(crate) fn read_stream(alloc: Global, case: &Case, words: &[&str]) -> Result<String, Fault> {
-    let calls = number(word(words, 0)?)?;
-    let Asked {
-        columns,
-        limit: _,
-        from: _,
-        bytes,
-    } = asked_of(alloc, case, behind(words, 1))?;
-    let mut feed = MemoryFeed::new(bytes, 100, case.failing.input.to_vec(alloc)?);
-    let metadata = read_stream_metadata(alloc, &mut feed)?;
-    let mut reader = match StreamReader::new(alloc, feed, metadata, columns) {
-        Ok(reader) => reader,
-        Err(refused) => return Err(Fault::Ipc(refused.error)),
+/// Calls of a file's bytes, which stand behind a number where the call has one.
+pub(crate) fn read(
+    answer: &mut Answer,
+    known: &Names<u8>,
+    outside: &Outside,
+    name: &str,
+    words: &[&str],
+) {
+    let numbers = match name {
+        "reader" | "place" | "rows_from" => 1,
+        _ => 0,
     };
-    states(alloc, &mut reader, calls)
+    let bytes = bytes(answer, known, rest(words, numbers));
+    let source = outside.source(answer, bytes);
+    let done = read_source(answer, source, name, words);
+    answer.done(done);
 }

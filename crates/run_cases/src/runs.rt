@@ -1,113 +1,141 @@
 //! Runs of the program.
-use device_words::{Case, Devices, Fault, Named, make_devices};
-use ipc_tool::{FolderShelf, answer, run};
-use std::alloc::{AllocError, Global};
+use crate::attempts::run_each;
+use case_words::Answer;
+use device_words::{Devices, NotingSink, Outside};
+use ipc_tool::{FolderShelf, answer as answered, run};
 use std::str::from_utf8;
 
 /// The words, of which `''` is the empty one.
-pub(crate) fn asked<'a>(alloc: Global, words: &'a [&'a str]) -> Result<Vec<&'a str>, AllocError> {
-    let mut all = Vec::new(alloc);
+fn asked<'a>(answer: &mut Answer, words: &'a [&'a str]) -> Vec<&'a str> {
+    let mut all = Vec::new(answer.alloc());
     for word in words {
-        all.push(if *word == "''" { "" } else { *word })?;
+        answer.done(all.push(if *word == "''" { "" } else { *word }));
     }
-    Ok(all)
+    all
 }
 
-fn owned(alloc: Global, words: &[&str]) -> Result<Vec<String>, AllocError> {
-    let mut all = Vec::new(alloc);
+fn owned(answer: &mut Answer, words: &[&str]) -> Vec<String> {
+    let mut all = Vec::new(answer.alloc());
     for word in words {
-        all.push(String::from_str(alloc, word)?)?;
-    }
-    Ok(all)
-}
-
-/// A status, and what was noted: of a line without its end ` ..` stands behind it.
-pub(crate) fn told(alloc: Global, status: u8, notes: &[u8]) -> Result<String, Fault> {
-    let Ok(text) = from_utf8(notes) else {
-        return Err(Fault::Words);
-    };
-    Ok(match text.strip_suffix('\n') {
-        Some(line) => format!(in alloc; "{status} {line}")?,
-        None if text.is_empty() => format!(in alloc; "{status}")?,
-        None => format!(in alloc; "{status} {text} ..")?,
-    })
-}
-
-/// What the files are behind a run.
-fn keep_files(alloc: Global, files: &mut [Named], devices: &Devices) -> Result<(), AllocError> {
-    for file in files {
-        if let Some(bytes) = devices.shelf.bytes(file.name.as_str()) {
-            file.bytes = bytes.to_vec(alloc)?;
+        match String::from_str(answer.alloc(), *word) {
+            Ok(word) => answer.done(all.push(word)),
+            Err(error) => answer.fail(error.into()),
         }
     }
-    Ok(())
+    all
 }
 
-/// What is put, and what the files are, behind a run.
-fn keep(alloc: Global, case: &mut Case, devices: &Devices) -> Result<(), AllocError> {
-    case.output = devices.output.bytes().to_vec(alloc)?;
-    case.longest = devices.output.longest();
-    keep_files(alloc, case.files.as_mut_slice(), devices)
+/// `text`: what was put, as lines. Where the last one has no end, ` ..` stands behind it.
+pub(crate) fn say_text(answer: &mut Answer, bytes: &[u8]) {
+    let Ok(text) = from_utf8(bytes) else {
+        return answer.refuse();
+    };
+    match text.strip_suffix('\n') {
+        Some(lines) => answer.say(lines),
+        None => {
+            answer.say(text);
+            answer.say(" ..");
+        }
+    }
 }
 
-pub(crate) fn devices_of(alloc: Global, case: &Case) -> Result<Devices, AllocError> {
-    let (files, input) = (case.files.as_slice(), case.input.as_slice());
-    make_devices(alloc, files, input, &case.failing)
+/// A status, and what was noted.
+pub(crate) fn say_status(answer: &mut Answer, status: u8, notes: &[u8]) {
+    answer.tell(format!(in answer.alloc(); "{status}"));
+    if !notes.is_empty() {
+        answer.say(" ");
+        say_text(answer, notes);
+    }
 }
 
-pub(crate) fn status_of(alloc: Global, devices: &mut Devices, words: &[&str]) -> u8 {
+/// A run over the files of the case.
+pub(crate) fn run_words(
+    answer: &mut Answer,
+    devices: &mut Devices,
+    output: &mut NotingSink,
+    words: &[&str],
+) -> u8 {
+    let asked = asked(answer, words);
     run(
-        alloc,
-        words,
+        answer.alloc(),
+        &asked,
         &mut devices.shelf,
         &mut devices.input,
-        &mut devices.output,
+        output,
         &mut devices.notes,
     )
 }
 
-/// `run WORD..`
-pub(crate) fn run_words(alloc: Global, case: &mut Case, words: &[&str]) -> Result<String, Fault> {
-    let asked = asked(alloc, words)?;
-    let mut devices = devices_of(alloc, case)?;
-    let status = status_of(alloc, &mut devices, asked.as_slice());
-    keep(alloc, case, &devices)?;
-    told(alloc, status, devices.notes.bytes())
-}
-
-/// `answer WORD..`, by the call that knows help.
-pub(crate) fn answer_words(
-    alloc: Global,
-    case: &mut Case,
+/// The same by the call that knows help.
+fn answer_words(
+    answer: &mut Answer,
+    devices: &mut Devices,
+    output: &mut NotingSink,
     words: &[&str],
-) -> Result<String, Fault> {
-    let asked = owned(alloc, words)?;
-    let mut devices = devices_of(alloc, case)?;
-    let status = answer(
-        alloc,
-        asked.as_slice(),
+) -> u8 {
+    let asked = owned(answer, words);
+    answered(
+        answer.alloc(),
+        &asked,
         &mut devices.shelf,
         &mut devices.input,
-        &mut devices.output,
+        output,
         &mut devices.notes,
-    );
-    keep(alloc, case, &devices)?;
-    told(alloc, status, devices.notes.bytes())
+    )
 }
 
-/// `here WORD..`, over the files of the current folder.
-pub(crate) fn run_here(rt: &HostRuntime, case: &mut Case, words: &[&str]) -> Result<String, Fault> {
-    let alloc = rt.alloc();
-    let asked = asked(alloc, words)?;
-    let mut devices = devices_of(alloc, case)?;
-    let status = run(
-        alloc,
-        asked.as_slice(),
+/// A run over the files of the current folder.
+fn run_here(
+    rt: &HostRuntime,
+    answer: &mut Answer,
+    devices: &mut Devices,
+    output: &mut NotingSink,
+    words: &[&str],
+) -> u8 {
+    let asked = asked(answer, words);
+    run(
+        answer.alloc(),
+        &asked,
         &mut FolderShelf::new(rt),
         &mut devices.input,
-        &mut devices.output,
+        output,
         &mut devices.notes,
-    );
-    keep(alloc, case, &devices)?;
-    told(alloc, status, devices.notes.bytes())
+    )
+}
+
+/// A run by a name: its status, and what was noted.
+fn run_once(
+    rt: &HostRuntime,
+    answer: &mut Answer,
+    outside: &mut Outside,
+    output: &mut NotingSink,
+    name: &str,
+    words: &[&str],
+) {
+    let mut devices = outside.devices(answer);
+    *output = outside.output(answer);
+    let status = match name {
+        "answer" => answer_words(answer, &mut devices, output, words),
+        "here" => run_here(rt, answer, &mut devices, output, words),
+        _ => run_words(answer, &mut devices, output, words),
+    };
+    say_status(answer, status, devices.notes.bytes());
+    outside.keep(answer, &devices.shelf);
+}
+
+/// Whether a call runs the program: `run WORD..`, `answer WORD..`, `here WORD..` or `each DEVICE WORD..`.
+pub(crate) fn run_named(
+    rt: &HostRuntime,
+    answer: &mut Answer,
+    outside: &mut Outside,
+    output: &mut NotingSink,
+    name: &str,
+    words: &[&str],
+) -> bool {
+    match name {
+        "run" | "answer" | "here" => run_once(rt, answer, outside, output, name, words),
+        "each" => run_each(answer, outside, words),
+        _ => return false,
+    }
+    true
 }

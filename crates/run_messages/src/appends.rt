@@ -1,95 +1,48 @@
 //! Files on a disk that go on behind their last batch.
-use crate::case::{State, told};
-use crate::files::file_bytes;
-use crate::writers::{Writer, begun, write_options};
+use crate::said::{say_error, text_of};
+use crate::writers::write_options;
 use arrow_spec::IpcError;
-use case_words::{Fault, count, rest, word};
-use ipc_append::{FileWriter, WholeStream, WriteOptions, append_stream, read_whole, try_from_file};
-use ipc_disk::{DiskTail, MemoryDisk};
-use ipc_io::{MemoryFeed, Refused};
-use ipc_reader::read_file_metadata;
-use message_words::{front, numbers_of};
-use std::alloc::Global;
+use case_words::{Answer, rest, word};
+use ipc_append::{WholeStream, WriteOptions, append_stream, read_whole};
+use ipc_disk::MemoryDisk;
+use ipc_io::MemoryFeed;
+use message_words::{Names, front, numbers_of};
 
 /// A file on a disk whose calls `fails N,..` fail, and that cannot be read at `places N,..`.
-fn disk_of(alloc: Global, bytes: Vec<u8>, words: &[&str]) -> Result<MemoryDisk, Fault> {
-    let failing = numbers_of(alloc, words, "fails")?;
-    let places = numbers_of(alloc, words, "places")?;
-    Ok(MemoryDisk::new(bytes, failing, places))
+pub(crate) fn disk_of(answer: &mut Answer, bytes: Vec<u8>, words: &[&str]) -> MemoryDisk {
+    let failing = numbers_of(answer, words, "fails");
+    let places = numbers_of(answer, words, "places");
+    MemoryDisk::new(bytes, failing, places)
 }
 
-fn continued(
-    alloc: Global,
-    disk: MemoryDisk,
-    options: WriteOptions,
-) -> Result<FileWriter<DiskTail<MemoryDisk>>, Refused<MemoryDisk>> {
-    let mut disk = disk;
-    match read_file_metadata(alloc, &mut disk) {
-        Ok(metadata) => try_from_file(alloc, disk, metadata, options),
-        Err(error) => Err(Refused {
-            error,
-            object: disk,
-        }),
+fn stream_of(answer: &mut Answer, names: &Names, words: &[&str]) -> Result<WholeStream, IpcError> {
+    let bytes = names.bytes_of(answer, front(words));
+    let alloc = answer.alloc();
+    read_whole(alloc, MemoryFeed::new(bytes, 100, Vec::new(alloc)))
+}
+
+fn say_appended(answer: &mut Answer, appended: Result<u64, IpcError>) {
+    match appended {
+        Ok(count) => answer.tell(format!(in answer.alloc(); "{count} batches")),
+        Err(error) => say_error(answer, error),
     }
-}
-
-/// `append PARTS | OPTIONS`: the writer goes on with the file.
-pub(crate) fn append(alloc: Global, case: &mut State, words: &[&str]) -> Result<String, Fault> {
-    let options = write_options(words)?;
-    let bytes = file_bytes(alloc, case, words)?;
-    let disk = disk_of(alloc, bytes, words)?;
-    case.tally = None;
-    match continued(alloc, disk, options) {
-        Ok(writer) => begun(alloc, case, Writer::Appended(writer)),
-        Err(refused) => {
-            case.keep(refused.object.into_bytes());
-            told(alloc, Err(refused.error), None)
-        }
-    }
-}
-
-/// `disk PARTS`: the file of the next calls.
-pub(crate) fn disk(alloc: Global, case: &mut State, words: &[&str]) -> Result<String, Fault> {
-    let bytes = file_bytes(alloc, case, words)?;
-    let length = bytes.len();
-    case.keep(bytes);
-    Ok(format!(in alloc; "{length} bytes")?)
-}
-
-fn stream_of(alloc: Global, case: &State, words: &[&str]) -> Result<WholeStream, Fault> {
-    let bytes = case.names.bytes_of(alloc, front(words))?;
-    Ok(read_whole(alloc, MemoryFeed::new(bytes, 100, Vec::new(alloc)))?)
-}
-
-fn count_text(alloc: Global, answer: Result<u64, IpcError>) -> Result<String, Fault> {
-    match answer {
-        Ok(count) => Ok(format!(in alloc; "{count} batches")?),
-        Err(error) => Ok(format!(in alloc; "{error}")?),
-    }
-}
-
-fn appended_text(
-    alloc: Global,
-    case: &mut State,
-    stream: &WholeStream,
-    words: &[&str],
-) -> Result<String, Fault> {
-    let options = write_options(words)?;
-    let bytes = case.bytes.as_slice().to_vec(alloc)?;
-    let mut disk = disk_of(alloc, bytes, words)?;
-    let answer = append_stream(alloc, &mut disk, stream, options);
-    case.keep(disk.into_bytes());
-    count_text(alloc, answer)
 }
 
 /// `append_stream PARTS | OPTIONS`: the stream's batches behind those of the file.
 pub(crate) fn append_whole(
-    alloc: Global,
-    case: &mut State,
+    answer: &mut Answer,
+    names: &Names,
+    bytes: &mut Vec<u8>,
     words: &[&str],
-) -> Result<String, Fault> {
-    let stream = stream_of(alloc, case, words)?;
-    appended_text(alloc, case, &stream, words)
+) -> Result<(), IpcError> {
+    let stream = stream_of(answer, names, words)?;
+    let options = write_options(answer, words);
+    let file = answer.list(bytes.as_slice().to_vec(answer.alloc()));
+    let mut disk = disk_of(answer, file, words);
+    let appended = append_stream(answer.alloc(), &mut disk, &stream, options);
+    *bytes = disk.into_bytes();
+    say_appended(answer, appended);
+    Ok(())
 }
 
 /// How the bytes stand to those before.
@@ -105,34 +58,48 @@ fn kept(before: &[u8], bytes: &[u8], below: usize) -> &'static str {
 
 /// What a stream's append answers where a call of the disk fails, and how the file stands behind it.
 fn failing_text(
-    alloc: Global,
+    answer: &mut Answer,
     before: &[u8],
     stream: &WholeStream,
     below: usize,
     call: u64,
-) -> Result<String, Fault> {
-    let failing = vec![in alloc; call]?;
-    let mut disk = MemoryDisk::new(before.to_vec(alloc)?, failing, Vec::new(alloc));
-    let answer = append_stream(alloc, &mut disk, stream, WriteOptions::default());
-    let kept = kept(before, disk.bytes(), below);
-    let answer = count_text(alloc, answer)?;
-    Ok(format!(in alloc; "{answer}, {kept}")?)
+) -> String {
+    let alloc = answer.alloc();
+    let failing = answer.list(vec![in alloc; call]);
+    let bytes = answer.list(before.to_vec(alloc));
+    let mut disk = MemoryDisk::new(bytes, failing, Vec::new(alloc));
+    let mut one = Answer::new(alloc);
+    say_appended(
+        &mut one,
+        append_stream(alloc, &mut disk, stream, WriteOptions::default()),
+    );
+    one.say(", ");
+    one.say(kept(before, disk.bytes(), below));
+    text_of(answer, one)
 }
 
 /// `append_failing BELOW PARTS`: what the append of a stream answers where the first call of the disk fails, the second and so on up
 /// to one that is not made, each answer once, and how the file stands behind it: below a place, or all of it.
-pub(crate) fn append_failing(alloc: Global, case: &State, words: &[&str]) -> Result<String, Fault> {
-    let below = count(word(words, 0)?)?;
-    let stream = stream_of(alloc, case, rest(words, 1))?;
-    let mut text = String::new(alloc);
-    let mut last = String::new(alloc);
+pub(crate) fn append_failing(
+    answer: &mut Answer,
+    names: &Names,
+    bytes: &[u8],
+    words: &[&str],
+) -> Result<(), IpcError> {
+    let below = answer.count(word(words, 0));
+    let stream = stream_of(answer, names, rest(words, 1))?;
+    let mut last = String::new(answer.alloc());
+    let mut is_first = true;
     for call in 0..64 {
-        let answer = failing_text(alloc, &case.bytes, &stream, below, call)?;
-        if answer != last {
-            text.push_str(answer.as_str())?;
-            text.push_str("; ")?;
+        let text = failing_text(answer, bytes, &stream, below, call);
+        if text != last {
+            if !is_first {
+                answer.say("; ");
+            }
+            answer.say(&text);
+            is_first = false;
         }
-        last = answer;
+        last = text;
     }
-    Ok(String::from_str(alloc, text.trim_end_matches("; "))?)
+    Ok(())
 }

@@ -1,31 +1,39 @@
 //! What was written, beside what should be.
-use crate::case::State;
-use crate::writers::{Writer, into_bytes};
-use case_words::{Fault, hex_text};
-use message_words::compared;
-use std::alloc::Global;
-use std::mem;
+use case_words::Answer;
+use hex::encode;
+use message_words::{Names, compare};
 
-/// Takes what the writer's sink or disk has, where there is a writer.
-fn settle(alloc: Global, case: &mut State) -> Result<(), Fault> {
-    if !matches!(case.writer, Writer::None) {
-        let writer = mem::replace(&mut case.writer, Writer::None);
-        case.keep(into_bytes(alloc, writer)?);
+/// Takes the file of the next calls.
+fn take_disk(answer: &mut Answer, bytes: &mut Vec<u8>, disk: Vec<u8>) {
+    let length = disk.len();
+    answer.tell(format!(in answer.alloc(); "{length} bytes"));
+    *bytes = disk;
+}
+
+fn behind_hex(answer: &mut Answer, bytes: &[u8], wanted: &[u8]) {
+    match encode(answer.alloc(), wanted) {
+        Ok(text) => compare(answer, bytes, text.as_bytes()),
+        Err(error) => answer.fail(error.into()),
     }
-    Ok(())
 }
 
-/// `behind PARTS`: how what was written stands to these bytes.
-pub(crate) fn behind(alloc: Global, case: &mut State, words: &[&str]) -> Result<String, Fault> {
-    settle(alloc, case)?;
-    let wanted = case.names.bytes_of(alloc, words)?;
-    compared(alloc, &case.bytes, &wanted)
-}
-
-/// `behind_hex PARTS`: how it stands to their hex text.
-pub(crate) fn behind_hex(alloc: Global, case: &mut State, words: &[&str]) -> Result<String, Fault> {
-    settle(alloc, case)?;
-    let wanted = case.names.bytes_of(alloc, words)?;
-    let wanted = hex_text(alloc, &wanted)?;
-    compared(alloc, &case.bytes, wanted.as_bytes())
+/// Makes the call of a name, if it is one of these: `disk PARTS`, `behind PARTS`, how what was written stands to these bytes, and
+/// `behind_hex PARTS`, how it stands to their hex text.
+pub(crate) fn call(
+    answer: &mut Answer,
+    names: &Names,
+    bytes: &mut Vec<u8>,
+    name: &str,
+    words: &[&str],
+) -> bool {
+    if !matches!(name, "disk" | "behind" | "behind_hex") {
+        return false;
+    }
+    let parts = names.bytes_of(answer, words);
+    match name {
+        "disk" => take_disk(answer, bytes, parts),
+        "behind" => compare(answer, bytes, &parts),
+        _ => behind_hex(answer, bytes, &parts),
+    }
+    true
 }

@@ -1,11 +1,12 @@
 //! Messages that are encoded.
 ghost use Rattle.std.specs.Prelude.{◌≡◌};
 
-use crate::case::State;
-use crate::sent::{is_keyed, tracker_of};
+use crate::made::Made;
+use crate::sent::is_keyed;
 use crate::writers::write_options;
 use arrow_arrays::{Array, RecordBatch};
-use case_words::{Fault, long, rest, word};
+use arrow_spec::IpcError;
+use case_words::{Answer, Fault, rest, word};
 use ipc_append::{EncodedData, WriteOptions, message_to_bytes};
 use ipc_fields::IpcField;
 use ipc_stream_writer::{
@@ -16,147 +17,128 @@ use message_words::{any_array, ids_of};
 use std::alloc::Global;
 
 /// Messages in their frames, one behind another.
-fn framed(alloc: Global, messages: &[EncodedData]) -> Result<Vec<u8>, Fault> {
-    let mut bytes = Vec::new(alloc);
+fn framed(answer: &mut Answer, messages: &[EncodedData]) -> Vec<u8> {
+    let mut bytes = Vec::new(answer.alloc());
     for message in messages {
-        let (metadata, body) = (&message.ipc_message, &message.arrow_data);
-        bytes.extend_from_slice(&message_to_bytes(alloc, metadata, body)?)?;
+        match message_to_bytes(answer.alloc(), &message.ipc_message, &message.arrow_data) {
+            Ok(framed) => answer.done(bytes.extend_from_slice(&framed)),
+            Err(error) => answer.fail(error.into()),
+        }
     }
-    Ok(bytes)
-}
-
-fn count_text(alloc: Global, messages: &[EncodedData]) -> Result<String, Fault> {
-    let count = messages.len();
-    Ok(format!(in alloc; "{count} messages")?)
-}
-
-/// Keeps the bytes of messages, and tells how many they are.
-fn keep(alloc: Global, case: &mut State, messages: &[EncodedData]) -> Result<String, Fault> {
-    case.keep(framed(alloc, messages)?);
-    count_text(alloc, messages)
-}
-
-fn new_messages(
-    alloc: Global,
-    case: &mut State,
-    field: &IpcField,
-    array: &Array,
-    options: &WriteOptions,
-) -> Result<String, Fault> {
-    let mut encoded = Vec::new(alloc);
-    let tracker = tracker_of(case)?;
-    if tracker.deltas != options.deltas {
-        return Err(Fault::Words);
-    }
-    encode_new_dictionaries(alloc, field, array, options, tracker, &mut encoded)?;
-    keep(alloc, case, &encoded)
+    bytes
 }
 
 /// `encode_new OPTIONS ARRAY ids ID`.
-pub(crate) fn encode_new(alloc: Global, case: &mut State, words: &[&str]) -> Result<String, Fault> {
-    let options = write_options(words)?;
-    let fields = ids_of(alloc, words)?;
-    let array = any_array(alloc, &mut case.arrays, words)?;
-    match fields.as_deref() {
-        Some([field]) => new_messages(alloc, case, field, &array, &options),
-        _ => Err(Fault::Words),
-    }
-}
-
-fn dictionary_messages(
-    alloc: Global,
-    case: &mut State,
-    id: i64,
-    array: &Array,
-    options: &WriteOptions,
-) -> Result<String, Fault> {
-    if !is_keyed(array) {
-        return Err(Fault::Words);
-    }
-    let mut encoded = Vec::new(alloc);
-    encode_dictionary(alloc, id, array, options, &mut encoded)?;
-    keep(alloc, case, &encoded)
-}
-
-/// `encode_dictionary ID OPTIONS ARRAY`.
-pub(crate) fn encode_whole(
-    alloc: Global,
-    case: &mut State,
+fn encode_new(
+    answer: &mut Answer,
+    tracker: &mut DictionaryTracker,
+    arrays: &mut Vec<Array>,
     words: &[&str],
-) -> Result<String, Fault> {
-    let id = long(word(words, 0)?)?;
-    let options = write_options(words)?;
-    let array = any_array(alloc, &mut case.arrays, rest(words, 1))?;
-    dictionary_messages(alloc, case, id, &array, &options)
-}
-
-fn chunk(
-    alloc: Global,
-    batch: &RecordBatch,
-    fields: &[IpcField],
-    tracker: &mut DictionaryTracker,
-    options: &WriteOptions,
-) -> Result<Vec<EncodedData>, Fault>
-    requires { tracker.old.deltas ≡ options.now.deltas }
-{
-    let (mut messages, message) = encode_chunk(alloc, batch, fields, tracker, options)?;
-    messages.push(message)?;
-    Ok(messages)
-}
-
-fn amortized(
-    alloc: Global,
-    batch: &RecordBatch,
-    fields: &[IpcField],
-    tracker: &mut DictionaryTracker,
-    options: &WriteOptions,
-) -> Result<Vec<EncodedData>, Fault>
-    requires { tracker.old.deltas ≡ options.now.deltas }
-{
-    let mut message = EncodedData::new(alloc);
-    let mut messages = encode_chunk_amortized(
-        alloc,
-        batch,
-        fields,
-        tracker,
-        options,
-        &mut message,
-    )?;
-    messages.push(message)?;
-    Ok(messages)
-}
-
-/// The messages of a batch, of which the call that takes a message in place has `is_amortized`.
-fn batch_messages(
-    alloc: Global,
-    case: &mut State,
-    fields: &[IpcField],
-    options: &WriteOptions,
-    is_amortized: bool,
 ) -> Result<Vec<EncodedData>, Fault> {
-    let (Some(batch), Some(tracker)) = (&case.batch, &mut case.tracker) else {
+    let options = write_options(answer, words);
+    let fields = ids_of(answer, words);
+    let array = any_array(answer, arrays, words)?;
+    let Some([field]) = fields.as_deref() else {
         return Err(Fault::Words);
     };
     if tracker.deltas != options.deltas {
         return Err(Fault::Words);
     }
-    if is_amortized {
-        amortized(alloc, batch, fields, tracker, options)
-    } else {
-        chunk(alloc, batch, fields, tracker, options)
+    let mut encoded = Vec::new(answer.alloc());
+    encode_new_dictionaries(
+        answer.alloc(),
+        field,
+        &array,
+        &options,
+        tracker,
+        &mut encoded,
+    )?;
+    Ok(encoded)
+}
+
+/// `encode_dictionary ID OPTIONS ARRAY`.
+fn encode_whole(
+    answer: &mut Answer,
+    arrays: &mut Vec<Array>,
+    words: &[&str],
+) -> Result<Vec<EncodedData>, Fault> {
+    let id = answer.long(word(words, 0));
+    let options = write_options(answer, words);
+    let array = any_array(answer, arrays, rest(words, 1))?;
+    if !is_keyed(&array) {
+        return Err(Fault::Words);
+    }
+    let mut encoded = Vec::new(answer.alloc());
+    encode_dictionary(answer.alloc(), id, &array, &options, &mut encoded)?;
+    Ok(encoded)
+}
+
+/// What `encode_chunk` gives, by the call that takes a message in place.
+fn encode_in_place(
+    alloc: Global,
+    batch: &RecordBatch,
+    fields: &[IpcField],
+    tracker: &mut DictionaryTracker,
+    options: &WriteOptions,
+) -> Result<(Vec<EncodedData>, EncodedData), IpcError>
+    requires { tracker.old.deltas ≡ options.now.deltas }
+{
+    let mut message = EncodedData::new(alloc);
+    match encode_chunk_amortized(alloc, batch, fields, tracker, options, &mut message) {
+        Ok(messages) => Ok((messages, message)),
+        Err(error) => Err(error),
     }
 }
 
 /// `encode_chunk OPTIONS ids IDS`, or `encode_chunk_amortized`, of the batch.
-pub(crate) fn encode_batch(
-    alloc: Global,
-    case: &mut State,
+fn encode_batch(
+    answer: &mut Answer,
+    tracker: &mut DictionaryTracker,
+    batch: &RecordBatch,
     words: &[&str],
-    is_amortized: bool,
-) -> Result<String, Fault> {
-    let options = write_options(words)?;
-    let fields = ids_of(alloc, words)?;
+    is_in_place: bool,
+) -> Result<Vec<EncodedData>, Fault> {
+    let options = write_options(answer, words);
+    let fields = ids_of(answer, words);
     let fields = fields.as_deref().unwrap_or_default();
-    let messages = batch_messages(alloc, case, fields, &options, is_amortized)?;
-    keep(alloc, case, &messages)
+    if tracker.deltas != options.deltas {
+        return Err(Fault::Words);
+    }
+    let encoded = if is_in_place {
+        encode_in_place(answer.alloc(), batch, fields, tracker, &options)
+    } else {
+        encode_chunk(answer.alloc(), batch, fields, tracker, &options)
+    };
+    let (mut messages, message) = encoded?;
+    messages.push(message)?;
+    Ok(messages)
+}
+
+/// Makes the call of a name, if it is one of these.
+pub(crate) fn call(
+    answer: &mut Answer,
+    tracker: &mut DictionaryTracker,
+    made: &mut Made,
+    bytes: &mut Vec<u8>,
+    name: &str,
+    words: &[&str],
+) -> bool {
+    let encoded = match (name, &made.batch) {
+        ("encode_new", _) => encode_new(answer, tracker, &mut made.arrays, words),
+        ("encode_dictionary", _) => encode_whole(answer, &mut made.arrays, words),
+        ("encode_chunk", Some(batch)) => encode_batch(answer, tracker, batch, words, false),
+        ("encode_chunk_amortized", Some(batch)) => {
+            encode_batch(answer, tracker, batch, words, true)
+        }
+        _ => return false,
+    };
+    match encoded {
+        Ok(messages) => {
+            let count = messages.len();
+            answer.tell(format!(in answer.alloc(); "{count} messages"));
+            *bytes = framed(answer, &messages);
+        }
+        Err(fault) => answer.fail(fault),
+    }
+    true
 }

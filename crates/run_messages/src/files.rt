@@ -1,88 +1,114 @@
 //! Files that are read.
-use crate::case::State;
-use arrow_arrays::RecordBatch;
+use crate::appends::{append_failing, append_whole};
+use crate::said::say_error;
 use arrow_spec::{Block, IpcError};
-use case_words::Fault;
+use case_words::Answer;
 use ipc_io::MemorySource;
-use ipc_reader::{FileMetadata, FileReader, read_file_dictionaries, read_file_metadata};
-use message_words::{batch_text, front, numbers_of, optional_count, optional_counts};
-use std::alloc::Global;
+use ipc_reader::{FileReader, read_file_dictionaries, read_file_metadata};
+use message_words::{Names, front, numbers_of, optional_count, optional_counts, say_batch};
 
 /// The bytes of `PARTS`, or without any those that were written last.
-pub(crate) fn file_bytes(alloc: Global, case: &State, words: &[&str]) -> Result<Vec<u8>, Fault> {
+pub(crate) fn file_bytes(
+    answer: &mut Answer,
+    names: &Names,
+    bytes: &[u8],
+    words: &[&str],
+) -> Vec<u8> {
     if front(words).is_empty() {
-        return Ok(case.bytes.as_slice().to_vec(alloc)?);
+        answer.list(bytes.to_vec(answer.alloc()))
+    } else {
+        names.bytes_of(answer, front(words))
     }
-    case.names.bytes_of(alloc, front(words))
 }
 
-/// A file as a source whose calls `fails N,..` fail, and that cannot be read at `places N,..`.
-fn source_of(alloc: Global, case: &State, words: &[&str]) -> Result<MemorySource, Fault> {
-    let failing = numbers_of(alloc, words, "fails")?;
-    let places = numbers_of(alloc, words, "places")?;
-    let bytes = file_bytes(alloc, case, words)?;
-    Ok(MemorySource::new(bytes, failing, places))
+/// The same as a source of which calls `fails N,..` fail, and that cannot be read at `places N,..`.
+fn source_of(answer: &mut Answer, names: &Names, bytes: &[u8], words: &[&str]) -> MemorySource {
+    let failing = numbers_of(answer, words, "fails");
+    let places = numbers_of(answer, words, "places");
+    MemorySource::new(file_bytes(answer, names, bytes, words), failing, places)
 }
 
-fn push_read(
-    alloc: Global,
-    text: &mut String,
-    read: Result<RecordBatch, IpcError>,
-) -> Result<(), Fault> {
-    match &read {
-        Ok(batch) => text.push_str(batch_text(alloc, batch)?.as_str())?,
-        Err(error) => text.push_str(format!(in alloc; "{error}")?.as_str())?,
-    }
-    Ok(text.push_str("; ")?)
-}
-
-/// `read_file PARTS | OPTIONS`: what the calls of a reader of `columns N,..`, up to `limit N` rows, give up to its end.
-pub(crate) fn read_file(alloc: Global, case: &State, words: &[&str]) -> Result<String, Fault> {
-    let columns = optional_counts(alloc, words, "columns")?;
-    let limit = optional_count(words, "limit")?;
-    let mut source = source_of(alloc, case, words)?;
-    let metadata = read_file_metadata(alloc, &mut source)?;
-    let reader = match FileReader::new(alloc, source, metadata, columns, limit) {
+/// What the calls of a reader of `columns N,..`, up to `limit N` rows, give up to its end.
+fn read_file(answer: &mut Answer, source: MemorySource, words: &[&str]) -> Result<(), IpcError> {
+    let mut source = source;
+    let columns = optional_counts(answer, words, "columns");
+    let limit = optional_count(answer, words, "limit");
+    let metadata = read_file_metadata(answer.alloc(), &mut source)?;
+    let reader = match FileReader::new(answer.alloc(), source, metadata, columns, limit) {
         Ok(reader) => reader,
-        Err(refused) => return Err(refused.error.into()),
+        Err(refused) => return Err(refused.error),
     };
-    let mut text = String::new(alloc);
     for read in reader {
-        push_read(alloc, &mut text, read)?;
+        match read {
+            Ok(batch) => say_batch(answer, &batch),
+            Err(error) => say_error(answer, error),
+        }
+        answer.say("; ");
     }
-    text.push_str("end")?;
-    Ok(text)
-}
-
-/// Blocks by place, length of the metadata and length of the body.
-fn push_blocks(alloc: Global, text: &mut String, blocks: &[Block]) -> Result<(), Fault> {
-    for block in blocks {
-        let (place, head, body) = (block.offset, block.meta_data_length, block.body_length);
-        text.push_str(format!(in alloc; " {place}+{head}+{body}")?.as_str())?;
-    }
+    answer.say("end");
     Ok(())
 }
 
-fn blocks_text(alloc: Global, metadata: &FileMetadata) -> Result<String, Fault> {
-    let mut text = String::from_str(alloc, "dictionaries")?;
-    push_blocks(alloc, &mut text, &metadata.dictionaries)?;
-    text.push_str(", batches")?;
-    push_blocks(alloc, &mut text, &metadata.blocks)?;
-    Ok(text)
+/// Blocks by place, length of the metadata and length of the body.
+fn say_blocks(answer: &mut Answer, blocks: &[Block]) {
+    for block in blocks {
+        let (place, head, body) = (block.offset, block.meta_data_length, block.body_length);
+        answer.tell(format!(in answer.alloc(); " {place}+{head}+{body}"));
+    }
 }
 
-/// `blocks PARTS`: the blocks of dictionaries and of batches in the footer.
-pub(crate) fn blocks(alloc: Global, case: &State, words: &[&str]) -> Result<String, Fault> {
-    let mut source = source_of(alloc, case, words)?;
-    let metadata = read_file_metadata(alloc, &mut source)?;
-    blocks_text(alloc, &metadata)
+/// The blocks of dictionaries and of batches in the footer.
+fn read_blocks(answer: &mut Answer, source: &mut MemorySource) -> Result<(), IpcError> {
+    let metadata = read_file_metadata(answer.alloc(), source)?;
+    answer.say("dictionaries");
+    say_blocks(answer, &metadata.dictionaries);
+    answer.say(", batches");
+    say_blocks(answer, &metadata.blocks);
+    Ok(())
 }
 
-/// `dictionaries PARTS`: how many there are.
-pub(crate) fn dictionaries(alloc: Global, case: &State, words: &[&str]) -> Result<String, Fault> {
-    let mut source = source_of(alloc, case, words)?;
-    let metadata = read_file_metadata(alloc, &mut source)?;
-    let held = read_file_dictionaries(alloc, &mut source, &metadata, &mut Vec::new(alloc))?;
+/// How many dictionaries there are.
+fn read_dictionaries(answer: &mut Answer, source: &mut MemorySource) -> Result<(), IpcError> {
+    let alloc = answer.alloc();
+    let metadata = read_file_metadata(alloc, source)?;
+    let held = read_file_dictionaries(alloc, source, &metadata, &mut Vec::new(alloc))?;
     let count = held.len();
-    Ok(format!(in alloc; "{count} dictionaries")?)
+    answer.tell(format!(in alloc; "{count} dictionaries"));
+    Ok(())
+}
+
+/// Reads the file of `PARTS`.
+fn read(
+    answer: &mut Answer,
+    names: &Names,
+    bytes: &[u8],
+    name: &str,
+    words: &[&str],
+) -> Result<(), IpcError> {
+    let mut source = source_of(answer, names, bytes, words);
+    match name {
+        "read_file" => read_file(answer, source, words),
+        "blocks" => read_blocks(answer, &mut source),
+        _ => read_dictionaries(answer, &mut source),
+    }
+}
+
+/// Makes the call of a name, if it is one of these.
+pub(crate) fn call(
+    answer: &mut Answer,
+    names: &Names,
+    bytes: &mut Vec<u8>,
+    name: &str,
+    words: &[&str],
+) -> bool {
+    let done = match name {
+        "read_file" | "blocks" | "dictionaries" => read(answer, names, bytes, name, words),
+        "append_stream" => append_whole(answer, names, bytes, words),
+        "append_failing" => append_failing(answer, names, bytes, words),
+        _ => return false,
+    };
+    if let Err(error) = done {
+        say_error(answer, error);
+    }
+    true
 }

@@ -1,8 +1,8 @@
 //! A sink of cases.
-use case_words::Fault;
+use arrow_spec::IpcError;
+use case_words::Answer;
 use ipc_io::{MemorySink, PutError, Sink};
 use message_words::{numbers_of, optional_count};
-use std::alloc::{AllocError, Global};
 use std::cell::Cell;
 use std::rc::Rc;
 
@@ -21,8 +21,8 @@ pub(crate) struct CaseSink {
 
 impl CaseSink {
     /// A copy of the bytes so far.
-    pub(crate) fn copied(&self, alloc: Global) -> Result<Vec<u8>, AllocError> {
-        self.sink.bytes().to_vec(alloc)
+    pub(crate) fn copied(&self, answer: &mut Answer) -> Vec<u8> {
+        answer.list(self.sink.bytes().to_vec(answer.alloc()))
     }
 }
 
@@ -50,17 +50,17 @@ impl Sink for CaseSink {
 
 /// A sink with `room N`, which wants memory at the put `wants N` and fails at the puts `fails N,..`, and whose tally is kept.
 pub(crate) fn sink_of(
-    alloc: Global,
+    answer: &mut Answer,
     kept: &mut Option<Tally>,
     words: &[&str],
-) -> Result<CaseSink, Fault> {
-    let room = optional_count(words, "room")?;
-    let wanting = optional_count(words, "wants")?;
-    let tally = Rc::new(alloc, Cell::new(0))?;
+) -> Result<CaseSink, IpcError> {
+    let room = optional_count(answer, words, "room");
+    let wanting = optional_count(answer, words, "wants");
+    let failing = numbers_of(answer, words, "fails");
+    let tally = Rc::new(answer.alloc(), Cell::new(0))?;
     *kept = Some(tally.clone()?);
-    let failing = numbers_of(alloc, words, "fails")?;
     Ok(CaseSink {
-        sink: MemorySink::new(alloc, room, failing),
+        sink: MemorySink::new(answer.alloc(), room, failing),
         wanting,
         puts: 0,
         wants: 0,

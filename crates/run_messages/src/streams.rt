@@ -1,150 +1,151 @@
 //! Streams that are read, and the calls of their readers.
-use crate::case::State;
+use crate::said::{say_error, text_of};
 use arrow_spec::IpcError;
-use case_words::{Fault, count, rest, word};
+use case_words::{Answer, rest, word};
 use ipc_append::{StreamMetadata, StreamReader, StreamState, read_stream_metadata};
 use ipc_io::MemoryFeed;
 use message_words::{
-    Names, batch_text, front, numbers_of, optional_count, optional_counts, pairs_text,
+    Names, front, numbers_of, optional_count, optional_counts, say_batch, say_pairs,
 };
-use std::alloc::Global;
 
 /// The bytes of `PARTS`, the first `count N` of them, in pulls of at most `most N`, of which `fails N,..` fail.
-fn feed_of(alloc: Global, names: &Names, words: &[&str]) -> Result<MemoryFeed, Fault> {
-    let most = optional_count(words, "most")?.unwrap_or(64).max(1);
-    let count = optional_count(words, "count")?;
-    let failing = numbers_of(alloc, words, "fails")?;
-    let mut bytes = names.bytes_of(alloc, front(words))?;
-    if let Some(count) = count {
+fn feed_of(answer: &mut Answer, names: &Names, words: &[&str]) -> MemoryFeed {
+    let most = optional_count(answer, words, "most").unwrap_or(64).max(1);
+    let failing = numbers_of(answer, words, "fails");
+    let mut bytes = names.bytes_of(answer, front(words));
+    if let Some(count) = optional_count(answer, words, "count") {
         bytes.truncate(count);
     }
-    Ok(MemoryFeed::new(bytes, most, failing))
+    MemoryFeed::new(bytes, most, failing)
 }
 
 /// A reader of a feed, of `columns N,..` or of all.
 fn reader_of(
-    alloc: Global,
+    answer: &mut Answer,
     feed: MemoryFeed,
     words: &[&str],
-) -> Result<StreamReader<MemoryFeed>, Fault> {
+) -> Result<StreamReader<MemoryFeed>, IpcError> {
     let mut feed = feed;
-    let columns = optional_counts(alloc, words, "columns")?;
-    let metadata = read_stream_metadata(alloc, &mut feed)?;
-    match StreamReader::new(alloc, feed, metadata, columns) {
+    let columns = optional_counts(answer, words, "columns");
+    let metadata = read_stream_metadata(answer.alloc(), &mut feed)?;
+    match StreamReader::new(answer.alloc(), feed, metadata, columns) {
         Ok(reader) => Ok(reader),
-        Err(refused) => Err(refused.error.into()),
+        Err(refused) => Err(refused.error),
     }
-}
-
-fn fields_text(alloc: Global, reader: &StreamReader<MemoryFeed>) -> Result<String, Fault> {
-    let fields = reader.schema().len();
-    let end = if reader.is_finished() {
-        ", finished"
-    } else {
-        ""
-    };
-    Ok(format!(in alloc; "{fields} fields{end}")?)
 }
 
 /// `stream_reader PARTS | OPTIONS`.
-pub(crate) fn stream_reader(
-    alloc: Global,
-    case: &mut State,
+fn open(
+    answer: &mut Answer,
+    names: &Names,
+    reader: &mut Option<StreamReader<MemoryFeed>>,
     words: &[&str],
-) -> Result<String, Fault> {
-    let feed = feed_of(alloc, &case.names, words)?;
-    case.reader = Some(reader_of(alloc, feed, words)?);
-    match &case.reader {
-        Some(reader) => fields_text(alloc, reader),
-        None => Err(Fault::Words),
-    }
-}
-
-fn state_text(
-    alloc: Global,
-    state: Option<Result<StreamState, IpcError>>,
-) -> Result<String, Fault> {
-    match &state {
-        None => Ok(String::from_str(alloc, "end")?),
-        Some(Ok(StreamState::Waiting)) => Ok(String::from_str(alloc, "waiting")?),
-        Some(Ok(StreamState::Some(batch))) => batch_text(alloc, batch),
-        Some(Err(error)) => Ok(format!(in alloc; "{error}")?),
+) {
+    let feed = feed_of(answer, names, words);
+    match reader_of(answer, feed, words) {
+        Ok(opened) => {
+            let fields = opened.schema().len();
+            let end = if opened.is_finished() {
+                ", finished"
+            } else {
+                ""
+            };
+            answer.tell(format!(in answer.alloc(); "{fields} fields{end}"));
+            *reader = Some(opened);
+        }
+        Err(error) => say_error(answer, error),
     }
 }
 
 /// What the next call gives, and whether the reader is finished behind it.
-fn next_text(alloc: Global, reader: &mut StreamReader<MemoryFeed>) -> Result<String, Fault> {
-    let mut text = state_text(alloc, reader.next())?;
+fn say_next(answer: &mut Answer, reader: &mut StreamReader<MemoryFeed>) {
+    match reader.next() {
+        None => answer.say("end"),
+        Some(Ok(StreamState::Waiting)) => answer.say("waiting"),
+        Some(Ok(StreamState::Some(batch))) => say_batch(answer, &batch),
+        Some(Err(error)) => say_error(answer, error),
+    }
     if reader.is_finished() {
-        text.push_str(", finished")?;
+        answer.say(", finished");
     }
-    Ok(text)
-}
-
-pub(crate) fn next(alloc: Global, case: &mut State) -> Result<String, Fault> {
-    match &mut case.reader {
-        Some(reader) => next_text(alloc, reader),
-        None => Err(Fault::Words),
-    }
-}
-
-/// What the first three calls give.
-fn three(alloc: Global, feed: MemoryFeed) -> Result<String, Fault> {
-    let mut reader = reader_of(alloc, feed, &[])?;
-    let mut text = next_text(alloc, &mut reader)?;
-    for _ in 0..2 {
-        text.push_str("; ")?;
-        text.push_str(next_text(alloc, &mut reader)?.as_str())?;
-    }
-    Ok(text)
 }
 
 /// What the first three calls give of a stream that ends behind so many bytes.
-fn cut_text(alloc: Global, names: &Names, words: &[&str], count: usize) -> Result<String, Fault> {
-    let mut bytes = names.bytes_of(alloc, words)?;
+fn cut_text(answer: &mut Answer, bytes: &[u8], count: usize) -> String {
+    let alloc = answer.alloc();
+    let mut bytes = answer.list(bytes.to_vec(alloc));
     bytes.truncate(count);
-    match three(alloc, MemoryFeed::new(bytes, 64, Vec::new(alloc))) {
-        Ok(text) => Ok(text),
-        Err(Fault::Memory) => Err(Fault::Memory),
-        Err(fault) => Ok(format!(in alloc; "{fault}")?),
+    let mut three = Answer::new(alloc);
+    match reader_of(&mut three, MemoryFeed::new(bytes, 64, Vec::new(alloc)), &[]) {
+        Ok(opened) => {
+            let mut reader = opened;
+            say_next(&mut three, &mut reader);
+            for _ in 0..2 {
+                three.say("; ");
+                say_next(&mut three, &mut reader);
+            }
+        }
+        Err(error) => say_error(&mut three, error),
     }
+    text_of(answer, three)
 }
 
 /// `cuts FROM TO PARTS`: what the first three calls give of the stream, wherever it ends between the two.
-pub(crate) fn cuts(alloc: Global, case: &State, words: &[&str]) -> Result<String, Fault> {
-    let (from, to) = (count(word(words, 0)?)?, count(word(words, 1)?)?);
-    let parts = rest(words, 2);
-    let first = cut_text(alloc, &case.names, parts, from)?;
+fn cuts(answer: &mut Answer, names: &Names, words: &[&str]) {
+    let (from, to) = (answer.count(word(words, 0)), answer.count(word(words, 1)));
+    let bytes = names.bytes_of(answer, rest(words, 2));
+    let first = cut_text(answer, &bytes, from);
+    answer.say(&first);
     for count in from..to {
-        let text = cut_text(alloc, &case.names, parts, count)?;
+        let text = cut_text(answer, &bytes, count);
         if text != first {
-            return Ok(format!(in alloc; "{first}, but at {count} {text}")?);
+            answer.tell(format!(in answer.alloc(); ", but at {count} {text}"));
         }
     }
-    Ok(first)
 }
 
-fn metadata_text(alloc: Global, metadata: &StreamMetadata) -> Result<String, Fault> {
+/// The pairs of the message of the schema, and of the schema, and whether a copy has the same schema.
+fn say_metadata(answer: &mut Answer, metadata: &StreamMetadata) {
     let (fields, version) = (metadata.schema.len(), metadata.version);
-    let message = pairs_text(alloc, metadata.custom_metadata.as_ref())?;
-    let schema = pairs_text(alloc, metadata.custom_schema_metadata.as_ref())?;
-    Ok(format!(in alloc; "{fields} fields, {version:?}, message {message}, schema {schema}")?)
+    answer.tell(format!(in answer.alloc(); "{fields} fields, {version:?}, message "));
+    say_pairs(answer, metadata.custom_metadata.as_ref());
+    answer.say(", schema ");
+    say_pairs(answer, metadata.custom_schema_metadata.as_ref());
+    match metadata.try_clone(answer.alloc()) {
+        Ok(copy) => {
+            let is_copied = *copy.schema == *metadata.schema && copy.version == metadata.version;
+            answer.tell(format!(in answer.alloc(); ", copied {is_copied}"));
+        }
+        Err(error) => answer.fail(error.into()),
+    }
 }
 
-fn is_copied(alloc: Global, metadata: &StreamMetadata) -> Result<bool, Fault> {
-    let copy = metadata.try_clone(alloc)?;
-    Ok(*copy.schema == *metadata.schema && copy.version == metadata.version)
+/// `stream_metadata PARTS`.
+fn stream_metadata(answer: &mut Answer, names: &Names, words: &[&str]) {
+    let mut feed = feed_of(answer, names, words);
+    match read_stream_metadata(answer.alloc(), &mut feed) {
+        Ok(metadata) => say_metadata(answer, &metadata),
+        Err(error) => say_error(answer, error),
+    }
 }
 
-/// `stream_metadata PARTS`: the pairs of the message of the schema, and of the schema, and whether a copy has the same schema.
-pub(crate) fn stream_metadata(
-    alloc: Global,
-    case: &State,
+/// Makes the call of a name, if it is one of these.
+pub(crate) fn call(
+    answer: &mut Answer,
+    names: &Names,
+    reader: &mut Option<StreamReader<MemoryFeed>>,
+    name: &str,
     words: &[&str],
-) -> Result<String, Fault> {
-    let mut feed = feed_of(alloc, &case.names, words)?;
-    let metadata = read_stream_metadata(alloc, &mut feed)?;
-    let text = metadata_text(alloc, &metadata)?;
-    let is_copied = is_copied(alloc, &metadata)?;
-    Ok(format!(in alloc; "{text}, copied {is_copied}")?)
+) -> bool {
+    match name {
+        "stream_reader" => open(answer, names, reader, words),
+        "next" => match reader {
+            Some(reader) => say_next(answer, reader),
+            None => answer.refuse(),
+        },
+        "cuts" => cuts(answer, names, words),
+        "stream_metadata" => stream_metadata(answer, names, words),
+        _ => return false,
+    }
+    true
 }

@@ -1,281 +1,219 @@
-//! Writers of streams and of files, and their calls.
-ghost use Rattle.std.specs.Prelude.{◌≤◌, length};
-
-use crate::case::{State, told};
-use crate::sinks::{CaseSink, sink_of};
-use arrow_arrays::RecordBatch;
+//! Writers of streams and of files, as they are made and as they are left.
+use crate::appends::disk_of;
+use crate::files::file_bytes;
+use crate::made::Made;
+use crate::said::say_done;
+use crate::sinks::{CaseSink, Tally, sink_of};
+use crate::written::{
+    finish, say_count, set_own_pairs, set_schema_pairs, start, write, write_encoded,
+};
 use arrow_spec::IpcError;
-use arrow_types::{ArrowSchema, Metadata};
-use case_words::{Fault, schema_of, word};
-use ipc_append::{FileWriter, WriteOptions};
+use case_words::{Answer, schema_of, word};
+use ipc_append::{FileWriter, WriteOptions, try_from_file};
 use ipc_disk::{DiskTail, MemoryDisk};
-use ipc_fields::IpcField;
+use ipc_io::Refused;
+use ipc_reader::read_file_metadata;
 use ipc_stream_writer::{Encoding, StreamCore, StreamWriter};
-use message_words::{any_batch, front, has, ids_of, optional_count, pair_of};
-use std::alloc::Global;
+use message_words::{Names, front, has, ids_of, optional_count, pair_of};
+use std::mem;
 use std::rc::Rc;
 
-/// The most metadata, `limit N`, and whether there are `deltas`.
-pub(crate) fn write_options(words: &[&str]) -> Result<WriteOptions, Fault> {
-    let limit = optional_count(words, "limit")?;
-    let default = WriteOptions::default();
-    Ok(WriteOptions {
-        compression: None,
-        metadata_limit: limit.unwrap_or(default.metadata_limit),
-        deltas: has(words, "deltas"),
-    })
-}
-
-/// A writer core and the sink of its calls.
-#[derive(Drop)]
-pub(crate) struct CoreWriter {
-    core: StreamCore,
-    sink: CaseSink,
-}
-
-/// The writer of a case.
 #[derive(Drop)]
 pub(crate) enum Writer {
     None,
     Stream(StreamWriter<CaseSink>),
-    Core(CoreWriter),
+    Core(StreamCore, CaseSink),
     File(FileWriter<CaseSink>),
     Appended(FileWriter<DiskTail<MemoryDisk>>),
 }
 
-/// What a writer answers to `start`.
-fn start(
-    writer: &mut Writer,
-    schema: &ArrowSchema,
-    ids: Option<&[IpcField]>,
-) -> Result<(), IpcError> {
-    match writer {
-        Writer::Stream(writer) => writer.start(schema, ids),
-        Writer::Core(writer) => writer.core.start(&mut writer.sink, schema, ids),
-        _ => Err(IpcError::State),
+/// The writer of a case, and how many bytes its sink has, where that is seen.
+#[derive(Drop)]
+pub(crate) struct Writing {
+    writer: Writer,
+    tally: Option<Tally>,
+}
+
+impl Writing {
+    pub(crate) fn new() -> Writing {
+        Writing {
+            writer: Writer::None,
+            tally: None,
+        }
     }
 }
 
-fn start_file(writer: &mut Writer) -> Result<(), IpcError> {
-    match writer {
-        Writer::File(writer) => writer.start(),
-        Writer::Appended(writer) => writer.start(),
-        _ => Err(IpcError::State),
-    }
-}
-
-fn write(
-    writer: &mut Writer,
-    batch: &RecordBatch,
-    ids: Option<&[IpcField]>,
-) -> Result<(), IpcError> {
-    match writer {
-        Writer::Stream(writer) => writer.write(batch, ids),
-        Writer::Core(writer) => writer.core.write(&mut writer.sink, batch, ids),
-        Writer::File(writer) => writer.write(batch, ids),
-        Writer::Appended(writer) => writer.write(batch, ids),
-        Writer::None => Err(IpcError::State),
-    }
-}
-
-fn finish(writer: &mut Writer) -> Result<(), IpcError> {
-    match writer {
-        Writer::Stream(writer) => writer.finish(),
-        Writer::Core(writer) => writer.core.finish(&mut writer.sink),
-        Writer::File(writer) => writer.finish(),
-        Writer::Appended(writer) => writer.finish(),
-        Writer::None => Err(IpcError::State),
-    }
-}
-
-/// Gives the message of a schema, or a footer, the pair `KEY=VALUE`.
-fn set_own_pairs(writer: &mut Writer, pairs: Metadata) -> Result<(), IpcError>
-    requires { length pairs.entries ≤ 1 }
-{
-    match writer {
-        Writer::Stream(writer) => writer.set_message_metadata(pairs),
-        Writer::Core(writer) => writer.core.set_message_metadata(pairs),
-        Writer::File(writer) => writer.set_footer_metadata(pairs),
-        Writer::Appended(writer) => writer.set_footer_metadata(pairs),
-        Writer::None => Err(IpcError::State),
-    }
-}
-
-/// Gives the schema the pair `KEY=VALUE`.
-fn set_schema_pairs(writer: &mut Writer, pairs: Metadata) {
-    match writer {
-        Writer::Stream(writer) => writer.set_custom_schema_metadata(pairs),
-        Writer::Core(writer) => writer.core.set_custom_schema_metadata(pairs),
-        Writer::File(writer) => writer.set_custom_schema_metadata(pairs),
-        Writer::Appended(writer) => writer.set_custom_schema_metadata(pairs),
+/// Takes the bytes of the writer's sink or disk, where there is a writer.
+pub(crate) fn settle(answer: &mut Answer, writing: &mut Writing, bytes: &mut Vec<u8>) {
+    match mem::replace(&mut writing.writer, Writer::None) {
         Writer::None => {}
+        Writer::Stream(writer) => *bytes = writer.into_inner().copied(answer),
+        Writer::Core(_, sink) => *bytes = sink.copied(answer),
+        Writer::File(writer) => *bytes = writer.into_inner().copied(answer),
+        Writer::Appended(writer) => *bytes = writer.into_inner().into_inner().into_bytes(),
     }
 }
 
-/// Takes a writer in the place of the one before.
-pub(crate) fn begun(alloc: Global, case: &mut State, writer: Writer) -> Result<String, Fault> {
-    case.writer = writer;
-    told(alloc, Ok(()), case.tally.as_ref())
-}
-
-fn sink_bytes(alloc: Global, sink: CaseSink) -> Result<Vec<u8>, Fault> {
-    match sink.copied(alloc) {
-        Ok(bytes) => Ok(bytes),
-        Err(_) => Err(Fault::Memory),
+/// The most metadata, `limit N`, and whether there are `deltas`.
+pub(crate) fn write_options(answer: &mut Answer, words: &[&str]) -> WriteOptions {
+    let limit = optional_count(answer, words, "limit");
+    let default = WriteOptions::default();
+    WriteOptions {
+        compression: None,
+        metadata_limit: limit.unwrap_or(default.metadata_limit),
+        deltas: has(words, "deltas"),
     }
 }
 
-/// Keeps what the sink of a refused writer has.
-fn not_begun(
-    alloc: Global,
-    case: &mut State,
+/// A writer of `FIELDS`, which has begun the file or not.
+fn file_writer(
+    answer: &mut Answer,
     sink: CaseSink,
-    error: IpcError,
-) -> Result<String, Fault> {
-    case.keep(sink_bytes(alloc, sink)?);
-    told(alloc, Err(error), case.tally.as_ref())
-}
-
-/// `stream_writer OPTIONS`.
-pub(crate) fn stream_writer(
-    alloc: Global,
-    case: &mut State,
     words: &[&str],
-) -> Result<String, Fault> {
-    let options = write_options(words)?;
-    let sink = sink_of(alloc, &mut case.tally, words)?;
-    match StreamWriter::new(alloc, sink, options) {
-        Ok(writer) => begun(alloc, case, Writer::Stream(writer)),
-        Err(refused) => Err(refused.error.into()),
+    is_begun: bool,
+) -> Result<FileWriter<CaseSink>, Refused<CaseSink>> {
+    let alloc = answer.alloc();
+    let options = write_options(answer, words);
+    let ids = ids_of(answer, words);
+    match Rc::new(alloc, schema_of(answer, front(words))) {
+        Ok(schema) if is_begun => FileWriter::try_new(alloc, sink, schema, ids, options),
+        Ok(schema) => FileWriter::new(alloc, sink, schema, ids, options),
+        Err(_) => Err(Refused {
+            error: IpcError::Memory,
+            object: sink,
+        }),
     }
 }
 
-/// `stream_core OPTIONS`, where `hex` asks for hex text.
-pub(crate) fn stream_core(
-    alloc: Global,
-    case: &mut State,
-    words: &[&str],
-) -> Result<String, Fault> {
-    let options = write_options(words)?;
+/// A writer of a stream's bytes, or where `hex` asks for it of their hex text.
+fn stream_core(answer: &mut Answer, words: &[&str]) -> Result<StreamCore, IpcError> {
+    let options = write_options(answer, words);
     let encoding = if has(words, "hex") {
         Encoding::HexText
     } else {
         Encoding::Bytes
     };
-    let core = StreamCore::new_as(alloc, options, encoding)?;
-    let sink = sink_of(alloc, &mut case.tally, words)?;
-    begun(alloc, case, Writer::Core(CoreWriter { core, sink }))
+    StreamCore::new_as(answer.alloc(), options, encoding)
 }
 
-/// `file_writer FIELDS | OPTIONS`.
-pub(crate) fn file_writer(
-    alloc: Global,
-    case: &mut State,
+fn stream_writer(
+    answer: &mut Answer,
+    sink: CaseSink,
     words: &[&str],
-) -> Result<String, Fault> {
-    let options = write_options(words)?;
-    let ids = ids_of(alloc, words)?;
-    let schema = Rc::new(alloc, schema_of(alloc, front(words))?)?;
-    let sink = sink_of(alloc, &mut case.tally, words)?;
-    match FileWriter::new(alloc, sink, schema, ids, options) {
-        Ok(writer) => begun(alloc, case, Writer::File(writer)),
-        Err(refused) => Err(refused.error.into()),
-    }
+) -> Result<StreamWriter<CaseSink>, Refused<CaseSink>> {
+    let options = write_options(answer, words);
+    StreamWriter::new(answer.alloc(), sink, options)
 }
 
-/// `begun_file FIELDS | OPTIONS`.
-pub(crate) fn begun_file(alloc: Global, case: &mut State, words: &[&str]) -> Result<String, Fault> {
-    let options = write_options(words)?;
-    let ids = ids_of(alloc, words)?;
-    let schema = Rc::new(alloc, schema_of(alloc, front(words))?)?;
-    let sink = sink_of(alloc, &mut case.tally, words)?;
-    match FileWriter::try_new(alloc, sink, schema, ids, options) {
-        Ok(writer) => begun(alloc, case, Writer::File(writer)),
-        Err(refused) => not_begun(alloc, case, refused.object, refused.error),
-    }
-}
-
-fn start_stream(
-    alloc: Global,
-    writer: &mut Writer,
+/// `stream_writer OPTIONS`, `stream_core OPTIONS`, `file_writer FIELDS | OPTIONS` or `begun_file FIELDS | OPTIONS`. What the sink of a
+/// refused writer has is kept.
+fn begin(
+    answer: &mut Answer,
+    writing: &mut Writing,
+    bytes: &mut Vec<u8>,
+    name: &str,
     words: &[&str],
-) -> Result<Result<(), IpcError>, Fault> {
-    let ids = ids_of(alloc, words)?;
-    let schema = schema_of(alloc, front(words))?;
-    Ok(start(writer, &schema, ids.as_deref()))
-}
-
-/// `start`, of a file, or `start FIELDS ids IDS`, of a stream.
-pub(crate) fn start_any(alloc: Global, case: &mut State, words: &[&str]) -> Result<String, Fault> {
-    let answer = if words.is_empty() {
-        start_file(&mut case.writer)
-    } else {
-        start_stream(alloc, &mut case.writer, words)?
+) -> Result<(), IpcError> {
+    let sink = sink_of(answer, &mut writing.tally, words)?;
+    let made = match name {
+        "stream_writer" => match stream_writer(answer, sink, words) {
+            Ok(writer) => Ok(Writer::Stream(writer)),
+            Err(refused) => Err(refused),
+        },
+        "stream_core" => match stream_core(answer, words) {
+            Ok(core) => Ok(Writer::Core(core, sink)),
+            Err(error) => Err(Refused {
+                error,
+                object: sink,
+            }),
+        },
+        _ => match file_writer(answer, sink, words, name == "begun_file") {
+            Ok(writer) => Ok(Writer::File(writer)),
+            Err(refused) => Err(refused),
+        },
     };
-    told(alloc, answer, case.tally.as_ref())
-}
-
-/// `batch FIELDS | PARTS`.
-pub(crate) fn make_batch(alloc: Global, case: &mut State, words: &[&str]) -> Result<String, Fault> {
-    let batch = any_batch(alloc, &mut case.arrays, words)?;
-    let rows = batch.height();
-    case.batch = Some(batch);
-    Ok(format!(in alloc; "{rows} rows")?)
-}
-
-/// `write FIELDS | PARTS ids IDS`, or `write ids IDS` of the last batch.
-pub(crate) fn write_any(alloc: Global, case: &mut State, words: &[&str]) -> Result<String, Fault> {
-    if !front(words).is_empty() {
-        case.batch = Some(any_batch(alloc, &mut case.arrays, words)?);
+    match made {
+        Ok(writer) => {
+            writing.writer = writer;
+            Ok(())
+        }
+        Err(refused) => {
+            writing.writer = Writer::None;
+            *bytes = refused.object.copied(answer);
+            Err(refused.error)
+        }
     }
-    let ids = ids_of(alloc, words)?;
-    let answer = match &case.batch {
-        Some(batch) => write(&mut case.writer, batch, ids.as_deref()),
-        None => return Err(Fault::Words),
-    };
-    told(alloc, answer, case.tally.as_ref())
 }
 
-pub(crate) fn finish_any(alloc: Global, case: &mut State) -> Result<String, Fault> {
-    let answer = finish(&mut case.writer);
-    told(alloc, answer, case.tally.as_ref())
-}
-
-/// `pairs KEY=VALUE` of the message of a stream's schema, or of a file's footer.
-pub(crate) fn own_pairs(alloc: Global, case: &mut State, words: &[&str]) -> Result<String, Fault> {
-    let pairs = pair_of(alloc, word(words, 0)?)?;
-    let answer = set_own_pairs(&mut case.writer, pairs);
-    told(alloc, answer, case.tally.as_ref())
-}
-
-/// `schema_pairs KEY=VALUE`.
-pub(crate) fn schema_pairs(
-    alloc: Global,
-    case: &mut State,
+/// A writer that goes on with a file, or the file as it is left.
+fn continued(
+    answer: &mut Answer,
+    disk: MemoryDisk,
     words: &[&str],
-) -> Result<String, Fault> {
-    let pairs = pair_of(alloc, word(words, 0)?)?;
-    set_schema_pairs(&mut case.writer, pairs);
-    told(alloc, Ok(()), case.tally.as_ref())
-}
-
-/// How many bytes a stream has, as its writer counts them.
-pub(crate) fn counted(alloc: Global, writer: &Writer) -> Result<String, Fault> {
-    let count = match writer {
-        Writer::Stream(writer) => writer.byte_count(),
-        Writer::Core(writer) => writer.core.byte_count(),
-        _ => return Err(Fault::Words),
-    };
-    Ok(format!(in alloc; "{count}")?)
-}
-
-/// What a writer's sink or disk has.
-pub(crate) fn into_bytes(alloc: Global, writer: Writer) -> Result<Vec<u8>, Fault> {
-    match writer {
-        Writer::Stream(writer) => sink_bytes(alloc, writer.into_inner()),
-        Writer::Core(writer) => sink_bytes(alloc, writer.sink),
-        Writer::File(writer) => sink_bytes(alloc, writer.into_inner()),
-        Writer::Appended(writer) => Ok(writer.into_inner().into_inner().into_bytes()),
-        Writer::None => Err(Fault::Words),
+) -> Result<FileWriter<DiskTail<MemoryDisk>>, Refused<MemoryDisk>> {
+    let mut disk = disk;
+    let options = write_options(answer, words);
+    match read_file_metadata(answer.alloc(), &mut disk) {
+        Ok(metadata) => try_from_file(answer.alloc(), disk, metadata, options),
+        Err(error) => Err(Refused {
+            error,
+            object: disk,
+        }),
     }
+}
+
+/// `append PARTS | OPTIONS`: the writer goes on with the file. No sink is seen then.
+fn append(
+    answer: &mut Answer,
+    names: &Names,
+    writing: &mut Writing,
+    bytes: &mut Vec<u8>,
+    words: &[&str],
+) -> Result<(), IpcError> {
+    let file = file_bytes(answer, names, bytes, words);
+    let disk = disk_of(answer, file, words);
+    writing.tally = None;
+    match continued(answer, disk, words) {
+        Ok(writer) => {
+            writing.writer = Writer::Appended(writer);
+            Ok(())
+        }
+        Err(refused) => {
+            writing.writer = Writer::None;
+            *bytes = refused.object.into_bytes();
+            Err(refused.error)
+        }
+    }
+}
+
+/// Makes the call of a name, if it is one of these.
+pub(crate) fn call(
+    answer: &mut Answer,
+    names: &Names,
+    made: &mut Made,
+    writing: &mut Writing,
+    bytes: &mut Vec<u8>,
+    name: &str,
+    words: &[&str],
+) -> bool {
+    let done = match name {
+        "stream_writer" | "stream_core" | "file_writer" | "begun_file" => {
+            begin(answer, writing, bytes, name, words)
+        }
+        "append" => append(answer, names, writing, bytes, words),
+        "start" => start(answer, &mut writing.writer, words),
+        "write" => write(answer, &mut writing.writer, made, words),
+        "finish" => finish(&mut writing.writer),
+        "pairs" => set_own_pairs(&mut writing.writer, pair_of(answer, word(words, 0))),
+        "schema_pairs" => set_schema_pairs(&mut writing.writer, pair_of(answer, word(words, 0))),
+        "write_encoded" => write_encoded(answer, &mut writing.writer, names, words, false),
+        "write_encoded_batch" => write_encoded(answer, &mut writing.writer, names, words, true),
+        "counted" => {
+            say_count(answer, &writing.writer);
+            return true;
+        }
+        _ => return false,
+    };
+    say_done(answer, done, &writing.tally);
+    true
 }

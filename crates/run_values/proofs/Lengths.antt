@@ -18,12 +18,11 @@ use Rattle.arrow_types.specs.declared.physical.PhysicalType.{PhysicalType}
 use Rattle.arrow_types.specs.declared.physical.PhysicalType.TheVariants as physical
 use Rattle.arrow_types.specs.declared.physical.PrimitiveType.{PrimitiveType}
 use Rattle.arrow_types.specs.declared.physical.PrimitiveType.TheVariants as primitive
-use Rattle.arrow_buffers.specs.Variable.{Variable}
 use Rattle.arrow_arrays.specs.LeafParts.{LeafParts, numbers, binary, text, binary_views, text_views}
 use Rattle.arrow_arrays.specs.Parts.{Parts, leaf, nested}
 use Rattle.arrow_arrays.specs.Batches.{Batch}
 use Rattle.ipc_bodies.specs.Pieces.{in_order, rebased, offset_bytes}
-use Rattle.ipc_write.specs.Below.{layout_in_order, width_of_kind, bytes_between, variable_pieces, leaf_pieces, pieces_in, has_no_children, LeafMayHaveOrder, MayHaveOrder}
+use Rattle.ipc_write.specs.Below.{Variable, layout_in_order, width_of_kind, bytes_between, variable_pieces, leaf_pieces, pieces_in, has_no_children, LeafMayHaveOrder, MayHaveOrder}
 use Rattle.ipc_write.specs.Batches.{batch_body, columns_pieces, is_within, batch_message}
 use Rattle.ipc_write.specs.Compaction.{top}
 

@@ -1,10 +1,16 @@
 //! Columns that are read and passed over.
-use crate::dictionaries::texts_by_key;
+ghost use Rattle.std.specs.Prelude.{◌≡◌, true};
+ghost use Rattle.arrow_types.specs.KindOf.{kind_of};
+ghost use Rattle.arrow_arrays.specs.Carried.{is_carried};
+ghost use Rattle.ipc_write.specs.Below.{HasKinds};
+ghost use Rattle.ipc_read.specs.Held.{held_in, field_kind, is_any_dictionary};
+ghost use Rattle.ipc_read.specs.Readers.{Readable};
+
+use crate::dictionaries::read_batch;
 use arrow_arrays::{Array, DictionaryArray, is_carried};
-use arrow_buffers::{NullArray, PrimitiveArray};
 use arrow_spec::{FieldNode, IpcBuffer, IpcError, MetadataVersion};
 use arrow_types::{ArrowDataType, Field, PhysicalType};
-use case_words::{Fault, Tables, count, fields_of, rest, schema_of, type_of, word};
+use case_words::{Answer, Tables, fields_of, keep_made, rest, schema_of, type_of, word};
 use ipc_fields::IpcField;
 use ipc_read::{
     Body, Dictionaries, MemorySource, Source, default_ipc_fields, is_held_for, read,
@@ -13,7 +19,7 @@ use ipc_read::{
     skip_fixed_size_binary, skip_fixed_size_list, skip_list, skip_map, skip_null, skip_primitive,
     skip_struct, skip_union, skip_utf8,
 };
-use std::alloc::{AllocError, Global};
+use std::alloc::Global;
 use std::collections::VecDeque;
 
 /// What is left of a batch's tables.
@@ -24,12 +30,12 @@ pub(crate) struct Queues {
     views: VecDeque<i64>,
 }
 
-fn queue_of<T: Copy>(alloc: Global, items: &[T]) -> Result<VecDeque<T>, AllocError> {
-    let mut queue = VecDeque::new(alloc);
+fn queue_of<T: Copy>(answer: &mut Answer, items: &[T]) -> VecDeque<T> {
+    let mut queue = VecDeque::new(answer.alloc());
     for item in items {
-        queue.push_back(*item)?;
+        answer.done(queue.push_back(*item));
     }
-    Ok(queue)
+    queue
 }
 
 impl Queues {
@@ -41,12 +47,12 @@ impl Queues {
         }
     }
 
-    pub(crate) fn of(alloc: Global, tables: &Tables) -> Result<Queues, AllocError> {
-        Ok(Queues {
-            nodes: queue_of(alloc, &tables.nodes)?,
-            buffers: queue_of(alloc, &tables.buffers)?,
-            views: queue_of(alloc, &tables.views)?,
-        })
+    fn of(answer: &mut Answer, tables: &Tables) -> Queues {
+        Queues {
+            nodes: queue_of(answer, &tables.nodes),
+            buffers: queue_of(answer, &tables.buffers),
+            views: queue_of(answer, &tables.views),
+        }
     }
 }
 
@@ -61,11 +67,10 @@ struct Turn {
 }
 
 /// `ROWS WAY TYPE`, where WAY is `little`, `big`, `v4` or `kind`.
-fn turn_of(words: &[&str]) -> Result<Turn, Fault> {
-    let rows = count(word(words, 0)?)?;
-    let way = word(words, 1)?;
-    Ok(Turn {
-        rows,
+fn turn_of(answer: &mut Answer, words: &[&str]) -> Turn {
+    let way = word(words, 1);
+    Turn {
+        rows: answer.count(word(words, 0)),
         is_little_endian: way != "big",
         version: if way == "v4" {
             MetadataVersion::V4
@@ -73,14 +78,15 @@ fn turn_of(words: &[&str]) -> Result<Turn, Fault> {
             MetadataVersion::V5
         },
         by_kind: way == "kind",
-    })
+    }
 }
 
 /// Two bytes stand before a body.
-fn source(alloc: Global, body: &[u8]) -> Result<MemorySource, AllocError> {
-    let mut bytes = b"ab".to_vec(alloc)?;
-    bytes.extend_from_slice(body)?;
-    Ok(MemorySource::new(bytes, Vec::new(alloc), Vec::new(alloc)))
+fn source(answer: &mut Answer, body: &[u8]) -> MemorySource {
+    let mut bytes = Vec::new(answer.alloc());
+    answer.done(bytes.extend_from_slice(b"ab"));
+    answer.done(bytes.extend_from_slice(body));
+    MemorySource::new(bytes, Vec::new(answer.alloc()), Vec::new(answer.alloc()))
 }
 
 /// A column, and the ids of its dictionaries, which count from 0.
@@ -91,16 +97,146 @@ pub(crate) struct Column {
 }
 
 /// The first column of these fields.
-pub(crate) fn column_of(alloc: Global, words: &[&str]) -> Result<Column, Fault> {
-    let ids = default_ipc_fields(alloc, &schema_of(alloc, words)?)?.pop();
-    match (fields_of(alloc, words)?.pop(), ids) {
-        (Some(field), Some(ids)) => Ok(Column { field, ids }),
-        _ => Err(Fault::Words),
+pub(crate) fn column_of(answer: &mut Answer, words: &[&str]) -> Option<Column> {
+    let schema = schema_of(answer, words);
+    let ids = default_ipc_fields(answer.alloc(), &schema);
+    match (fields_of(answer, words).pop(), answer.list(ids).pop()) {
+        (Some(field), Some(ids)) => Some(Column { field, ids }),
+        _ => None,
     }
 }
 
-/// By the call of any kind.
-fn by_any(
+/// A column with children by the call of its kind.
+fn nested<S: Source>(
+    alloc: Global,
+    queues: &mut Queues,
+    column: &Column,
+    source: &mut S,
+    body: Body,
+    dictionaries: &Dictionaries,
+    turn: Turn,
+) -> Result<Array, IpcError>
+    requires held { is_carried (kind_of column.now.field.dtype) ≡ true }
+    requires kinds { HasKinds (held_in dictionaries.now) (field_kind column.now.field.dtype column.now.ids) }
+    requires readable { Readable (S.content source.old) body }
+{
+    let dtype = &column.field.dtype;
+    let mut scratch = Vec::new(alloc);
+    macro_rules! by {
+        ($call:ident, $kind:ident) => {
+            match $call(
+                alloc,
+                &mut queues.nodes,
+                &mut queues.views,
+                dtype,
+                &column.ids,
+                &mut queues.buffers,
+                source,
+                dictionaries,
+                body,
+                turn.is_little_endian,
+                turn.rows,
+                turn.version,
+                &mut scratch,
+            ) {
+                Ok(array) => Ok(Array::$kind(array)),
+                Err(error) => Err(error),
+            }
+        };
+    }
+    match dtype.to_physical_type() {
+        PhysicalType::List => by!(read_list, List),
+        PhysicalType::LargeList => by!(read_list, List),
+        PhysicalType::FixedSizeList => by!(read_fixed_size_list, FixedSizeList),
+        PhysicalType::Struct => by!(read_struct, Struct),
+        PhysicalType::Map => by!(read_map, Map),
+        PhysicalType::Union => by!(read_union, Union),
+        _ => Err(IpcError::State),
+    }
+}
+
+/// Keys by their call, into the dictionary 0.
+fn keys<S: Source>(
+    alloc: Global,
+    queues: &mut Queues,
+    dtype: &ArrowDataType,
+    source: &mut S,
+    body: Body,
+    dictionaries: &Dictionaries,
+    turn: Turn,
+) -> Result<DictionaryArray, IpcError>
+    requires kind { is_any_dictionary (kind_of dtype.now) ≡ true }
+    requires held { is_carried (kind_of dtype.now) ≡ true }
+    requires readable { Readable (S.content source.old) body }
+{
+    let ids = IpcField {
+        fields: Vec::new(alloc),
+        dictionary_id: Some(0),
+    };
+    if !is_held_for(dtype, &ids, dictionaries) {
+        return Err(IpcError::State);
+    }
+    read_dictionary(
+        alloc,
+        &mut queues.nodes,
+        dtype,
+        &mut queues.buffers,
+        source,
+        body,
+        turn.is_little_endian,
+        turn.rows,
+        &mut Vec::new(alloc),
+        0,
+        dictionaries,
+    )
+}
+
+/// By the call of its kind, of which one without children is tried for each way of reading.
+fn by_kind<S: Source>(
+    alloc: Global,
+    queues: &mut Queues,
+    column: &Column,
+    source: &mut S,
+    body: Body,
+    dictionaries: &Dictionaries,
+    turn: Turn,
+) -> Result<Array, IpcError>
+    requires held { is_carried (kind_of column.now.field.dtype) ≡ true }
+    requires kinds { HasKinds (held_in dictionaries.now) (field_kind column.now.field.dtype column.now.ids) }
+    requires readable { Readable (S.content source.old) body }
+{
+    let dtype = &column.field.dtype;
+    match dtype {
+        ArrowDataType::Null => match read_null(alloc, &mut queues.nodes, dtype, turn.rows) {
+            Ok(array) => Ok(Array::Null(array)),
+            Err(error) => Err(error),
+        },
+        ArrowDataType::Int64 => match read_primitive::<i64, S>(
+            alloc,
+            &mut queues.nodes,
+            dtype,
+            &mut queues.buffers,
+            source,
+            body,
+            turn.is_little_endian,
+            turn.rows,
+            &mut Vec::new(alloc),
+        ) {
+            Ok(array) => Ok(Array::Int64(array)),
+            Err(error) => Err(error),
+        },
+        ArrowDataType::Dictionary(_, _, _) => {
+            match keys(alloc, queues, dtype, source, body, dictionaries, turn) {
+                Ok(array) => Ok(Array::Dictionary(array)),
+                Err(error) => Err(error),
+            }
+        }
+        _ => nested(alloc, queues, column, source, body, dictionaries, turn),
+    }
+}
+
+/// The next column of the queues, by the call of any kind or by that of its own.
+fn read_column(
     alloc: Global,
     queues: &mut Queues,
     column: &Column,
@@ -119,6 +255,9 @@ fn by_any(
         offset: 2,
         length: size - 2,
     };
+    if turn.by_kind {
+        return by_kind(alloc, queues, column, source, body, dictionaries, turn);
+    }
     read(
         alloc,
         &mut queues.nodes,
@@ -136,167 +275,55 @@ fn by_any(
     )
 }
 
-/// By the call of a kind with children.
-fn by_kind(
-    alloc: Global,
-    queues: &mut Queues,
-    dtype: &ArrowDataType,
-    ids: &IpcField,
-    source: &mut MemorySource,
-    dictionaries: &Dictionaries,
-    turn: Turn,
-) -> Result<Array, IpcError> {
-    let size = source.size()?;
-    if size < 2 || !is_carried(dtype) || !is_held_for(dtype, ids, dictionaries) {
-        return Err(IpcError::State);
-    }
-    let body = Body {
-        offset: 2,
-        length: size - 2,
-    };
-    macro_rules! by {
-        ($call:ident, $kind:ident) => {
-            Ok(Array::$kind($call(
-                alloc,
-                &mut queues.nodes,
-                &mut queues.views,
-                dtype,
-                ids,
-                &mut queues.buffers,
-                source,
-                dictionaries,
-                body,
-                turn.is_little_endian,
-                turn.rows,
-                turn.version,
-                &mut Vec::new(alloc),
-            )?))
-        };
-    }
-    match dtype.to_physical_type() {
-        PhysicalType::List => by!(read_list, List),
-        PhysicalType::LargeList => by!(read_list, List),
-        PhysicalType::FixedSizeList => by!(read_fixed_size_list, FixedSizeList),
-        PhysicalType::Struct => by!(read_struct, Struct),
-        PhysicalType::Map => by!(read_map, Map),
-        PhysicalType::Union => by!(read_union, Union),
-        _ => Err(IpcError::State),
-    }
-}
-
-/// Numbers of 64 bits by their call.
-fn numbers(
-    alloc: Global,
-    queues: &mut Queues,
-    source: &mut MemorySource,
-    turn: Turn,
-) -> Result<PrimitiveArray<i64>, IpcError> {
-    let size = source.size()?;
-    if size < 2 {
-        return Err(IpcError::State);
-    }
-    let body = Body {
-        offset: 2,
-        length: size - 2,
-    };
-    read_primitive::<i64, MemorySource>(
-        alloc,
-        &mut queues.nodes,
-        &ArrowDataType::Int64,
-        &mut queues.buffers,
-        source,
-        body,
-        turn.is_little_endian,
-        turn.rows,
-        &mut Vec::new(alloc),
-    )
-}
-
-fn nulls(alloc: Global, queues: &mut Queues, rows: usize) -> Result<NullArray, IpcError> {
-    read_null(alloc, &mut queues.nodes, &ArrowDataType::Null, rows)
-}
-
-/// Keys by their call, into the dictionary 0.
-fn keys(
-    alloc: Global,
-    queues: &mut Queues,
-    column: &Column,
-    source: &mut MemorySource,
-    dictionaries: &Dictionaries,
-    turn: Turn,
-) -> Result<DictionaryArray, IpcError> {
-    let size = source.size()?;
-    let dtype = texts_by_key(alloc)?;
-    let ids = IpcField {
-        fields: Vec::new(alloc),
-        dictionary_id: Some(0),
-    };
-    if size < 2 || column.field.dtype != dtype || !is_held_for(&dtype, &ids, dictionaries) {
-        return Err(IpcError::State);
-    }
-    let body = Body {
-        offset: 2,
-        length: size - 2,
-    };
-    read_dictionary(
-        alloc,
-        &mut queues.nodes,
-        &dtype,
-        &mut queues.buffers,
-        source,
-        body,
-        turn.is_little_endian,
-        turn.rows,
-        &mut Vec::new(alloc),
-        0,
-        dictionaries,
-    )
-}
-
-fn of_kind(
-    alloc: Global,
-    queues: &mut Queues,
-    column: &Column,
-    source: &mut MemorySource,
-    dictionaries: &Dictionaries,
-    turn: Turn,
-) -> Result<Array, IpcError> {
-    let dtype = &column.field.dtype;
-    match dtype {
-        ArrowDataType::Null => Ok(Array::Null(nulls(alloc, queues, turn.rows)?)),
-        ArrowDataType::Int64 => Ok(Array::Int64(numbers(alloc, queues, source, turn)?)),
-        ArrowDataType::Dictionary(_, _, _) => {
-            Ok(Array::Dictionary(keys(alloc, queues, column, source, dictionaries, turn)?))
-        }
-        _ => by_kind(
-            alloc,
-            queues,
-            dtype,
-            &column.ids,
-            source,
-            dictionaries,
-            turn,
-        ),
-    }
-}
-
 /// The next column of the tables, over a body.
-pub(crate) fn read_next(
-    alloc: Global,
+fn read_next(
+    answer: &mut Answer,
     queues: &mut Queues,
     body: &[u8],
     dictionaries: &Dictionaries,
     words: &[&str],
-) -> Result<Array, Fault> {
-    let turn = turn_of(words)?;
-    let column = column_of(alloc, rest(words, 2))?;
-    let mut source = source(alloc, body)?;
-    let read = if turn.by_kind {
-        of_kind(alloc, queues, &column, &mut source, dictionaries, turn)
-    } else {
-        by_any(alloc, queues, &column, &mut source, dictionaries, turn)
+) -> Result<Array, IpcError> {
+    let Some(column) = column_of(answer, rest(words, 2)) else {
+        return Err(IpcError::State);
     };
-    Ok(read?)
+    let turn = turn_of(answer, words);
+    let mut source = source(answer, body);
+    read_column(
+        answer.alloc(),
+        queues,
+        &column,
+        &mut source,
+        dictionaries,
+        turn,
+    )
+}
+
+/// The array of so many rows that is read from these tables alone.
+pub(crate) fn read_whole(
+    answer: &mut Answer,
+    tables: &Tables,
+    column: &Column,
+    rows: usize,
+    is_little_endian: bool,
+    by_kind: bool,
+) -> Result<Array, IpcError> {
+    let turn = Turn {
+        rows,
+        is_little_endian,
+        version: MetadataVersion::V5,
+        by_kind,
+    };
+    let mut queues = Queues::of(answer, tables);
+    let mut source = source(answer, &tables.body);
+    let dictionaries = Dictionaries::new(answer.alloc());
+    read_column(
+        answer.alloc(),
+        &mut queues,
+        column,
+        &mut source,
+        &dictionaries,
+        turn,
+    )
 }
 
 /// Passes over a column with children by the call of its kind.
@@ -336,19 +363,10 @@ fn pass_kind(queues: &mut Queues, dtype: &ArrowDataType, turn: Turn) -> Result<(
     }
 }
 
-fn left(alloc: Global, queues: &Queues) -> Result<String, AllocError> {
-    let (nodes, buffers, views) = (queues.nodes.len(), queues.buffers.len(), queues.views.len());
-    format!(in alloc; "{nodes} nodes, {buffers} buffers, {views} views left")
-}
-
 /// Passes over the next column of the tables, and tells what is left of them.
-pub(crate) fn pass_next(
-    alloc: Global,
-    queues: &mut Queues,
-    words: &[&str],
-) -> Result<String, Fault> {
-    let turn = turn_of(words)?;
-    let dtype = type_of(alloc, rest(words, 2))?;
+fn pass_next(answer: &mut Answer, queues: &mut Queues, words: &[&str]) {
+    let turn = turn_of(answer, words);
+    let dtype = type_of(answer, rest(words, 2));
     let passed = if turn.by_kind {
         pass_kind(queues, &dtype, turn)
     } else {
@@ -360,47 +378,59 @@ pub(crate) fn pass_next(
             turn.version,
         )
     };
-    drop(dtype);
-    passed?;
-    Ok(left(alloc, queues)?)
+    answer.done(passed);
+    let (nodes, buffers, views) = (queues.nodes.len(), queues.buffers.len(), queues.views.len());
+    answer.tell(format!(in answer.alloc(); "{nodes} nodes, {buffers} buffers, {views} views left"));
 }
 
 /// A line of tables. The nodes come first, and with them nothing is left of others.
-pub(crate) fn say(
-    alloc: Global,
-    tables: &mut Tables,
-    name: &str,
-    words: &[&str],
-) -> Result<String, Fault> {
+fn put(answer: &mut Answer, tables: &mut Tables, name: &str, words: &[&str]) {
     if name == "nodes" {
-        *tables = Tables::new(alloc);
+        *tables = Tables::new(answer.alloc());
     }
-    tables.put(alloc, name, words)?;
-    Ok(String::new(alloc))
+    tables.put(answer, name, words);
 }
 
-/// The array of so many rows that is read from these tables alone.
-pub(crate) fn read_whole(
-    alloc: Global,
+/// `read`, `next` and `read_batch`: a column of the tables is read into an array.
+fn read_array(
+    answer: &mut Answer,
     tables: &Tables,
-    column: &Column,
-    rows: usize,
-    is_little_endian: bool,
-    by_kind: bool,
-) -> Result<Array, Fault> {
-    let turn = Turn {
-        rows,
-        is_little_endian,
-        version: MetadataVersion::V5,
-        by_kind,
-    };
-    let mut queues = Queues::of(alloc, tables)?;
-    let mut source = source(alloc, &tables.body)?;
-    let dictionaries = Dictionaries::new(alloc);
-    let read = if by_kind {
-        of_kind(alloc, &mut queues, column, &mut source, &dictionaries, turn)
-    } else {
-        by_any(alloc, &mut queues, column, &mut source, &dictionaries, turn)
-    };
-    Ok(read?)
+    queues: &mut Queues,
+    dictionaries: &Dictionaries,
+    name: &str,
+    words: &[&str],
+) -> Result<Array, IpcError> {
+    if name == "read_batch" {
+        return read_batch(answer, tables, dictionaries, words);
+    }
+    if name == "read" {
+        *queues = Queues::of(answer, tables);
+    }
+    read_next(answer, queues, &tables.body, dictionaries, words)
+}
+
+/// Makes a call of tables and of what reads or passes them over, or tells that there is none of the name.
+pub(crate) fn call(
+    answer: &mut Answer,
+    tables: &mut Tables,
+    queues: &mut Queues,
+    dictionaries: &Dictionaries,
+    arrays: &mut Vec<Array>,
+    name: &str,
+    words: &[&str],
+) -> bool {
+    match name {
+        "nodes" | "buffers" | "views" | "body" => put(answer, tables, name, words),
+        "read" | "next" | "read_batch" => {
+            let read = read_array(answer, tables, queues, dictionaries, name, words);
+            keep_made(answer, arrays, read)
+        }
+        "skip" => {
+            *queues = Queues::of(answer, tables);
+            pass_next(answer, queues, words)
+        }
+        "pass" => pass_next(answer, queues, words),
+        _ => return false,
+    }
+    true
 }

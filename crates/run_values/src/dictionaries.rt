@@ -1,17 +1,22 @@
 //! Dictionaries of texts: a batch's values are held, and keys lead into them.
-ghost use Rattle.std.specs.Prelude.{◌≡◌, [], ◌∷◌, length, false, pos, IfOk};
+ghost use Rattle.std.specs.Prelude.{◌≡◌, ◌^◌, ◌<◌, [], ◌∷◌, length, map, true, false, pos, IfOk, IfSome};
 ghost use Rattle.std.specs.Rc.{rc_value};
+ghost use Rattle.arrow_spec.specs.Flat.{little};
 ghost use Rattle.arrow_spec.specs.Kinds as kind;
+ghost use Rattle.arrow_spec.specs.Sent.{body_of};
 ghost use Rattle.arrow_spec.specs.declared.types.IntegerType.TheVariants as integer;
-ghost use Rattle.arrow_types.specs.KindOf.{kind_of};
+ghost use Rattle.arrow_arrays.specs.Parts.{also, none, rows_in};
+ghost use Rattle.arrow_arrays.specs.PartsOf.{parts_of};
 ghost use Rattle.ipc_read.specs.Batches.{kinds_of};
+ghost use Rattle.ipc_write.specs.Below.{MayHaveOrder, pieces_in};
+ghost use Rattle.ipc_write.specs.Compaction.{top};
 
 use crate::columns::column_of;
-use crate::written::{encoded, nothing_written};
-use arrow_arrays::{Array, DictionaryArray};
+use crate::written::{encoded, schema_of};
+use arrow_arrays::{Array, DictionaryArray, RecordBatch};
 use arrow_spec::{IntegerType, IpcError, MetadataVersion};
-use arrow_types::{ArrowDataType, ArrowSchema, ArrowSchemaRef, Field};
-use case_words::{Fault, Tables, long, word};
+use arrow_types::{ArrowDataType, ArrowSchemaRef};
+use case_words::{Answer, Tables, word};
 use ipc_fields::{IpcField, IpcSchema};
 use ipc_read::{
     BatchHeader, Body, Dictionaries, MemorySource, Source, are_held_for, is_held_for,
@@ -19,23 +24,16 @@ use ipc_read::{
 };
 use ipc_write::write_dictionary;
 use std::alloc::{AllocError, Global};
-use std::rc::Rc;
 
-/// Texts by keys of 16 bits.
-pub(crate) fn texts_by_key(alloc: Global) -> Result<ArrowDataType, AllocError>
-    ensures { IfOk result (λ t. kind_of t ≡ kind.dictionary integer.UInt16 false (pos 0) (kind.utf8 kind.small)) }
-{
-    let texts = Box::new(alloc, ArrowDataType::Utf8)?;
-    Ok(ArrowDataType::Dictionary(IntegerType::UInt16, texts, false))
-}
-
-/// One column of them.
+/// One column of texts by keys of 16 bits.
 fn schema(alloc: Global) -> Result<ArrowSchemaRef, AllocError>
     ensures { IfOk result (λ s. kinds_of (rc_value s) ≡ kind.dictionary integer.UInt16 false (pos 0) (kind.utf8 kind.small) ∷ []) }
 {
-    let field = Field::new(alloc, String::new(alloc), texts_by_key(alloc)?, true);
-    let schema = ArrowSchema::from_fields(alloc, vec![in alloc; field]?)?;
-    Ok(Rc::new(alloc, schema)?)
+    let texts = Box::new(alloc, ArrowDataType::Utf8)?;
+    schema_of(
+        alloc,
+        ArrowDataType::Dictionary(IntegerType::UInt16, texts, false),
+    )
 }
 
 /// The dictionary 0.
@@ -52,20 +50,20 @@ fn ipc_schema(alloc: Global) -> Result<IpcSchema, AllocError>
     })
 }
 
-/// The header of these tables.
-fn header(alloc: Global, tables: &Tables, rows: i64) -> Result<BatchHeader, AllocError> {
-    Ok(BatchHeader {
-        length: rows,
-        nodes: tables.nodes.as_slice().to_vec(alloc)?,
-        buffers: tables.buffers.as_slice().to_vec(alloc)?,
+/// The header of these tables, of so many rows.
+fn header(answer: &mut Answer, tables: &Tables, rows: &str) -> BatchHeader {
+    BatchHeader {
+        length: answer.long(rows),
+        nodes: answer.list(tables.nodes.clone()),
+        buffers: answer.list(tables.buffers.clone()),
         compressed: false,
-        variadic: tables.views.as_slice().to_vec(alloc)?,
-    })
+        variadic: answer.list(tables.views.clone()),
+    }
 }
 
-fn source(alloc: Global, tables: &Tables) -> Result<MemorySource, AllocError> {
-    let body = tables.body.as_slice().to_vec(alloc)?;
-    Ok(MemorySource::new(body, Vec::new(alloc), Vec::new(alloc)))
+fn source(answer: &mut Answer, tables: &Tables) -> MemorySource {
+    let body = answer.list(tables.body.clone());
+    MemorySource::new(body, Vec::new(answer.alloc()), Vec::new(answer.alloc()))
 }
 
 /// How a batch of values is held.
@@ -104,47 +102,42 @@ fn hold_batch(
 }
 
 /// `hold ID ROWS base|delta once|replace`: texts of the tables become values.
-pub(crate) fn hold(
-    alloc: Global,
-    tables: &Tables,
-    dictionaries: &mut Dictionaries,
-    words: &[&str],
-) -> Result<String, Fault> {
+fn hold(answer: &mut Answer, tables: &Tables, dictionaries: &mut Dictionaries, words: &[&str]) {
     let holding = Holding {
-        id: long(word(words, 0)?)?,
-        is_delta: word(words, 2)? == "delta",
-        may_replace: word(words, 3)? == "replace",
+        id: answer.long(word(words, 0)),
+        is_delta: word(words, 2) == "delta",
+        may_replace: word(words, 3) == "replace",
     };
-    let header = header(alloc, tables, long(word(words, 1)?)?)?;
-    let mut source = source(alloc, tables)?;
-    hold_batch(alloc, dictionaries, holding, &header, &mut source)?;
-    Ok(String::new(alloc))
+    let header = header(answer, tables, word(words, 1));
+    let mut source = source(answer, tables);
+    let held = hold_batch(answer.alloc(), dictionaries, holding, &header, &mut source);
+    answer.done(held);
 }
 
 /// `held_for TYPE`: whether what is held has the types of these values.
-pub(crate) fn held_for(
-    alloc: Global,
-    dictionaries: &Dictionaries,
-    words: &[&str],
-) -> Result<String, Fault> {
-    let column = column_of(alloc, words)?;
-    let is_held = is_held_for(&column.field.dtype, &column.ids, dictionaries);
-    Ok(String::from_str(alloc, if is_held { "yes" } else { "no" })?)
+fn held_for(answer: &mut Answer, dictionaries: &Dictionaries, words: &[&str]) {
+    match column_of(answer, words) {
+        Some(column) => {
+            let is_held = is_held_for(&column.field.dtype, &column.ids, dictionaries);
+            answer.say(if is_held { "yes" } else { "no" });
+        }
+        None => answer.refuse(),
+    }
 }
 
-fn read_batch(
+fn read(
     alloc: Global,
     dictionaries: &Dictionaries,
     header: &BatchHeader,
     source: &mut MemorySource,
-) -> Result<Vec<Array>, IpcError> {
+) -> Result<RecordBatch, IpcError> {
     let schema = schema(alloc)?;
     let ipc_schema = ipc_schema(alloc)?;
     if !are_held_for(&schema, &ipc_schema, dictionaries) {
         return Err(IpcError::State);
     }
     let length = source.size()?;
-    let batch = read_record_batch(
+    read_record_batch(
         alloc,
         header,
         &schema,
@@ -157,55 +150,101 @@ fn read_batch(
         Body { offset: 0, length },
         length,
         &mut Vec::new(alloc),
-    )?;
-    Ok(batch.into_arrays())
+    )
 }
 
 /// `read_batch ROWS`: the column of texts by key of the batch of the tables.
-pub(crate) fn batch(
-    alloc: Global,
+pub(crate) fn read_batch(
+    answer: &mut Answer,
     tables: &Tables,
     dictionaries: &Dictionaries,
     words: &[&str],
-) -> Result<Array, Fault> {
-    let header = header(alloc, tables, long(word(words, 0)?)?)?;
-    let mut source = source(alloc, tables)?;
-    match read_batch(alloc, dictionaries, &header, &mut source)?.pop() {
-        Some(array) => Ok(array),
-        None => Err(Fault::Words),
+) -> Result<Array, IpcError> {
+    let header = header(answer, tables, word(words, 0));
+    let mut source = source(answer, tables);
+    match read(answer.alloc(), dictionaries, &header, &mut source) {
+        Ok(batch) => batch.into_arrays().pop().ok_or(IpcError::State),
+        Err(error) => Err(error),
     }
 }
 
-/// How many values a dictionary of texts in one part has, and what is added of them.
-fn values_alone(alloc: Global, dictionary: &DictionaryArray) -> Result<(usize, Tables), Fault> {
+/// The values of a dictionary of texts in one part.
+fn only_texts(dictionary: &DictionaryArray) -> Option<&Array>
+    ensures only { IfSome result (λ v. dictionary.now.children ≡ also (parts_of v.now) none) }
+    ensures order { IfSome result (λ v. MayHaveOrder (parts_of v.now) true) }
+    ensures same { IfSome result (λ v. top (parts_of v.now) ≡ parts_of v.now) }
+{
     let [values] = dictionary.parts() else {
-        return Err(Fault::Words);
+        return None;
     };
-    let Array::Utf8(_) = values else {
-        return Err(Fault::Words);
-    };
-    drop(encoded(alloc, values)?);
-    let mut tables = nothing_written(alloc);
-    let count = write_dictionary(
+    match values {
+        Array::Utf8(_) => Some(values),
+        _ => None,
+    }
+}
+
+/// Tells how many values there are, and what they are written as by themselves.
+fn write_values(
+    answer: &mut Answer,
+    dictionary: &DictionaryArray,
+    values: &Array,
+    tables: &mut Tables,
+)
+    requires only { dictionary.now.children ≡ also (parts_of values.now) none }
+    requires order { MayHaveOrder (parts_of values.now) true }
+    requires few { rows_in (parts_of values.now) < 2 ^ 63 }
+    requires short { body_of 0 (map length (pieces_in little (parts_of values.now))) < 2 ^ 63 }
+{
+    let (mut nodes, mut buffers) = (Vec::new(answer.alloc()), Vec::new(answer.alloc()));
+    let (mut views, mut body) = (Vec::new(answer.alloc()), Vec::new(answer.alloc()));
+    match write_dictionary(
         dictionary,
-        &mut tables.buffers,
-        &mut tables.body,
-        &mut tables.nodes,
-        &mut tables.views,
+        &mut buffers,
+        &mut body,
+        &mut nodes,
+        &mut views,
         &mut 0,
         true,
         false,
-    )?;
-    Ok((count, tables))
+    ) {
+        Ok(count) => answer.tell(format!(in answer.alloc(); "{count} values\n")),
+        Err(error) => answer.fail(error.into()),
+    }
+    *tables = Tables {
+        nodes,
+        buffers,
+        views,
+        body,
+    };
+    tables.say(answer);
 }
 
-/// What the values of a dictionary are written as by themselves.
-pub(crate) fn values(alloc: Global, array: &Array, tables: &mut Tables) -> Result<String, Fault> {
+/// What the values of a dictionary are written as, where a batch can hold them.
+pub(crate) fn values(answer: &mut Answer, array: &Array, tables: &mut Tables) {
     let Array::Dictionary(dictionary) = array else {
-        return Err(Fault::Words);
+        return answer.refuse();
     };
-    let (count, written) = values_alone(alloc, dictionary)?;
-    *tables = written;
-    let lines = tables.lines(alloc)?;
-    Ok(format!(in alloc; "{count} values\n{lines}")?)
+    let Some(values) = only_texts(dictionary) else {
+        return answer.refuse();
+    };
+    match encoded(answer.alloc(), values) {
+        Ok(_) => write_values(answer, dictionary, values, tables),
+        Err(fault) => answer.fail(fault),
+    }
+}
+
+/// Makes a call of what is held, or tells that there is none of the name.
+pub(crate) fn call(
+    answer: &mut Answer,
+    tables: &Tables,
+    dictionaries: &mut Dictionaries,
+    name: &str,
+    words: &[&str],
+) -> bool {
+    match name {
+        "hold" => hold(answer, tables, dictionaries, words),
+        "held_for" => held_for(answer, dictionaries, words),
+        _ => return false,
+    }
+    true
 }

@@ -3,7 +3,7 @@ use crate::columns::Queues;
 use crate::{columns, dictionaries, messages, written};
 use arrow_arrays::{Array, RecordBatch};
 use arrow_types::ArrowSchema;
-use case_words::{Case, Fault, Tables, rest, word};
+use case_words::{Answer, Case, Tables, rest, word};
 use ipc_bodies::BodyBuffer;
 use ipc_read::Dictionaries;
 use std::alloc::Global;
@@ -44,88 +44,34 @@ impl Case for Values {
         }
     }
 
-    fn answer(&mut self, alloc: Global, words: &[&str]) -> Result<String, Fault> {
-        let name = word(words, 0)?;
-        let words = rest(words, 1);
-        match name {
-            "array" | "part" | "copy" | "forget" | "same" | "rows" | "cells" | "empty" | "child" =>
-                { arrays::answer(alloc, &mut self.arrays, name, words) }
-            "layout" | "logical" | "carried" | "extension_of" => {
-                types::answer(alloc, name, words)
-            }
-            "schema" | "fields" | "field" | "has" | "insert" => {
-                types::answer_schema(alloc, &mut self.schema, name, words)
-            }
-            "bits" | "shared" => buffers::answer(alloc, name, words),
-            "buffer" | "body_of" | "put" | "end" | "places" => {
-                bodies::answer(alloc, &mut self.buffers, name, words)
-            }
-            "batch" | "columns" => {
-                batches::of_arrays(alloc, &mut self.arrays, &mut self.batches, name, words)
-            }
-            "batch_copy" | "batch_same" | "pairs" | "project" | "select" => {
-                batches::answer(alloc, &mut self.batches, name, words)
-            }
-            "nodes" | "buffers" | "views" | "body" => {
-                columns::say(alloc, &mut self.tables, name, words)
-            }
-            "encode" | "round" | "round_by_kind" | "alone" | "round_alone" | "values" => {
-                written::answer(alloc, self.arrays.as_slice(), &mut self.tables, name, words)
-            }
-            "encode_within" | "in_pieces" => {
-                messages::of_array(alloc, self.arrays.as_slice(), name, words)
-            }
-            "continuation" | "message" => messages::answer(alloc, name, words),
-            "bytes" | "more" | "change" | "falling" => {
-                flatbuffers::say(alloc, &mut self.bytes, name, words)
-            }
-            "root" | "slot" => flatbuffers::answer(alloc, &self.bytes, name, words),
-            "header" | "record" | "prefix" | "footer_length" => {
-                headers::answer(alloc, &self.bytes, name, words)
-            }
-            "text" | "ids" | "serialize" => schemas::of_fields(alloc, name, words),
-            "message_text"
-            | "message_again"
-            | "message_numbered"
-            | "message_copy"
-            | "table_text"
-            | "table_again"
-            | "table_ids" => { schemas::answer(alloc, &self.bytes, name, words) }
-            _ => self.answer_read(alloc, name, words),
-        }
+    fn forget(&mut self, alloc: Global) {
+        *self = Values::new(alloc);
     }
-}
 
-impl Values {
-    /// What columns and dictionaries are read as.
-    fn answer_read(&mut self, alloc: Global, name: &str, words: &[&str]) -> Result<String, Fault> {
-        match name {
-            "hold" => dictionaries::hold(alloc, &self.tables, &mut self.dictionaries, words),
-            "held_for" => dictionaries::held_for(alloc, &self.dictionaries, words),
-            "read_batch" => {
-                let array = dictionaries::batch(alloc, &self.tables, &self.dictionaries, words)?;
-                case_words::keep(alloc, &mut self.arrays, array)
-            }
-            "read" | "next" => {
-                if name == "read" {
-                    self.queues = Queues::of(alloc, &self.tables)?;
-                }
-                let array = columns::read_next(
-                    alloc,
-                    &mut self.queues,
-                    &self.tables.body,
-                    &self.dictionaries,
-                    words,
-                )?;
-                case_words::keep(alloc, &mut self.arrays, array)
-            }
-            "skip" | "pass" => {
-                if name == "skip" {
-                    self.queues = Queues::of(alloc, &self.tables)?;
-                }
-                columns::pass_next(alloc, &mut self.queues, words)
-            }
-            _ => Err(Fault::Words),
+    fn answer(&mut self, _rt: &HostRuntime, answer: &mut Answer, words: &[&str]) {
+        let (name, words) = (word(words, 0), rest(words, 1));
+        let is_known = arrays::call(answer, &mut self.arrays, name, words)
+            || types::call(answer, &mut self.schema, name, words)
+            || buffers::call(answer, name, words)
+            || bodies::call(answer, &mut self.buffers, name, words)
+            || batches::call(answer, &mut self.arrays, &mut self.batches, name, words)
+            || flatbuffers::call(answer, &mut self.bytes, name, words)
+            || headers::call(answer, &self.bytes, name, words)
+            || schemas::call(answer, &self.bytes, name, words)
+            || messages::call(answer, &self.arrays, name, words)
+            || written::call(answer, &self.arrays, &mut self.tables, name, words)
+            || dictionaries::call(answer, &self.tables, &mut self.dictionaries, name, words)
+            || columns::call(
+                answer,
+                &mut self.tables,
+                &mut self.queues,
+                &self.dictionaries,
+                &mut self.arrays,
+                name,
+                words,
+            );
+        if !is_known {
+            answer.refuse();
         }
     }
 }

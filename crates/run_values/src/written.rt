@@ -1,17 +1,20 @@
 //! Arrays as they are written, and read back.
 ghost use Rattle.std.specs.Prelude.{◌≡◌, ◌^◌, ◌<◌, [], ◌∷◌, length, map, true, false, IfOk};
-ghost use Rattle.arrow_spec.specs.Flat.{little, order_by};
+ghost use Rattle.std.specs.Rc.{rc_value};
+ghost use Rattle.arrow_spec.specs.Flat.{little};
 ghost use Rattle.arrow_spec.specs.Sent.{body_of};
+ghost use Rattle.arrow_types.specs.KindOf.{kind_of};
 ghost use Rattle.arrow_arrays.specs.Parts.{rows_in};
 ghost use Rattle.arrow_arrays.specs.PartsOf.{parts_of};
+ghost use Rattle.ipc_read.specs.Batches.{kinds_of};
 ghost use Rattle.ipc_write.specs.Below.{MayHaveOrder, pieces_in, has_no_children};
 ghost use Rattle.ipc_write.specs.Compaction.{top};
 
 use crate::columns::{Column, read_whole};
 use crate::dictionaries::values;
 use arrow_arrays::{Array, RecordBatch};
-use arrow_types::{ArrowSchema, Field};
-use case_words::{Fault, Tables, last, word};
+use arrow_types::{ArrowDataType, ArrowSchema, ArrowSchemaRef, Field};
+use case_words::{Answer, Fault, Tables, word};
 use ipc_fields::IpcField;
 use ipc_read::read_record_message;
 use ipc_write::{EncodedData, WriteOptions, encode_record_batch, write};
@@ -23,13 +26,21 @@ fn field_of(alloc: Global, array: &Array) -> Result<Field, AllocError> {
     Ok(Field::new(alloc, String::new(alloc), dtype, true))
 }
 
+/// The schema of one column.
+pub(crate) fn schema_of(alloc: Global, dtype: ArrowDataType) -> Result<ArrowSchemaRef, AllocError>
+    ensures { IfOk result (λ s. kinds_of (rc_value s) ≡ kind_of dtype ∷ []) }
+{
+    let field = Field::new(alloc, String::new(alloc), dtype, true);
+    let schema = ArrowSchema::from_fields(alloc, vec![in alloc; field]?)?;
+    Ok(Rc::new(alloc, schema)?)
+}
+
 /// The batch of one column.
 pub(crate) fn batch_of(alloc: Global, array: &Array) -> Result<RecordBatch, Fault>
     ensures arrays { IfOk result (λ b. b.arrays ≡ parts_of array.now ∷ []) }
     ensures height { IfOk result (λ b. b.height ≡ rows_in (parts_of array.now)) }
 {
-    let fields = vec![in alloc; field_of(alloc, array)?]?;
-    let schema = Rc::new(alloc, ArrowSchema::from_fields(alloc, fields)?)?;
+    let schema = schema_of(alloc, array.dtype().try_clone(alloc)?)?;
     let arrays = vec![in alloc; array.try_clone(alloc)?]?;
     Ok(RecordBatch::try_new(array.len(), schema, arrays)?)
 }
@@ -58,6 +69,14 @@ pub(crate) fn encoded(alloc: Global, array: &Array) -> Result<Tables, Fault>
     Ok(tables)
 }
 
+/// `encode`: the message becomes the tables.
+fn encode(answer: &mut Answer, array: &Array, tables: &mut Tables) {
+    match encoded(answer.alloc(), array) {
+        Ok(written) => *tables = written,
+        Err(fault) => answer.fail(fault),
+    }
+}
+
 /// Whether an array has views, which are written in little-endian order alone, or children, which may have some.
 fn may_have_views(array: &Array) -> bool
     ensures order { result ≡ false → MayHaveOrder (parts_of array.now) false }
@@ -76,143 +95,114 @@ fn may_have_views(array: &Array) -> bool
     )
 }
 
-/// Nothing of any column.
-pub(crate) fn nothing_written(alloc: Global) -> Tables
-    ensures { result.body.items ≡ [] }
-{
-    Tables {
-        nodes: Vec::new(alloc),
-        buffers: Vec::new(alloc),
-        views: Vec::new(alloc),
-        body: Vec::new(alloc),
-    }
-}
-
-/// Where what is written ends, beside what is written.
-type End = i64;
-
-/// The array alone, in an order.
-fn write_alone(alloc: Global, array: &Array, is_little_endian: bool) -> Result<(Tables, End), Fault>
-    requires order { MayHaveOrder (parts_of array.now) is_little_endian }
-    requires few { rows_in (parts_of array.now) < 2 ^ 63 }
-    requires short { body_of 0 (map length (pieces_in (order_by is_little_endian) (parts_of array.now))) < 2 ^ 63 }
-{
-    let mut tables = nothing_written(alloc);
-    let mut end = 0;
-    write(
-        array,
-        &mut tables.buffers,
-        &mut tables.body,
-        &mut tables.nodes,
-        &mut tables.views,
-        &mut end,
-        is_little_endian,
-    )?;
-    Ok((tables, end))
-}
-
-/// An array without views and children by itself, in an order.
-fn write_childless(
-    alloc: Global,
+/// An array without views and children by itself, in an order. It answers where what is written ends.
+fn write_alone(
+    answer: &mut Answer,
     array: &Array,
+    tables: &mut Tables,
     is_little_endian: bool,
-) -> Result<(Tables, End), Fault>
+) -> i64
     requires plain { MayHaveOrder (parts_of array.now) false }
     requires childless { has_no_children (parts_of array.now) ≡ true }
     requires few { rows_in (parts_of array.now) < 2 ^ 63 }
     requires short { body_of 0 (map length (pieces_in little (top (parts_of array.now)))) < 2 ^ 63 }
 {
-    write_alone(alloc, array, is_little_endian)
+    let (mut nodes, mut buffers) = (Vec::new(answer.alloc()), Vec::new(answer.alloc()));
+    let (mut views, mut body) = (Vec::new(answer.alloc()), Vec::new(answer.alloc()));
+    let mut end = 0;
+    answer.done(write(
+        array,
+        &mut buffers,
+        &mut body,
+        &mut nodes,
+        &mut views,
+        &mut end,
+        is_little_endian,
+    ));
+    *tables = Tables {
+        nodes,
+        buffers,
+        views,
+        body,
+    };
+    end
 }
 
 /// The same of an array that a batch can hold.
-fn alone(alloc: Global, array: &Array, is_little_endian: bool) -> Result<(Tables, End), Fault> {
-    drop(encoded(alloc, array)?);
+fn alone(answer: &mut Answer, array: &Array, tables: &mut Tables, is_little_endian: bool) -> i64 {
     if may_have_views(array) {
-        return Err(Fault::Words);
+        answer.refuse();
+        return 0;
     }
-    write_childless(alloc, array, is_little_endian)
+    match encoded(answer.alloc(), array) {
+        Ok(_) => write_alone(answer, array, tables, is_little_endian),
+        Err(fault) => {
+            answer.fail(fault);
+            0
+        }
+    }
 }
 
-/// Whether an array is read back from its tables.
-fn is_back(
-    alloc: Global,
+/// Tells whether an array is read back from its tables.
+fn say_back(
+    answer: &mut Answer,
     array: &Array,
     tables: &Tables,
     is_little_endian: bool,
     by_kind: bool,
-) -> Result<&'static str, Fault> {
-    let column = Column {
-        field: field_of(alloc, array)?,
-        ids: IpcField::new(alloc),
+) {
+    let Ok(field) = field_of(answer.alloc(), array) else {
+        return answer.fail(Fault::Memory);
     };
-    let back = read_whole(
-        alloc,
+    let column = Column {
+        field,
+        ids: IpcField::new(answer.alloc()),
+    };
+    match read_whole(
+        answer,
         tables,
         &column,
         array.len(),
         is_little_endian,
         by_kind,
-    )?;
-    let is_same = back == *array;
-    drop(back);
-    Ok(if is_same { "same" } else { "other" })
+    ) {
+        Ok(back) => answer.say(if back == *array { "same" } else { "other" }),
+        Err(error) => answer.fail(error.into()),
+    }
 }
 
-/// The array is written in a message, and read back.
-fn round(
-    alloc: Global,
-    array: &Array,
-    tables: &mut Tables,
-    by_kind: bool,
-) -> Result<&'static str, Fault> {
-    *tables = encoded(alloc, array)?;
-    is_back(alloc, array, tables, true, by_kind)
-}
-
-/// `round_alone ORDER`: the same without a message.
-fn round_alone(
-    alloc: Global,
-    array: &Array,
-    tables: &mut Tables,
-    words: &[&str],
-) -> Result<&'static str, Fault> {
-    let is_little_endian = word(words, 0)? == "little";
-    (*tables, _) = alone(alloc, array, is_little_endian)?;
-    is_back(alloc, array, tables, is_little_endian, false)
-}
-
-/// `alone ORDER`: what an array is written as by itself, and where that ends.
-fn told_alone(
-    alloc: Global,
-    array: &Array,
-    tables: &mut Tables,
-    words: &[&str],
-) -> Result<String, Fault> {
-    let (written, end) = alone(alloc, array, word(words, 0)? == "little")?;
-    *tables = written;
-    let lines = tables.lines(alloc)?;
-    Ok(format!(in alloc; "{lines}\nend {end}")?)
-}
-
-pub(crate) fn answer(
-    alloc: Global,
+/// Makes a call on the last array, or tells that there is none of the name.
+pub(crate) fn call(
+    answer: &mut Answer,
     arrays: &[Array],
     tables: &mut Tables,
     name: &str,
     words: &[&str],
-) -> Result<String, Fault> {
-    let array = last(arrays)?;
+) -> bool {
+    let Some(array) = arrays.last() else {
+        return false;
+    };
+    let is_little_endian = word(words, 0) == "little";
     match name {
         "encode" => {
-            *tables = encoded(alloc, array)?;
-            Ok(tables.lines(alloc)?)
+            encode(answer, array, tables);
+            tables.say(answer)
         }
-        "round" => Ok(String::from_str(alloc, round(alloc, array, tables, false)?)?),
-        "round_by_kind" => Ok(String::from_str(alloc, round(alloc, array, tables, true)?)?),
-        "alone" => told_alone(alloc, array, tables, words),
-        "round_alone" => { Ok(String::from_str(alloc, round_alone(alloc, array, tables, words)?)?) }
-        "values" => values(alloc, array, tables),
-        _ => Err(Fault::Words),
+        "round" | "round_by_kind" => {
+            encode(answer, array, tables);
+            say_back(answer, array, tables, true, name == "round_by_kind")
+        }
+        "alone" => {
+            let end = alone(answer, array, tables, is_little_endian);
+            tables.say(answer);
+            answer.tell(format!(in answer.alloc(); "\nend {end}"))
+        }
+        "round_alone" => {
+            alone(answer, array, tables, is_little_endian);
+            say_back(answer, array, tables, is_little_endian, false)
+        }
+        "values" => values(answer, array, tables),
+        _ => return false,
     }
+    true
 }

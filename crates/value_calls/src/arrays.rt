@@ -1,50 +1,37 @@
 //! Arrays: their parts, their rows and their equality.
 use arrow_arrays::{Array, is_carried, new_empty_array};
 use case_words::{
-    Fault, array_of, cells, count, keep, last, part, rows, same, take, type_of, word,
+    Answer, Fault, array_of, keep, keep_made, part, say_cells, say_rows, say_same, type_of, word,
 };
-use std::alloc::Global;
 
-fn make(alloc: Global, arrays: &mut Vec<Array>, words: &[&str]) -> Result<String, Fault> {
-    let array = array_of(alloc, arrays, words)?;
-    keep(alloc, arrays, array)
+fn make(answer: &mut Answer, arrays: &mut Vec<Array>, words: &[&str]) {
+    let made = array_of(answer, arrays, words);
+    keep_made(answer, arrays, made);
 }
 
 /// `part FROM ROWS` of the last array, in its place.
-fn cut(alloc: Global, arrays: &mut Vec<Array>, words: &[&str]) -> Result<String, Fault> {
-    let from = count(word(words, 0)?)?;
-    let rows = count(word(words, 1)?)?;
-    let array = part(arrays, from, rows)?;
-    keep(alloc, arrays, array)
-}
-
-fn copy(alloc: Global, arrays: &mut Vec<Array>) -> Result<String, Fault> {
-    let copy = last(arrays)?.try_clone(alloc)?;
-    keep(alloc, arrays, copy)
-}
-
-/// The last array is no more.
-fn forget(alloc: Global, arrays: &mut Vec<Array>) -> Result<String, Fault> {
-    drop(take(arrays)?);
-    Ok(String::new(alloc))
+fn cut(answer: &mut Answer, arrays: &mut Vec<Array>, words: &[&str]) {
+    let (from, rows) = (answer.count(word(words, 0)), answer.count(word(words, 1)));
+    let made = part(arrays, from, rows);
+    keep_made(answer, arrays, made);
 }
 
 /// `empty TYPE`: the array of no rows, where there is one, and whether it has another type.
-fn empty(alloc: Global, arrays: &mut Vec<Array>, words: &[&str]) -> Result<String, Fault> {
-    let dtype = type_of(alloc, words)?;
+fn empty(answer: &mut Answer, arrays: &mut Vec<Array>, words: &[&str]) {
+    let (dtype, asked) = (type_of(answer, words), type_of(answer, words));
     if !is_carried(&dtype) {
-        drop(dtype);
-        return Ok(String::from_str(alloc, "not carried")?);
+        return answer.say("not carried");
     }
-    let array = new_empty_array(alloc, dtype)?;
-    let asked = type_of(alloc, words)?;
-    let is_asked = *array.dtype() == asked;
-    drop(asked);
-    if !is_asked {
-        drop(array);
-        return Ok(String::from_str(alloc, "another type")?);
+    match new_empty_array(answer.alloc(), dtype) {
+        Ok(array) => {
+            if *array.dtype() == asked {
+                keep(answer, arrays, array)
+            } else {
+                answer.say("another type")
+            }
+        }
+        Err(_) => answer.fail(Fault::Memory),
     }
-    keep(alloc, arrays, array)
 }
 
 /// The child or the part of values at a place.
@@ -60,33 +47,49 @@ fn child_of(array: &Array, at: usize) -> Option<&Array> {
     }
 }
 
-/// `child AT` of the last array, which is kept behind it.
-fn child(alloc: Global, arrays: &mut Vec<Array>, words: &[&str]) -> Result<String, Fault> {
-    let at = count(word(words, 0)?)?;
-    let Some(child) = child_of(last(arrays)?, at) else {
-        return Err(Fault::Words);
+/// A copy of the last array, or of the child `AT` of it, which is kept behind it.
+fn copy(answer: &mut Answer, arrays: &mut Vec<Array>, words: &[&str]) {
+    let last = match (arrays.last(), words.first()) {
+        (Some(array), Some(word)) => child_of(array, answer.count(*word)),
+        (last, _) => last,
     };
-    let child = child.try_clone(alloc)?;
-    keep(alloc, arrays, child)
+    match last {
+        Some(array) => {
+            let copy = array.try_clone(answer.alloc());
+            keep_made(answer, arrays, copy);
+        }
+        None => answer.refuse(),
+    }
 }
 
-/// Answers `array`, `part`, `copy`, `forget`, `same`, `rows`, `cells`, `empty` and `child`.
-pub fn answer(
-    alloc: Global,
-    arrays: &mut Vec<Array>,
-    name: &str,
-    words: &[&str],
-) -> Result<String, Fault> {
-    match name {
-        "array" => make(alloc, arrays, words),
-        "part" => cut(alloc, arrays, words),
-        "copy" => copy(alloc, arrays),
-        "forget" => forget(alloc, arrays),
-        "same" => Ok(String::from_str(alloc, same(arrays)?)?),
-        "rows" => Ok(rows(alloc, last(arrays)?)?),
-        "cells" => Ok(cells(alloc, last(arrays)?)?),
-        "empty" => empty(alloc, arrays, words),
-        "child" => child(alloc, arrays, words),
-        _ => Err(Fault::Words),
+/// The last array is no more.
+fn forget(answer: &mut Answer, arrays: &mut Vec<Array>) {
+    if arrays.pop().is_none() {
+        answer.refuse();
     }
+}
+
+/// `rows`, and `cells`, which has also what is held under nulls.
+fn say_last(answer: &mut Answer, arrays: &[Array], name: &str) {
+    answer.say(name);
+    match arrays.last() {
+        Some(array) if name == "rows" => say_rows(answer, array),
+        Some(array) => say_cells(answer, array),
+        None => answer.refuse(),
+    }
+}
+
+/// Makes a call of this part, or tells that there is none of the name.
+pub fn call(answer: &mut Answer, arrays: &mut Vec<Array>, name: &str, words: &[&str]) -> bool {
+    match name {
+        "array" => make(answer, arrays, words),
+        "copy" | "child" => copy(answer, arrays, words),
+        "part" => cut(answer, arrays, words),
+        "empty" => empty(answer, arrays, words),
+        "rows" | "cells" => say_last(answer, arrays, name),
+        "same" => say_same(answer, arrays.as_slice()),
+        "forget" => forget(answer, arrays),
+        _ => return false,
+    }
+    true
 }

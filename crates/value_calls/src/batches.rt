@@ -1,183 +1,156 @@
 //! Batches, and columns in the order asked.
-ghost use Rattle.std.specs.Prelude.{◌≡◌, length, IfOk};
-ghost use Rattle.ipc_projection.specs.Places.{IsPermutation};
-
-use crate::types::{names, pairs_of};
+use crate::types::{pairs_of, say_names};
 use arrow_arrays::{Array, RecordBatch};
-use arrow_types::ArrowSchema;
-use case_words::{Fault, batch_of, count, numbers, rest, word};
+use case_words::{Answer, Fault, batch_of, counts, rest, say_same, word};
 use ipc_projection::{ProjectionInfo, apply_projection, prepare_projection};
-use std::alloc::{AllocError, Global};
-use std::fmt::Write;
 
-/// Rows, columns and fields of a batch, and how many pairs it has.
-fn told(alloc: Global, batch: &RecordBatch) -> Result<String, AllocError> {
+/// Keeps a batch, and tells its rows, columns and fields, and how many pairs it has.
+fn keep(answer: &mut Answer, batches: &mut Vec<RecordBatch>, batch: RecordBatch) {
     let (rows, width) = (batch.len(), batch.width());
     let (columns, fields) = (batch.columns().len(), batch.schema().len());
     let pairs = batch.custom_metadata().map_or(0, |pairs| pairs.len());
-    let emptiness = if batch.is_empty() { "no row" } else { "rows" };
-    format!(in alloc;
-        "{emptiness}: {rows} x {width}, {columns} columns, {fields} fields, {pairs} pairs"
-    )
+    answer.say(if batch.is_empty() {
+        "no row: "
+    } else {
+        "rows: "
+    });
+    answer.tell(format!(in answer.alloc();
+        "{rows} x {width}, {columns} columns, {fields} fields, {pairs} pairs"
+    ));
+    answer.done(batches.push(batch));
 }
 
-fn keep(
-    alloc: Global,
+/// Keeps a batch that was made, or tells why there is none.
+fn keep_made<E: Into<Fault>>(
+    answer: &mut Answer,
     batches: &mut Vec<RecordBatch>,
-    batch: RecordBatch,
-) -> Result<String, Fault> {
-    let text = told(alloc, &batch);
-    batches.push(batch)?;
-    Ok(text?)
-}
-
-fn last(batches: &[RecordBatch]) -> Result<&RecordBatch, Fault> {
-    match batches.last() {
-        Some(batch) => Ok(batch),
-        None => Err(Fault::Words),
+    made: Result<RecordBatch, E>,
+) {
+    match made {
+        Ok(batch) => keep(answer, batches, batch),
+        Err(error) => answer.fail(error.into()),
     }
-}
-
-fn take(batches: &mut Vec<RecordBatch>) -> Result<RecordBatch, Fault> {
-    match batches.pop() {
-        Some(batch) => Ok(batch),
-        None => Err(Fault::Words),
-    }
-}
-
-/// All arrays that were made.
-fn all(alloc: Global, arrays: &mut Vec<Array>) -> Result<Vec<Array>, AllocError> {
-    let mut columns = Vec::new(alloc);
-    columns.append(arrays)?;
-    Ok(columns)
 }
 
 /// `batch ROWS FIELDS`: the batch of all arrays.
 fn batch(
-    alloc: Global,
+    answer: &mut Answer,
     arrays: &mut Vec<Array>,
     batches: &mut Vec<RecordBatch>,
     words: &[&str],
-) -> Result<String, Fault> {
-    let rows = count(word(words, 0)?)?;
-    let columns = all(alloc, arrays)?;
-    let batch = batch_of(alloc, rows, rest(words, 1), columns)?;
-    keep(alloc, batches, batch)
+) {
+    let rows = answer.count(word(words, 0));
+    let mut columns = Vec::new(answer.alloc());
+    answer.done(columns.append(arrays));
+    let made = batch_of(answer, rows, rest(words, 1), columns);
+    keep_made(answer, batches, made);
 }
 
 /// The columns of the last batch, as arrays.
-fn columns(
-    alloc: Global,
-    arrays: &mut Vec<Array>,
-    batches: &mut Vec<RecordBatch>,
-) -> Result<String, Fault> {
-    *arrays = take(batches)?.into_arrays();
-    let count = arrays.len();
-    Ok(format!(in alloc; "{count} arrays")?)
-}
-
-/// Answers `batch` and `columns`.
-pub fn of_arrays(
-    alloc: Global,
-    arrays: &mut Vec<Array>,
-    batches: &mut Vec<RecordBatch>,
-    name: &str,
-    words: &[&str],
-) -> Result<String, Fault> {
-    match name {
-        "batch" => batch(alloc, arrays, batches, words),
-        "columns" => columns(alloc, arrays, batches),
-        _ => Err(Fault::Words),
+fn columns(answer: &mut Answer, arrays: &mut Vec<Array>, batches: &mut Vec<RecordBatch>) {
+    match batches.pop() {
+        Some(batch) => {
+            *arrays = batch.into_arrays();
+            let count = arrays.len();
+            answer.tell(format!(in answer.alloc(); "{count} arrays"));
+        }
+        None => answer.refuse(),
     }
 }
 
-fn copy(alloc: Global, batches: &mut Vec<RecordBatch>) -> Result<String, Fault> {
-    let copy = last(batches)?.try_clone(alloc)?;
-    keep(alloc, batches, copy)
-}
-
-/// Whether the last two batches are equal.
-fn same(batches: &[RecordBatch]) -> Result<&'static str, Fault> {
-    match batches {
-        [.., one, other] => Ok(if one == other { "same" } else { "other" }),
-        _ => Err(Fault::Words),
+fn copy(answer: &mut Answer, batches: &mut Vec<RecordBatch>) {
+    match batches.last() {
+        Some(batch) => {
+            let copy = batch.try_clone(answer.alloc());
+            keep_made(answer, batches, copy);
+        }
+        None => answer.refuse(),
     }
 }
 
 /// `pairs KEY=VALUE ..` are put on the last batch.
-fn mark(alloc: Global, batches: &mut Vec<RecordBatch>, words: &[&str]) -> Result<String, Fault> {
-    let pairs = pairs_of(alloc, words)?;
+fn mark(answer: &mut Answer, batches: &mut Vec<RecordBatch>, words: &[&str]) {
+    let pairs = pairs_of(answer, words);
     if pairs.len() > 1_048_576 {
-        return Err(Fault::Words);
+        return answer.refuse();
     }
-    let batch = take(batches)?.with_custom_metadata(pairs);
-    keep(alloc, batches, batch)
-}
-
-/// The columns of these numbers.
-fn columns_asked(alloc: Global, word: &str) -> Result<Vec<usize>, Fault> {
-    let mut columns = Vec::new(alloc);
-    for number in &numbers(alloc, word)? {
-        match usize::try_from(*number) {
-            Ok(column) => columns.push(column)?,
-            Err(_) => return Err(Fault::Words),
-        }
+    match batches.pop() {
+        Some(batch) => keep(answer, batches, batch.with_custom_metadata(pairs)),
+        None => answer.refuse(),
     }
-    Ok(columns)
 }
 
-fn prepared(alloc: Global, schema: &ArrowSchema, asked: &[usize]) -> Result<ProjectionInfo, Fault>
-    ensures { IfOk result (λ p. IsPermutation p.map (length asked.now)) }
-{
-    Ok(prepare_projection(alloc, schema, asked.to_vec(alloc)?)?)
+/// The columns of these numbers, or of `-` none.
+fn columns_asked(answer: &mut Answer, words: &[&str]) -> Vec<usize> {
+    match word(words, 0) {
+        "-" => Vec::new(answer.alloc()),
+        word => counts(answer, word),
+    }
 }
 
-fn projection(alloc: Global, projection: &ProjectionInfo) -> Result<String, AllocError> {
-    let mut text = String::from_str(alloc, "columns")?;
+fn say_projection(answer: &mut Answer, projection: &ProjectionInfo) {
+    answer.say("columns");
     for column in &projection.columns {
-        write!(text, " {column}")?;
+        answer.tell(format!(in answer.alloc(); " {column}"));
     }
-    text.push_str(", to")?;
+    answer.say(", to");
     for (from, to) in projection.map.iter() {
-        write!(text, " {from}>{to}")?;
+        answer.tell(format!(in answer.alloc(); " {from}>{to}"));
     }
-    let names = names(alloc, &projection.schema)?;
-    write!(text, ", {names}")?;
-    Ok(text)
+    answer.say(", ");
+    say_names(answer, &projection.schema);
 }
 
 /// `project COLUMNS` of the last batch: what is prepared, by a copy of it.
-fn project(alloc: Global, batches: &[RecordBatch], words: &[&str]) -> Result<String, Fault> {
-    let asked = columns_asked(alloc, word(words, 0)?)?;
-    let prepared = prepared(alloc, last(batches)?.schema(), &asked)?;
-    Ok(projection(alloc, &prepared.try_clone(alloc)?)?)
+fn project(answer: &mut Answer, batches: &[RecordBatch], words: &[&str]) {
+    let asked = columns_asked(answer, words);
+    let Some(batch) = batches.last() else {
+        return answer.refuse();
+    };
+    match prepare_projection(answer.alloc(), batch.schema(), asked) {
+        Ok(projection) => match projection.try_clone(answer.alloc()) {
+            Ok(copy) => say_projection(answer, &copy),
+            Err(_) => answer.fail(Fault::Memory),
+        },
+        Err(error) => answer.fail(error.into()),
+    }
 }
 
 /// `select COLUMNS`, which are all those of the last batch: it has them in this order.
-fn select(alloc: Global, batches: &mut Vec<RecordBatch>, words: &[&str]) -> Result<String, Fault> {
-    let asked = columns_asked(alloc, word(words, 0)?)?;
-    let prepared = prepared(alloc, last(batches)?.schema(), &asked)?;
-    let batch = take(batches)?;
+fn select(answer: &mut Answer, batches: &mut Vec<RecordBatch>, words: &[&str]) {
+    let asked = columns_asked(answer, words);
+    let Some(batch) = batches.pop() else {
+        return answer.refuse();
+    };
     if batch.schema().len() != asked.len() {
-        return Err(Fault::Words);
+        return answer.refuse();
     }
-    let batch = apply_projection(alloc, batch, &prepared.map)?;
-    keep(alloc, batches, batch)
+    match prepare_projection(answer.alloc(), batch.schema(), asked) {
+        Ok(projection) => {
+            let selected = apply_projection(answer.alloc(), batch, &projection.map);
+            keep_made(answer, batches, selected)
+        }
+        Err(error) => answer.fail(error.into()),
+    }
 }
 
-/// Answers `batch_copy`, `batch_same`, `pairs`, `project` and `select`.
-pub fn answer(
-    alloc: Global,
+/// Makes a call of this part, or tells that there is none of the name.
+pub fn call(
+    answer: &mut Answer,
+    arrays: &mut Vec<Array>,
     batches: &mut Vec<RecordBatch>,
     name: &str,
     words: &[&str],
-) -> Result<String, Fault> {
+) -> bool {
     match name {
-        "batch_copy" => copy(alloc, batches),
-        "batch_same" => Ok(String::from_str(alloc, same(batches)?)?),
-        "pairs" => mark(alloc, batches, words),
-        "project" => project(alloc, batches, words),
-        "select" => select(alloc, batches, words),
-        _ => Err(Fault::Words),
+        "batch" => batch(answer, arrays, batches, words),
+        "columns" => columns(answer, arrays, batches),
+        "batch_copy" => copy(answer, batches),
+        "batch_same" => say_same(answer, batches.as_slice()),
+        "pairs" => mark(answer, batches, words),
+        "project" => project(answer, batches, words),
+        "select" => select(answer, batches, words),
+        _ => return false,
     }
+    true
 }

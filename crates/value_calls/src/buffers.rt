@@ -1,15 +1,14 @@
 //! Bitmaps, and buffers in shared bytes.
 use arrow_buffers::{Bitmap, Buffer};
-use case_words::{Fault, bitmap, bytes, count, hex_text, word};
-use std::alloc::{AllocError, Global};
-use std::fmt::Write;
+use case_words::{Answer, Fault, bitmap, bytes, say_bytes, word};
 use std::rc::RcSlice;
 
 /// `BITS FROM ROWS`: so many bits of these from one on.
-pub(crate) fn some_bits(alloc: Global, words: &[&str]) -> Result<Bitmap, Fault> {
-    let from = count(word(words, 1)?)?;
-    let rows = count(word(words, 2)?)?;
-    let bits = bitmap(alloc, word(words, 0)?)?;
+pub(crate) fn some_bits(answer: &mut Answer, words: &[&str]) -> Result<Bitmap, Fault> {
+    let (from, rows) = (answer.count(word(words, 1)), answer.count(word(words, 2)));
+    let Some(bits) = bitmap(answer, word(words, 0)) else {
+        return Err(Fault::Words);
+    };
     if bits.len() < from || bits.len() - from < rows {
         return Err(Fault::Words);
     }
@@ -17,51 +16,56 @@ pub(crate) fn some_bits(alloc: Global, words: &[&str]) -> Result<Bitmap, Fault> 
 }
 
 /// The bits, and how many of them are not set.
-fn told(alloc: Global, bits: &Bitmap) -> Result<String, AllocError> {
-    let mut text = String::new(alloc);
+fn say_bits(answer: &mut Answer, bits: &Bitmap) {
     for i in 0..bits.len() {
-        text.push_str(if bits.get(i) { "1" } else { "0" })?;
+        answer.say(if bits.get(i) { "1" } else { "0" });
     }
-    write!(text, " {} unset", bits.unset_bits())?;
-    Ok(text)
+    let unset = bits.unset_bits();
+    answer.tell(format!(in answer.alloc(); " {unset} unset"));
 }
 
 /// `shared ORDER HEX AT COUNT`: so many numbers of 16 bits.
-fn shared(alloc: Global, words: &[&str]) -> Result<Buffer<u16>, Fault> {
-    let at = count(word(words, 2)?)?;
-    let count = count(word(words, 3)?)?;
-    let bytes = RcSlice::from_slice(alloc, &bytes(alloc, word(words, 1)?)?)?;
+fn shared(answer: &mut Answer, words: &[&str]) -> Result<Buffer<u16>, Fault> {
+    let (at, count) = (answer.count(word(words, 2)), answer.count(word(words, 3)));
+    let bytes = RcSlice::from_vec(bytes(answer, word(words, 1)))?;
     if bytes.len() < at || (bytes.len() - at) / 2 < count {
         return Err(Fault::Words);
     }
-    Ok(Buffer::shared(bytes, at, count, word(words, 0)? == "big"))
+    Ok(Buffer::shared(bytes, at, count, word(words, 0) == "big"))
 }
 
 /// The bytes as they are held, where that is in this order.
-fn held(alloc: Global, numbers: &Buffer<u16>, is_big: bool) -> Result<String, AllocError> {
+fn say_held(answer: &mut Answer, numbers: &Buffer<u16>, is_big: bool) {
     match numbers.held_in(is_big) {
-        Some(bytes) => hex_text(alloc, bytes),
-        None => String::from_str(alloc, "otherwise"),
+        Some(bytes) => say_bytes(answer, bytes),
+        None => answer.say("otherwise"),
     }
 }
 
 /// The numbers, and how they are held in both orders.
-fn numbers(alloc: Global, numbers: &Buffer<u16>) -> Result<String, AllocError> {
-    let little = held(alloc, numbers, false)?;
-    let big = held(alloc, numbers, true)?;
-    let mut text = String::new(alloc);
-    for number in &numbers.to_vec(alloc)? {
-        write!(text, "{number} ")?;
+fn say_numbers(answer: &mut Answer, numbers: &Buffer<u16>) {
+    let listed = numbers.to_vec(answer.alloc());
+    for number in &answer.list(listed) {
+        answer.tell(format!(in answer.alloc(); "{number} "));
     }
-    write!(text, "little {little} big {big}")?;
-    Ok(text)
+    answer.say("little ");
+    say_held(answer, numbers, false);
+    answer.say(" big ");
+    say_held(answer, numbers, true);
 }
 
-/// Answers `bits` and `shared`.
-pub fn answer(alloc: Global, name: &str, words: &[&str]) -> Result<String, Fault> {
+/// Makes a call of this part, or tells that there is none of the name.
+pub fn call(answer: &mut Answer, name: &str, words: &[&str]) -> bool {
     match name {
-        "bits" => Ok(told(alloc, &some_bits(alloc, words)?)?),
-        "shared" => Ok(numbers(alloc, &shared(alloc, words)?)?),
-        _ => Err(Fault::Words),
+        "bits" => match some_bits(answer, words) {
+            Ok(bits) => say_bits(answer, &bits),
+            Err(fault) => answer.fail(fault),
+        },
+        "shared" => match shared(answer, words) {
+            Ok(numbers) => say_numbers(answer, &numbers),
+            Err(fault) => answer.fail(fault),
+        },
+        _ => return false,
     }
+    true
 }

@@ -1,74 +1,85 @@
 //! Headers of messages, prefixes, and ends of files.
-use case_words::{Fault, Tables, bytes, count, word};
+use case_words::{Answer, Tables, bytes, word};
 use ipc_schema::{
     BatchHeader, MessageHeader, decode_footer_len, message_prefix, read_message_header,
     read_record_message,
 };
-use std::alloc::Global;
 
 /// Rows, whether there is a compression, and the tables.
-fn told(alloc: Global, header: BatchHeader) -> Result<String, Fault> {
+fn say_batch(answer: &mut Answer, header: BatchHeader) {
     let (rows, compressed) = (header.length, header.compressed);
+    answer.tell(format!(in answer.alloc(); "{rows} rows, compressed {compressed}\n"));
     let tables = Tables {
         nodes: header.nodes,
         buffers: header.buffers,
         views: header.variadic,
-        body: Vec::new(alloc),
+        body: Vec::new(answer.alloc()),
     };
-    let lines = tables.lines_without_body(alloc)?;
-    Ok(format!(in alloc; "{rows} rows, compressed {compressed}\n{lines}")?)
+    tables.say_without_body(answer);
 }
 
-fn record(alloc: Global, bytes: &[u8]) -> Result<String, Fault> {
-    let message = read_record_message(alloc, bytes)?;
-    let version = message.version;
-    let told = told(alloc, message.header)?;
-    Ok(format!(in alloc; "{version:?}, {told}")?)
+fn record(answer: &mut Answer, bytes: &[u8]) {
+    match read_record_message(answer.alloc(), bytes) {
+        Ok(message) => {
+            let version = message.version;
+            answer.tell(format!(in answer.alloc(); "{version:?}, "));
+            say_batch(answer, message.header);
+        }
+        Err(error) => answer.fail(error.into()),
+    }
 }
 
-fn told_header(alloc: Global, header: MessageHeader) -> Result<String, Fault> {
+fn say_header(answer: &mut Answer, header: MessageHeader) {
     match header {
-        MessageHeader::Schema => Ok(String::from_str(alloc, "schema")?),
+        MessageHeader::Schema => answer.say("schema"),
         MessageHeader::Dictionary {
             id,
             is_delta: _,
             batch: _batch,
-        } => Ok(format!(in alloc; "dictionary {id}")?),
-        MessageHeader::Batch(header) => told(alloc, header),
+        } => answer.tell(format!(in answer.alloc(); "dictionary {id}")),
+        MessageHeader::Batch(header) => say_batch(answer, header),
     }
 }
 
-fn header(alloc: Global, bytes: &[u8]) -> Result<String, Fault> {
-    let message = read_message_header(alloc, bytes)?;
-    let (version, length) = (message.version, message.body_length);
-    let told = told_header(alloc, message.header)?;
-    Ok(format!(in alloc; "{version:?}, body {length}, {told}")?)
+fn header(answer: &mut Answer, bytes: &[u8]) {
+    match read_message_header(answer.alloc(), bytes) {
+        Ok(message) => {
+            let (version, length) = (message.version, message.body_length);
+            answer.tell(format!(in answer.alloc(); "{version:?}, body {length}, "));
+            say_header(answer, message.header);
+        }
+        Err(error) => answer.fail(error.into()),
+    }
 }
 
 /// `prefix HEX`: the bytes of the prefix and of the metadata behind it.
-fn prefix(alloc: Global, words: &[&str]) -> Result<String, Fault> {
-    let (prefix, metadata) = message_prefix(&bytes(alloc, word(words, 0)?)?)?;
-    Ok(format!(in alloc; "{prefix}+{metadata}")?)
+fn prefix(answer: &mut Answer, words: &[&str]) {
+    match message_prefix(&bytes(answer, word(words, 0))) {
+        Ok((prefix, metadata)) => answer.tell(format!(in answer.alloc(); "{prefix}+{metadata}")),
+        Err(error) => answer.fail(error.into()),
+    }
 }
 
 /// `footer_length END SIZE`: the length of the footer of a file that ends so.
-fn footer_length(alloc: Global, words: &[&str]) -> Result<String, Fault> {
-    let end = bytes(alloc, word(words, 0)?)?;
-    let size = count(word(words, 1)?)?;
+fn footer_length(answer: &mut Answer, words: &[&str]) {
+    let (end, size) = (bytes(answer, word(words, 0)), answer.count(word(words, 1)));
     if end.len() != 10 {
-        return Err(Fault::Words);
+        return answer.refuse();
     }
-    let length = decode_footer_len(&end, size as u64)?;
-    Ok(format!(in alloc; "{length}")?)
+    match decode_footer_len(&end, size as u64) {
+        Ok(length) => answer.tell(format!(in answer.alloc(); "{length}")),
+        Err(error) => answer.fail(error.into()),
+    }
 }
 
-/// Answers `header`, `record`, `prefix` and `footer_length`.
-pub fn answer(alloc: Global, held: &[u8], name: &str, words: &[&str]) -> Result<String, Fault> {
+/// Makes a call of this part, or tells that there is none of the name.
+pub fn call(answer: &mut Answer, held: &[u8], name: &str, words: &[&str]) -> bool {
     match name {
-        "header" => header(alloc, held),
-        "record" => record(alloc, held),
-        "prefix" => prefix(alloc, words),
-        "footer_length" => footer_length(alloc, words),
-        _ => Err(Fault::Words),
+        "header" => header(answer, held),
+        "record" => record(answer, held),
+        "prefix" => prefix(answer, words),
+        "footer_length" => footer_length(answer, words),
+        _ => return false,
     }
+    true
 }

@@ -2,7 +2,7 @@
 use arrow_flat::{Flat, finish};
 use arrow_spec::OutOfSpecKind;
 use arrow_types::{ArrowSchema, Metadata};
-use case_words::{Fault, count, hex_lines, rest, schema_of, word};
+use case_words::{Answer, Fault, rest, say_lines, schema_of, word};
 use ipc_fields::{IpcField, IpcSchema};
 use ipc_schema::{
     IpcError, default_ipc_fields, deserialize_schema, read_schema, schema_message, schema_to_bytes,
@@ -13,58 +13,45 @@ use std::alloc::{AllocError, Global};
 
 type Read = (ArrowSchema, IpcSchema, Option<Metadata>);
 
-fn no_ids(alloc: Global) -> IpcSchema {
-    IpcSchema {
-        fields: Vec::new(alloc),
-        is_little_endian: true,
-    }
-}
-
 /// A text without the end of its last line.
-fn as_lines(alloc: Global, text: Vec<u8>) -> Result<String, Fault> {
-    let Ok(text) = String::from_utf8(text) else {
-        return Err(Fault::Words);
-    };
-    match text.as_str().strip_suffix('\n') {
-        Some(lines) => Ok(String::from_str(alloc, lines)?),
-        None => Err(Fault::Words),
+fn say_text(answer: &mut Answer, text: Result<Vec<u8>, AllocError>) {
+    match String::from_utf8(answer.list(text)) {
+        Ok(text) => match text.as_str().strip_suffix('\n') {
+            Some(lines) => answer.say(lines),
+            None => answer.refuse(),
+        },
+        Err(_) => answer.refuse(),
     }
 }
 
-/// `text FIELDS`: the text of a schema, where no dictionary has an id.
-fn text(alloc: Global, words: &[&str]) -> Result<String, Fault> {
-    let schema = schema_of(alloc, words)?;
-    as_lines(alloc, schema_text(alloc, &schema, &no_ids(alloc), None)?)
-}
-
-/// `ids FIELDS`: the text of a schema, whose dictionaries have default ids.
-fn ids_of(alloc: Global, words: &[&str]) -> Result<String, Fault> {
-    let schema = schema_of(alloc, words)?;
+/// `text FIELDS`: the text of a schema, where no dictionary has an id, or its dictionaries have default ones.
+fn text(answer: &mut Answer, words: &[&str], has_ids: bool) {
+    let schema = schema_of(answer, words);
+    let fields = if has_ids {
+        let fields = default_ipc_fields(answer.alloc(), &schema);
+        answer.list(fields)
+    } else {
+        Vec::new(answer.alloc())
+    };
     let ipc_schema = IpcSchema {
-        fields: default_ipc_fields(alloc, &schema)?,
+        fields,
         is_little_endian: true,
     };
-    as_lines(alloc, schema_text(alloc, &schema, &ipc_schema, None)?)
+    say_text(
+        answer,
+        schema_text(answer.alloc(), &schema, &ipc_schema, None),
+    );
 }
 
 /// `serialize COUNT FIELDS`: whether a schema is written with so many IPC fields.
-fn serialize(alloc: Global, words: &[&str]) -> Result<String, Fault> {
-    let schema = schema_of(alloc, rest(words, 1))?;
-    let mut ids = Vec::new(alloc);
-    for _ in 0..count(word(words, 0)?)? {
-        ids.push(IpcField::new(alloc))?;
+fn serialize(answer: &mut Answer, words: &[&str]) {
+    let schema = schema_of(answer, rest(words, 1));
+    let mut ids = Vec::new(answer.alloc());
+    for _ in 0..answer.count(word(words, 0)) {
+        answer.done(ids.push(IpcField::new(answer.alloc())));
     }
-    drop(serialize_schema(alloc, &schema, &ids, None)?);
-    Ok(String::new(alloc))
-}
-
-/// Answers `text`, `ids` and `serialize`.
-pub fn of_fields(alloc: Global, name: &str, words: &[&str]) -> Result<String, Fault> {
-    match name {
-        "text" => text(alloc, words),
-        "ids" => ids_of(alloc, words),
-        "serialize" => serialize(alloc, words),
-        _ => Err(Fault::Words),
+    if let Err(error) = serialize_schema(answer.alloc(), &schema, &ids, None) {
+        answer.fail(error.into());
     }
 }
 
@@ -75,12 +62,14 @@ fn read_table(alloc: Global, bytes: &[u8]) -> Result<Read, IpcError> {
     }
 }
 
-fn text_of(alloc: Global, read: Result<Read, IpcError>) -> Result<String, Fault> {
-    let (schema, ipc_schema, metadata) = read?;
-    as_lines(
-        alloc,
-        schema_text(alloc, &schema, &ipc_schema, metadata.as_ref())?,
-    )
+fn say_read(answer: &mut Answer, read: Result<Read, IpcError>) {
+    match read {
+        Ok((schema, ipc_schema, metadata)) => {
+            let text = schema_text(answer.alloc(), &schema, &ipc_schema, metadata.as_ref());
+            say_text(answer, text)
+        }
+        Err(error) => answer.fail(error.into()),
+    }
 }
 
 fn message_again(alloc: Global, bytes: &[u8]) -> Result<Vec<u8>, IpcError> {
@@ -95,45 +84,79 @@ fn numbered(alloc: Global, bytes: &[u8]) -> Result<Vec<u8>, IpcError> {
     schema_to_bytes(alloc, &schema, &ids, metadata.as_ref())
 }
 
-fn table_again(alloc: Global, bytes: &[u8]) -> Result<Vec<u8>, Fault> {
+fn table_again(alloc: Global, bytes: &[u8]) -> Result<Vec<u8>, IpcError> {
     let (schema, ipc_schema, metadata) = read_table(alloc, bytes)?;
     let node = serialize_schema(alloc, &schema, &ipc_schema.fields, metadata.as_ref())?;
     match finish(alloc, &node) {
         Ok(bytes) => Ok(bytes),
-        Err(_) => Err(Fault::Memory),
+        Err(_) => Err(IpcError::Memory),
+    }
+}
+
+fn say_written(answer: &mut Answer, bytes: Result<Vec<u8>, IpcError>) {
+    match bytes {
+        Ok(bytes) => say_lines(answer, &bytes),
+        Err(error) => answer.fail(error.into()),
     }
 }
 
 /// Whether a schema is equal to its copy, and to one without fields.
-fn copies(alloc: Global, bytes: &[u8]) -> Result<String, Fault> {
-    let (schema, _, _) = deserialize_schema(alloc, bytes)?;
-    let is_same = schema.try_clone(alloc)? == schema;
-    let is_empty = ArrowSchema::new(alloc) == schema;
-    Ok(format!(in alloc; "copy {is_same}, empty {is_empty}")?)
-}
-
-/// Whether ids are equal to their copy, and those of a field at a place too, and whether they have a dictionary.
-fn ids(alloc: Global, bytes: &[u8], at: usize) -> Result<String, Fault> {
-    let (_, ids, _) = read_table(alloc, bytes)?;
-    let is_same = ids.try_clone(alloc)? == ids;
-    let Some(field) = ids.fields.get(at) else {
-        return Err(Fault::Words);
+fn say_copy(answer: &mut Answer, read: Result<Read, IpcError>) {
+    let (schema, _, _) = match read {
+        Ok(read) => read,
+        Err(error) => return answer.fail(error.into()),
     };
-    let is_same_field = field.try_clone(alloc)? == *field;
-    let has_dictionary = field.contains_dictionary();
-    Ok(format!(in alloc; "copy {is_same} {is_same_field}, dictionary {has_dictionary}")?)
+    match schema.try_clone(answer.alloc()) {
+        Ok(copy) => {
+            let is_same = copy == schema;
+            let is_empty = ArrowSchema::new(answer.alloc()) == schema;
+            answer.tell(format!(in answer.alloc(); "copy {is_same}, empty {is_empty}"));
+        }
+        Err(_) => answer.fail(Fault::Memory),
+    }
 }
 
-/// Answers `message_text`, `message_again`, `message_numbered`, `message_copy`, `table_text`, `table_again` and `table_ids`.
-pub fn answer(alloc: Global, bytes: &[u8], name: &str, words: &[&str]) -> Result<String, Fault> {
-    match name {
-        "message_text" => text_of(alloc, deserialize_schema(alloc, bytes)),
-        "message_again" => Ok(hex_lines(alloc, &message_again(alloc, bytes)?)?),
-        "message_numbered" => Ok(hex_lines(alloc, &numbered(alloc, bytes)?)?),
-        "message_copy" => copies(alloc, bytes),
-        "table_text" => text_of(alloc, read_table(alloc, bytes)),
-        "table_again" => Ok(hex_lines(alloc, &table_again(alloc, bytes)?)?),
-        "table_ids" => ids(alloc, bytes, count(word(words, 0)?)?),
-        _ => Err(Fault::Words),
+/// Whether ids are equal to their copy, and those of a field too, and whether they have a dictionary.
+fn say_copies(answer: &mut Answer, ids: &IpcSchema, field: &IpcField) -> Result<(), AllocError> {
+    let is_same = ids.try_clone(answer.alloc())? == *ids;
+    let is_same_field = field.try_clone(answer.alloc())? == *field;
+    let has_dictionary = field.contains_dictionary();
+    answer.tell(format!(in answer.alloc();
+        "copy {is_same} {is_same_field}, dictionary {has_dictionary}"
+    ));
+    Ok(())
+}
+
+/// The same of the field at a place.
+fn ids(answer: &mut Answer, bytes: &[u8], words: &[&str]) {
+    let at = answer.count(word(words, 0));
+    match read_table(answer.alloc(), bytes) {
+        Ok((_, ids, _)) => match ids.fields.get(at) {
+            Some(field) => {
+                let said = say_copies(answer, &ids, field);
+                answer.done(said);
+            }
+            None => answer.refuse(),
+        },
+        Err(error) => answer.fail(error.into()),
     }
+}
+
+/// Makes a call of this part, or tells that there is none of the name.
+pub fn call(answer: &mut Answer, bytes: &[u8], name: &str, words: &[&str]) -> bool {
+    let alloc = answer.alloc();
+    match name {
+        "text" => text(answer, words, false),
+        "ids" => text(answer, words, true),
+        "serialize" => serialize(answer, words),
+        "message_text" => say_read(answer, deserialize_schema(alloc, bytes)),
+        "message_again" => say_written(answer, message_again(alloc, bytes)),
+        "message_numbered" => say_written(answer, numbered(alloc, bytes)),
+        "message_copy" => say_copy(answer, deserialize_schema(alloc, bytes)),
+        "table_text" => say_read(answer, read_table(alloc, bytes)),
+        "table_again" => say_written(answer, table_again(alloc, bytes)),
+        "table_ids" => ids(answer, bytes, words),
+        _ => return false,
+    }
+    true
 }

@@ -1,143 +1,119 @@
-//! Types and schemas.
+//! Types, and schemas as they are kept.
 use arrow_arrays::is_carried;
-use arrow_types::{ArrowDataType, ArrowSchema, Field, Metadata, get_extension};
-use case_words::{Fault, count, fields_of, halves, rest, schema_of, type_of, word};
-use std::alloc::{AllocError, Global};
-use std::fmt::Write;
+use arrow_types::{ArrowDataType, ArrowSchema, Metadata, get_extension};
+use case_words::{Answer, Fault, fields_of, halves, rest, schema_of, type_of, word};
 
 /// How the columns of a type lie.
-fn layout(alloc: Global, dtype: &ArrowDataType) -> Result<String, AllocError> {
+fn say_layout(answer: &mut Answer, dtype: &ArrowDataType) {
     let layout = dtype.to_physical_type();
-    format!(in alloc; "{layout:?}")
+    answer.tell(format!(in answer.alloc(); "{layout:?}"));
 }
 
 /// `logical TYPE | TYPE`: whether the second one is below the extensions of the first.
-fn logical(alloc: Global, words: &[&str]) -> Result<&'static str, Fault> {
+fn logical(answer: &mut Answer, words: &[&str]) {
     let (outer, inner) = halves(words, "|");
-    let outer = type_of(alloc, outer)?;
-    let inner = type_of(alloc, inner)?;
-    Ok(if *outer.to_logical_type() == inner {
-        "same"
-    } else {
-        "other"
-    })
+    let (outer, inner) = (type_of(answer, outer), type_of(answer, inner));
+    let is_same = *outer.to_logical_type() == inner;
+    answer.say(if is_same { "same" } else { "other" });
 }
 
-fn carried(alloc: Global, words: &[&str]) -> Result<&'static str, Fault> {
-    Ok(if is_carried(&type_of(alloc, words)?) {
-        "yes"
-    } else {
-        "no"
-    })
-}
-
-fn put_pair(alloc: Global, pairs: &mut Metadata, word: &str) -> Result<(), Fault> {
-    let Some((key, value)) = word.split_once('=') else {
-        return Err(Fault::Words);
-    };
-    let key = String::from_str(alloc, key)?;
-    drop(pairs.insert(key, String::from_str(alloc, value)?)?);
-    Ok(())
+/// A word as a text of its own.
+fn text(answer: &mut Answer, word: &str) -> String {
+    match String::from_str(answer.alloc(), word) {
+        Ok(text) => text,
+        Err(_) => {
+            answer.fail(Fault::Memory);
+            String::new(answer.alloc())
+        }
+    }
 }
 
 /// The pairs of `KEY=VALUE ..`.
-pub(crate) fn pairs_of(alloc: Global, words: &[&str]) -> Result<Metadata, Fault> {
-    let mut pairs = Metadata::new(alloc);
+pub(crate) fn pairs_of(answer: &mut Answer, words: &[&str]) -> Metadata {
+    let mut pairs = Metadata::new(answer.alloc());
     for word in words {
-        put_pair(alloc, &mut pairs, *word)?;
+        let (key, value) = word.split_once('=').unwrap_or((*word, ""));
+        let (key, value) = (text(answer, key), text(answer, value));
+        if pairs.insert(key, value).is_err() {
+            answer.fail(Fault::Memory);
+        }
     }
-    Ok(pairs)
+    pairs
 }
 
 /// The extension that a field's pairs say: its name, and what else is said.
-fn extension(alloc: Global, words: &[&str]) -> Result<String, Fault> {
-    let pairs = pairs_of(alloc, words)?;
+fn extension(answer: &mut Answer, words: &[&str]) {
+    let pairs = pairs_of(answer, words);
     match get_extension(&pairs) {
-        Some((name, Some(said))) => Ok(format!(in alloc; "{name} {said}")?),
-        Some((name, None)) => Ok(String::from_str(alloc, name)?),
-        None => Ok(String::from_str(alloc, "none")?),
-    }
-}
-
-/// Answers `layout`, `logical`, `carried` and `extension_of`.
-pub fn answer(alloc: Global, name: &str, words: &[&str]) -> Result<String, Fault> {
-    match name {
-        "layout" => Ok(layout(alloc, &type_of(alloc, words)?)?),
-        "logical" => Ok(String::from_str(alloc, logical(alloc, words)?)?),
-        "carried" => Ok(String::from_str(alloc, carried(alloc, words)?)?),
-        "extension_of" => extension(alloc, words),
-        _ => Err(Fault::Words),
+        Some((name, Some(said))) => answer.tell(format!(in answer.alloc(); "{name} {said}")),
+        Some((name, None)) => answer.say(name),
+        None => answer.say("none"),
     }
 }
 
 /// The keys of a schema, in its order.
-pub(crate) fn names(alloc: Global, schema: &ArrowSchema) -> Result<String, AllocError> {
-    let mut names = String::from_str(alloc, "fields")?;
+pub(crate) fn say_names(answer: &mut Answer, schema: &ArrowSchema) {
+    answer.say("fields");
     for (name, _) in schema.iter() {
-        write!(names, " {name}")?;
+        answer.say(" ");
+        answer.say(name);
     }
-    Ok(names)
 }
 
 /// `field AT`: the key and the layout of a field.
-fn field(alloc: Global, schema: &ArrowSchema, words: &[&str]) -> Result<String, Fault> {
-    match schema.get_at_index(count(word(words, 0)?)?) {
+fn field(answer: &mut Answer, schema: &ArrowSchema, words: &[&str]) {
+    match schema.get_at_index(answer.count(word(words, 0))) {
         Some((key, field)) => {
-            let layout = layout(alloc, &field.dtype)?;
-            Ok(format!(in alloc; "{key} {layout}")?)
+            answer.say(key);
+            answer.say(" ");
+            say_layout(answer, &field.dtype);
         }
-        None => Ok(String::from_str(alloc, "none")?),
-    }
-}
-
-fn one_field(alloc: Global, words: &[&str]) -> Result<Field, Fault> {
-    match fields_of(alloc, words)?.pop() {
-        Some(field) => Ok(field),
-        None => Err(Fault::Words),
+        None => answer.say("none"),
     }
 }
 
 /// `insert KEY FIELD`: the layout of the field that stood there.
-fn insert(alloc: Global, schema: &mut ArrowSchema, words: &[&str]) -> Result<String, Fault> {
-    let key = String::from_str(alloc, word(words, 0)?)?;
-    match schema.insert(key, one_field(alloc, rest(words, 1))?)? {
-        Some(field) => Ok(layout(alloc, field.dtype())?),
-        None => Ok(String::from_str(alloc, "none")?),
+fn insert(answer: &mut Answer, schema: &mut ArrowSchema, words: &[&str]) {
+    let key = text(answer, word(words, 0));
+    let Some(field) = fields_of(answer, rest(words, 1)).pop() else {
+        return answer.refuse();
+    };
+    match schema.insert(key, field) {
+        Ok(Some(field)) => say_layout(answer, field.dtype()),
+        Ok(None) => answer.say("none"),
+        Err(_) => answer.fail(Fault::Memory),
     }
 }
 
-/// `has KEY`.
-fn has(schema: &ArrowSchema, words: &[&str]) -> Result<&'static str, Fault> {
-    Ok(if schema.contains(word(words, 0)?) {
-        "yes"
-    } else {
-        "no"
-    })
+/// `schema FIELDS`: how many fields.
+fn begin(answer: &mut Answer, schema: &mut ArrowSchema, words: &[&str]) {
+    *schema = schema_of(answer, words);
+    let (count, is_empty) = (schema.len(), schema.is_empty());
+    answer.tell(format!(in answer.alloc(); "{count} fields, empty {is_empty}"));
 }
 
-/// How many fields.
-fn size(alloc: Global, schema: &ArrowSchema) -> Result<String, AllocError> {
-    let count = schema.len();
-    let is_empty = schema.is_empty();
-    format!(in alloc; "{count} fields, empty {is_empty}")
-}
-
-/// Answers `schema`, `fields`, `field`, `has` and `insert`.
-pub fn answer_schema(
-    alloc: Global,
-    schema: &mut ArrowSchema,
-    name: &str,
-    words: &[&str],
-) -> Result<String, Fault> {
+/// Makes a call of this part, or tells that there is none of the name.
+pub fn call(answer: &mut Answer, schema: &mut ArrowSchema, name: &str, words: &[&str]) -> bool {
     match name {
-        "schema" => {
-            *schema = schema_of(alloc, words)?;
-            Ok(size(alloc, schema)?)
+        "layout" => {
+            let dtype = type_of(answer, words);
+            say_layout(answer, &dtype)
         }
-        "fields" => Ok(names(alloc, schema)?),
-        "field" => field(alloc, schema, words),
-        "has" => Ok(String::from_str(alloc, has(schema, words)?)?),
-        "insert" => insert(alloc, schema, words),
-        _ => Err(Fault::Words),
+        "logical" => logical(answer, words),
+        "carried" => {
+            let is_carried = is_carried(&type_of(answer, words));
+            answer.say(if is_carried { "yes" } else { "no" })
+        }
+        "extension_of" => extension(answer, words),
+        "schema" => begin(answer, schema, words),
+        "fields" => say_names(answer, schema),
+        "field" => field(answer, schema, words),
+        "has" => {
+            let has = schema.contains(word(words, 0));
+            answer.say(if has { "yes" } else { "no" })
+        }
+        "insert" => insert(answer, schema, words),
+        _ => return false,
     }
+    true
 }

@@ -1,0 +1,101 @@
+//! Files that become streams, and streams that are read call by call.
+use crate::asked::{bytes, columns, limit};
+use crate::shown::say_next;
+use case_words::{Answer, Fault, rest, word};
+use device_words::{Names, NotingSink, Outside};
+use ipc_schema::{IpcError, MemoryFeed};
+use ipc_tool::{StreamReader, StreamState, read_stream_metadata, transcode};
+
+/// How many batches, rows and bytes were put.
+pub(crate) fn transcode_bytes(
+    answer: &mut Answer,
+    outside: &Outside,
+    output: &mut NotingSink,
+    bytes: Vec<u8>,
+    words: &[&str],
+) {
+    let mut source = outside.source(answer, bytes);
+    *output = outside.output(answer);
+    let columns = columns(answer, words);
+    let limit = limit(answer, words);
+    match transcode(
+        answer.alloc(),
+        &mut source,
+        output,
+        columns.as_deref(),
+        limit,
+    ) {
+        Ok(summary) => {
+            let (batches, rows, bytes) = (summary.batches, summary.rows, summary.bytes);
+            answer.tell(format!(in answer.alloc();
+                "{batches} batches, {rows} rows, {bytes} bytes"
+            ));
+        }
+        Err(error) => answer.fail(error.into()),
+    }
+}
+
+/// `transcode ..`
+pub(crate) fn transcode_words(
+    answer: &mut Answer,
+    known: &Names<u8>,
+    outside: &Outside,
+    output: &mut NotingSink,
+    words: &[&str],
+) {
+    let bytes = bytes(answer, known, words);
+    transcode_bytes(answer, outside, output, bytes, words);
+}
+
+fn say_state(answer: &mut Answer, next: Option<Result<StreamState, IpcError>>) {
+    match next {
+        None => say_next(answer, None),
+        Some(Err(error)) => say_next(answer, Some(Err(error))),
+        Some(Ok(StreamState::Some(batch))) => say_next(answer, Some(Ok(batch))),
+        Some(Ok(StreamState::Waiting)) => answer.say("waiting"),
+    }
+}
+
+fn say_states(answer: &mut Answer, mut feed: MemoryFeed, words: &[&str]) -> Result<(), Fault> {
+    let metadata = read_stream_metadata(answer.alloc(), &mut feed)?;
+    let columns = columns(answer, words);
+    let mut reader = match StreamReader::new(answer.alloc(), feed, metadata, columns) {
+        Ok(reader) => reader,
+        Err(refused) => return Err(Fault::Ipc(refused.error)),
+    };
+    let calls = answer.count(word(words, 0));
+    say_state(answer, reader.next());
+    if calls > 1 {
+        answer.say("\n");
+        say_state(answer, reader.next());
+    }
+    if calls > 2 {
+        answer.say("\n");
+        say_state(answer, reader.next());
+    }
+    answer.say("\n");
+    answer.say(if reader.is_finished() {
+        "finished"
+    } else {
+        "not finished"
+    });
+    Ok(())
+}
+
+/// What so many calls of a stream's reader give, one to three, and whether it is finished then.
+pub(crate) fn read_bytes(answer: &mut Answer, outside: &Outside, bytes: Vec<u8>, words: &[&str]) {
+    let feed = outside.feed(answer, bytes);
+    let done = say_states(answer, feed, words);
+    answer.done(done);
+}
+
+/// `stream CALLS ..`
+pub(crate) fn read_stream(
+    answer: &mut Answer,
+    known: &Names<u8>,
+    outside: &Outside,
+    words: &[&str],
+) {
+    let bytes = bytes(answer, known, rest(words, 1));
+    read_bytes(answer, outside, bytes, words);
+}
