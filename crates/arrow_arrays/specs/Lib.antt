@@ -21,3 +21,4 @@ pub mod SameBatches
 pub mod Carried
 pub mod EmptyParts
 pub mod EmptyTops
+pub mod Columns

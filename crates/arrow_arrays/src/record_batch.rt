@@ -9,6 +9,7 @@ ghost use Rattle.arrow_arrays.specs.Batches.{batch_fault, have_rows};
 
 use crate::array::Array;
 use crate::structs::{are_of_rows, clone_each};
+use arrow_spec::IpcError;
 use arrow_types::{ArrowSchemaRef, Metadata};
 use ipc_fields::copy_if_any;
 use std::alloc::{AllocError, Global};
@@ -24,6 +25,17 @@ pub enum BatchError {
     /// A column does not have as many rows as the batch.
     #[error("a column does not have the batch's number of rows")]
     Height,
+}
+
+impl From<BatchError> for IpcError {
+    ghost use Rattle.std.specs.Prelude.{◌≡◌};
+    ghost use Rattle.arrow_spec.specs.declared.error.IpcError.TheVariants.{SchemaMismatch};
+
+    ghost from_gives = { λ _ e. e ≡ SchemaMismatch };
+
+    fn from(_: BatchError) -> IpcError {
+        IpcError::SchemaMismatch
+    }
 }
 
 /// Columns of one height under a schema, with the pairs of their message (Message.fbs, Message: custom_metadata), seen as

@@ -14,3 +14,5 @@ pub mod Views
 pub mod ViewParts
 pub mod OneText
 pub mod TextViews
+pub mod TextsAsked
+pub mod Packer

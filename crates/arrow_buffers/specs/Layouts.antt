@@ -1,6 +1,9 @@
 -- Which layouts the parts of an array have. (Arrow Columnar Format, "Physical Memory Layout".)
 use Rattle.std.specs.Prelude.{ℕ, Bool, true, false, ◌&&◌, ◌||◌, not, nat_eq}
-use Rattle.arrow_spec.specs.Kinds.{Kind, fixed_size_binary, extension}
+use Rattle.arrow_spec.specs.declared.types.IntegerType.TheVariants as integer
+use Rattle.arrow_spec.specs.declared.types.IntervalUnit.TheVariants as interval
+use Rattle.arrow_spec.specs.Kinds as kind
+use Rattle.arrow_spec.specs.Kinds.{Kind, half, single, double, fixed_size_binary, extension}
 use Rattle.arrow_types.specs.declared.physical.PhysicalType.{PhysicalType}
 use Rattle.arrow_types.specs.declared.physical.PhysicalType.TheVariants.{Null, Boolean, Primitive, Binary, LargeBinary, Utf8, LargeUtf8, BinaryView, Utf8View}
 use Rattle.arrow_types.specs.declared.physical.PrimitiveType.{PrimitiveType}
@@ -28,6 +31,24 @@ primitive_number primitive.MonthDayNano = 14
 abbrev pub is_primitive : PrimitiveType → PhysicalType → Bool
 is_primitive p (Primitive q) = nat_eq (primitive_number q) (primitive_number p)
 is_primitive p layout = false
+
+-- the kind of numbers of a primitive type that mean nothing else
+abbrev pub number_kind : PrimitiveType → Kind
+number_kind primitive.Int8 = kind.integer integer.Int8
+number_kind primitive.Int16 = kind.integer integer.Int16
+number_kind primitive.Int32 = kind.integer integer.Int32
+number_kind primitive.Int64 = kind.integer integer.Int64
+number_kind primitive.Int128 = kind.integer integer.Int128
+number_kind primitive.Int256 = kind.decimal256 76 0
+number_kind primitive.UInt8 = kind.integer integer.UInt8
+number_kind primitive.UInt16 = kind.integer integer.UInt16
+number_kind primitive.UInt32 = kind.integer integer.UInt32
+number_kind primitive.UInt64 = kind.integer integer.UInt64
+number_kind primitive.Float16 = kind.float half
+number_kind primitive.Float32 = kind.float single
+number_kind primitive.Float64 = kind.float double
+number_kind primitive.DaysMs = kind.interval interval.DayTime
+number_kind primitive.MonthDayNano = kind.interval interval.MonthDayNano
 
 -- the layout is that of bits
 abbrev pub is_boolean : PhysicalType → Bool

@@ -5,3 +5,4 @@ pub mod Layouts
 pub mod Leaf
 pub mod Variable
 pub mod Views
+pub mod Refusals

@@ -1,5 +1,5 @@
 -- Rows of an array: a part of them, and which of them are null. (Arrow Columnar Format, "Validity bitmaps".)
-use Rattle.std.specs.Prelude.{ℕ, List, [], ◌∷◌, Bool, true, false, Option, Some, None, length, nat_eq, not, take, drop, slice_index_or, if◌then◌else◌}
+use Rattle.std.specs.Prelude.{ℕ, List, [], ◌∷◌, Bool, true, false, Option, Some, None, length, nat_eq, nat_lt, not, ◌&&◌, take, drop, slice_get, slice_index_or, if◌then◌else◌}
 use Rattle.std.specs.List.{count_by}
 use Rattle.arrow_spec.specs.Cells.{Cell, null, bytes, text}
 
@@ -16,6 +16,18 @@ has_rows (Some bits) rows = nat_eq (length bits) rows
 abbrev pub is_valid : Option (List Bool) → ℕ → Bool
 is_valid None row = true
 is_valid (Some bits) row = slice_index_or bits row true
+
+-- there is such a row, and it is not null
+abbrev pub holds_row : Option (List Bool) → ℕ → ℕ → Bool
+holds_row validity rows row = nat_lt row rows && is_valid validity row
+
+-- there is such a row, and it is null
+abbrev pub lacks_row : Option (List Bool) → ℕ → ℕ → Bool
+lacks_row validity rows row = nat_lt row rows && not (is_valid validity row)
+
+-- what a row holds, where there is such a row and it is not null
+abbrev pub row_of : {A : Type 0} → Option (List Bool) → List A → ℕ → Option A
+row_of validity items row = if holds_row validity (length items) row then slice_get items row else None
 
 -- how many rows are null
 abbrev pub null_rows : Option (List Bool) → ℕ

@@ -120,6 +120,20 @@ impl BooleanArray {
         self.values.get(row)
     }
 
+    /// The same bits under another validity.
+    pub fn with_validity(self, validity: Option<Bitmap>) -> Result<BooleanArray, ArrayError>
+        ensures ok { IfOk result (λ a. a ≡ record { kind = self.kind; values = self.values; validity = validity }) }
+        ensures err { IfErr result (λ e. leaf_fault (is_boolean (physical_of self.kind)) (length self.values) validity ≡ Some e) }
+    {
+        let BooleanArray {
+            dtype,
+            values,
+            validity: before,
+        } = self;
+        drop(before);
+        BooleanArray::try_new(dtype, values, validity)
+    }
+
     /// Leaves only the part, and copies nothing.
     pub fn narrow(&mut self, offset: usize, rows: usize)
         requires { offset + rows ≤ length self.old.values }

@@ -1,5 +1,6 @@
 //! Why parts make no array.
-use std::alloc::AllocError;
+use arrow_spec::{IpcError, OutOfSpecKind};
+use std::alloc::{AllocError, AllocFailed};
 use thiserror::Error;
 
 /// Why parts make no array: the first of these that holds, in this order.
@@ -39,5 +40,35 @@ impl From<AllocError> for ArrayError {
 
     fn from(_error: AllocError) -> ArrayError {
         ArrayError::Memory
+    }
+}
+
+impl<T: Drop> From<AllocFailed<T>> for ArrayError {
+    ghost use Rattle.std.specs.Prelude.{◌≡◌};
+    ghost use Rattle.arrow_buffers.specs.declared.error.ArrayError.TheVariants.{Memory};
+
+    ghost from_gives = { λ _ e. e ≡ Memory };
+
+    fn from(_: AllocFailed<T>) -> ArrayError {
+        ArrayError::Memory
+    }
+}
+
+impl From<ArrayError> for IpcError {
+    ghost use Rattle.std.specs.Prelude.{◌≡◌};
+    ghost use Rattle.arrow_buffers.specs.Refusals.{refusal_of};
+
+    ghost from_gives = { λ a e. e ≡ refusal_of a };
+
+    fn from(error: ArrayError) -> IpcError {
+        match error {
+            ArrayError::DataType | ArrayError::Length => IpcError::SchemaMismatch,
+            ArrayError::Offsets => IpcError::OutOfSpec(OutOfSpecKind::InvalidOffsets),
+            ArrayError::UnionType => IpcError::OutOfSpec(OutOfSpecKind::InvalidUnion),
+            ArrayError::Utf8 => IpcError::OutOfSpec(OutOfSpecKind::InvalidUtf8),
+            ArrayError::View => IpcError::OutOfSpec(OutOfSpecKind::InvalidView),
+            ArrayError::Key => IpcError::OutOfSpec(OutOfSpecKind::InvalidKey),
+            ArrayError::Memory => IpcError::Memory,
+        }
     }
 }

@@ -1,6 +1,7 @@
 //! Runs of items and of bits that several owners may share, and the arrays that hold no array (Arrow Columnar Format, "Physical Memory Layout").
 #![tactic(auto)]
 
+mod asked;
 mod binary_view;
 mod bitmap;
 mod boolean;
@@ -8,6 +9,7 @@ mod buffer;
 mod error;
 mod fixed_size_binary;
 mod layout;
+mod made;
 mod null;
 mod offsets;
 mod primitive;

@@ -120,6 +120,20 @@ impl<T: NativeType> PrimitiveArray<T> {
         self.values.get(row)
     }
 
+    /// The same numbers under another validity.
+    pub fn with_validity(self, validity: Option<Bitmap>) -> Result<PrimitiveArray<T>, ArrayError>
+        ensures ok { IfOk result (λ a. a ≡ record { kind = self.kind; values = self.values; validity = validity }) }
+        ensures err { IfErr result (λ e. leaf_fault (is_primitive T.PRIMITIVE (physical_of self.kind)) (length self.values) validity ≡ Some e) }
+    {
+        let PrimitiveArray {
+            dtype,
+            values,
+            validity: before,
+        } = self;
+        drop(before);
+        PrimitiveArray::try_new(dtype, values, validity)
+    }
+
     /// Leaves only the part, and copies nothing.
     pub fn narrow(&mut self, offset: usize, rows: usize)
         requires { offset + rows ≤ length self.old.values }

@@ -150,6 +150,22 @@ impl<O: Offset, V: ViewType> VariableArray<O, V> {
         bytes_of(&self.offsets, self.values.as_slice(), row)
     }
 
+    /// The same offsets and bytes under another validity. The texts of rows that are valid now are looked at.
+    pub fn with_validity(self, validity: Option<Bitmap>) -> Result<VariableArray<O, V>, ArrayError>
+        ensures ok { IfOk result (λ a. a ≡ record { kind = self.kind; offsets = self.offsets; values = self.values; validity = validity }) }
+        ensures err { IfErr result (λ e. variable_fault V.IS_TEXT (is_variable V.IS_TEXT O.IS_LARGE (physical_of self.kind)) (record { kind = self.kind; offsets = self.offsets; values = self.values; validity = validity }) ≡ Some e) }
+    {
+        let VariableArray {
+            dtype,
+            offsets,
+            values,
+            validity: before,
+            rows: _,
+        } = self;
+        drop(before);
+        VariableArray::try_new(dtype, offsets, values, validity)
+    }
+
     /// Leaves only the part, and copies nothing.
     pub fn narrow(&mut self, offset: usize, rows: usize)
         requires { offset + rows ≤ variable_rows self.old.offsets }

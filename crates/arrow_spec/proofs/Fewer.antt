@@ -1,5 +1,5 @@
 -- What holds of an array that is read for some rows holds of it where it is read for fewer.
-use Rattle.std.proofs.Common.{◌≡◌, ℕ, zero, suc, ◌+◌, ◌-◌, ◌*◌, ◌<◌, ◌≤◌, List, [], ◌∷◌, ◌++◌, length, Option, Some, None, Bool, true, false, refl, arith, not, ◌&&◌, ◌||◌, cond}
+use Rattle.std.proofs.Common.{◌≡◌, ℕ, zero, suc, ◌+◌, ◌-◌, ◌*◌, ◌<◌, ◌≤◌, List, [], ◌∷◌, ◌++◌, length, Option, Some, None, Bool, true, false, refl, sym, arith, not, ◌&&◌, ◌||◌, cond}
 use Rattle.std.specs.Prelude.{nat_lt, slice_get, ℤ}
 use Rattle.std.specs.Int.{byte_len}
 use Rattle.std.specs.Str.{is_utf8}
@@ -12,11 +12,11 @@ use Rattle.arrow_spec.specs.declared.types.UnionMode.{UnionMode}
 use Rattle.arrow_spec.specs.declared.types.UnionMode.TheVariants.{Dense, Sparse}
 use Rattle.arrow_spec.specs.declared.types.IntervalUnit.TheVariants.{YearMonth, DayTime, MonthDayNano}
 use Rattle.arrow_spec.specs.declared.types.IntegerType.{IntegerType}
-use Rattle.arrow_spec.specs.Kinds.{Kind, Fields, none, field, boolean, integer, date32, date64, time32, time64, timestamp, duration, interval, decimal, binary, utf8, binary_view, utf8_view, fixed_size_binary, «list», fixed_size_list, struct, map, union, dictionary, extension, Offsets, small}
+use Rattle.arrow_spec.specs.Kinds.{Kind, Fields, none, field, width, boolean, integer, date32, date64, time32, time64, timestamp, duration, interval, decimal, binary, utf8, binary_view, utf8_view, fixed_size_binary, «list», fixed_size_list, struct, map, union, dictionary, extension, Offsets, small}
 use Rattle.arrow_spec.specs.Counts.{RecordBatch, Place, magnitude, is_negative, inside, after, union_buffers}
 use Rattle.arrow_spec.specs.Cells.{Cell}
-use Rattle.arrow_spec.specs.Arrays.{Dictionaries, valid, has_nulls, range_of, offset_width, offset, signed_in, row_bytes, integer_width, found, types_buffer, node_of, or_0}
-use Rattle.arrow_spec.specs.Faults.{cause, if_sound, some_row, some_valid_row, node_causes, node_faults, bitmap_faults, validity_faults, numbers_faults, fixed_faults, offsets_buffer_faults, offsets_faults, bytes_faults, utf8_faults, view_parts_faults, views_faults, view_text_faults, key_faults, dense_buffer_faults, dense_faults, union_faults, flat_faults, array_faults, child_faults, view_count_faults, is_bad_row, is_no_id, place_in}
+use Rattle.arrow_spec.specs.Arrays.{Dictionaries, valid, has_nulls, range_of, offset_width, offset, signed_in, row_bytes, integer_width, found, types_buffer, node_of, node_or_none, or_0}
+use Rattle.arrow_spec.specs.Faults.{cause, if_sound, some_row, some_valid_row, node_causes, node_faults, bitmap_faults, validity_faults, numbers_faults, fixed_faults, offsets_buffer_faults, offsets_faults, bytes_faults, utf8_faults, view_parts_faults, views_faults, view_text_faults, key_faults, dense_buffer_faults, dense_faults, union_faults, flat_faults, array_faults, child_faults, view_count_faults, child_end, end_of, is_bad_row, is_no_id, place_in}
 
 -- ── nothing is wrong with the whole where nothing is with its parts ──
 
@@ -240,9 +240,9 @@ mutual
       none_both _ _ (node_faults-fewer m p (suc n) 0 less (none_first _ _ outer)) (child_faults-fewer m d fs (inside 2 p) (λ q. offset m o (p.buffer + 1) (suc n)) (λ q. 0) (λ q. omega arith) (none_second _ _ rest))
   array_faults-fewer m d («list» o fs) p (suc n) (suc j) less h =
       let rest = sound_second _ _ (none_second _ _ h) in
-      let rise : offset m o (p.buffer + 1) (suc j) ≤ offset m o (p.buffer + 1) (suc n) = offset-fewer m o (p.buffer + 1) (suc n) (suc j) (magnitude (node_of m (suc p.node)).length) less (none_first _ _ rest) in
+      let rise : offset m o (p.buffer + 1) (suc j) ≤ offset m o (p.buffer + 1) (suc n) = offset-fewer m o (p.buffer + 1) (suc n) (suc j) (end_of m (suc p.node)) less (none_first _ _ rest) in
       along _ _ _ _ (along _ _ _ _ (node_faults-fewer m p (suc n) (suc j) less) (validity_faults-fewer m p (suc n) (suc j) less))
-      (along_sound _ _ _ _ (offsets_buffer_faults-fewer m o (p.buffer + 1) (suc n) (suc j) less) (along _ _ _ _ (offsets_faults-fewer m o (p.buffer + 1) (suc n) (suc j) (magnitude (node_of m (suc p.node)).length) less) (child_faults-fewer m d fs (inside 2 p) (λ q. offset m o (p.buffer + 1) (suc n)) (λ q. offset m o (p.buffer + 1) (suc j)) (λ q. rise))))
+      (along_sound _ _ _ _ (offsets_buffer_faults-fewer m o (p.buffer + 1) (suc n) (suc j) less) (along _ _ _ _ (offsets_faults-fewer m o (p.buffer + 1) (suc n) (suc j) (end_of m (suc p.node)) less) (child_faults-fewer m d fs (inside 2 p) (λ q. offset m o (p.buffer + 1) (suc n)) (λ q. offset m o (p.buffer + 1) (suc j)) (λ q. rise))))
       h
   array_faults-fewer m d (map sorted fs) p zero zero less h = h
   array_faults-fewer m d (map sorted fs) p zero (suc j) less h = absurd (omega (arith, less))
@@ -252,9 +252,9 @@ mutual
       none_both _ _ (node_faults-fewer m p (suc n) 0 less (none_first _ _ outer)) (child_faults-fewer m d fs (inside 2 p) (λ q. offset m small (p.buffer + 1) (suc n)) (λ q. 0) (λ q. omega arith) (none_second _ _ rest))
   array_faults-fewer m d (map sorted fs) p (suc n) (suc j) less h =
       let rest = sound_second _ _ (none_second _ _ h) in
-      let rise : offset m small (p.buffer + 1) (suc j) ≤ offset m small (p.buffer + 1) (suc n) = offset-fewer m small (p.buffer + 1) (suc n) (suc j) (magnitude (node_of m (suc p.node)).length) less (none_first _ _ rest) in
+      let rise : offset m small (p.buffer + 1) (suc j) ≤ offset m small (p.buffer + 1) (suc n) = offset-fewer m small (p.buffer + 1) (suc n) (suc j) (end_of m (suc p.node)) less (none_first _ _ rest) in
       along _ _ _ _ (along _ _ _ _ (node_faults-fewer m p (suc n) (suc j) less) (validity_faults-fewer m p (suc n) (suc j) less))
-      (along_sound _ _ _ _ (offsets_buffer_faults-fewer m small (p.buffer + 1) (suc n) (suc j) less) (along _ _ _ _ (offsets_faults-fewer m small (p.buffer + 1) (suc n) (suc j) (magnitude (node_of m (suc p.node)).length) less) (child_faults-fewer m d fs (inside 2 p) (λ q. offset m small (p.buffer + 1) (suc n)) (λ q. offset m small (p.buffer + 1) (suc j)) (λ q. rise))))
+      (along_sound _ _ _ _ (offsets_buffer_faults-fewer m small (p.buffer + 1) (suc n) (suc j) less) (along _ _ _ _ (offsets_faults-fewer m small (p.buffer + 1) (suc n) (suc j) (end_of m (suc p.node)) less) (child_faults-fewer m d fs (inside 2 p) (λ q. offset m small (p.buffer + 1) (suc n)) (λ q. offset m small (p.buffer + 1) (suc j)) (λ q. rise))))
       h
   array_faults-fewer m d (union Sparse stated ids fs) p zero zero less h = h
   array_faults-fewer m d (union Sparse stated ids fs) p zero (suc j) less h = absurd (omega (arith, less))
@@ -283,7 +283,43 @@ row_offset m o i n row most below h j j_below =
 pub fixed_row : (size n row j : ℕ) → row < n → j < size * row + size → j < size * n
 fixed_row size n row j below j_below = let whole : size * suc row ≤ size * n = grind (arith, below) in let one : size * suc row ≡ size * row + size = grind arith in omega (arith, whole, one, j_below)
 
+-- a node with which nothing is wrong has the rows that it says
+pub node_end : (x : Option FieldNode) (n : ℕ) → node_causes x n ≡ [] → child_end x ≡ magnitude (node_or_none x).length
+node_end None n h = cc
+node_end (Some node) n h = by_sign (is_negative node.length) h
+  where
+    by_sign : (negative : Bool) → cond negative (OutOfSpec kinds.UnexpectedNegativeInteger ∷ []) (cause (nat_lt (magnitude node.length) n) (OutOfSpec kinds.NodeLength)) ≡ [] → cond negative 9223372036854775807 (magnitude node.length) ≡ magnitude node.length
+    by_sign true g = cc
+    by_sign false g = refl
+
+-- an array's node is looked at, whatever its kind
+pub array_node : (m : RecordBatch) (d : Dictionaries) (k : Kind) (p : Place) (n : ℕ) → array_faults m d k p n ≡ [] → node_faults m p n ≡ []
+array_node m d (extension name metadata k) p n h = array_node m d k p n h
+array_node m d («list» o fs) p zero h = none_first _ _ h
+array_node m d («list» o fs) p (suc n) h = none_first _ _ (none_first _ _ h)
+array_node m d (map sorted fs) p zero h = none_first _ _ h
+array_node m d (map sorted fs) p (suc n) h = none_first _ _ (none_first _ _ h)
+array_node m d (fixed_size_list size fs) p n h = none_first _ _ (none_first _ _ h)
+array_node m d (struct fs) p n h = none_first _ _ (none_first _ _ h)
+array_node m d (union Sparse stated ids fs) p zero h = none_first _ _ h
+array_node m d (union Sparse stated ids fs) p (suc n) h = none_first _ _ (none_first _ _ h)
+array_node m d (union Dense stated ids fs) p zero h = none_first _ _ h
+array_node m d (union Dense stated ids fs) p (suc n) h = none_first _ _ (none_first _ _ h)
+array_node m d k p n h = none_first _ _ h
+
+array_end : (m : RecordBatch) (d : Dictionaries) (k : Kind) (p : Place) (n : ℕ) → array_faults m d k p n ≡ [] → end_of m p.node ≡ magnitude (node_of m p.node).length
+unfolding node_faults
+array_end m d k p n h = node_end (slice_get m.nodes p.node) n (array_node m d k p n h)
+
+-- so each child with which nothing is wrong has the rows that its node says
+pub child_ends : (m : RecordBatch) (d : Dictionaries) (fs : Fields) (p : Place) (rows : Place → ℕ) → child_faults m d fs p rows ≡ [] → (i : ℕ) → i < width fs → end_of m (place_in m fs i p).node ≡ magnitude (node_of m (place_in m fs i p).node).length
+child_ends m d none p rows h i below = absurd (omega (arith, below))
+child_ends m d (field name nullable metadata k others) p rows h zero below = array_end m d k p (rows p) (none_first _ _ h)
+child_ends m d (field name nullable metadata k others) p rows h (suc i) below = child_ends m d others (after m k p) rows (sound_second _ _ (none_second _ _ h)) i (omega (arith, below))
+
 -- where a type is an id, the child's row is one of its rows
-pub dense_row : (m : RecordBatch) (fs : Fields) (p : Place) (i : Option ℕ) (at : ℤ) → is_no_id i ≡ false → is_bad_row m fs p i at ≡ false → magnitude at < magnitude (node_of m (place_in m fs (or_0 i) p).node).length
-dense_row m fs p None at h k = cc
-dense_row m fs p (Some i) at h k = leb-false (magnitude (node_of m (place_in m fs i p).node).length) (magnitude at) (or_parts _ _ k).1
+pub dense_row : (m : RecordBatch) (d : Dictionaries) (fs : Fields) (p : Place) (rows : Place → ℕ) (i : Option ℕ) (at : ℤ) → is_no_id i ≡ false → is_bad_row m fs p i at ≡ false → child_faults m d fs p rows ≡ [] → or_0 i < width fs → magnitude at < magnitude (node_of m (place_in m fs (or_0 i) p).node).length
+dense_row m d fs p rows None at h k g below = cc
+dense_row m d fs p rows (Some i) at h k g below =
+    let row : magnitude at < end_of m (place_in m fs i p).node = leb-false (end_of m (place_in m fs i p).node) (magnitude at) (or_parts _ _ k).1 in
+    rw (sym (child_ends m d fs p rows g i below)) row

@@ -98,6 +98,16 @@ fixed_faults m p width rows = validity_faults m p rows ++ numbers_faults m (p.bu
 abbrev pub offsets_buffer_faults : RecordBatch → Offsets → ℕ → ℕ → List IpcError
 offsets_buffer_faults m o i rows = numbers_faults m i (byte_len (offset_width o)) (suc rows)
 
+-- How many rows a child has for its parent's offsets: those of its node.
+-- A node that is missing or negative is told by itself, so there it is a number that no offset passes.
+abbrev pub child_end : Option FieldNode → ℕ
+child_end None = 9223372036854775807
+child_end (Some node) = if is_negative node.length then 9223372036854775807 else magnitude node.length
+
+-- the same of the i-th node
+abbrev pub end_of : RecordBatch → ℕ → ℕ
+end_of m i = child_end (slice_get m.nodes i)
+
 -- offsets 0 to rows: none is negative, none is below the one before, and the last is at most a length
 unfoldable pub offsets_faults : RecordBatch → Offsets → ℕ → ℕ → ℕ → List IpcError
 offsets_faults m o i rows most = cause (some_row (λ j. is_negative (signed_in m (offset_width o) i j)) (suc rows)
@@ -185,7 +195,7 @@ place_in m (field name nullable metadata k others) (suc i) p = place_in m others
 -- a row's offset isn't one of the rows of its child
 abbrev pub is_bad_row : RecordBatch → Fields → Place → Option ℕ → ℤ → Bool
 is_bad_row m fs p None at = false
-is_bad_row m fs p (Some i) at = is_negative at || nat_le (magnitude (node_of m (place_in m fs i p).node).length) (magnitude at)
+is_bad_row m fs p (Some i) at = is_negative at || nat_le (end_of m (place_in m fs i p).node) (magnitude at)
 
 -- where a union is Dense: a buffer of offsets, each of them a row of its child
 abbrev pub dense_buffer_faults : RecordBatch → UnionMode → Place → ℕ → List IpcError
@@ -235,12 +245,12 @@ abbrev mutual
   pub array_faults : RecordBatch → Dictionaries → Kind → Place → ℕ → List IpcError
   array_faults m d («list» o fs) p zero = node_faults m p 0 ++ child_faults m d fs (inside 2 p) (λ q. 0)
   array_faults m d («list» o fs) p (suc n) = node_faults m p (suc n) ++ validity_faults m p (suc n)
-      ++ if_sound (offsets_buffer_faults m o (p.buffer + 1) (suc n)) (offsets_faults m o (p.buffer + 1) (suc n) (magnitude (node_of m (suc p.node)).length)
+      ++ if_sound (offsets_buffer_faults m o (p.buffer + 1) (suc n)) (offsets_faults m o (p.buffer + 1) (suc n) (end_of m (suc p.node))
       ++ child_faults m d fs (inside 2 p) (λ q. offset m o (p.buffer + 1) (suc n)))
   array_faults m d (map sorted fs) p zero = node_faults m p 0 ++ child_faults m d fs (inside 2 p) (λ q. 0)
   array_faults m d (map sorted fs) p (suc n) = node_faults m p (suc n) ++ validity_faults m p (suc n)
       ++ if_sound (offsets_buffer_faults m small (p.buffer + 1) (suc n))
-      (offsets_faults m small (p.buffer + 1) (suc n) (magnitude (node_of m (suc p.node)).length)
+      (offsets_faults m small (p.buffer + 1) (suc n) (end_of m (suc p.node))
       ++ child_faults m d fs (inside 2 p) (λ q. offset m small (p.buffer + 1) (suc n)))
   array_faults m d (fixed_size_list size fs) p rows = node_faults m p rows ++ validity_faults m p rows ++ child_faults m d fs (inside 1 p) (λ q. size * rows)
   array_faults m d (struct fs) p rows = node_faults m p rows ++ validity_faults m p rows ++ child_faults m d fs (inside 1 p) (λ q. rows)

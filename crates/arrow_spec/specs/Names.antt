@@ -54,6 +54,7 @@ kind_name kinds.InvalidView = codes "InvalidView"
 kind_name kinds.InvalidKey = codes "InvalidKey"
 kind_name kinds.InvalidUnion = codes "InvalidUnion"
 kind_name kinds.RowCount = codes "RowCount"
+kind_name kinds.InvalidLog = codes "InvalidLog"
 
 unfoldable pub feature_name : Feature → List ℕ
 feature_name features.FeatherV1 = codes "FeatherV1"
@@ -70,6 +71,8 @@ feature_name features.Version = codes "Version"
 feature_name features.Compression = codes "Compression"
 feature_name features.UnionNulls = codes "UnionNulls"
 feature_name features.BigEndianAppend = codes "BigEndianAppend"
+feature_name features.Nested = codes "Nested"
+feature_name features.Predicate = codes "Predicate"
 
 -- a kind of damage and a feature stand by their own names
 unfoldable pub error_name : IpcError → List ℕ

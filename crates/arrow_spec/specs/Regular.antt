@@ -1,7 +1,7 @@
 -- Schemas that are written and read back as they are, and schemas that the format's tables can say. (Arrow Columnar Format, "Schema message".)
 use Rattle.std.specs.Prelude.{ℕ, suc, ◌+◌, List, [], ◌∷◌, ◌++◌, length, Bool, true, false, Some, None, ℤ, pos, negsuc, nat_le, nat_lt, nat_eq, ◌&&◌, ◌||◌, sum_by}
 use Rattle.arrow_spec.specs.Kinds.{Kind, Fields, none, field, Metadata, time32, time64, decimal, decimal256, fixed_size_binary, «list», fixed_size_list, struct, map, union, dictionary, extension, width, unit_number, are_same_ids}
-use Rattle.arrow_spec.specs.Schema.{are_ids, counted_ids, first_is_struct_of_two, has_distinct_names}
+use Rattle.arrow_spec.specs.Schema.{are_ids, counted_ids, first_is_struct_of_two, has_distinct_names, own_pairs}
 
 -- a field of the schema: its level, its own pairs and its kind
 pub record Standing : Type 0 where
@@ -33,9 +33,9 @@ extension_pairs (extension name (Some metadata) k) = 2
 extension_pairs (dictionary index ordered id k) = extension_pairs k
 extension_pairs k = 0
 
--- how many pairs are written for a field
+-- how many pairs are written for a field: its own, without reserved keys, and its extension's
 abbrev pub pairs_of_field : Standing → ℕ
-pairs_of_field f = length f.metadata + extension_pairs f.kind
+pairs_of_field f = length (own_pairs f.metadata) + extension_pairs f.kind
 
 -- no extension
 abbrev pub is_no_extension : Kind → Bool

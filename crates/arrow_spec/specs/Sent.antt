@@ -1,5 +1,5 @@
 -- The messages that a stream is written with. (Arrow Columnar Format, "IPC Streaming Format"; what a writer may choose is chosen here.)
-use Rattle.std.specs.Prelude.{ℕ, zero, suc, ◌+◌, ◌-◌, ◌*◌, ◌/◌, min, List, [], ◌∷◌, ◌++◌, length, Bool, true, false, Option, Some, None, ℤ, pos, negsuc, nat_le, nat_lt, nat_eq, ◌&&◌, if◌then◌else◌, not, sum_by}
+use Rattle.std.specs.Prelude.{ℕ, zero, suc, ◌+◌, ◌-◌, ◌*◌, ◌/◌, min, List, [], ◌∷◌, ◌++◌, length, Bool, true, false, Option, Some, None, ℤ, pos, negsuc, nat_le, nat_lt, nat_eq, ◌&&◌, ◌||◌, if◌then◌else◌, not, sum_by}
 use Rattle.std.specs.Prelude.{map as each_of}
 use Rattle.std.specs.List.{flat_map}
 use Rattle.std.specs.Int.{Width, w8, w16, w32, w64, to_le_bytes, cast_unsigned, byte_len}
@@ -322,6 +322,10 @@ abbrev pub view_lengths : RecordBatch → Place → ℕ → ℕ
 view_lengths m p zero = 0
 view_lengths m p (suc n) = view_lengths m p n + view_length m p n
 
+-- a value goes into the buffer that is begun where that is empty or stays within 2^31 - 1 bytes: a buffer that is ended holds something
+abbrev pub has_room : ℕ → ℕ → Bool
+has_room begun count = nat_eq begun 0 || nat_le (begun + count) 2147483647
+
 -- the lengths of the buffers that take values of more than 12 bytes in row order: n rows from one on, and a buffer begun
 abbrev pub compacted : RecordBatch → Place → ℕ → ℕ → ℕ → List ℕ
 compacted m p row begun zero = if nat_lt 0 begun then begun ∷ [] else []
@@ -329,7 +333,7 @@ compacted m p row begun (suc n) =
     let here = compacted m p (suc row) (begun + view_length m p row) n in
     let passed = compacted m p (suc row) begun n in
     let new = begun ∷ compacted m p (suc row) (view_length m p row) n in
-    if nat_le (view_length m p row) 12 then passed else if nat_le (begun + view_length m p row) 2147483647 then here else new
+    if nat_le (view_length m p row) 12 then passed else if has_room begun (view_length m p row) then here else new
 
 -- at least min(v, 1024) bytes are unused, where v is the sum of the lengths
 abbrev pub needs_compaction : RecordBatch → Place → ℕ → Bool

@@ -184,6 +184,9 @@ pub enum OutOfSpecKind {
     /// The rows of all batches are together more than 2^63 - 1.
     #[error("RowCount")]
     RowCount,
+    /// The bytes of a log are not as its format says, up to its last open record. Nothing answers this yet.
+    #[error("InvalidLog")]
+    InvalidLog,
 }
 
 /// What the format has and this library does not read or write.
@@ -231,6 +234,12 @@ pub enum Feature {
     /// A file that is to be gone on with is big-endian.
     #[error("BigEndianAppend")]
     BigEndianAppend,
+    /// Columns or values of dictionaries that are to be text of one cell each have children. Nothing answers this yet.
+    #[error("Nested")]
+    Nested,
+    /// The cells of a column that rows are chosen by are not numbers. Nothing answers this yet.
+    #[error("Predicate")]
+    Predicate,
 }
 
 /// What there may be only so many of.
@@ -344,6 +353,7 @@ impl OutOfSpecKind {
             OutOfSpecKind::InvalidKey => "InvalidKey",
             OutOfSpecKind::InvalidUnion => "InvalidUnion",
             OutOfSpecKind::RowCount => "RowCount",
+            OutOfSpecKind::InvalidLog => "InvalidLog",
         }
     }
 }
@@ -369,6 +379,8 @@ impl Feature {
             Feature::Compression => "Compression",
             Feature::UnionNulls => "UnionNulls",
             Feature::BigEndianAppend => "BigEndianAppend",
+            Feature::Nested => "Nested",
+            Feature::Predicate => "Predicate",
         }
     }
 }

@@ -7,7 +7,9 @@ mod objects;
 mod outside;
 mod sink;
 
+pub use case_words::{Answer, Case, Fault, counts, is_valid_at, rest, run_files, text_of, word};
 pub use comparison::{say_compared, say_sum};
+pub use ipc_io::{MemoryFeed, MemorySource};
 pub use names::{Names, add, bytes_of};
 pub use objects::{Objects, call_sink};
 pub use outside::{Devices, Outside};

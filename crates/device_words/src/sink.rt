@@ -63,6 +63,8 @@ impl Sink for NotingSink {
 
     ghost wants = { λ s. s.sink.wants + s.wants };
 
+    ghost longest = { λ s. s.longest };
+
     fn put(&mut self, bytes: &[u8]) -> Result<(), PutError> {
         self.longest = self.longest.max(bytes.len());
         let call = self.calls;

@@ -22,6 +22,7 @@ use Rattle.ipc_append.specs.Appends.{Continues, DoesNotAppend, HoldsFile, IsCont
 use Rattle.ipc_append.specs.Places.{Tells}
 use Rattle.ipc_append.proofs.Cutting.{may_cut}
 use Rattle.ipc_append.proofs.Places.{has_end}
+use Rattle.ipc_streams.proofs.Below.{refused_in_file}
 
 -- ── columns ──
 
@@ -72,17 +73,22 @@ core_held (Err x) asked m dictionaries end g = tt
 -- ── dictionaries ──
 
 pub dictionaries_stop : (content : Option (List ℕ)) (e : IpcError) (asked : WriteOptions) (m : FileMetadata) (place faults faults' : ℕ) → cut_place asked m ≡ Ok place
-    → IfSome content (λ b. ReadsDictionaries b (meta_view m) (meta_view m).dictionaries (Err e)) → FileCause e faults faults' → StopsBefore content e asked m faults faults'
+    → IfSome content (λ b. ReadsDictionaries b (meta_view m) m.dictionaries.items (Err e)) → FileCause e faults faults' → StopsBefore content e asked m faults faults'
 dictionaries_stop content e asked m place faults faults' p h k = inr (inr (inl (record { place = place; is_cut = p; cause = k; refused = by content h })))
   where
-    by : (o : Option (List ℕ)) → IfSome o (λ b. ReadsDictionaries b (meta_view m) (meta_view m).dictionaries (Err e)) → IfSome o (λ b. Refuses e (refusals (dictionaries_of b (meta_view m) [] (meta_view m).dictionaries)))
+    by : (o : Option (List ℕ)) → IfSome o (λ b. ReadsDictionaries b (meta_view m) m.dictionaries.items (Err e)) → IfSome o (λ b. Refuses e (refusals (dictionaries_of b (meta_view m) [] (meta_view m).dictionaries)))
     by None q = tt
-    by (Some b) q = q.err
+    by (Some b) q = refused_in_file b (meta_view m) [] m.dictionaries.items e (has_end m place (may_cut asked m place p).end).dictionaries q.err
+
+pub dictionaries_refusal : {A : Type 0} (r : Result A IpcError) (e : IpcError) (content : Option (List ℕ)) (asked : WriteOptions) (m : FileMetadata) (place faults faults' : ℕ) → IsErrAnd r (λ x. x ≡ e) → cut_place asked m ≡ Ok place
+    → IfSome content (λ b. ReadsDictionaries b (meta_view m) m.dictionaries.items (Err e)) → FileCause e faults faults' → IfErr r (λ x. StopsBefore content x asked m faults faults')
+dictionaries_refusal (Ok a) e content asked m place faults faults' n p h k = tt
+dictionaries_refusal (Err x) e content asked m place faults faults' n p h k = subst (λ y. StopsBefore content y asked m faults faults') (sym n) (dictionaries_stop content e asked m place faults faults' p h k)
 
 pub holds_file : (content : Option (List ℕ)) (m : FileMetadata) (c : FileCore) (held : BTreeMap ℤ (Vec Array Global)) → c.tracker.dictionaries ≡ held
-    → IfSome content (λ b. ReadsDictionaries b (meta_view m) (meta_view m).dictionaries (Ok held)) → HoldsFile content m c
+    → IfSome content (λ b. ReadsDictionaries b (meta_view m) m.dictionaries.items (Ok held)) → HoldsFile content m c
 holds_file None m c held e h = tt
-holds_file (Some b) m c held e h = (h.ok.0, h.ok.1, subst (λ x. HoldsCells h.ok.0 (held_in x)) (sym e) h.ok.2)
+holds_file (Some b) m c held e h = (h.said.0, h.said.1, subst (λ x. HoldsCells h.said.0 (held_in x)) (sym e) h.said.2)
 
 pub holds_uses : (m : FileMetadata) (c : FileCore) (held : BTreeMap ℤ (Vec Array Global)) → c.tracker.dictionaries ≡ held → HoldsUses (meta_view m) (held_in held) → HoldsUses (meta_view m) (held_in c.tracker.dictionaries)
 holds_uses m c held e h = subst (λ x. HoldsUses (meta_view m) (held_in x)) (sym e) h

@@ -4,7 +4,7 @@ use Rattle.std.proofs.Math.Seq.{split_at, take-suc}
 use Rattle.arrow_spec.specs.declared.error.IpcError.{IpcError}
 use Rattle.arrow_arrays.specs.Batches.{Batch}
 use Rattle.arrow_arrays.specs.Parts.{forest}
-use Rattle.ipc_file_writer.specs.Below.{Options, options_of, DictionaryTracker, IsOfBatch, IsSentBy, RefusesChunk, Stops, found}
+use Rattle.ipc_file_writer.specs.Below.{Options, options_of, DictionaryTracker, IsOfBatch, IsRefused, IsSentBy, RefusesChunk, Stops, found}
 use Rattle.ipc_fields.specs.IpcFields.{Ids}
 use Rattle.ipc_streams.specs.Below.{EncodedData, WriteOptions}
 use Rattle.ipc_append.specs.Encoded.{AreEncoded, EncodesAll, IsEncoded, none_encoded, one_encoded}
@@ -45,7 +45,7 @@ one_done options below t u v i bs cs cs' b c h is a e grown =
       kept = e.kept ∙ a.kept;
     }
 
-pub one_stops : (options : WriteOptions) (below : Ids) (t u w : DictionaryTracker) (i : ℕ) (bs : List Batch) (cs : List EncodedChunk) (b : Batch) (e : IpcError) → i < length bs → b ≡ get_or bs i b → AreFront options below t u i bs cs → Stops e (found u (forest b.arrays) below) (λ sent. RefusesChunk e options sent b)
+pub one_stops : (options : WriteOptions) (below : Ids) (t u w : DictionaryTracker) (i : ℕ) (bs : List Batch) (cs : List EncodedChunk) (b : Batch) (e : IpcError) → i < length bs → b ≡ get_or bs i b → AreFront options below t u i bs cs → IsRefused e options (Stops e (found u (forest b.arrays) below) (λ sent. RefusesChunk e options sent b))
     → EncodesAll (Err e) options below t w bs
 one_stops options below t u w i bs cs b e h is a r = inr (record {
   before = take i bs;

@@ -1,5 +1,6 @@
 -- A file is looked at, its dictionaries are read, and a stream's batches are encoded under its ids.
 use Rattle.std.proofs.Common.{◌≡◌, ◌∙◌, inl, inr, ℕ, ◌≤◌, ℤ, List, [], true, false, true≢false, IsTrue, ◌↔◌, Option, Some, None, Result, Ok, Err, IfSome, Vec, Global, refl, sym, ap, subst}
+use Rattle.std.specs.Prelude.{All}
 use Rattle.std.specs.BTreeMap.{BTreeMap}
 use Rattle.std.specs.Rc.{rc_value}
 use Rattle.std.specs.Result.{IsErrAnd}
@@ -15,8 +16,9 @@ use Rattle.arrow_types.specs.Schemas.{Keyed, fields_in}
 use Rattle.ipc_file_writer.specs.Below.{DictionaryTracker}
 use Rattle.ipc_fields.specs.IpcFields.{ids_of}
 use Rattle.ipc_fields.specs.declared.ipc_field.IpcField.{IpcField}
-use Rattle.ipc_streams.specs.Below.{HoldsUses, FileCause, meta_view, FileMetadata, held_in, HoldsCells, WriteOptions}
+use Rattle.ipc_streams.specs.Below.{HoldsUses, FileCause, IsNatural, meta_view, FileMetadata, held_in, HoldsCells, WriteOptions}
 use Rattle.ipc_streams.specs.Below.FileDictionaries as files
+use Rattle.ipc_streams.proofs.Below.{refused_in_file}
 use Rattle.ipc_streams.proofs.TakenCalls.{cause_since}
 use Rattle.ipc_streams.specs.declared.metadata.StreamMetadata.{StreamMetadata}
 use Rattle.ipc_append.specs.Appended.{IsPrepared, NotPrepared}
@@ -54,23 +56,23 @@ has_others_of content m s f g i a b p q h = has_others content m s f g i (λ k. 
 
 -- ── dictionaries ──
 
-pub tracker_reads : (content : Option (List ℕ)) (asked : WriteOptions) (m : FileMetadata) (held : BTreeMap ℤ (Vec Array Global)) (f g : ℕ) → IfSome content (λ b. files.ReadsDictionaries b (meta_view m) (meta_view m).dictionaries (Ok held)) → HoldsUses (meta_view m) (held_in held)
+pub tracker_reads : (content : Option (List ℕ)) (asked : WriteOptions) (m : FileMetadata) (held : BTreeMap ℤ (Vec Array Global)) (f g : ℕ) → IfSome content (λ b. files.ReadsDictionaries b (meta_view m) m.dictionaries.items (Ok held)) → HoldsUses (meta_view m) (held_in held)
     → ReadsDictionaries (Ok (record { dictionaries = held; cannot_replace = true; deltas = asked.deltas })) content asked m f g
 tracker_reads content asked m held f g h u = record { fixed = refl; deltas = refl; values = by content h; uses = u }
   where
-    by : (o : Option (List ℕ)) → IfSome o (λ b. files.ReadsDictionaries b (meta_view m) (meta_view m).dictionaries (Ok held)) → IfSome o (λ b. (d : Dictionaries) × (dictionaries_of b (meta_view m) [] (meta_view m).dictionaries ≡ Ok d) × HoldsCells d (held_in held))
+    by : (o : Option (List ℕ)) → IfSome o (λ b. files.ReadsDictionaries b (meta_view m) m.dictionaries.items (Ok held)) → IfSome o (λ b. (d : Dictionaries) × (dictionaries_of b (meta_view m) [] (meta_view m).dictionaries ≡ Ok d) × HoldsCells d (held_in held))
     by None k = tt
-    by (Some b) k = k.ok
+    by (Some b) k = k.said
 
 pub tracker_handed : (content : Option (List ℕ)) (asked : WriteOptions) (m : FileMetadata) (e : IpcError) (f g : ℕ) (r : Result DictionaryTracker IpcError) → IsErrAnd r (λ x. x ≡ e) → ReadsDictionaries (Err e) content asked m f g → ReadsDictionaries r content asked m f g
 tracker_handed content asked m e f g r is h = handed (λ x. ReadsDictionaries x content asked m f g) r e is h
 
-pub tracker_refused : (content : Option (List ℕ)) (asked : WriteOptions) (m : FileMetadata) (e : IpcError) (f g : ℕ) → IfSome content (λ b. files.ReadsDictionaries b (meta_view m) (meta_view m).dictionaries (Err e)) → FileCause e f g → ReadsDictionaries (Err e) content asked m f g
-tracker_refused content asked m e f g h c = record { cause = c; refused = by content h }
+pub tracker_refused : (content : Option (List ℕ)) (asked : WriteOptions) (m : FileMetadata) (e : IpcError) (f g : ℕ) → All IsNatural m.dictionaries.items → IfSome content (λ b. files.ReadsDictionaries b (meta_view m) m.dictionaries.items (Err e)) → FileCause e f g → ReadsDictionaries (Err e) content asked m f g
+tracker_refused content asked m e f g natural h c = record { cause = c; refused = by content h }
   where
-    by : (o : Option (List ℕ)) → IfSome o (λ b. files.ReadsDictionaries b (meta_view m) (meta_view m).dictionaries (Err e)) → IfSome o (λ b. Refuses e (refusals (dictionaries_of b (meta_view m) [] (meta_view m).dictionaries)))
+    by : (o : Option (List ℕ)) → IfSome o (λ b. files.ReadsDictionaries b (meta_view m) m.dictionaries.items (Err e)) → IfSome o (λ b. Refuses e (refusals (dictionaries_of b (meta_view m) [] (meta_view m).dictionaries)))
     by None k = tt
-    by (Some b) k = k.err
+    by (Some b) k = refused_in_file b (meta_view m) [] m.dictionaries.items e natural k.err
 
 -- ── a stream's batches ──
 

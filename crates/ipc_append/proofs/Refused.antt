@@ -6,6 +6,7 @@ use Rattle.std.specs.Result.{IsErrAnd}
 use Rattle.std.proofs.lemmas.Bool.{and_from}
 use Rattle.arrow_spec.specs.declared.error.IpcError.{IpcError}
 use Rattle.arrow_spec.specs.declared.error.IpcError.TheVariants as errors
+use Rattle.arrow_spec.specs.declared.error.Feature.TheVariants.{Compression}
 use Rattle.arrow_spec.specs.declared.message.Block.{Block}
 use Rattle.arrow_spec.specs.Readings.{IsAmong, natural, refusals, unless}
 use Rattle.arrow_spec.specs.Flat.{little}
@@ -154,8 +155,12 @@ module _ (content : Option (List ℕ)) (asked : WriteOptions) (s : WholeStream) 
           let none = has_no_fault content h.file s o.before o.batch o.behind h.takes o.are in
           let none_below : columns_fault (columns_of (forest o.batch.arrays)) below ≡ None = ap (columns_fault (columns_of (forest o.batch.arrays))) same ∙ none in
           let fixed : o.held.deltas ≡ asked.deltas = still_deltas asked below h.held o.held o.before o.chunks o.encoded h.holds.deltas in
-          let why = batch_refused e asked o.held o.batch below o.refused in
-          elim why [ inl fault ↦ cc | inr of ↦ of_chunk e (subst (λ d. IsOfChunk d e) fixed of) ]
+          elim o.refused [
+            | inl compressed ↦ as_plain e (errors.Unsupported Compression) compressed.0 tt
+            | inr stops ↦
+                let why = batch_refused e asked o.held o.batch below stops.1 in
+                elim why [ inl fault ↦ cc | inr of ↦ of_chunk e (subst (λ d. IsOfChunk d e) fixed of) ]
+          ]
 
   stops : (e : IpcError) (m : FileMetadata) → WasRead m → StopsBefore content e asked m f g → RefusalSays e content asked s f g
   stops e m w (inl is) = as_plain e errors.Memory is tt

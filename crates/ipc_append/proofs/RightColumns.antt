@@ -11,8 +11,8 @@ use Rattle.ipc_fields.specs.IpcFields.{ids_of}
 use Rattle.ipc_streams.specs.Below.{WasRead, meta_view, FileMetadata}
 use Rattle.ipc_streams.proofs.Below.{plain_fields_with}
 use Rattle.laws_sent.proofs.Right.{columns_right}
-use Rattle.laws_sent.proofs.PlainFields.{same_apart}
-use Rattle.laws_sent.proofs.SayableFields.{fields_apart}
+use Rattle.laws_sent.proofs.PlainFields.{same_representable}
+use Rattle.laws_sent.proofs.SayableFields.{fields_representable}
 use Rattle.ipc_append.specs.Columns.{are_of, is_of}
 use Rattle.ipc_append.specs.Targets.{Takes}
 use Rattle.ipc_append.specs.declared.stream.WholeStream.{WholeStream}
@@ -29,5 +29,5 @@ has_no_fault content m s before b behind takes are =
     let below = ids_of m.ipc_schema.fields.items in
     let read : WasRead m = takes.metadata.read in
     let of : is_of (fields_in (rc_value s.metadata.schema)) b ≡ true = one_of (fields_in (rc_value s.metadata.schema)) before b behind (subst (λ bs. are_of (fields_in (rc_value s.metadata.schema)) bs ≡ true) are s.kinds) in
-    let apart = same_apart fs (meta_view m).schema.fields (sym (plain_fields_with fs below)) ∙ fields_apart 64 (meta_view m).schema.fields read.may.fit in
-    columns_right fs below (forest b.arrays) (kinds_through fs (fields_in (rc_value s.metadata.schema)) (columns_of (forest b.arrays)) takes.kinds of) read.readable.shapes read.readable.agree apart
+    let representable = same_representable fs (meta_view m).schema.fields (sym (plain_fields_with fs below)) ∙ fields_representable 64 (meta_view m).schema.fields read.may.fit in
+    columns_right fs below (forest b.arrays) (kinds_through fs (fields_in (rc_value s.metadata.schema)) (columns_of (forest b.arrays)) takes.kinds of) read.readable.shapes read.readable.agree representable

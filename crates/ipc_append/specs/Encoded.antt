@@ -6,7 +6,7 @@ use Rattle.arrow_spec.specs.declared.error.IpcError.{IpcError}
 use Rattle.arrow_spec.specs.declared.error.IpcError.TheVariants.{Memory}
 use Rattle.arrow_arrays.specs.Batches.{Batch}
 use Rattle.arrow_arrays.specs.Parts.{forest}
-use Rattle.ipc_file_writer.specs.Below.{options_of, DictionaryTracker, IsOfBatch, IsSentBy, RefusesChunk, Stops, found}
+use Rattle.ipc_file_writer.specs.Below.{options_of, DictionaryTracker, IsOfBatch, IsRefused, IsSentBy, RefusesChunk, Stops, found}
 use Rattle.ipc_fields.specs.IpcFields.{Ids}
 use Rattle.ipc_streams.specs.Below.{WriteOptions}
 use Rattle.ipc_append.specs.declared.encode.EncodedChunk.{EncodedChunk}
@@ -32,7 +32,7 @@ pub record OneRefused (options : WriteOptions) (below : Ids) (e : IpcError) (t :
   pub chunks : List EncodedChunk
   pub held : DictionaryTracker
   pub encoded : AreEncoded options below t held before chunks
-  pub refused : Stops e (found held (forest batch.arrays) below) (λ sent. RefusesChunk e options sent batch)
+  pub refused : IsRefused e options (Stops e (found held (forest batch.arrays) below) (λ sent. RefusesChunk e options sent batch))
 
 -- why batches are not encoded: memory was wanted, or one is refused
 abbrev pub AreRefused : IpcError → WriteOptions → Ids → DictionaryTracker → List Batch → Type 0

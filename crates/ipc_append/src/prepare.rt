@@ -1,8 +1,8 @@
 //! What is read of a file, and encoded for it, before anything is written.
-ghost use Rattle.std.specs.Prelude.{◌≡◌, IfErr, IfOk};
+ghost use Rattle.std.specs.Prelude.{◌≡◌, All, IfErr, IfOk};
 ghost use Rattle.ipc_append.specs.Appended.{IsPrepared, NotPrepared};
 ghost use Rattle.ipc_append.specs.Targets.{DoesNotTake, ReadsDictionaries, Takes};
-ghost use Rattle.ipc_streams.specs.Below.{IsReadable};
+ghost use Rattle.ipc_streams.specs.Below.{IsNatural, IsReadable};
 ghost use Rattle.ipc_io.specs.Outside.{IsSize, SourceKept};
 
 use crate::bare::have_same_fields;
@@ -46,6 +46,7 @@ fn read_tracker<S: Source>(
     options: &WriteOptions,
 ) -> Result<DictionaryTracker, IpcError>
     requires readable { IsReadable file.now }
+    requires natural { All IsNatural file.now.dictionaries.items }
     requires whole { IsSize (S.content source.old) file.now.size }
     ensures reads { ReadsDictionaries result (S.content source.old) options.now file.now (S.faults source.old) (S.faults source.new) }
     ensures kept { SourceKept S.content S.faults S.references source.old source.new }

@@ -1,5 +1,5 @@
 -- What is put of bytes: they, or their hex text.
-use Rattle.std.proofs.Common.{◌≡◌, ℕ, ◌+◌, ◌-◌, ◌*◌, ◌/◌, ◌%◌, ◌≤◌, ◌<◌, List, [], ◌∷◌, ◌++◌, length, take, drop, Option, Result, IsErrAnd, slice_index, refl, sym, ap, ◌∙◌, subst, arith}
+use Rattle.std.proofs.Common.{◌≡◌, ℕ, ◌+◌, ◌-◌, ◌*◌, ◌/◌, ◌%◌, ◌≤◌, ◌<◌, List, [], ◌∷◌, ◌++◌, length, max, take, drop, Option, Result, IsErrAnd, slice_index, refl, sym, ap, ◌∙◌, subst, arith}
 use Rattle.std.proofs.lemmas.List.{drop_all}
 use Rattle.std.proofs.Math.Seq.{take-add}
 use Rattle.std.specs.Io.KnownBytes.{Appends}
@@ -53,6 +53,16 @@ no_text encoding new f w = subst (λ l. Appends new new l × NoneFalls (moved ne
 
 pub no_text_of : (encoding : Encoding) (new : Option (List ℕ)) (f w : ℕ) (xs : List ℕ) → xs ≡ [] → Appends new new (text_of encoding xs) × NoneFalls (moved new new f f w w)
 no_text_of encoding new f w xs e = subst (λ l. Appends new new (text_of encoding l) × NoneFalls (moved new new f f w w)) (sym e) (no_text encoding new f w)
+
+-- a piece of no more bytes than have their text in a room is no longer than that
+pub still_short : (encoding : Encoding) (old mid new n most room : ℕ) → mid ≤ max old room → new ≤ max mid (text_width encoding * n) → n ≤ most → most ≡ room / text_width encoding → new ≤ max old room
+still_short Bytes old mid new n most room h k m e = omega (arith, h, k, m, e)
+still_short HexText old mid new n most room h k m e = omega (arith, h, k, m, e)
+
+-- nor is one that is made there
+pub made_short : (encoding : Encoding) (old new n count room : ℕ) → new ≤ max old (text_width encoding * n) → n ≡ count → count ≤ room / made_width encoding → new ≤ max old room
+made_short Bytes old new n count room k e m = omega (arith, k, e, m)
+made_short HexText old new n count room k e m = omega (arith, k, e, m)
 
 pub no_text_left : (encoding : Encoding) (new : Option (List ℕ)) (f w : ℕ) (xs : List ℕ) (at : ℕ) → length xs ≤ at → Appends new new (text_of encoding (drop at xs)) × NoneFalls (moved new new f f w w)
 no_text_left encoding new f w xs at h = no_text_of encoding new f w (drop at xs) (drop_all at xs h)

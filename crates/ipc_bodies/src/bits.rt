@@ -1,5 +1,5 @@
 //! Bits, eight in a byte, the lowest first, with zeros behind the last (Arrow Columnar Format, "Validity bitmaps").
-ghost use Rattle.std.specs.Prelude.{◌≡◌, ◌+◌, ◌/◌, ◌^◌, ◌<◌, ◌≤◌, length, take, drop, get_or, if◌then◌else◌};
+ghost use Rattle.std.specs.Prelude.{◌≡◌, ◌+◌, ◌/◌, ◌^◌, ◌<◌, ◌≤◌, length, max, take, drop, get_or, if◌then◌else◌};
 ghost use Rattle.arrow_spec.specs.Framing.{packed};
 ghost use Rattle.arrow_buffers.specs.Rows.{part};
 ghost use Rattle.ipc_bodies.specs.Adding.{Appends};
@@ -100,6 +100,7 @@ pub(crate) fn put_bits<W: Sink>(
     requires scratch { 2 ≤ length scratch.old }
     requires stand { bytes.now ≡ take (length bits.now / 8) (packed bits.now) }
     ensures puts { PutsText (moved (W.written sink.old) (W.written sink.new) (W.faults sink.old) (W.faults sink.new) (W.wants sink.old) (W.wants sink.new)) result (text_of encoding (packed bits.now)) }
+    ensures longest { W.longest sink.new ≤ max (W.longest sink.old) (length scratch.old) }
     ensures same_references { W.references sink.new ≡ W.references sink.old }
     ensures scratch { length scratch.new ≡ length scratch.old }
 {
@@ -118,6 +119,7 @@ fn put_last<W: Sink>(
     requires last { length (packed bits.now) ≤ at + 1 }
     requires scratch { 2 ≤ length scratch.old }
     ensures puts { PutsText (moved (W.written sink.old) (W.written sink.new) (W.faults sink.old) (W.faults sink.new) (W.wants sink.old) (W.wants sink.new)) result (text_of encoding (drop at (packed bits.now))) }
+    ensures longest { W.longest sink.new ≤ max (W.longest sink.old) (length scratch.old) }
     ensures same_references { W.references sink.new ≡ W.references sink.old }
     ensures scratch { length scratch.new ≡ length scratch.old }
 {

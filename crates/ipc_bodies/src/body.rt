@@ -1,5 +1,5 @@
 //! Bodies: buffers one after another, each from a multiple of 64 on (Arrow Columnar Format, "Buffer Alignment and Padding").
-ghost use Rattle.std.specs.Prelude.{◌≡◌, ◌+◌, ◌-◌, ◌*◌, ◌++◌, ◌^◌, ◌<◌, ◌≤◌, [], ◌∷◌, length, map, pos};
+ghost use Rattle.std.specs.Prelude.{◌≡◌, ◌+◌, ◌-◌, ◌*◌, ◌++◌, ◌^◌, ◌<◌, ◌≤◌, [], ◌∷◌, length, map, max, pos};
 ghost use Rattle.arrow_spec.specs.Layout.{up_to, zeros};
 ghost use Rattle.arrow_spec.specs.Framing.{body_bytes};
 ghost use Rattle.arrow_spec.specs.Sent.{placed, body_of};
@@ -25,6 +25,7 @@ fn put_padded<W: Sink>(
 ) -> Result<(), IpcError>
     requires { 64 * made_width encoding ≤ length scratch.old }
     ensures puts { PutsText (moved (W.written sink.old) (W.written sink.new) (W.faults sink.old) (W.faults sink.new) (W.wants sink.old) (W.wants sink.new)) result (text_of encoding (buffer.now ++ zeros (up_to 64 (length buffer.now) - length buffer.now))) }
+    ensures longest { W.longest sink.new ≤ max (W.longest sink.old) (length scratch.old) }
     ensures same_references { W.references sink.new ≡ W.references sink.old }
     ensures scratch { length scratch.new ≡ length scratch.old }
 {
@@ -45,6 +46,7 @@ pub fn put_body_as<W: Sink>(
 ) -> Result<(), IpcError>
     requires { 64 * made_width encoding ≤ length scratch.old }
     ensures puts { PutsText (moved (W.written sink.old) (W.written sink.new) (W.faults sink.old) (W.faults sink.new) (W.wants sink.old) (W.wants sink.new)) result (text_of encoding (body_bytes 0 buffers.now)) }
+    ensures longest { W.longest sink.new ≤ max (W.longest sink.old) (length scratch.old) }
     ensures same_references { W.references sink.new ≡ W.references sink.old }
     ensures scratch { length scratch.new ≡ length scratch.old }
 {
@@ -66,6 +68,7 @@ pub fn put_body<W: Sink>(
 ) -> Result<(), IpcError>
     requires { 64 ≤ length scratch.old }
     ensures puts { PutsText (moved (W.written sink.old) (W.written sink.new) (W.faults sink.old) (W.faults sink.new) (W.wants sink.old) (W.wants sink.new)) result (body_bytes 0 buffers.now) }
+    ensures longest { W.longest sink.new ≤ max (W.longest sink.old) (length scratch.old) }
     ensures same_references { W.references sink.new ≡ W.references sink.old }
     ensures scratch { length scratch.new ≡ length scratch.old }
 {

@@ -1,5 +1,5 @@
 //! The bytes of one buffer of a body.
-ghost use Rattle.std.specs.Prelude.{◌≡◌, ◌↔◌, ◌*◌, ◌/◌, ◌≤◌, [], length, map, true, IfOk, IsTrue};
+ghost use Rattle.std.specs.Prelude.{◌≡◌, ◌↔◌, ◌*◌, ◌/◌, ◌≤◌, [], length, map, max, true, IfOk, IsTrue};
 ghost use Rattle.std.specs.Option.{option_map};
 ghost use Rattle.std.specs.List.{flat_map};
 ghost use Rattle.arrow_spec.specs.Flat.{Order, little, order_by};
@@ -209,6 +209,7 @@ impl BodyBuffer {
     ) -> Result<(), IpcError>
         requires { 64 * made_width encoding ≤ length scratch.old }
         ensures puts { PutsText (moved (W.written sink.old) (W.written sink.new) (W.faults sink.old) (W.faults sink.new) (W.wants sink.old) (W.wants sink.new)) result (text_of encoding self.now) }
+        ensures longest { W.longest sink.new ≤ max (W.longest sink.old) (length scratch.old) }
         ensures same_references { W.references sink.new ≡ W.references sink.old }
         ensures scratch { length scratch.new ≡ length scratch.old }
     {
@@ -231,6 +232,7 @@ impl BodyBuffer {
     pub fn put<W: Sink>(&self, sink: &mut W, scratch: &mut [u8]) -> Result<(), IpcError>
         requires { 64 ≤ length scratch.old }
         ensures puts { PutsText (moved (W.written sink.old) (W.written sink.new) (W.faults sink.old) (W.faults sink.new) (W.wants sink.old) (W.wants sink.new)) result self.now }
+        ensures longest { W.longest sink.new ≤ max (W.longest sink.old) (length scratch.old) }
         ensures same_references { W.references sink.new ≡ W.references sink.old }
         ensures scratch { length scratch.new ≡ length scratch.old }
     {
@@ -246,6 +248,7 @@ impl BodyBuffer {
     ) -> Result<(), IpcError>
         requires { 64 * made_width encoding ≤ length scratch.old }
         ensures puts { PutsText (moved (W.written sink.old) (W.written sink.new) (W.faults sink.old) (W.faults sink.new) (W.wants sink.old) (W.wants sink.new)) result (text_of encoding self.now) }
+        ensures longest { W.longest sink.new ≤ max (W.longest sink.old) (length scratch.old) }
         ensures same_references { W.references sink.new ≡ W.references sink.old }
         ensures scratch { length scratch.new ≡ length scratch.old }
     {
@@ -273,6 +276,7 @@ impl BodyBuffer {
         requires piece { IsPiece at count (length self.now) }
         requires scratch { count ≤ length scratch.old / made_width encoding }
         ensures puts { PutsText (moved (W.written sink.old) (W.written sink.new) (W.faults sink.old) (W.faults sink.new) (W.wants sink.old) (W.wants sink.new)) result (text_of encoding (part at count self.now)) }
+        ensures longest { W.longest sink.new ≤ max (W.longest sink.old) (length scratch.old) }
         ensures same_references { W.references sink.new ≡ W.references sink.old }
         ensures scratch { length scratch.new ≡ length scratch.old }
     {

@@ -1,8 +1,8 @@
 //! Bytes that are put into a sink, as they are or as hex text.
-ghost use Rattle.std.specs.Prelude.{◌≡◌, ◌-◌, ◌*◌, ◌<◌, ◌≤◌, length};
+ghost use Rattle.std.specs.Prelude.{◌≡◌, ◌-◌, ◌*◌, ◌<◌, ◌≤◌, length, max};
 ghost use Rattle.hex.specs.Hex.{encode_lower};
 ghost use Rattle.arrow_spec.specs.Layout.{up_to, zeros};
-ghost use Rattle.ipc_bodies.specs.Encodings.{text_of, HasRoom};
+ghost use Rattle.ipc_bodies.specs.Encodings.{text_of, text_width, HasRoom};
 ghost use Rattle.ipc_bodies.specs.Puts.{moved, PutsText};
 
 use crate::Encoding;
@@ -19,6 +19,7 @@ pub(crate) fn padding(length: usize) -> usize
 
 fn put<W: Sink>(sink: &mut W, bytes: &[u8]) -> Result<(), IpcError>
     ensures puts { PutsText (moved (W.written sink.old) (W.written sink.new) (W.faults sink.old) (W.faults sink.new) (W.wants sink.old) (W.wants sink.new)) result bytes.now }
+    ensures longest { W.longest sink.new ≤ max (W.longest sink.old) (length bytes.now) }
     ensures same_references { W.references sink.new ≡ W.references sink.old }
 {
     sink.put(bytes)?;
@@ -29,6 +30,7 @@ fn put<W: Sink>(sink: &mut W, bytes: &[u8]) -> Result<(), IpcError>
 fn put_digits<W: Sink>(sink: &mut W, bytes: &[u8], digits: &mut [u8]) -> Result<(), IpcError>
     requires { length digits.old ≡ 2 * length bytes.now }
     ensures puts { PutsText (moved (W.written sink.old) (W.written sink.new) (W.faults sink.old) (W.faults sink.new) (W.wants sink.old) (W.wants sink.new)) result (encode_lower bytes.now) }
+    ensures longest { W.longest sink.new ≤ max (W.longest sink.old) (2 * length bytes.now) }
     ensures same_references { W.references sink.new ≡ W.references sink.old }
     ensures digits { length digits.new ≡ length digits.old }
 {
@@ -45,6 +47,7 @@ pub(crate) fn put_piece<W: Sink>(
 ) -> Result<(), IpcError>
     requires { HasRoom encoding (length bytes.now) (length room.old) }
     ensures puts { PutsText (moved (W.written sink.old) (W.written sink.new) (W.faults sink.old) (W.faults sink.new) (W.wants sink.old) (W.wants sink.new)) result (text_of encoding bytes.now) }
+    ensures longest { W.longest sink.new ≤ max (W.longest sink.old) (text_width encoding * length bytes.now) }
     ensures same_references { W.references sink.new ≡ W.references sink.old }
     ensures room { length room.new ≡ length room.old }
 {
@@ -54,7 +57,7 @@ pub(crate) fn put_piece<W: Sink>(
     }
 }
 
-/// Puts bytes from where they stand, at most as many at a time as the scratch has. Hex text is made in the scratch.
+/// Puts bytes from where they stand, at most as many at a time as the scratch has. Hex text is made in the scratch, and no longer than it.
 ///
 /// # Errors
 ///
@@ -67,6 +70,7 @@ pub fn put_bytes_as<W: Sink>(
 ) -> Result<(), IpcError>
     requires { 2 ≤ length scratch.old }
     ensures puts { PutsText (moved (W.written sink.old) (W.written sink.new) (W.faults sink.old) (W.faults sink.new) (W.wants sink.old) (W.wants sink.new)) result (text_of encoding bytes.now) }
+    ensures longest { W.longest sink.new ≤ max (W.longest sink.old) (length scratch.old) }
     ensures same_references { W.references sink.new ≡ W.references sink.old }
     ensures scratch { length scratch.new ≡ length scratch.old }
 {
@@ -90,6 +94,7 @@ pub(crate) fn put_zeros<W: Sink>(
     requires count { count < 64 }
     requires scratch { 2 ≤ length scratch.old }
     ensures puts { PutsText (moved (W.written sink.old) (W.written sink.new) (W.faults sink.old) (W.faults sink.new) (W.wants sink.old) (W.wants sink.new)) result (text_of encoding (zeros count)) }
+    ensures longest { W.longest sink.new ≤ max (W.longest sink.old) (length scratch.old) }
     ensures same_references { W.references sink.new ≡ W.references sink.old }
     ensures scratch { length scratch.new ≡ length scratch.old }
 {

@@ -13,7 +13,8 @@ use Rattle.ipc_dictionaries.specs.declared.tracker.DictionaryTracker.{Dictionary
 use Rattle.ipc_dictionaries.specs.declared.walk.Progress.{Progress}
 use Rattle.ipc_dictionaries.specs.declared.walk.ToEncode.{ToEncode}
 use Rattle.ipc_dictionaries.specs.Batches.{begun, Sends, SendsMore}
-use Rattle.ipc_dictionaries.specs.Columns.{columns_of, columns_fault, columns_sent, unless_fault}
+use Rattle.arrow_arrays.specs.Columns.{columns_of}
+use Rattle.ipc_dictionaries.specs.Columns.{columns_fault, columns_sent, unless_fault}
 use Rattle.ipc_dictionaries.specs.NewDictionaries.{Options, Sending, arrays_sent}
 use Rattle.ipc_dictionaries.specs.Tracker.{held_by}
 use Rattle.ipc_dictionaries.specs.Used.{used_by}

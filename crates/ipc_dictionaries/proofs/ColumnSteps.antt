@@ -11,8 +11,10 @@ use Rattle.arrow_arrays.specs.Parts.{kind_in}
 use Rattle.arrow_arrays.specs.PartsOf.{parts_of, forest_of}
 use Rattle.arrow_arrays.specs.declared.array.Array.{Array}
 use Rattle.ipc_fields.specs.IpcFields.{Ids, fields_with, have_shapes}
-use Rattle.ipc_dictionaries.specs.Columns.{columns_of, columns_fault}
-use Rattle.ipc_dictionaries.specs.Shapes.{agree, are_apart}
+use Rattle.arrow_arrays.specs.Columns.{columns_of}
+use Rattle.ipc_dictionaries.specs.Columns.{columns_fault}
+use Rattle.ipc_fields.specs.Representable.{all_representable}
+use Rattle.ipc_dictionaries.specs.Shapes.{agree}
 
 -- a column without a name
 abbrev pub column : Array → Child
@@ -31,10 +33,10 @@ column_more cs xs i x f h e w g =
 
 -- tests of a shape, and of dictionaries that stand apart
 pub mismatched : (fs : Fields) (below : Ids) (b : Bool) → b ≡ (have_shapes fs below && agree (uses_in (fields_with fs below))) → b ≡ false → columns_fault fs below ≡ Some SchemaMismatch
-mismatched fs below b e h = ap (λ x. if not x then Some SchemaMismatch else (if not (are_apart fs) then Some NotRepresentable else None)) (sym e ∙ h)
+mismatched fs below b e h = ap (λ x. if not x then Some SchemaMismatch else (if not (all_representable fs) then Some NotRepresentable else None)) (sym e ∙ h)
 
-pub not_apart : (fs : Fields) (below : Ids) (b : Bool) → b ≡ (have_shapes fs below && agree (uses_in (fields_with fs below))) → b ≡ true → are_apart fs ≡ false → columns_fault fs below ≡ Some NotRepresentable
-not_apart fs below b e h a = ap (λ x. if not x then Some SchemaMismatch else (if not (are_apart fs) then Some NotRepresentable else None)) (sym e ∙ h) ∙ ap (λ x. if not x then Some NotRepresentable else None) a
+pub not_apart : (fs : Fields) (below : Ids) (b : Bool) → b ≡ (have_shapes fs below && agree (uses_in (fields_with fs below))) → b ≡ true → all_representable fs ≡ false → columns_fault fs below ≡ Some NotRepresentable
+not_apart fs below b e h a = ap (λ x. if not x then Some SchemaMismatch else (if not (all_representable fs) then Some NotRepresentable else None)) (sym e ∙ h) ∙ ap (λ x. if not x then Some NotRepresentable else None) a
 
-pub no_fault : (fs : Fields) (below : Ids) (b : Bool) → b ≡ (have_shapes fs below && agree (uses_in (fields_with fs below))) → b ≡ true → are_apart fs ≡ true → columns_fault fs below ≡ None
-no_fault fs below b e h a = ap (λ x. if not x then Some SchemaMismatch else (if not (are_apart fs) then Some NotRepresentable else None)) (sym e ∙ h) ∙ ap (λ x. if not x then Some NotRepresentable else None) a
+pub no_fault : (fs : Fields) (below : Ids) (b : Bool) → b ≡ (have_shapes fs below && agree (uses_in (fields_with fs below))) → b ≡ true → all_representable fs ≡ true → columns_fault fs below ≡ None
+no_fault fs below b e h a = ap (λ x. if not x then Some SchemaMismatch else (if not (all_representable fs) then Some NotRepresentable else None)) (sym e ∙ h) ∙ ap (λ x. if not x then Some NotRepresentable else None) a

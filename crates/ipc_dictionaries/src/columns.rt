@@ -4,14 +4,17 @@ ghost use Rattle.arrow_spec.specs.Kinds.{uses_in};
 ghost use Rattle.arrow_types.specs.KindOf.{fields_of};
 ghost use Rattle.arrow_arrays.specs.PartsOf.{forest_of};
 ghost use Rattle.ipc_fields.specs.IpcFields.{ids_of, fields_with, have_shapes};
-ghost use Rattle.ipc_dictionaries.specs.Columns.{columns_of, ChecksColumns};
+ghost use Rattle.arrow_arrays.specs.Columns.{columns_of};
+ghost use Rattle.ipc_dictionaries.specs.Columns.{ChecksColumns};
+ghost use Rattle.ipc_fields.specs.Representable.{all_representable};
 ghost use Rattle.ipc_dictionaries.specs.Shapes.{agree};
 
-use crate::shapes::{agree, are_apart};
+use crate::shapes::agree;
 use arrow_arrays::Array;
 use arrow_spec::IpcError;
 use arrow_types::Field;
 use ipc_fields::IpcField;
+use ipc_fields::representable::all_representable;
 use ipc_fields::shapes::have_shapes;
 use std::alloc::{AllocError, Global};
 
@@ -50,7 +53,7 @@ pub(crate) fn check_columns(
     if !suit(alloc, fields, columns)? {
         return Err(IpcError::SchemaMismatch);
     }
-    if !are_apart(columns) {
+    if !all_representable(columns) {
         return Err(IpcError::NotRepresentable);
     }
     Ok(())

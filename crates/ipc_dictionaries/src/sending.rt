@@ -44,9 +44,10 @@ impl NewDictionaries {
 ///
 /// `SchemaMismatch` where the IPC fields have not the shape of the arrays (one for each child, an id exactly at each
 /// dictionary) or values of two kinds stand under one id; then `NotRepresentable` where a dictionary stands directly
-/// in a dictionary or in an extension. Then at the first place in order: `DictionaryReplaced` where other values are
-/// held under an id, or stand there in the same batch, that may not be replaced; `NotRepresentable` where a dictionary of
-/// several parts is sent whole and no deltas are sent. `Memory`. Each leaves what the tracker holds.
+/// in a dictionary or in an extension, or a size, a precision or a scale passes 2^31 - 1. Then at the first place in
+/// order: `DictionaryReplaced` where other values are held under an id, or stand there in the same batch, that may not be
+/// replaced; `NotRepresentable` where a dictionary of several parts is sent whole and no deltas are sent. `Memory`. Each
+/// leaves what the tracker holds.
 pub fn new_dictionaries(
     alloc: Global,
     fields: &[IpcField],

@@ -5,3 +5,4 @@ pub mod Causes
 pub mod UnionIds
 pub mod Uses
 pub mod Latest
+pub mod Representable

@@ -5,6 +5,7 @@ pub mod agree;
 mod ipc_field;
 mod kinds;
 mod pairs;
+pub mod representable;
 pub mod shapes;
 pub mod uses;
 

@@ -1,5 +1,5 @@
 -- A batch that is planned, placed and put with its dictionaries, or not.
-use Rattle.std.proofs.Common.{◌≡◌, ◌⊎◌, inl, inr, ℤ, ℕ, List, [], ◌∷◌, ◌++◌, Bool, true, false, map, Result, Ok, Err, sym, ap, ◌∙◌, subst}
+use Rattle.std.proofs.Common.{◌≡◌, ◌⊎◌, inl, inr, ℤ, ℕ, List, [], ◌∷◌, ◌++◌, Bool, true, false, map, Result, Ok, Err, refl, sym, ap, ◌∙◌, subst}
 use Rattle.std.specs.Result.{IsErrAnd}
 use Rattle.std.specs.List.{flat_map}
 use Rattle.std.specs.Io.KnownBytes.{Appends}
@@ -12,10 +12,10 @@ use Rattle.ipc_fields.specs.declared.ipc_field.IpcField.{IpcField}
 use Rattle.ipc_messages.specs.Below.{Moved, NoneFalls, PutsPart, Sends as Found, undone, ToSend, held_by, to_send, NewDictionaries, DictionaryTracker, ToEncode}
 use Rattle.ipc_messages.specs.Chunks.{MayBeSent, RefusesChunk, found}
 use Rattle.ipc_messages.proofs.ChunkSteps.{kept_again, stops_behind, stops_found}
-use Rattle.ipc_messages.specs.declared.messages.PlannedMessage.{PlannedMessage}
+use Rattle.ipc_messages.specs.declared.planned.PlannedMessage.{PlannedMessage}
 use Rattle.ipc_messages.specs.declared.puts.Stop.{Stop}
 use Rattle.ipc_messages.specs.Messages.{IsChunkPlanned, Sizes, chunk_text, planned_sizes, planned_text}
-use Rattle.ipc_messages.specs.Puts.{StopsIn, Untouched}
+use Rattle.ipc_messages.specs.Puts.{Grew, StopsIn, Untouched}
 use Rattle.ipc_messages.specs.States.{state_behind}
 use Rattle.ipc_file_writer.specs.declared.blocks.ChunkBlocks.{ChunkBlocks}
 use Rattle.ipc_file_writer.specs.declared.blocks.FileBlocks.{FileBlocks}
@@ -146,14 +146,14 @@ why_not e old middle b n h f (inr r) =
     stops_behind e old.tracker middle.tracker (forest b.arrays) (file_ids old) n (λ sent. RefusesMore e old sent b) h (refuses_too e old middle (map to_send n.messages.items) b f r)
 
 stopped_send : (s : Bool) (e : IpcError) (m : Moved) (old middle new : FileCore) (b : Batch) (n : NewDictionaries) → Found (Ok n) old.tracker middle.tracker (forest b.arrays) (file_ids old) → Follows old middle
-    → PutStops s m e middle (map to_send n.messages.items) b → new.state ≡ state_behind s old.state → HasNoMore old new → Sends m (Err e) old new b
-stopped_send true e m old middle new b n h f c s k = inr (record {
+    → PutStops s m e middle (map to_send n.messages.items) b → (e ≡ Memory → s ≡ true → Grew m.old m.new) → new.state ≡ state_behind s old.state → HasNoMore old new → Sends m (Err e) old new b
+stopped_send true e m old middle new b n h f c w s k = inr (record {
   sending = record { held = held_by middle.tracker; used = h.0.0; sent = map to_send n.messages.items };
   is_found = h.0.1;
   may = may_too old middle (map to_send n.messages.items) b f c.0;
-  failed = record { put = c.1; state = s; same = k };
+  failed = record { put = c.1; behind = λ is. w is refl; state = s; same = k };
 })
-stopped_send false e m old middle new b n h f c s k = inl (why_not e old middle b n h f c.0, record { untouched = c.1; state = s; same = k })
+stopped_send false e m old middle new b n h f c w s k = inl (why_not e old middle b n h f c.0, record { untouched = c.1; state = s; same = k })
 
 -- what is left where it is undone
 pub undone_so : (old middle left back new : FileCore) (b : Batch) (n : NewDictionaries) → Found (Ok n) old.tracker middle.tracker (forest b.arrays) (file_ids old) → IsLeft middle left → Follows old middle
@@ -173,8 +173,8 @@ undone_so old middle left back new b n h l f u k w s p t = record {
 
 -- it is not, and what was held is held again
 pub not_sent : (y : IpcError) (stop : Stop) (m : Moved) (old middle new : FileCore) (b : Batch) (n : NewDictionaries) (messages : List ToEncode) → y ≡ stop.error
-    → Found (Ok n) old.tracker middle.tracker (forest b.arrays) (file_ids old) → messages ≡ n.messages.items → PutStops stop.has_begun m stop.error middle (map to_send messages) b → Follows old middle
+    → Found (Ok n) old.tracker middle.tracker (forest b.arrays) (file_ids old) → messages ≡ n.messages.items → PutStops stop.has_begun m stop.error middle (map to_send messages) b → (stop.error ≡ Memory → stop.has_begun ≡ true → Grew m.old m.new) → Follows old middle
     → new.state ≡ state_behind stop.has_begun old.state → HasNoMore old new → Sends m (Err y) old new b
-not_sent y stop m old middle new b n messages g h e c f s k =
+not_sent y stop m old middle new b n messages g h e c w f s k =
     subst (λ z. Sends m (Err z) old new b) (sym g)
-    (stopped_send stop.has_begun stop.error m old middle new b n h f (subst (λ xs. PutStops stop.has_begun m stop.error middle (map to_send xs) b) e c) s k)
+    (stopped_send stop.has_begun stop.error m old middle new b n h f (subst (λ xs. PutStops stop.has_begun m stop.error middle (map to_send xs) b) e c) w s k)

@@ -1,7 +1,8 @@
 -- What calls of a writer of files come to.
-use Rattle.std.proofs.Common.{◌≡◌, inl, inr, ℕ, List, Bool, true, false, Option, Result, Ok, Err, refl, sym, ap, subst}
+use Rattle.std.proofs.Common.{◌≡◌, inl, inr, ℕ, List, Bool, true, false, Option, Result, Ok, Err, refl, sym, ap, ◌∙◌, subst}
 use Rattle.std.specs.Result.{IsErrAnd}
 use Rattle.arrow_spec.specs.declared.error.IpcError.{IpcError}
+use Rattle.arrow_spec.specs.declared.error.IpcError.TheVariants.{Memory, WriteFault}
 use Rattle.arrow_arrays.specs.Batches.{Batch}
 use Rattle.arrow_types.specs.Schemas.{Keyed}
 use Rattle.ipc_fields.specs.IpcFields.{Ids, ids_of}
@@ -9,7 +10,7 @@ use Rattle.ipc_fields.specs.declared.ipc_field.IpcField.{IpcField}
 use Rattle.ipc_messages.specs.Below.{Moved, IsKept, held_by, DictionaryTracker}
 use Rattle.ipc_messages.specs.declared.puts.Stop.{Stop}
 use Rattle.ipc_messages.specs.Batches.{Suits}
-use Rattle.ipc_messages.specs.Puts.{StopsIn, Untouched}
+use Rattle.ipc_messages.specs.Puts.{Grew, StopsIn, Untouched}
 use Rattle.ipc_messages.specs.Schemas.{IsRefusedAs}
 use Rattle.ipc_messages.specs.States.{is_new, is_started, state_behind}
 use Rattle.ipc_file_writer.proofs.Meaning.{sent_file}
@@ -29,20 +30,24 @@ leaves m c u = record { untouched = u; state = refl; same = no_more c }
 pub same_held : (old new : DictionaryTracker) → new ≡ old → IsKept (held_by old) (held_by new)
 same_held old new e q = ap (λ (t : DictionaryTracker). held_by t q) e
 
+-- a fault is no want of memory
+by_fault : (e : IpcError) (old new : Option (List ℕ)) → e ≡ WriteFault → e ≡ Memory → Grew old new
+by_fault e old new f k = let both : WriteFault ≡ Memory = sym f ∙ k in absurd (cc)
+
 -- ── begin ──
 
 pub not_begun : (r : Result (Unit {0}) IpcError) (e : IpcError) (m : Moved) (c : FileCore) → IsErrAnd r (λ f. f ≡ e) → is_new c.state ≡ true → IsRefusedAs e (start_of c) → Untouched m → Starts m r c c
 not_begun (Ok u) e m c f n h t = absurd f
 not_begun (Err x) e m c f n h t = inl (inr (n, subst (λ y. IsRefusedAs y (start_of c)) (sym f) h), leaves m c t)
 
-start_stops : (b : Bool) (e : IpcError) (m : Moved) (old new : FileCore) (text : List ℕ) → is_new old.state ≡ true → start_of old ≡ Ok text → StopsIn b m e text → new.state ≡ state_behind b old.state → HasNoMore old new → Starts m (Err e) old new
-start_stops true e m old new text n h q k s = inr (record { new_before = n; bytes = text; text = h; failed = record { put = q; state = k; same = s } })
-start_stops false e m old new text n h q k s = inl (inr (n, inl q.0), record { untouched = q.1; state = k; same = s })
+start_stops : (b : Bool) (e : IpcError) (m : Moved) (old new : FileCore) (text : List ℕ) → is_new old.state ≡ true → start_of old ≡ Ok text → StopsIn b m e text → (b ≡ true → e ≡ WriteFault) → new.state ≡ state_behind b old.state → HasNoMore old new → Starts m (Err e) old new
+start_stops true e m old new text n h q f k s = inr (record { new_before = n; bytes = text; text = h; failed = record { put = q; behind = by_fault e m.old m.new (f refl); state = k; same = s }; whole = f refl })
+start_stops false e m old new text n h q f k s = inl (inr (n, inl q.0), record { untouched = q.1; state = k; same = s })
 
-pub start_stopped : (x : IpcError) (stop : Stop) (m : Moved) (old new : FileCore) (text put : List ℕ) → x ≡ stop.error → is_new old.state ≡ true → start_of old ≡ Ok text → put ≡ text → StopsIn stop.has_begun m stop.error put
+pub start_stopped : (x : IpcError) (stop : Stop) (m : Moved) (old new : FileCore) (text put : List ℕ) → x ≡ stop.error → is_new old.state ≡ true → start_of old ≡ Ok text → put ≡ text → StopsIn stop.has_begun m stop.error put → (stop.has_begun ≡ true → stop.error ≡ WriteFault)
     → new.state ≡ state_behind stop.has_begun old.state → HasNoMore old new → Starts m (Err x) old new
-start_stopped x stop m old new text put e n h t q k s =
-    subst (λ f. Starts m (Err f) old new) (sym e) (start_stops stop.has_begun stop.error m old new text n h (subst (StopsIn stop.has_begun m stop.error) t q) k s)
+start_stopped x stop m old new text put e n h t q f k s =
+    subst (λ z. Starts m (Err z) old new) (sym e) (start_stops stop.has_begun stop.error m old new text n h (subst (StopsIn stop.has_begun m stop.error) t q) f k s)
 
 -- ── end ──
 
@@ -50,14 +55,14 @@ pub not_ended : (r : Result (Unit {0}) IpcError) (e : IpcError) (m : Moved) (c :
 not_ended (Ok u) e m c f n h t = absurd f
 not_ended (Err x) e m c f n h t = inl (inr (n, subst (λ y. IsRefusedAs y (ending_of c)) (sym f) h), leaves m c t)
 
-end_stops : (b : Bool) (e : IpcError) (m : Moved) (old new : FileCore) (text : List ℕ) → is_started old.state ≡ true → ending_of old ≡ Ok text → StopsIn b m e text → new.state ≡ state_behind b old.state → HasNoMore old new → Finishes m (Err e) old new
-end_stops true e m old new text n h q k s = inr (record { started = n; bytes = text; text = h; failed = record { put = q; state = k; same = s } })
-end_stops false e m old new text n h q k s = inl (inr (n, inl q.0), record { untouched = q.1; state = k; same = s })
+end_stops : (b : Bool) (e : IpcError) (m : Moved) (old new : FileCore) (text : List ℕ) → is_started old.state ≡ true → ending_of old ≡ Ok text → StopsIn b m e text → (b ≡ true → e ≡ WriteFault) → new.state ≡ state_behind b old.state → HasNoMore old new → Finishes m (Err e) old new
+end_stops true e m old new text n h q f k s = inr (record { started = n; bytes = text; text = h; failed = record { put = q; behind = by_fault e m.old m.new (f refl); state = k; same = s }; whole = f refl })
+end_stops false e m old new text n h q f k s = inl (inr (n, inl q.0), record { untouched = q.1; state = k; same = s })
 
-pub end_stopped : (x : IpcError) (stop : Stop) (m : Moved) (old new : FileCore) (text put : List ℕ) → x ≡ stop.error → is_started old.state ≡ true → ending_of old ≡ Ok text → put ≡ text → StopsIn stop.has_begun m stop.error put
+pub end_stopped : (x : IpcError) (stop : Stop) (m : Moved) (old new : FileCore) (text put : List ℕ) → x ≡ stop.error → is_started old.state ≡ true → ending_of old ≡ Ok text → put ≡ text → StopsIn stop.has_begun m stop.error put → (stop.has_begun ≡ true → stop.error ≡ WriteFault)
     → new.state ≡ state_behind stop.has_begun old.state → HasNoMore old new → Finishes m (Err x) old new
-end_stopped x stop m old new text put e n h t q k s =
-    subst (λ f. Finishes m (Err f) old new) (sym e) (end_stops stop.has_begun stop.error m old new text n h (subst (StopsIn stop.has_begun m stop.error) t q) k s)
+end_stopped x stop m old new text put e n h t q f k s =
+    subst (λ z. Finishes m (Err z) old new) (sym e) (end_stops stop.has_begun stop.error m old new text n h (subst (StopsIn stop.has_begun m stop.error) t q) f k s)
 
 -- ── batches ──
 

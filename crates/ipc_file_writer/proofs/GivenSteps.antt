@@ -9,9 +9,9 @@ use Rattle.arrow_spec.specs.declared.error.IpcError.TheVariants.{Memory}
 use Rattle.ipc_messages.specs.Below.{Moved, NoneFalls, PutsPart, file_block, EncodedData}
 use Rattle.ipc_messages.specs.declared.puts.Stop.{Stop}
 use Rattle.ipc_messages.specs.Messages.{Sizes}
-use Rattle.ipc_messages.specs.Puts.{StopsIn}
+use Rattle.ipc_messages.specs.Puts.{Grew, StopsIn}
 use Rattle.ipc_messages.specs.States.{is_started, state_behind}
-use Rattle.ipc_messages.specs.declared.framed.FramedMessage.{FramedMessage}
+use Rattle.ipc_messages.specs.declared.framed_message.FramedMessage.{FramedMessage}
 use Rattle.ipc_messages.specs.Framed.{AreFramed, FramesEach, framed_sizes, framed_text, given_sizes, given_text}
 use Rattle.ipc_file_writer.specs.declared.blocks.ChunkBlocks.{ChunkBlocks}
 use Rattle.ipc_file_writer.specs.declared.blocks.FileBlocks.{FileBlocks}
@@ -89,15 +89,15 @@ given_put m old middle new ds b f ms h e q d r n w k = record {
 
 -- ── written ──
 
-given_ends : (s : Bool) (e : IpcError) (m : Moved) (old new : FileCore) (ds : List EncodedData) (b : EncodedData) → is_started old.state ≡ true → GivenStops s m e old ds b → new.state ≡ state_behind s old.state → HasNoMore old new
+given_ends : (s : Bool) (e : IpcError) (m : Moved) (old new : FileCore) (ds : List EncodedData) (b : EncodedData) → is_started old.state ≡ true → GivenStops s m e old ds b → (e ≡ Memory → s ≡ true → Grew m.old m.new) → new.state ≡ state_behind s old.state → HasNoMore old new
     → WritesGiven m (Err e) old new ds b
-given_ends true e m old new ds b n h s k = inr (record { started = n; may = h.0; failed = record { put = h.1; state = s; same = k } })
-given_ends false e m old new ds b n h s k = inl (inr (n, h.0), record { untouched = h.1; state = s; same = k })
+given_ends true e m old new ds b n h w s k = inr (record { started = n; may = h.0; failed = record { put = h.1; behind = λ is. w is refl; state = s; same = k } })
+given_ends false e m old new ds b n h w s k = inl (inr (n, h.0), record { untouched = h.1; state = s; same = k })
 
 -- messages are not written
-pub not_given : (y : IpcError) (stop : Stop) (m : Moved) (old new : FileCore) (ds : List EncodedData) (b : EncodedData) → y ≡ stop.error → is_started old.state ≡ true → GivenStops stop.has_begun m stop.error old ds b
+pub not_given : (y : IpcError) (stop : Stop) (m : Moved) (old new : FileCore) (ds : List EncodedData) (b : EncodedData) → y ≡ stop.error → is_started old.state ≡ true → GivenStops stop.has_begun m stop.error old ds b → (stop.error ≡ Memory → stop.has_begun ≡ true → Grew m.old m.new)
     → new.state ≡ state_behind stop.has_begun old.state → HasNoMore old new → WritesGiven m (Err y) old new ds b
-not_given y stop m old new ds b g n h s k = subst (λ z. WritesGiven m (Err z) old new ds b) (sym g) (given_ends stop.has_begun stop.error m old new ds b n h s k)
+not_given y stop m old new ds b g n h w s k = subst (λ z. WritesGiven m (Err z) old new ds b) (sym g) (given_ends stop.has_begun stop.error m old new ds b n h w s k)
 
 -- ── left ──
 

@@ -1,6 +1,7 @@
 -- What crates below say, handed on to those above.
-pub use Rattle.ipc_messages.specs.Below.{DictionaryTracker, Options, Sending, ToSend, arrays_sent, begun, columns_fault, columns_of, held_by, options_of, unless_fault}
-pub use Rattle.ipc_messages.specs.Chunks.{IsOfBatch, IsSentBy, MayBeSent, RefusesChunk, Stops, found}
+pub use Rattle.ipc_messages.specs.Below.{DictionaryTracker, Options, Sending, ToSend, arrays_sent, begun, columns_fault, columns_of, held_by}
+pub use Rattle.ipc_messages.specs.Below.{options_of, unless_fault}
+pub use Rattle.ipc_messages.specs.Chunks.{IsOfBatch, IsRefused, IsSentBy, MayBeSent, RefusesChunk, Stops, found}
 pub use Rattle.ipc_messages.specs.Encoded.{AreMessagesOf, IsMessageOf}
 pub use Rattle.ipc_messages.specs.Framed.{given_sizes, given_text}
 pub use Rattle.ipc_messages.specs.Messages.{Sizes, chunk_text, message_of, sizes_of, values_text}

@@ -5,7 +5,7 @@ use Rattle.std.specs.Rc.{rc_value}
 use Rattle.std.specs.Io.KnownBytes.{Appends}
 use Rattle.std.specs.declared.alloc.Global.{Global}
 use Rattle.arrow_spec.specs.declared.error.IpcError.{IpcError}
-use Rattle.arrow_spec.specs.declared.error.IpcError.TheVariants.{Memory, SchemaMismatch, State, TooLarge}
+use Rattle.arrow_spec.specs.declared.error.IpcError.TheVariants.{Memory, SchemaMismatch, State, TooLarge, WriteFault}
 use Rattle.arrow_spec.specs.Files.{TableBatch}
 use Rattle.arrow_spec.specs.Kinds.{Metadata}
 use Rattle.arrow_spec.specs.Readings.{Reading}
@@ -20,7 +20,7 @@ use Rattle.ipc_messages.specs.declared.state.WriterState.TheVariants.{New, Start
 use Rattle.ipc_messages.specs.Batches.{Suits}
 use Rattle.ipc_messages.specs.Fields.{AreIdsFor}
 use Rattle.ipc_messages.specs.Messages.{chunk_text}
-use Rattle.ipc_messages.specs.Puts.{Untouched}
+use Rattle.ipc_messages.specs.Puts.{Grew, Untouched}
 use Rattle.ipc_messages.specs.Schemas.{IsRefusedAs}
 use Rattle.ipc_messages.specs.States.{is_new, is_started}
 use Rattle.laws_writers.specs.Written.{cells_of}
@@ -69,9 +69,11 @@ pub record LeavesAll (m : Moved) (old new : FileCore) : Type 0 where
   pub state : new.state ≡ old.state
   pub same : HasNoMore old new
 
--- a put failed: a part of what was to be put is there, no block and no dictionary of it is held, and the writer has failed
+-- a put failed, or wanted memory behind a byte that was put: a part of what was to be put is there, no block and no dictionary of it is held, and the
+-- writer has failed
 pub record HasFailed (m : Moved) (e : IpcError) (bytes : List ℕ) (old new : FileCore) : Type 0 where
   pub put : PutsPart m e bytes
+  pub behind : e ≡ Memory → Grew m.old m.new
   pub state : new.state ≡ Failed
   pub same : HasNoMore old new
 
@@ -125,12 +127,13 @@ pub record HasBegun (m : Moved) (old new : FileCore) : Type 0 where
 abbrev pub StartCause : IpcError → FileCore → Type 0
 StartCause e c = ((e ≡ State) × (is_new c.state ≡ false)) ⊎ ((is_new c.state ≡ true) × IsRefusedAs e (start_of c))
 
--- a put failed
+-- the one put failed
 pub record StartFailed (m : Moved) (e : IpcError) (old new : FileCore) : Type 0 where
   pub new_before : is_new old.state ≡ true
   pub bytes : List ℕ
   pub text : start_of old ≡ Ok bytes
   pub failed : HasFailed m e bytes old new
+  pub whole : e ≡ WriteFault
 
 abbrev pub Starts : Moved → Result (Unit {0}) IpcError → FileCore → FileCore → Type 0
 Starts m (Ok u) old new = HasBegun m old new
@@ -230,12 +233,13 @@ pub record HasFinished (m : Moved) (old new : FileCore) : Type 0 where
 abbrev pub FinishCause : IpcError → FileCore → Type 0
 FinishCause e c = ((e ≡ State) × (is_started c.state ≡ false)) ⊎ ((is_started c.state ≡ true) × IsRefusedAs e (ending_of c))
 
--- a put failed
+-- the one put failed
 pub record FinishFailed (m : Moved) (e : IpcError) (old new : FileCore) : Type 0 where
   pub started : is_started old.state ≡ true
   pub bytes : List ℕ
   pub text : ending_of old ≡ Ok bytes
   pub failed : HasFailed m e bytes old new
+  pub whole : e ≡ WriteFault
 
 abbrev pub Finishes : Moved → Result (Unit {0}) IpcError → FileCore → FileCore → Type 0
 Finishes m (Ok u) old new = HasFinished m old new

@@ -6,6 +6,7 @@ ghost use Rattle.arrow_types.specs.Schemas.{fields_in};
 ghost use Rattle.ipc_messages.specs.Below.{moved, to_send};
 ghost use Rattle.ipc_fields.specs.IpcFields.{ids_of};
 ghost use Rattle.ipc_messages.specs.Fields.{AreIdsFor, given_ids};
+ghost use Rattle.ipc_messages.specs.Puts.{PutsBeforeWant};
 ghost use Rattle.ipc_messages.specs.States.{is_started, state_behind};
 ghost use Rattle.ipc_file_writer.specs.Blocks.{message_sizes};
 ghost use Rattle.ipc_file_writer.specs.Calls.{Finishes, HasNoMore, IsFresh, Sends, SetsFooterPairs, Starts, SuitsFile, Writes, takes_pairs};
@@ -197,6 +198,7 @@ impl FileCore {
         batch: &RecordBatch,
     ) -> Result<(), Stop>
         ensures puts { PutsMore (moved (W.written sink.old) (W.written sink.new) (W.faults sink.old) (W.faults sink.new) (W.wants sink.old) (W.wants sink.new)) result self.old self.new (map to_send messages.now) batch.now }
+        ensures wants { PutsBeforeWant result (W.written sink.old) (W.written sink.new) }
         ensures same_references { W.references sink.new ≡ W.references sink.old }
     {
         match self.plan(messages, batch) {

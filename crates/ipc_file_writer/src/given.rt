@@ -1,6 +1,7 @@
 //! Messages that were encoded before, as a file has them.
 ghost use Rattle.std.specs.Prelude.{◌++◌, ◌∷◌, ◌≡◌, []};
 ghost use Rattle.ipc_messages.specs.Below.{moved};
+ghost use Rattle.ipc_messages.specs.Puts.{PutsBeforeWant};
 ghost use Rattle.ipc_file_writer.specs.Given.{FramesMore, HasOtherScratch, PutsGiven, WritesGiven};
 
 use crate::blocks::ChunkBlocks;
@@ -42,6 +43,7 @@ impl FileCore {
         batch: &EncodedData,
     ) -> Result<(), Stop>
         ensures puts { PutsGiven (moved (W.written sink.old) (W.written sink.new) (W.faults sink.old) (W.faults sink.new) (W.wants sink.old) (W.wants sink.new)) result self.old self.new dictionaries.now batch.now }
+        ensures wants { PutsBeforeWant result (W.written sink.old) (W.written sink.new) }
         ensures same_references { W.references sink.new ≡ W.references sink.old }
     {
         match self.frame(dictionaries, batch) {
@@ -107,7 +109,8 @@ impl FileCore {
     /// Takes the memory through which bodies are put. Its bytes are of no meaning, and its metadata is empty. A later batch takes
     /// such memory again.
     pub fn get_scratches(&mut self) -> EncodedData
-        ensures { HasOtherScratch self.old self.new }
+        ensures taken { result.arrow_data ≡ self.old.scratch }
+        ensures others { HasOtherScratch self.old self.new }
     {
         let none = Vec::new(self.alloc);
         EncodedData {
@@ -118,7 +121,8 @@ impl FileCore {
 
     /// Gives memory through which bodies are put: that of a body, as `get_scratches` has it.
     pub fn set_scratches(&mut self, scratches: EncodedData)
-        ensures { HasOtherScratch self.old self.new }
+        ensures given { self.new.scratch ≡ scratches.arrow_data }
+        ensures others { HasOtherScratch self.old self.new }
     {
         self.scratch = scratches.arrow_data;
     }

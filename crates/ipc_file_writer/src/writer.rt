@@ -175,6 +175,7 @@ impl<W: Sink> FileWriter<W> {
 
     /// Takes the memory through which bodies are put, as [`FileCore::get_scratches`] does.
     pub fn get_scratches(&mut self) -> EncodedData
+        ensures taken { result.arrow_data ≡ self.old.core.scratch }
         ensures core { HasOtherScratch self.old.core self.new.core }
         ensures sink { self.new.sink ≡ self.old.sink }
     {
@@ -183,6 +184,7 @@ impl<W: Sink> FileWriter<W> {
 
     /// Gives memory through which bodies are put.
     pub fn set_scratches(&mut self, scratches: EncodedData)
+        ensures given { self.new.core.scratch ≡ scratches.arrow_data }
         ensures core { HasOtherScratch self.old.core self.new.core }
         ensures sink { self.new.sink ≡ self.old.sink }
     {

@@ -4,7 +4,8 @@ pub use Rattle.ipc_read.proofs.ColumnKinds.{column_carried}
 pub use Rattle.ipc_read.proofs.DictionaryReads.{holds_more}
 pub use Rattle.ipc_read.proofs.Refusals.{among_left, among_right, among_split}
 pub use Rattle.ipc_schema.proofs.Items.{signed-front}
-pub use Rattle.laws_columns.proofs.Below.{aligned_pieces, beyond_is_not_sent, first_rows, framed_is_batch, framed_whole, may_little, means_under, same_message, short_is_sent, short_then_sent, within_is_sent}
+pub use Rattle.laws_columns.proofs.Below.{aligned_pieces, beyond_is_not_sent, first_rows, framed_is_batch, framed_whole, may_little, means_under}
+pub use Rattle.laws_columns.proofs.Below.{same_message, short_is_sent, short_then_sent, within_is_sent}
 pub use Rattle.laws_columns.proofs.CarriedFields.{fields_carried}
 pub use Rattle.laws_columns.proofs.ReadBatches.{read_batch_sent}
 pub use Rattle.laws_columns.proofs.ReadColumns.{cells_under}

@@ -5,6 +5,7 @@ use Rattle.std.proofs.lemmas.Bool.{le-leb, lt-leb}
 use Rattle.arrow_spec.specs.declared.error.IpcError.{IpcError}
 use Rattle.arrow_spec.specs.declared.error.IpcError.TheVariants.{OutOfSpec}
 use Rattle.arrow_spec.specs.declared.error.OutOfSpecKind.TheVariants as kinds
+use Rattle.arrow_spec.specs.declared.message.Block.{Block}
 use Rattle.arrow_spec.specs.Readings.{bind, Gives, Reading, Refuses, refusals}
 use Rattle.arrow_spec.specs.Messages.{prefix_of, record_message}
 use Rattle.arrow_spec.specs.Files.{FileBlock, Purpose, Asked, block_message, batch_of, batch_of_tables, block_body}
@@ -15,8 +16,9 @@ use Rattle.ipc_files.specs.declared.block.BlockMessage.{BlockMessage}
 use Rattle.ipc_fields.specs.Causes.{Decodes}
 use Rattle.ipc_fields.proofs.Steps.{gives}
 use Rattle.ipc_files.proofs.Errors.{none_refused}
-use Rattle.ipc_files.specs.FileBlocks.{block_header, block_record, message_metadata, paired_message, paired_of, block_metadata, Fetched, Faulted, GivesIn, PrefixIn, BlockIn}
+use Rattle.ipc_files.specs.FileBlocks.{given, block_header, block_record, message_metadata, paired_message, paired_of, block_metadata, Fetched, Faulted, GivesIn, PrefixIn, BlockIn}
 use Rattle.ipc_files.proofs.BlockPrefixes.{memory_or_fault}
+use Rattle.ipc_files.proofs.GivenBlocks.{told_more}
 
 -- ── the metadata that is fetched ──
 
@@ -36,7 +38,7 @@ unfolding bind
 refused_first e (Ok x) f h = none_refused e (refusals (f x)) h
 refused_first e (Err es) f h = h
 
-pub prefix_refused : {X : Type 0} (content : Option (List ℕ)) (size : ℕ) (block : FileBlock) (view : X → List ℕ) (e : IpcError) → IsSize content size → block.offset + block.metadata + block.body ≤ size → PrefixIn content block.offset block.metadata (Err e) → GivesIn content view (Err e) (λ b. message_metadata b block)
+prefix_refused : {X : Type 0} (content : Option (List ℕ)) (size : ℕ) (block : FileBlock) (view : X → List ℕ) (e : IpcError) → IsSize content size → block.offset + block.metadata + block.body ≤ size → PrefixIn content block.offset block.metadata (Err e) → GivesIn content view (Err e) (λ b. message_metadata b block)
 prefix_refused None size block view e s h p = tt
 prefix_refused (Some b) size block view e s h p =
     subst (λ r. Refuses e (refusals r)) (sym (in_range b block (omega (arith, s, h)))) (refused_first e (prefix_of (block_metadata b block)) (λ p. Ok (take p.1 (drop (block.offset + p.0) b))) p)
@@ -61,6 +63,14 @@ metadata_from content after size block o m n p view r s eo em en h same prefix f
     let f' : IfOk r (λ x. Fetched content (block.offset + p.0) p.1 (view x)) = subst (λ a. IfOk r (λ x. Fetched content (a + p.0) p.1 (view x))) eo (subst (λ a. IfOk r (λ x. Fetched a (o + p.0) p.1 (view x))) same f) in
     metadata_read content size block p view r s inside prefix' f' (subst (λ a. IfErr r (λ e. Faulted a e)) same g)
 
+-- a prefix that is refused
+pub prefix_from : {X : Type 0} (content : Option (List ℕ)) (size : ℕ) (block : FileBlock) (o m n : ℕ) (view : X → List ℕ) (r : Result X IpcError) (e : IpcError)
+    → r ≡ Err e → IsSize content size → o ≡ block.offset → m ≡ block.metadata → n ≡ block.body → o + m + n ≤ size → PrefixIn content o m (Err e) → GivesIn content view r (λ b. message_metadata b block)
+prefix_from content size block o m n view r e is s eo em en h prefix =
+    let inside : block.offset + block.metadata + block.body ≤ size = omega (arith, eo, em, en, h) in
+    let prefix' : PrefixIn content block.offset block.metadata (Err e) = subst (λ a. PrefixIn content a block.metadata (Err e)) eo (subst (λ a. PrefixIn content o a (Err e)) em prefix) in
+    subst (λ q. GivesIn content view q (λ b. message_metadata b block)) (sym is) (prefix_refused content size block view e s inside prefix')
+
 -- ── what the metadata says ──
 
 pub read_of : {X Y Z : Type 0} (content : Option (List ℕ)) (metadata : List ℕ → Reading (List ℕ)) (view : X → List ℕ) (x : X) (text : List ℕ) (of : Y → Z) (reading : List ℕ → Reading Z) (r : Result Y IpcError)
@@ -78,23 +88,28 @@ pub without_first : {X Y A B : Type 0} (content : Option (List ℕ)) (first : Li
 without_first None first view e of reading h = tt
 without_first (Some b) first view e of reading h = refused_first e (first b) (reading b) h
 
-pub message_of_metadata : {X : Type 0} (content : Option (List ℕ)) (block : FileBlock) (view : X → List ℕ) (x : X) (text : List ℕ) (r : Result BlockMessage IpcError) → GivesIn content view (Ok x) (λ b. message_metadata b block) → text ≡ view x → Decodes paired_of r (paired_message text) → BlockIn content block r
+pub message_of_metadata : {X : Type 0} (content : Option (List ℕ)) (block : Block) (view : X → List ℕ) (x : X) (text : List ℕ) (r : Result BlockMessage IpcError) → GivesIn content view (Ok x) (λ b. given block (message_metadata b)) → text ≡ view x → Decodes paired_of r (paired_message text) → BlockIn content block r
 unfolding block_record
 message_of_metadata None block view x text r h t g = tt
-message_of_metadata (Some b) block view x text r h t g = read_of (Some b) (λ b. message_metadata b block) view x text paired_of paired_message r h t g
+message_of_metadata (Some b) block view x text r h t g =
+    told_more (Some b) paired_of r block message_metadata paired_message (read_of (Some b) (λ b. given block (message_metadata b)) view x text paired_of paired_message r h t g)
 
-pub message_without_metadata : {X : Type 0} (content : Option (List ℕ)) (block : FileBlock) (view : X → List ℕ) (r : Result BlockMessage IpcError) (e : IpcError) → r ≡ Err e → GivesIn content view (Err e) (λ b. message_metadata b block) → BlockIn content block r
+pub message_without_metadata : {X : Type 0} (content : Option (List ℕ)) (block : Block) (view : X → List ℕ) (r : Result BlockMessage IpcError) (e : IpcError) → r ≡ Err e → GivesIn content view (Err e) (λ b. given block (message_metadata b)) → BlockIn content block r
 unfolding block_record
 message_without_metadata None block view r e is h = tt
-message_without_metadata (Some b) block view r e is h = subst (λ q. BlockIn (Some b) block q) (sym is) (refused_first e (message_metadata b block) paired_message h)
+message_without_metadata (Some b) block view r e is h =
+    subst (λ q. BlockIn (Some b) block q) (sym is) (told_more (Some b) paired_of (Err e) block message_metadata paired_message (refused_first e (given block (message_metadata b)) paired_message h))
 
-pub header_of_metadata : {X : Type 0} (content : Option (List ℕ)) (block : FileBlock) (view : X → List ℕ) (x : X) (text : List ℕ) (r : Result RecordMessage IpcError) → GivesIn content view (Ok x) (λ b. message_metadata b block) → text ≡ view x → Decodes message_of r (record_message text) → GivesIn content message_of r (λ b. block_header b block)
+pub header_of_metadata : {X : Type 0} (content : Option (List ℕ)) (block : Block) (view : X → List ℕ) (x : X) (text : List ℕ) (r : Result RecordMessage IpcError) → GivesIn content view (Ok x) (λ b. given block (message_metadata b)) → text ≡ view x → Decodes message_of r (record_message text) → GivesIn content message_of r (λ b. given block (block_header b))
 unfolding block_header
-header_of_metadata content block view x text r h t g = read_of content (λ b. message_metadata b block) view x text message_of record_message r h t g
+header_of_metadata content block view x text r h t g =
+    told_more content message_of r block message_metadata record_message (read_of content (λ b. given block (message_metadata b)) view x text message_of record_message r h t g)
 
-pub header_without_metadata : {X : Type 0} (content : Option (List ℕ)) (block : FileBlock) (view : X → List ℕ) (r : Result RecordMessage IpcError) (e : IpcError) → r ≡ Err e → GivesIn content view (Err e) (λ b. message_metadata b block) → GivesIn content message_of r (λ b. block_header b block)
+pub header_without_metadata : {X : Type 0} (content : Option (List ℕ)) (block : Block) (view : X → List ℕ) (r : Result RecordMessage IpcError) (e : IpcError) → r ≡ Err e → GivesIn content view (Err e) (λ b. given block (message_metadata b)) → GivesIn content message_of r (λ b. given block (block_header b))
 unfolding block_header
-header_without_metadata content block view r e is h = handed_on content message_of (λ b. block_header b block) r e is (without_first content (λ b. message_metadata b block) view e message_of (λ b. record_message) h)
+header_without_metadata content block view r e is h =
+    handed_on content message_of (λ b. given block (block_header b)) r e is
+    (told_more content message_of (Err e) block message_metadata record_message (without_first content (λ b. given block (message_metadata b)) view e message_of (λ b. record_message) h))
 
 pub bind_twice : {A B C E : Type 0} (r : Result A E) (f : A → Result B E) (g : B → Result C E) → bind (bind r f) g ≡ bind r (λ x. bind (f x) g)
 unfolding bind

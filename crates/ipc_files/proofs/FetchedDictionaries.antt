@@ -7,6 +7,7 @@ use Rattle.arrow_spec.specs.declared.error.OutOfSpecKind.TheVariants.{InvalidId}
 use Rattle.arrow_spec.specs.Readings.{free_of, meaning, natural, only_if, required, unless}
 use Rattle.arrow_spec.specs.Arrays.{Dictionaries, HeldDictionary}
 use Rattle.arrow_spec.specs.Counts.{RecordBatch, first_place, magnitude}
+use Rattle.arrow_spec.specs.declared.message.Block.{Block}
 use Rattle.arrow_spec.specs.declared.message.MetadataVersion.{MetadataVersion}
 use Rattle.arrow_spec.specs.Files.{Asked, FileBlock, Meta, Request, TableBatch, batch_of_tables, block_body, block_message, dictionaries_of, dictionary_of, record_batch_of, to_read}
 use Rattle.arrow_spec.specs.Flat.{Order, order_by}
@@ -21,7 +22,8 @@ use Rattle.ipc_schema.specs.declared.message.DictionaryMessage.{DictionaryMessag
 use Rattle.ipc_projection.specs.Below.{Held, values_of_id}
 use Rattle.ipc_read.specs.Batches.{batch_fetched as buffers_fetched}
 use Rattle.ipc_read.specs.DictionaryBatches.{dictionary_fetched as values_fetched, one_column}
-use Rattle.ipc_files.specs.FileBlocks.{block_metadata, message_metadata}
+use Rattle.ipc_files.specs.FileBlocks.{block_metadata, file_block, message_metadata}
+use Rattle.ipc_files.proofs.GivenBlocks.{given_reads}
 use Rattle.ipc_files.specs.FileDictionaries.{DictionariesFetched, DictionaryFetched, DictionaryIn, FirstFetched, block_dictionary, block_values, dictionaries_cost, dictionary_cost}
 use Rattle.ipc_files.specs.Fetching.{BlockFetched, MetadataFetched, both_of, message_cost}
 use Rattle.ipc_files.proofs.FetchedFiles.{counted}
@@ -115,13 +117,14 @@ dictionary_front (Some b) meta block f f' h = λ d x is.
     let whole = block_costs b meta block p.message p.kind p.rows p.is p.has p.count in
     omega (arith, h p.metadata p.stands, whole)
 
-pub dictionary_whole : (content : Option (List ℕ)) (meta : Meta) (order : Bool) (block : FileBlock) (m : DictionaryMessage) (id : ℤ) (f mid f' : ℕ) → id ≡ m.id → order_by order ≡ meta.schema.order → MetadataFetched content block f mid → DictionaryIn content block (Ok m)
-    → ((bytes : List ℕ) → f' ≤ mid + values_fetched (record_batch_of (order_by order) m.version (header_of m.header) bytes) (values_of_id meta.schema.fields id) (magnitude m.header.length)) → DictionaryFetched content meta block f f'
-dictionary_whole None meta order block m id f mid f' one o h is more = tt
-dictionary_whole (Some b) meta order block m id f mid f' one o h is more = λ d x read.
+pub dictionary_whole : (content : Option (List ℕ)) (meta : Meta) (order : Bool) (x : Block) (m : DictionaryMessage) (id : ℤ) (f mid f' : ℕ) → id ≡ m.id → order_by order ≡ meta.schema.order → MetadataFetched content (file_block x) f mid → DictionaryIn content x (Ok m)
+    → ((bytes : List ℕ) → f' ≤ mid + values_fetched (record_batch_of (order_by order) m.version (header_of m.header) bytes) (values_of_id meta.schema.fields id) (magnitude m.header.length)) → DictionaryFetched content meta (file_block x) f f'
+dictionary_whole None meta order given m id f mid f' one o h is more = tt
+dictionary_whole (Some b) meta order given m id f mid f' one o h is more = λ d x read.
+    let block = file_block given in
     let p = values_parts b meta d block x read in
     let whole = block_costs b meta block p.message p.kind p.rows p.is p.has p.count in
-    let here : block_dictionary b block ≡ Ok (dictionary_message_of m) = is in
+    let here : block_dictionary b block ≡ Ok (dictionary_message_of m) = (given_reads given (block_dictionary b) (dictionary_message_of m) is).read in
     let same : dictionary_message_of m ≡ p.message = let there = p.is in cc in
     let body = block_body b block in
     let kind : values_of_id meta.schema.fields id ≡ Some p.kind = ap (values_of_id meta.schema.fields) one ∙ ap (λ (y : DictionaryTables). values_under y.dictionary.id (uses_in meta.schema.fields)) same ∙ p.has in

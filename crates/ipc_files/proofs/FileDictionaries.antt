@@ -1,10 +1,11 @@
 -- Dictionary blocks: one is its message and then its values, and all stand one after another.
-use Rattle.std.proofs.Common.{◌≡◌, ℕ, List, [], ◌∷◌, length, Bool, true, false, Option, Some, None, Result, Ok, Err, IfOk, IfSome, Global, Vec, ℤ, refl, sym, ap, ◌∙◌, subst}
+use Rattle.std.proofs.Common.{◌≡◌, ℕ, List, [], ◌∷◌, length, map, Bool, true, false, Option, Some, None, Result, Ok, Err, IfOk, IfSome, Global, Vec, ℤ, refl, sym, ap, ◌∙◌, subst}
 use Rattle.std.specs.BTreeMap.{BTreeMap}
 use Rattle.std.specs.Option.{option_map}
 use Rattle.arrow_spec.specs.declared.error.IpcError.{IpcError}
-use Rattle.arrow_spec.specs.Readings.{Refuses, bind, refusals}
-use Rattle.arrow_spec.specs.Arrays.{Dictionaries}
+use Rattle.arrow_spec.specs.declared.message.Block.{Block}
+use Rattle.arrow_spec.specs.Readings.{Reading, Refuses, bind, refusals}
+use Rattle.arrow_spec.specs.Arrays.{Dictionaries, HeldDictionary}
 use Rattle.arrow_spec.specs.Files.{FileBlock, Meta, block_body, block_message, dictionaries_of, dictionary_of, record_batch_of}
 use Rattle.arrow_spec.specs.Counts.{magnitude}
 use Rattle.arrow_spec.specs.Flat.{order_by}
@@ -29,23 +30,29 @@ use Rattle.ipc_read.specs.Held.{held_in}
 use Rattle.ipc_read.specs.Sources.{bytes_in}
 use Rattle.ipc_read.specs.declared.body.Body.{Body}
 use Rattle.ipc_files.specs.Blocks.{body_place}
-use Rattle.ipc_files.specs.FileBlocks.{GivesIn, message_metadata}
-use Rattle.ipc_files.specs.FileDictionaries.{AreHeld, DictionaryIn, HoldsBlock, HoldsUses, ReadsDictionaries, block_dictionary, block_values, no_block, one_block}
+use Rattle.ipc_files.specs.FileBlocks.{GivesIn, file_block, given, message_metadata}
+use Rattle.ipc_files.specs.FileDictionaries.{AreHeld, DictionaryIn, HoldsBlock, HoldsUses, ReadsDictionaries, block_dictionary, block_values, dictionaries_given, no_block, one_block}
 use Rattle.ipc_files.proofs.ReadFiles.{order_as}
 use Rattle.ipc_files.proofs.BlockMessages.{bind_ok, bind_twice, read_of, refused_first}
+use Rattle.ipc_files.proofs.GivenBlocks.{given_is, given_reads, given_refuses, natural_given, told_more}
+use Rattle.ipc_schema.specs.Footers.{IsNatural}
+use Rattle.std.proofs.lemmas.List.Elements.{All-head, All-tail}
+use Rattle.std.specs.Prelude.{All}
 
 -- ── the message of a block ──
 
-pub dictionary_of_metadata : {X : Type 0} (content : Option (List ℕ)) (block : FileBlock) (view : X → List ℕ) (x : X) (text : List ℕ) (r : Result DictionaryMessage IpcError) → GivesIn content view (Ok x) (λ b. message_metadata b block) → text ≡ view x
+pub dictionary_of_metadata : {X : Type 0} (content : Option (List ℕ)) (block : Block) (view : X → List ℕ) (x : X) (text : List ℕ) (r : Result DictionaryMessage IpcError) → GivesIn content view (Ok x) (λ b. given block (message_metadata b)) → text ≡ view x
     → Decodes dictionary_message_of r (dictionary_message text) → DictionaryIn content block r
 unfolding block_dictionary
 dictionary_of_metadata None block view x text r h t g = tt
-dictionary_of_metadata (Some b) block view x text r h t g = read_of (Some b) (λ b. message_metadata b block) view x text dictionary_message_of dictionary_message r h t g
+dictionary_of_metadata (Some b) block view x text r h t g =
+    told_more (Some b) dictionary_message_of r block message_metadata dictionary_message (read_of (Some b) (λ b. given block (message_metadata b)) view x text dictionary_message_of dictionary_message r h t g)
 
-pub dictionary_without_metadata : {X : Type 0} (content : Option (List ℕ)) (block : FileBlock) (view : X → List ℕ) (r : Result DictionaryMessage IpcError) (e : IpcError) → r ≡ Err e → GivesIn content view (Err e) (λ b. message_metadata b block) → DictionaryIn content block r
+pub dictionary_without_metadata : {X : Type 0} (content : Option (List ℕ)) (block : Block) (view : X → List ℕ) (r : Result DictionaryMessage IpcError) (e : IpcError) → r ≡ Err e → GivesIn content view (Err e) (λ b. given block (message_metadata b)) → DictionaryIn content block r
 unfolding block_dictionary
 dictionary_without_metadata None block view r e is h = tt
-dictionary_without_metadata (Some b) block view r e is h = subst (λ q. DictionaryIn (Some b) block q) (sym is) (refused_first e (message_metadata b block) dictionary_message h)
+dictionary_without_metadata (Some b) block view r e is h =
+    subst (λ q. DictionaryIn (Some b) block q) (sym is) (told_more (Some b) dictionary_message_of (Err e) block message_metadata dictionary_message (refused_first e (given block (message_metadata b)) dictionary_message h))
 
 -- ── its values ──
 
@@ -67,54 +74,58 @@ abbrev Added : Option (List ℕ) → List Keyed → Ids → Bool → Held → He
 Added content s below order h h' size id m body result =
     IfSome content (λ b. (d : Dictionaries) → HoldsCells d h → AddsDictionary d h' result (dictionary_reading s below order d size (message_of id m.is_delta (header_of m.header)) m.version (bytes_in body b) false))
 
-pub values_added : (content content' : Option (List ℕ)) (meta : Meta) (s : List Keyed) (below : Ids) (order : Bool) (pairs : Metadata) (h h' : Held) (size : ℕ) (id : ℤ) (block : FileBlock) (m : DictionaryMessage) (body : Body) (result : Result (Unit {0}) IpcError) → meta.schema ≡ schema_with s below order pairs → id ≡ m.id
-    → content' ≡ content → body ≡ body_place block → IsSize content size → DictionaryIn content block (Ok m) → Added content' s below order h h' size id m body result → IfSome content (λ b. (d : Dictionaries) → HoldsCells d h → AddsDictionary d h' result (block_values b meta d block))
+pub values_added : (content content' : Option (List ℕ)) (meta : Meta) (s : List Keyed) (below : Ids) (order : Bool) (pairs : Metadata) (h h' : Held) (size : ℕ) (id : ℤ) (block : Block) (m : DictionaryMessage) (body : Body) (result : Result (Unit {0}) IpcError) → meta.schema ≡ schema_with s below order pairs → id ≡ m.id
+    → content' ≡ content → body ≡ body_place (file_block block) → IsSize content size → DictionaryIn content block (Ok m) → Added content' s below order h h' size id m body result → IfSome content (λ b. (d : Dictionaries) → HoldsCells d h → AddsDictionary d h' result (given block (block_values b meta d)))
 values_added None content' meta s below order pairs h h' size id block m body result same one kept place whole is adds = tt
 values_added (Some b) content' meta s below order pairs h h' size id block m body result same one kept place whole is adds =
     let a0 : Added content' s below order h h' size m.id m body result = subst (λ q. Added content' s below order h h' size q m body result) one adds in
     let a1 : Added content' s below order h h' (length b) m.id m body result = subst (λ n. Added content' s below order h h' n m.id m body result) whole a0 in
-    let a2 : Added content' s below order h h' (length b) m.id m (body_place block) result = subst (λ p. Added content' s below order h h' (length b) m.id m p result) place a1 in
-    let a3 : Added (Some b) s below order h h' (length b) m.id m (body_place block) result = subst (λ w. Added w s below order h h' (length b) m.id m (body_place block) result) kept a2 in
-    λ d holds. subst (λ r. AddsDictionary d h' result r) (sym (values_read b meta s below order pairs d block m same is)) (a3 d holds)
+    let y = file_block block in
+    let a2 : Added content' s below order h h' (length b) m.id m (body_place y) result = subst (λ p. Added content' s below order h h' (length b) m.id m p result) place a1 in
+    let a3 : Added (Some b) s below order h h' (length b) m.id m (body_place y) result = subst (λ w. Added w s below order h h' (length b) m.id m (body_place y) result) kept a2 in
+    let reads = given_reads block (block_dictionary b) (dictionary_message_of m) is in
+    λ d holds. subst (λ r. AddsDictionary d h' result r) (sym (given_is block (block_values b meta d) reads.is ∙ values_read b meta s below order pairs d y m same reads.read)) (a3 d holds)
 
 -- the same of a result that is another's
-pub added_as : (content : Option (List ℕ)) (meta : Meta) (h h' : Held) (block : FileBlock) (r r' : Result (Unit {0}) IpcError) → r ≡ r' → IfSome content (λ b. (d : Dictionaries) → HoldsCells d h → AddsDictionary d h' r (block_values b meta d block))
-    → IfSome content (λ b. (d : Dictionaries) → HoldsCells d h → AddsDictionary d h' r' (block_values b meta d block))
-added_as content meta h h' block r r' same adds = subst (λ q. IfSome content (λ b. (d : Dictionaries) → HoldsCells d h → AddsDictionary d h' q (block_values b meta d block))) same adds
+pub added_as : (content : Option (List ℕ)) (meta : Meta) (h h' : Held) (block : Block) (r r' : Result (Unit {0}) IpcError) → r ≡ r' → IfSome content (λ b. (d : Dictionaries) → HoldsCells d h → AddsDictionary d h' r (given block (block_values b meta d)))
+    → IfSome content (λ b. (d : Dictionaries) → HoldsCells d h → AddsDictionary d h' r' (given block (block_values b meta d)))
+added_as content meta h h' block r r' same adds = subst (λ q. IfSome content (λ b. (d : Dictionaries) → HoldsCells d h → AddsDictionary d h' q (given block (block_values b meta d)))) same adds
 
 -- what a batch of a block holds, where bytes are told
 abbrev HeldFrom : Option (List ℕ) → List Keyed → Ids → Bool → Held → Held → ℤ → DictionaryMessage → Body → Type 0
 HeldFrom content s below order h h' id m body =
     IfSome content (λ b. (d : Dictionaries) → HoldsCells d h → HoldsPart h h' id m.is_delta (values_of_id (fields_with (fields_in s) below) id) (record_batch_of (order_by order) m.version (header_of m.header) (bytes_in body b)) (magnitude (header_of m.header).length))
 
-pub values_held : (content content' : Option (List ℕ)) (meta : Meta) (s : List Keyed) (below : Ids) (order : Bool) (pairs : Metadata) (h h' : Held) (id : ℤ) (block : FileBlock) (m : DictionaryMessage) (body : Body) → meta.schema ≡ schema_with s below order pairs → id ≡ m.id
-    → content' ≡ content → body ≡ body_place block → DictionaryIn content block (Ok m) → HeaderFits (header_of m.header) → HeldFrom content' s below order h h' id m body → ((q : ℤ) → same id q ≡ false → h' q ≡ h q)
-    → IfSome content (λ b. (d : Dictionaries) → HoldsCells d h → HoldsBlock b meta block h h' m.id)
+pub values_held : (content content' : Option (List ℕ)) (meta : Meta) (s : List Keyed) (below : Ids) (order : Bool) (pairs : Metadata) (h h' : Held) (id : ℤ) (block : Block) (m : DictionaryMessage) (body : Body) → meta.schema ≡ schema_with s below order pairs → id ≡ m.id
+    → content' ≡ content → body ≡ body_place (file_block block) → DictionaryIn content block (Ok m) → HeaderFits (header_of m.header) → HeldFrom content' s below order h h' id m body → ((q : ℤ) → same id q ≡ false → h' q ≡ h q)
+    → IfSome content (λ b. (d : Dictionaries) → HoldsCells d h → HoldsBlock b meta (file_block block) h h' m.id)
 values_held None content' meta s below order pairs h h' id block m body schema one kept place is fits part others = tt
 values_held (Some b) content' meta s below order pairs h h' id block m body schema one kept place is fits part others =
     let p0 : HeldFrom content' s below order h h' m.id m body = subst (λ q. HeldFrom content' s below order h h' q m body) one part in
-    let p1 : HeldFrom content' s below order h h' m.id m (body_place block) = subst (λ p. HeldFrom content' s below order h h' m.id m p) place p0 in
-    let p2 : HeldFrom (Some b) s below order h h' m.id m (body_place block) = subst (λ w. HeldFrom w s below order h h' m.id m (body_place block)) kept p1 in
+    let y = file_block block in
+    let reads = given_reads block (block_dictionary b) (dictionary_message_of m) is in
+    let p1 : HeldFrom content' s below order h h' m.id m (body_place y) = subst (λ p. HeldFrom content' s below order h h' m.id m p) place p0 in
+    let p2 : HeldFrom (Some b) s below order h h' m.id m (body_place y) = subst (λ w. HeldFrom w s below order h h' m.id m (body_place y)) kept p1 in
     let s1 : Schema = schema_with s below order pairs in
     λ d holds.
-    let p3 : HoldsPart h h' m.id m.is_delta (values_of_id s1.fields m.id) (record_batch_of s1.order m.version (header_of m.header) (block_body b block)) (magnitude (header_of m.header).length) =
-    subst (λ o. HoldsPart h h' m.id m.is_delta (values_of_id (fields_with (fields_in s) below) m.id) (record_batch_of o m.version (header_of m.header) (block_body b block)) (magnitude (header_of m.header).length)) (order_as order) (p2 d holds) in
+    let p3 : HoldsPart h h' m.id m.is_delta (values_of_id s1.fields m.id) (record_batch_of s1.order m.version (header_of m.header) (block_body b y)) (magnitude (header_of m.header).length) =
+    subst (λ o. HoldsPart h h' m.id m.is_delta (values_of_id (fields_with (fields_in s) below) m.id) (record_batch_of o m.version (header_of m.header) (block_body b y)) (magnitude (header_of m.header).length)) (order_as order) (p2 d holds) in
     record {
       message = dictionary_message_of m;
-      is = is;
+      is = reads.read;
       fits = fits;
       under = refl;
-      part = subst (λ (x : Schema). HoldsPart h h' m.id m.is_delta (values_of_id x.fields m.id) (record_batch_of x.order m.version (header_of m.header) (block_body b block)) (magnitude (header_of m.header).length)) (sym schema) p3;
+      part = subst (λ (x : Schema). HoldsPart h h' m.id m.is_delta (values_of_id x.fields m.id) (record_batch_of x.order m.version (header_of m.header) (block_body b y)) (magnitude (header_of m.header).length)) (sym schema) p3;
       others = subst (λ i. (q : ℤ) → same i q ≡ false → h' q ≡ h q) one others;
     }
 
 -- a message that is refused
-pub values_refused : (content : Option (List ℕ)) (meta : Meta) (h h' : Held) (block : FileBlock) (result : Result (Unit {0}) IpcError) (e : IpcError) → result ≡ Err e → DictionaryIn content block (Err e)
-    → IfSome content (λ b. (d : Dictionaries) → HoldsCells d h → AddsDictionary d h' result (block_values b meta d block))
+pub values_refused : (content : Option (List ℕ)) (meta : Meta) (h h' : Held) (block : Block) (result : Result (Unit {0}) IpcError) (e : IpcError) → result ≡ Err e → DictionaryIn content block (Err e)
+    → IfSome content (λ b. (d : Dictionaries) → HoldsCells d h → AddsDictionary d h' result (given block (block_values b meta d)))
 unfolding block_values
 values_refused None meta h h' block result e is refused = tt
 values_refused (Some b) meta h h' block result e is refused = λ d holds.
-    rw is (record { ok = tt; err = refused_first e (block_dictionary b block) _ refused })
+    rw is (record { ok = tt; err = given_refuses block (block_dictionary b) (block_values b meta d) e (λ y r. refused_first e (block_dictionary b y) _ r) refused })
 
 -- the parts under each id are of its values' kind behind a call, as they were before it
 pub uses_kept : (fs : Fields) (h h' : Held) (id : ℤ) (result : Result (Unit {0}) IpcError) → ((q : ℤ) → HasKindOf fs h q) → (HasKindOf fs h id → IfOk result (λ x. HasKindOf fs h' id)) → ((q : ℤ) → same id q ≡ false → h' q ≡ h q) → IfOk result (λ x. (q : ℤ) → HasKindOf fs h' q)
@@ -172,23 +183,75 @@ one_read (Some b) after meta block rest h h' id u same held uses adds part =
     let added = (here held.0 cells).ok in
     (added.0 ∷ held.0, held.1 ∙ values_first b meta held.0 block rest ∙ on (block_values b meta held.0 block) (λ x. dictionaries_of b meta (x ∷ held.0) rest) added.0 added.1, one_block held.2 uses added.1 (there held.0 cells) added.2)
 
--- what one refuses, all refuse
-pub one_refused : (content after : Option (List ℕ)) (meta : Meta) (block : FileBlock) (rest : List FileBlock) (h h' : Held) (result : Result (BTreeMap ℤ (Vec Array Global)) IpcError) (e : IpcError) → after ≡ content → result ≡ Err e → ReadSoFar content meta (block ∷ rest) h
-    → IfSome after (λ b. (d : Dictionaries) → HoldsCells d h → AddsDictionary d h' (Err e) (block_values b meta d block)) → IfSome content (λ b. ReadsDictionaries b meta meta.dictionaries result)
-one_refused None after meta block rest h h' result e same is read adds = tt
-one_refused (Some b) after meta block rest h h' result e same is read adds =
-    let here = subst (λ o. IfSome o (λ b. (d : Dictionaries) → HoldsCells d h → AddsDictionary d h' (Err e) (block_values b meta d block))) same adds in
-    let refused : Refuses e (refusals (dictionaries_of b meta [] meta.dictionaries)) =
-    subst (λ r. Refuses e (refusals r)) (sym (read.1 ∙ values_first b meta read.0 block rest)) (refused_first e (block_values b meta read.0 block) (λ x. dictionaries_of b meta (x ∷ read.0) rest) (here read.0 read.2).err) in
-    subst (λ r. ReadsDictionaries b meta meta.dictionaries r) (sym is) (record { ok = tt; steps = tt; err = refused })
+-- what is added by a block that is given, as one of a file
+pub adds_read : (after : Option (List ℕ)) (meta : Meta) (h h' : Held) (x : Block) (u : Unit {0}) → IfSome after (λ b. (d : Dictionaries) → HoldsCells d h → AddsDictionary d h' (Ok u) (given x (block_values b meta d)))
+    → IfSome after (λ b. (d : Dictionaries) → HoldsCells d h → AddsDictionary d h' (Ok u) (block_values b meta d (file_block x)))
+adds_read None meta h h' x u adds = tt
+adds_read (Some b) meta h h' x u adds = λ d holds.
+    let added = (adds d holds).ok in
+    record { ok = (added.0, (given_reads x (block_values b meta d) added.0 added.1).read, added.2); err = tt }
 
-pub all_read : (content : Option (List ℕ)) (meta : Meta) (rest : List FileBlock) (m : BTreeMap ℤ (Vec Array Global)) → rest ≡ [] → HeldSoFar content meta rest (held_in m) → IfSome content (λ b. ReadsDictionaries b meta meta.dictionaries (Ok m))
-unfolding dictionaries_of
-all_read None meta rest m none held = tt
-all_read (Some b) meta rest m none held =
-    let all : dictionaries_of b meta [] meta.dictionaries ≡ Ok held.0 = held.1 ∙ ap (dictionaries_of b meta held.0) none in
+-- ── blocks that are given, one after another ──
+
+-- the first blocks were read, where bytes are told: what all say is what the others say behind them
+abbrev pub GivenSoFar : Option (List ℕ) → Meta → List Block → List Block → Held → Type 0
+GivenSoFar content meta xs rest h = IfSome content (λ b. (d : Dictionaries) × (dictionaries_given b meta [] xs ≡ dictionaries_given b meta d rest) × HoldsCells d h)
+
+-- none of them was
+pub none_given : (content : Option (List ℕ)) (meta : Meta) (xs : List Block) (h : Held) → h ≡ none_held → GivenSoFar content meta xs xs h
+none_given None meta xs h nothing = tt
+none_given (Some b) meta xs h nothing = ([], refl, steps_cells b meta [] h (no_block (λ id. ap (λ (g : Held). g id) nothing)))
+
+given_first : (b : List ℕ) (meta : Meta) (d : Dictionaries) (x : Block) (xs : List Block) → dictionaries_given b meta d (x ∷ xs) ≡ bind (given x (block_values b meta d)) (λ values. dictionaries_given b meta (values ∷ d) xs)
+unfolding dictionaries_given
+given_first b meta d x xs = refl
+
+-- one more is
+pub one_given : (content after : Option (List ℕ)) (meta : Meta) (xs : List Block) (x : Block) (rest : List Block) (h h' : Held) (u : Unit {0}) → after ≡ content → GivenSoFar content meta xs (x ∷ rest) h
+    → IfSome after (λ b. (d : Dictionaries) → HoldsCells d h → AddsDictionary d h' (Ok u) (given x (block_values b meta d))) → GivenSoFar content meta xs rest h'
+one_given None after meta xs x rest h h' u same read adds = tt
+one_given (Some b) after meta xs x rest h h' u same read adds =
+    let here = subst (λ o. IfSome o (λ b. (d : Dictionaries) → HoldsCells d h → AddsDictionary d h' (Ok u) (given x (block_values b meta d)))) same adds in
+    let added = (here read.0 read.2).ok in
+    (added.0 ∷ read.0, read.1 ∙ given_first b meta read.0 x rest ∙ on (given x (block_values b meta read.0)) (λ v. dictionaries_given b meta (v ∷ read.0) rest) added.0 added.1, added.2)
+
+-- what one refuses, all refuse
+pub one_refused : (content after : Option (List ℕ)) (meta : Meta) (xs : List Block) (x : Block) (rest : List Block) (h h' : Held) (result : Result (BTreeMap ℤ (Vec Array Global)) IpcError) (e : IpcError) → after ≡ content → result ≡ Err e → GivenSoFar content meta xs (x ∷ rest) h
+    → IfSome after (λ b. (d : Dictionaries) → HoldsCells d h → AddsDictionary d h' (Err e) (given x (block_values b meta d))) → IfSome content (λ b. ReadsDictionaries b meta xs result)
+one_refused None after meta xs x rest h h' result e same is read adds = tt
+one_refused (Some b) after meta xs x rest h h' result e same is read adds =
+    let here = subst (λ o. IfSome o (λ b. (d : Dictionaries) → HoldsCells d h → AddsDictionary d h' (Err e) (given x (block_values b meta d)))) same adds in
+    let refused : Refuses e (refusals (dictionaries_given b meta [] xs)) =
+    subst (λ r. Refuses e (refusals r)) (sym (read.1 ∙ given_first b meta read.0 x rest)) (refused_first e (given x (block_values b meta read.0)) (λ v. dictionaries_given b meta (v ∷ read.0) rest) (here read.0 read.2).err) in
+    subst (λ r. ReadsDictionaries b meta xs r) (sym is) (record { ok = tt; said = tt; steps = tt; err = refused })
+
+pub all_read : (content : Option (List ℕ)) (meta : Meta) (xs rest : List Block) (others : List FileBlock) (m : BTreeMap ℤ (Vec Array Global)) → meta.dictionaries ≡ map file_block xs → rest ≡ [] → others ≡ [] → GivenSoFar content meta xs rest (held_in m) → HeldSoFar content meta others (held_in m)
+    → IfSome content (λ b. ReadsDictionaries b meta xs (Ok m))
+unfolding dictionaries_of dictionaries_given
+all_read None meta xs rest others m same none empty read held = tt
+all_read (Some b) meta xs rest others m same none empty read held =
+    let all : dictionaries_of b meta [] meta.dictionaries ≡ Ok held.0 = held.1 ∙ ap (dictionaries_of b meta held.0) empty in
+    let whole : dictionaries_of b meta [] (map file_block xs) ≡ Ok held.0 = subst (λ bs. dictionaries_of b meta [] bs ≡ Ok held.0) same all in
     record {
-      ok = (held.0, all, steps_cells b meta held.0 (held_in m) held.2);
-      steps = λ d is. let same : held.0 ≡ d = let both = sym all ∙ is in cc in subst (λ e. AreHeld b meta e (held_in m)) same held.2;
+      ok = (read.0, read.1 ∙ ap (dictionaries_given b meta read.0) none, read.2);
+      said = (held.0, whole, steps_cells b meta held.0 (held_in m) held.2);
+      steps = λ d is. let same : held.0 ≡ d = let both = sym whole ∙ is in cc in subst (λ e. AreHeld b meta e (held_in m)) same held.2;
       err = tt;
     }
+
+-- blocks of a file, none of whose numbers is negative
+pub given_in_file : (b : List ℕ) (meta : Meta) (d : Dictionaries) (xs : List Block) → All IsNatural xs → dictionaries_given b meta d xs ≡ dictionaries_of b meta d (map file_block xs)
+unfolding dictionaries_given dictionaries_of bind
+given_in_file b meta d [] h = refl
+given_in_file b meta d (x ∷ xs) h =
+    given_first b meta d x xs
+    ∙ ap (λ r. bind r (λ values. dictionaries_given b meta (values ∷ d) xs)) (given_is x (block_values b meta d) (natural_given x (All-head IsNatural x xs h)))
+    ∙ by (λ v. given_in_file b meta (v ∷ d) xs (All-tail IsNatural x xs h)) (block_values b meta d (file_block x)) ∙ sym (values_first b meta d (file_block x) (map file_block xs))
+  where
+    by : ((v : HeldDictionary) → dictionaries_given b meta (v ∷ d) xs ≡ dictionaries_of b meta (v ∷ d) (map file_block xs)) → (r : Reading HeldDictionary) → bind r (λ values. dictionaries_given b meta (values ∷ d) xs) ≡ bind r (λ values. dictionaries_of b meta (values ∷ d) (map file_block xs))
+    by others (Ok v) = others v
+    by others (Err es) = refl
+
+-- what refuses them refuses the file's
+pub refused_in_file : (b : List ℕ) (meta : Meta) (d : Dictionaries) (xs : List Block) (e : IpcError) → All IsNatural xs → Refuses e (refusals (dictionaries_given b meta d xs)) → Refuses e (refusals (dictionaries_of b meta d (map file_block xs)))
+refused_in_file b meta d xs e natural h = subst (λ r. Refuses e (refusals r)) (given_in_file b meta d xs natural) h

@@ -10,6 +10,7 @@ use Rattle.std.proofs.Props.{props}
 use Rattle.std.proofs.lemmas.Bool.{and_from, lt-ltb}
 use Rattle.std.proofs.lemmas.Option.{same_Some}
 use Rattle.arrow_spec.specs.declared.error.IpcError.{IpcError}
+use Rattle.arrow_spec.specs.declared.message.Block.{Block}
 use Rattle.arrow_spec.specs.declared.error.IpcError.TheVariants as errors
 use Rattle.arrow_spec.specs.Columns.{stands_in}
 use Rattle.arrow_spec.specs.Arrays.{Dictionaries}
@@ -17,6 +18,7 @@ use Rattle.arrow_spec.specs.Features.{chosen_floats}
 use Rattle.arrow_spec.specs.Files.{FileBlock, Meta, Request, TableBatch, batch_of, columns_right, to_read, wrong_columns}
 use Rattle.arrow_spec.specs.Kinds.{Fields, none, field}
 use Rattle.arrow_spec.specs.Readings.{Gives, Reading, Refuses, bind, free_of, refusals, unless, ◌>>=◌}
+use Rattle.arrow_spec.proofs.Projection.{went}
 use Rattle.arrow_types.specs.Schemas.{Keyed}
 use Rattle.arrow_arrays.specs.Batches.{Batch}
 use Rattle.ipc_read.specs.Batches.{table_of}
@@ -27,7 +29,9 @@ use Rattle.ipc_projection.specs.Projections.{IsReordered, MayProject}
 use Rattle.ipc_projection.specs.declared.projection.ProjectionInfo.{ProjectionInfo}
 use Rattle.ipc_projection.proofs.Numbers.{below_each, stands_once}
 use Rattle.ipc_projection.proofs.Projected.{applied_schema, chosen_stand}
-use Rattle.ipc_files.specs.Blocks.{BatchRead, BlockRead, ReadsBlock, asked_under, batch_in}
+use Rattle.ipc_files.specs.Blocks.{BatchRead, BlockRead, ReadsBlock, asked_under, batch_given, batch_in}
+use Rattle.ipc_files.specs.FileBlocks.{block_by, file_block}
+use Rattle.ipc_files.specs.RowCounts.{numbers_of}
 use Rattle.ipc_files.specs.Fetching.{BlockFetched}
 use Rattle.ipc_files.specs.FileViews.{meta_view}
 use Rattle.ipc_files.specs.Selections.{IsMade, numbers_read, schema_shown}
@@ -35,6 +39,7 @@ use Rattle.ipc_files.specs.Requests.{asked}
 use Rattle.ipc_files.specs.declared.metadata.FileMetadata.{FileMetadata}
 use Rattle.ipc_files.proofs.ReadBatches.{gives_block}
 use Rattle.ipc_files.proofs.Selected.{IsSelected, right_of_file, selected_answer, selected_fetched}
+use Rattle.ipc_files.proofs.GivenBlocks.{given_reads, of_file}
 use Rattle.ipc_files.proofs.ReadBlocks.{refused_ordered}
 
 -- ── a projection that was made for a schema ──
@@ -156,18 +161,25 @@ refused_behind (Ok u) x y e on h = on h
 refused_behind (Err es) x y e on h = h
 
 -- a block under a request, without the place before it
-abbrev block_of : List ℕ → Request → Meta → Dictionaries → FileBlock → Reading TableBatch
-block_of b r meta d block = batch_of to_read b (asked_under b meta d r) block r.limit
+abbrev block_of : List ℕ → Request → Meta → Dictionaries → Block → Reading TableBatch
+block_of b r meta d block = batch_given b (asked_under b meta d r) block r.limit
 
-in_place : (b : List ℕ) (r : Request) (meta : Meta) (d : Dictionaries) (block : FileBlock) → kinds_place r.columns meta ≡ Ok tt → batch_in r b meta d block ≡ block_of b r meta d block
+in_place : (b : List ℕ) (r : Request) (meta : Meta) (d : Dictionaries) (block : Block) → kinds_place r.columns meta ≡ Ok tt → batch_in r b meta d block ≡ block_of b r meta d block
 unfolding batch_in bind
 in_place b r meta d block h = rw h refl
 
-was_placed : (b : List ℕ) (r : Request) (meta : Meta) (d : Dictionaries) (block : FileBlock) (t : TableBatch) → batch_in r b meta d block ≡ Ok t → kinds_place r.columns meta ≡ Ok tt
+was_placed : (b : List ℕ) (r : Request) (meta : Meta) (d : Dictionaries) (block : Block) (t : TableBatch) → batch_in r b meta d block ≡ Ok t → kinds_place r.columns meta ≡ Ok tt
 unfolding batch_in
 was_placed b r meta d block t h = went_on (kinds_place r.columns meta) (block_of b r meta d block) t h
 
-refused_in_order : (b : List ℕ) (meta : Meta) (d : Dictionaries) (ds cs : List ℕ) (left : Option ℕ) (block : FileBlock) (e : IpcError) → ((c : ℕ) → stands_in ds c ≡ stands_in cs c)
+-- no number of a block that is read is negative
+was_given : (b : List ℕ) (r : Request) (meta : Meta) (d : Dictionaries) (block : Block) (t : TableBatch) → batch_in r b meta d block ≡ Ok t → block_by block ≡ Ok (file_block block)
+unfolding batch_in batch_given
+was_given b r meta d block t h =
+    let w = went (kinds_place r.columns meta) (λ _. block_of b r meta d block) t h in
+    (given_reads block (λ x. batch_of to_read b (asked_under b meta d r) x r.limit) t w.rest).is
+
+refused_in_order : (b : List ℕ) (meta : Meta) (d : Dictionaries) (ds cs : List ℕ) (left : Option ℕ) (block : Block) (e : IpcError) → ((c : ℕ) → stands_in ds c ≡ stands_in cs c)
     → Refuses e (refusals (batch_in (asked (Some ds) left) b meta d block)) → Refuses e (refusals (batch_in (asked (Some cs) left) b meta d block))
 unfolding batch_in
 refused_in_order b meta d ds cs left block e same h =
@@ -178,14 +190,14 @@ refused_in_order b meta d ds cs left block e same h =
 -- ── what is given ──
 
 -- what a call gives of a block under some numbers, and under dictionaries
-abbrev pub GivesUnder : List ℕ → FileMetadata → Dictionaries → Option (List ℕ) → Option ℕ → FileBlock → Result Batch IpcError → Type 0
+abbrev pub GivesUnder : List ℕ → FileMetadata → Dictionaries → Option (List ℕ) → Option ℕ → Block → Result Batch IpcError → Type 0
 GivesUnder b file d columns left block result = Gives table_of result (batch_in (asked columns left) b (meta_view file) d block)
 
 -- under those whose cells are held
-abbrev pub GivesBatch : Option (List ℕ) → Held → FileMetadata → Option (List ℕ) → Option ℕ → FileBlock → Result Batch IpcError → Type 0
+abbrev pub GivesBatch : Option (List ℕ) → Held → FileMetadata → Option (List ℕ) → Option ℕ → Block → Result Batch IpcError → Type 0
 GivesBatch content held file columns left block result = IfSome content (λ b. (d : Dictionaries) → HoldsCells d held → GivesUnder b file d columns left block result)
 
-pub refused_given : (content : Option (List ℕ)) (held : Held) (file : FileMetadata) (columns : Option (List ℕ)) (p : Option ProjectionInfo) (numbers : Option (List ℕ)) (left : Option ℕ) (block : FileBlock) (result : Result Batch IpcError) (e : IpcError) → numbers ≡ numbers_read p → result ≡ Err e
+pub refused_given : (content : Option (List ℕ)) (held : Held) (file : FileMetadata) (columns : Option (List ℕ)) (p : Option ProjectionInfo) (numbers : Option (List ℕ)) (left : Option ℕ) (block : Block) (result : Result Batch IpcError) (e : IpcError) → numbers ≡ numbers_read p → result ≡ Err e
     → MayProject (rc_value file.schema) columns p → GivesBatch content held file numbers left block (Err e) → GivesBatch content held file columns left block result
 refused_given None held file columns p numbers left block result e same is may h = tt
 refused_given (Some b) held file columns None numbers left block result e same is may h =
@@ -194,9 +206,9 @@ refused_given (Some b) held file None (Some p) numbers left block result e same 
 refused_given (Some b) held file (Some cs) (Some p) numbers left block result e same is may h = λ d holds.
     subst (λ r. GivesUnder b file d (Some cs) left block r) (sym is) (refused_in_order b (meta_view file) d p.columns.items cs left block e may.same (subst (λ ds. GivesUnder b file d ds left block (Err e)) same (h d holds)))
 
-pub ordered_given : (content : Option (List ℕ)) (held : Held) (file : FileMetadata) (columns : Option (List ℕ)) (p : ProjectionInfo) (numbers : Option (List ℕ)) (left : Option ℕ) (block : FileBlock) (x : Batch) (result : Result Batch IpcError) → numbers ≡ Some p.columns.items
+pub ordered_given : (content : Option (List ℕ)) (held : Held) (file : FileMetadata) (columns : Option (List ℕ)) (p : ProjectionInfo) (numbers : Option (List ℕ)) (left : Option ℕ) (block : Block) (x : Batch) (result : Result Batch IpcError) → numbers ≡ Some p.columns.items
     → MayProject (rc_value file.schema) columns (Some p) → IfOk result (IsReordered p.map x) → IfErr result (λ e. e ≡ errors.Memory) → GivesBatch content held file numbers left block (Ok x)
-    → IfSome content (λ b. (d : Dictionaries) → HoldsCells d held → BlockRead b held (asked_under b (meta_view file) d (asked numbers left)) block left x) → GivesBatch content held file columns left block result
+    → IfSome content (λ b. (d : Dictionaries) → HoldsCells d held → BlockRead b held (asked_under b (meta_view file) d (asked numbers left)) (file_block block) left x) → GivesBatch content held file columns left block result
 ordered_given None held file columns p numbers left block x result is may order memory gives read = tt
 ordered_given (Some b) held file columns p numbers left block x result is may order memory gives read = λ d holds.
     let meta = meta_view file in
@@ -204,7 +216,7 @@ ordered_given (Some b) held file columns p numbers left block x result is may or
     let kinds : kinds_place numbers meta ≡ Ok tt = was_placed b (asked numbers left) meta d block (table_of x) (gives d holds) in
     let rising : kinds_place (Some p.columns.items) meta ≡ Ok tt = subst (λ ds. kinds_place ds meta ≡ Ok tt) is kinds in
     let here : kinds_place columns meta ≡ Ok tt = subst (λ cs. kinds_place cs meta ≡ Ok tt) (sym h.are) (sym (place_same meta p.columns.items h.numbers h.is.same) ∙ rising) in
-    let block_read : ReadsBlock b held (asked_under b meta d (asked (Some p.columns.items) left)) block left (Ok x) = record { read = subst (λ ds. BlockRead b held (asked_under b meta d (asked ds left)) block left x) is (read d holds); refused = tt } in
+    let block_read : ReadsBlock b held (asked_under b meta d (asked (Some p.columns.items) left)) block left (Ok x) = record { is = was_given b (asked numbers left) meta d block (table_of x) (gives d holds); read = subst (λ ds. BlockRead b held (asked_under b meta d (asked ds left)) (file_block block) left x) is (read d holds); refused = tt } in
     gives_block b held (asked columns left) meta d block result (in_place b (asked columns left) meta d block here)
     (selected_answer (Some b) held file d columns p p.columns.items left block x result refl h (right_of_file file columns (rc_value file.schema) refl (right_of_projection (rc_value file.schema) columns p may)) order memory block_read)
 
@@ -215,9 +227,10 @@ pub ordered_read : (content : Option (List ℕ)) (held : Held) (file : FileMetad
 ordered_read None held file columns p numbers left block x (Ok y) is may order memory read = tt
 ordered_read (Some b) held file columns p numbers left block x (Ok y) is may order memory read = λ d holds.
     let meta = meta_view file in
-    let block_read : ReadsBlock b held (asked_under b meta d (asked (Some p.columns.items) left)) block left (Ok x) = record { read = subst (λ ds. BlockRead b held (asked_under b meta d (asked ds left)) block left x) is (read d holds); refused = tt } in
-    let answer : ReadsBlock b held (asked_under b meta d (asked columns left)) block left (Ok y) =
-    selected_answer (Some b) held file d columns p p.columns.items left block x (Ok y) refl (selected_by (rc_value file.schema) columns p may) (right_of_file file columns (rc_value file.schema) refl (right_of_projection (rc_value file.schema) columns p may)) order memory block_read in
+    let given = numbers_of block in
+    let block_read : ReadsBlock b held (asked_under b meta d (asked (Some p.columns.items) left)) given left (Ok x) = record { is = of_file block; read = subst (λ ds. BlockRead b held (asked_under b meta d (asked ds left)) block left x) is (read d holds); refused = tt } in
+    let answer : ReadsBlock b held (asked_under b meta d (asked columns left)) given left (Ok y) =
+    selected_answer (Some b) held file d columns p p.columns.items left given x (Ok y) refl (selected_by (rc_value file.schema) columns p may) (right_of_file file columns (rc_value file.schema) refl (right_of_projection (rc_value file.schema) columns p may)) order memory block_read in
     answer.read
 ordered_read content held file columns p numbers left block x (Err e) is may order memory read = tt
 

@@ -6,6 +6,7 @@ pub mod ReadFits
 pub mod ReadBlocks
 pub mod ReadFiles
 pub mod BlockPrefixes
+pub mod GivenBlocks
 pub mod BlockMessages
 pub mod BlockNumbers
 pub mod FileFooters

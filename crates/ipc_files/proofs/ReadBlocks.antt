@@ -5,6 +5,7 @@ use Rattle.arrow_spec.specs.declared.error.Feature.TheVariants as features
 use Rattle.arrow_spec.specs.declared.error.IpcError.{IpcError}
 use Rattle.arrow_spec.specs.declared.error.IpcError.TheVariants.{Unsupported}
 use Rattle.arrow_spec.specs.declared.error.OutOfSpecKind.TheVariants as kinds
+use Rattle.arrow_spec.specs.declared.message.Block.{Block}
 use Rattle.arrow_spec.specs.declared.message.MetadataVersion.{MetadataVersion}
 use Rattle.arrow_spec.specs.Readings.{Gives, Reading, Refuses, bind, ◌>>=◌, natural, only_if, refusals, unless}
 use Rattle.arrow_spec.specs.Arrays.{Dictionaries}
@@ -25,9 +26,10 @@ use Rattle.laws_columns.specs.Below.{ArePicked, AreAsked, HeaderFits, with_colum
 use Rattle.laws_columns.proofs.Below.{none_refuses}
 use Rattle.laws_columns.proofs.RisingBatches.{rising_asked, rising_refuses}
 use Rattle.ipc_read.specs.Batches.{batch_reading, chosen_read, columns_asked, table_of}
-use Rattle.ipc_files.specs.FileBlocks.{PairedMessage, block_record}
-use Rattle.ipc_files.specs.Blocks.{BlockRead, ReadsBlock}
+use Rattle.ipc_files.specs.FileBlocks.{PairedMessage, block_by, block_record, file_block, given}
+use Rattle.ipc_files.specs.Blocks.{BlockRead, ReadsBlock, batch_given}
 use Rattle.ipc_files.proofs.BlockMessages.{batch_by_record, refused_first}
+use Rattle.ipc_files.proofs.GivenBlocks.{given_is, given_refuses}
 use Rattle.ipc_files.proofs.Picked.{as_many}
 
 -- ── a block that is read ──
@@ -35,6 +37,16 @@ use Rattle.ipc_files.proofs.Picked.{as_many}
 -- a block whose message is refused
 pub message_refused : (purpose : Purpose) (e : IpcError) (b : List ℕ) (a : Asked) (block : FileBlock) (left : Option ℕ) → Refuses e (refusals (block_record b block)) → Refuses e (refusals (batch_of purpose b a block left))
 message_refused purpose e b a block left h = rw (batch_by_record purpose b a block left) (refused_first e (block_record b block) _ h)
+
+-- the same of one that is given
+pub given_message_refused : (e : IpcError) (b : List ℕ) (a : Asked) (x : Block) (left : Option ℕ) → Refuses e (refusals (given x (block_record b))) → Refuses e (refusals (batch_given b a x left))
+unfolding batch_given
+given_message_refused e b a x left h = given_refuses x (block_record b) (λ block. batch_of to_read b a block left) e (λ block r. message_refused to_read e b a block left r) h
+
+-- a block none of whose numbers is negative
+pub batch_is_given : (b : List ℕ) (a : Asked) (x : Block) (left : Option ℕ) → block_by x ≡ Ok (file_block x) → batch_given b a x left ≡ batch_of to_read b a (file_block x) left
+unfolding batch_given
+batch_is_given b a x left is = given_is x (λ block. batch_of to_read b a block left) is
 
 unless_read : {A B : Type 0} (r : Reading A) (k : A → Reading B) (es : List IpcError) → r ≡ Err es → (r >>= k) ≡ Err es
 unfolding bind
@@ -117,18 +129,22 @@ pairs_beside a v custom tables body left =
     (λ n. columns_at (record_batch_of a.order v tables body) a.dictionaries a.columns a.fields 0 first_place n (share left n))
     (λ n columns custom. record { rows = share left n; columns = as_asked a.columns columns; custom = custom }) custom (λ n columns. refl)
 
-pub paired_read : (b : List ℕ) (h : Held) (a : Asked) (left : Option ℕ) (block : FileBlock) (m : PairedMessage) (x y : Batch) → CustomMayBeWritten m.custom → y ≡ record { height = x.height; schema = x.schema; arrays = x.arrays; custom = m.custom }
-    → ReadsPlain b h a block left m (Ok x) → ReadsBlock b h a block left (Ok y)
-paired_read b h a left block m x y ordered is r =
+pub paired_read : (b : List ℕ) (h : Held) (a : Asked) (left : Option ℕ) (given : Block) (m : PairedMessage) (x y : Batch) → block_by given ≡ Ok (file_block given) → CustomMayBeWritten m.custom → y ≡ record { height = x.height; schema = x.schema; arrays = x.arrays; custom = m.custom }
+    → ReadsPlain b h a (file_block given) left m (Ok x) → ReadsBlock b h a given left (Ok y)
+paired_read b h a left given m x y natural ordered is r =
+    let block = file_block given in
     let z : Batch = record { height = x.height; schema = x.schema; arrays = x.arrays; custom = m.custom } in
     let read : batch_of_tables to_read a m.version m.custom m.tables (block_body b block) left ≡ Ok (table_of z) = pairs_beside a m.version m.custom m.tables (block_body b block) left ∙ on _ _ (table_of x) r.gives in
-    subst (λ w. ReadsBlock b h a block left (Ok w)) (sym is) (record { read = record { message = m; is = r.is; fits = r.fits; ordered = ordered; custom = refl; read = read; columns = r.columns }; refused = tt })
+    subst (λ w. ReadsBlock b h a given left (Ok w)) (sym is) (record { is = natural; read = record { message = m; is = r.is; fits = r.fits; ordered = ordered; custom = refl; read = read; columns = r.columns }; refused = tt })
 
-pub paired_refused : (b : List ℕ) (h : Held) (a : Asked) (left : Option ℕ) (block : FileBlock) (m : PairedMessage) (e : IpcError) → ReadsPlain b h a block left m (Err e) → ReadsBlock b h a block left (Err e)
-paired_refused b h a left block m e r = record {
-  read = tt;
-  refused = rw (batch_by_record to_read b a block left, on (block_record b block) _ m r.is, pairs_beside a m.version m.custom m.tables (block_body b block) left) (refused_first e _ _ r.gives);
-}
+pub paired_refused : (b : List ℕ) (h : Held) (a : Asked) (left : Option ℕ) (given : Block) (m : PairedMessage) (e : IpcError) → block_by given ≡ Ok (file_block given) → ReadsPlain b h a (file_block given) left m (Err e) → ReadsBlock b h a given left (Err e)
+paired_refused b h a left given m e natural r =
+    let block = file_block given in
+    record {
+      is = tt;
+      read = tt;
+      refused = rw (batch_is_given b a given left natural, batch_by_record to_read b a block left, on (block_record b block) _ m r.is, pairs_beside a m.version m.custom m.tables (block_body b block) left) (refused_first e _ _ r.gives);
+    }
 
 -- ── the columns in the order asked ──
 
@@ -151,10 +167,12 @@ block_ordered b h a rising cs block left x y same right rows custom order r =
     }
 
 -- a block that is refused by rising numbers
-pub refused_ordered : (e : IpcError) (b : List ℕ) (a : Asked) (rising cs : List ℕ) (block : FileBlock) (left : Option ℕ) → ((c : ℕ) → stands_in rising c ≡ stands_in cs c)
-    → Refuses e (refusals (batch_of to_read b (with_columns (Some rising) a) block left)) → Refuses e (refusals (batch_of to_read b (with_columns (Some cs) a) block left))
-refused_ordered e b a rising cs block left same =
-    block_refuses to_read to_read e b (with_columns (Some rising) a) (with_columns (Some cs) a) block left (λ m. follows e _ _ (λ es is. rising_refuses a rising cs m.version m.custom m.tables (block_body b block) left es same is))
+pub refused_ordered : (e : IpcError) (b : List ℕ) (a : Asked) (rising cs : List ℕ) (x : Block) (left : Option ℕ) → ((c : ℕ) → stands_in rising c ≡ stands_in cs c)
+    → Refuses e (refusals (batch_given b (with_columns (Some rising) a) x left)) → Refuses e (refusals (batch_given b (with_columns (Some cs) a) x left))
+unfolding batch_given
+refused_ordered e b a rising cs x left same =
+    given_refuses x (λ block. batch_of to_read b (with_columns (Some rising) a) block left) (λ block. batch_of to_read b (with_columns (Some cs) a) block left) e (λ block.
+    block_refuses to_read to_read e b (with_columns (Some rising) a) (with_columns (Some cs) a) block left (λ m. follows e _ _ (λ es is. rising_refuses a rising cs m.version m.custom m.tables (block_body b block) left es same is)))
 
 -- a block that is read of the columns asked for is read by rising numbers
 pub rising_read : (b : List ℕ) (a : Asked) (rising cs : List ℕ) (block : FileBlock) (left : Option ℕ) (x : TableBatch) → ((c : ℕ) → stands_in rising c ≡ stands_in cs c) → batch_of to_read b (with_columns (Some cs) a) block left ≡ Ok x

@@ -18,19 +18,21 @@ use Rattle.arrow_types.specs.Schemas.{fields_in}
 use Rattle.ipc_fields.specs.IpcFields.{ids_of}
 use Rattle.laws_columns.specs.Below.{ArePicked, HeaderFits}
 use Rattle.ipc_io.specs.Outside.{IsSize}
+use Rattle.arrow_spec.specs.declared.message.Block.{Block}
 use Rattle.ipc_files.specs.declared.block.BlockMessage.{BlockMessage}
 use Rattle.ipc_projection.specs.Below.{Held, HoldsCells, are_columns, are_rising}
 use Rattle.ipc_read.specs.Batches.{batch_reading, chosen_read, table_of}
 use Rattle.ipc_read.specs.Sources.{bytes_in}
 use Rattle.ipc_read.specs.declared.body.Body.{Body}
-use Rattle.ipc_files.specs.FileBlocks.{BlockIn, PairedMessage, block_record, paired_of}
+use Rattle.ipc_files.specs.FileBlocks.{BlockIn, PairedMessage, block_by, block_record, file_block, given, paired_of}
 use Rattle.ipc_files.specs.FileViews.{meta_view}
 use Rattle.ipc_files.specs.Blocks.{ReadsBlock, asked_under, body_place}
 use Rattle.ipc_files.specs.Requests.{asked}
 use Rattle.ipc_files.specs.declared.metadata.FileMetadata.{FileMetadata}
 use Rattle.ipc_files.proofs.FieldWidths.{width_in, width_with}
 use Rattle.ipc_files.proofs.Picked.{all_picked}
-use Rattle.ipc_files.proofs.ReadBlocks.{ReadsPlain, block_ordered, block_read, message_refused, paired_read, paired_refused, reading_sent}
+use Rattle.ipc_files.proofs.GivenBlocks.{given_reads}
+use Rattle.ipc_files.proofs.ReadBlocks.{ReadsPlain, block_ordered, block_read, given_message_refused, paired_read, paired_refused, reading_sent}
 
 -- of bytes that are told
 pub told : (content : Option (List ℕ)) (P Q : List ℕ → Type 0) → ((b : List ℕ) → content ≡ Some b → P b → Q b) → IfSome content P → IfSome content Q
@@ -56,18 +58,23 @@ file_width file = width_with (fields_in (rc_value file.schema)) (ids_of file.ipc
 
 -- ── a block that is read ──
 
-pub message_err : (content : Option (List ℕ)) (h : Held) (a : List ℕ → Dictionaries → Asked) (block : FileBlock) (left : Option ℕ) (result : Result Batch IpcError) (e : IpcError) → result ≡ Err e → IfSome content (λ b. Refuses e (refusals (block_record b block)))
+pub message_err : (content : Option (List ℕ)) (h : Held) (a : List ℕ → Dictionaries → Asked) (block : Block) (left : Option ℕ) (result : Result Batch IpcError) (e : IpcError) → result ≡ Err e → IfSome content (λ b. Refuses e (refusals (given block (block_record b))))
     → IfSome content (λ b. (d : Dictionaries) → HoldsCells d h → ReadsBlock b h (a b d) block left result)
-message_err content h a block left result e is refused = told content _ _ (λ b s r d holds. subst (λ q. ReadsBlock b h (a b d) block left q) (sym is) (record { read = tt; refused = message_refused to_read e b (a b d) block left r })) refused
+message_err content h a block left result e is refused = told content _ _ (λ b s r d holds. subst (λ q. ReadsBlock b h (a b d) block left q) (sym is) (record { is = tt; read = tt; refused = given_message_refused e b (a b d) block left r })) refused
 
 -- what is said of a block's message, where bytes are told
-pub refused_in : (content : Option (List ℕ)) (block : FileBlock) (e : IpcError) → BlockIn content block (Err e) → IfSome content (λ b. Refuses e (refusals (block_record b block)))
+pub refused_in : (content : Option (List ℕ)) (block : Block) (e : IpcError) → BlockIn content block (Err e) → IfSome content (λ b. Refuses e (refusals (given block (block_record b))))
 refused_in None block e h = tt
 refused_in (Some b) block e h = h
 
-pub given_in : (content : Option (List ℕ)) (block : FileBlock) (m : BlockMessage) → BlockIn content block (Ok m) → IfSome content (λ b. block_record b block ≡ Ok (paired_of m))
+pub given_in : (content : Option (List ℕ)) (block : Block) (m : BlockMessage) → BlockIn content block (Ok m) → IfSome content (λ b. block_record b (file_block block) ≡ Ok (paired_of m))
 given_in None block m h = tt
-given_in (Some b) block m h = h
+given_in (Some b) block m h = (given_reads block (block_record b) (paired_of m) h).read
+
+-- no number of it is negative then
+pub natural_in : (content : Option (List ℕ)) (block : Block) (m : BlockMessage) → BlockIn content block (Ok m) → IfSome content (λ b. block_by block ≡ Ok (file_block block))
+natural_in None block m h = tt
+natural_in (Some b) block m h = (given_reads block (block_record b) (paired_of m) h).is
 
 -- what is said of it, whatever was read of the dictionaries that are held
 abbrev GivesAt : Option (List ℕ) → Held → Option (List ℕ) → Option ℕ → Bool → Fields → ℕ → PairedMessage → Body → Result Batch IpcError → Type 0
@@ -103,18 +110,20 @@ block_answer (Some b) content' meta h columns left order size block m body resul
     (λ rows. all_picked (record_batch_of meta.schema.order m.version m.tables body') h columns fs rows rising range)
 
 -- a batch is given the pairs of its block's message
-pub block_paired : (content : Option (List ℕ)) (h : Held) (meta : Meta) (columns : Option (List ℕ)) (left : Option ℕ) (block : FileBlock) (m : PairedMessage) (x y : Batch) → CustomMayBeWritten m.custom → y ≡ record { height = x.height; schema = x.schema; arrays = x.arrays; custom = m.custom }
-    → IfSome content (λ b. (d : Dictionaries) → HoldsCells d h → ReadsPlain b h (asked_under b meta d (asked columns left)) block left m (Ok x))
+pub block_paired : (content : Option (List ℕ)) (h : Held) (meta : Meta) (columns : Option (List ℕ)) (left : Option ℕ) (block : Block) (m : PairedMessage) (x y : Batch) → IfSome content (λ b. block_by block ≡ Ok (file_block block)) → CustomMayBeWritten m.custom → y ≡ record { height = x.height; schema = x.schema; arrays = x.arrays; custom = m.custom }
+    → IfSome content (λ b. (d : Dictionaries) → HoldsCells d h → ReadsPlain b h (asked_under b meta d (asked columns left)) (file_block block) left m (Ok x))
     → IfSome content (λ b. (d : Dictionaries) → HoldsCells d h → ReadsBlock b h (asked_under b meta d (asked columns left)) block left (Ok y))
-block_paired content h meta columns left block m x y ordered is read =
-    told content _ _ (λ b s r d holds. paired_read b h (asked_under b meta d (asked columns left)) left block m x y ordered is (r d holds)) read
+block_paired None h meta columns left block m x y natural ordered is read = tt
+block_paired (Some b) h meta columns left block m x y natural ordered is read = λ d holds.
+    paired_read b h (asked_under b meta d (asked columns left)) left block m x y natural ordered is (read d holds)
 
 -- or was not read
-pub block_unpaired : (content : Option (List ℕ)) (h : Held) (meta : Meta) (columns : Option (List ℕ)) (left : Option ℕ) (block : FileBlock) (m : PairedMessage) (result : Result Batch IpcError) (e : IpcError) → result ≡ Err e
-    → IfSome content (λ b. (d : Dictionaries) → HoldsCells d h → ReadsPlain b h (asked_under b meta d (asked columns left)) block left m (Err e))
+pub block_unpaired : (content : Option (List ℕ)) (h : Held) (meta : Meta) (columns : Option (List ℕ)) (left : Option ℕ) (block : Block) (m : PairedMessage) (result : Result Batch IpcError) (e : IpcError) → IfSome content (λ b. block_by block ≡ Ok (file_block block)) → result ≡ Err e
+    → IfSome content (λ b. (d : Dictionaries) → HoldsCells d h → ReadsPlain b h (asked_under b meta d (asked columns left)) (file_block block) left m (Err e))
     → IfSome content (λ b. (d : Dictionaries) → HoldsCells d h → ReadsBlock b h (asked_under b meta d (asked columns left)) block left result)
-block_unpaired content h meta columns left block m result e is read =
-    told content _ _ (λ b s r d holds. subst (λ q. ReadsBlock b h (asked_under b meta d (asked columns left)) block left q) (sym is) (paired_refused b h (asked_under b meta d (asked columns left)) left block m e (r d holds))) read
+block_unpaired None h meta columns left block m result e natural is read = tt
+block_unpaired (Some b) h meta columns left block m result e natural is read = λ d holds.
+    subst (λ q. ReadsBlock b h (asked_under b meta d (asked columns left)) block left q) (sym is) (paired_refused b h (asked_under b meta d (asked columns left)) left block m e natural (read d holds))
 
 -- ── the columns in the order asked ──
 
@@ -124,12 +133,12 @@ pub record IsOrdered (count : ℕ) (rising cs : List ℕ) (x y : Batch) : Type 0
   pub picked : (all : List Parts) → length all ≡ count → ArePicked all rising x.arrays → ArePicked all cs y.arrays
   pub custom : y.custom ≡ x.custom
 
-pub ordered_answer : (content : Option (List ℕ)) (h : Held) (meta : Meta) (d : Dictionaries) (rising cs : List ℕ) (left : Option ℕ) (block : FileBlock) (x y : Batch) → ((c : ℕ) → stands_in rising c ≡ stands_in cs c) → columns_right (Some cs) (width meta.schema.fields) ≡ Ok tt → IsOrdered (width meta.schema.fields) rising cs x y
+pub ordered_answer : (content : Option (List ℕ)) (h : Held) (meta : Meta) (d : Dictionaries) (rising cs : List ℕ) (left : Option ℕ) (block : Block) (x y : Batch) → ((c : ℕ) → stands_in rising c ≡ stands_in cs c) → columns_right (Some cs) (width meta.schema.fields) ≡ Ok tt → IsOrdered (width meta.schema.fields) rising cs x y
     → IfSome content (λ b. ReadsBlock b h (asked_under b meta d (asked (Some rising) left)) block left (Ok x)) → IfSome content (λ b. ReadsBlock b h (asked_under b meta d (asked (Some cs) left)) block left (Ok y))
 ordered_answer content h meta d rising cs left block x y same right order read =
-    told content _ _ (λ b s r. record { read = block_ordered b h (asked_under b meta d (asked (Some cs) left)) rising cs block left x y same right order.rows order.custom order.picked r.read; refused = tt }) read
+    told content _ _ (λ b s r. record { is = r.is; read = block_ordered b h (asked_under b meta d (asked (Some cs) left)) rising cs (file_block block) left x y same right order.rows order.custom order.picked r.read; refused = tt }) read
 
 -- want of memory refuses any block
-pub memory_refused : (content : Option (List ℕ)) (h : Held) (a : List ℕ → Asked) (left : Option ℕ) (block : FileBlock) (result : Result Batch IpcError) → result ≡ Err errors.Memory → IfSome content (λ b. ReadsBlock b h (a b) block left result)
+pub memory_refused : (content : Option (List ℕ)) (h : Held) (a : List ℕ → Asked) (left : Option ℕ) (block : Block) (result : Result Batch IpcError) → result ≡ Err errors.Memory → IfSome content (λ b. ReadsBlock b h (a b) block left result)
 memory_refused None h a left block result is = tt
-memory_refused (Some b) h a left block result is = rw is (record { read = tt; refused = tt })
+memory_refused (Some b) h a left block result is = rw is (record { is = tt; read = tt; refused = tt })

@@ -1,7 +1,11 @@
 -- What was read of a file's bytes fits: its schema may be written, and the numbers of a block's message have 64 bits.
 use Rattle.std.proofs.Common.{◌≡◌, ℕ, ◌^◌, ◌<◌, List, [], None, Result, Ok, Err, IfOk, true, ap, sym, ◌∙◌, subst, arith}
+use Rattle.std.specs.Prelude.{All}
 use Rattle.std.specs.Rc.{rc_value}
+use Rattle.std.specs.declared.alloc.Global.{Global}
+use Rattle.std.specs.declared.vec.Vec.{Vec}
 use Rattle.arrow_spec.specs.declared.error.IpcError.{IpcError}
+use Rattle.arrow_spec.specs.declared.message.Block.{Block}
 use Rattle.arrow_spec.specs.Files.{Meta, meta_in}
 use Rattle.arrow_spec.specs.Laws.{AreBytes}
 use Rattle.arrow_spec.specs.Messages.{DictionaryBatch, dictionary_at, record_message}
@@ -13,7 +17,7 @@ use Rattle.arrow_spec.specs.WrittenSchemas.{CustomMayBeWritten, IdsMayBeWritten,
 use Rattle.arrow_spec.proofs.ReadFiles.{footer_schema_may}
 use Rattle.arrow_types.specs.Schemas.{Keyed, fields_in}
 use Rattle.ipc_fields.specs.IpcFields.{have_shapes, ids_of, metadata_of, schema_view}
-use Rattle.ipc_schema.specs.Footers.{footer_view}
+use Rattle.ipc_schema.specs.Footers.{HasNaturalBlocks, IsNatural, footer_view}
 use Rattle.ipc_schema.specs.Headers.{DictionaryTables, dictionary_message, dictionary_message_of}
 use Rattle.ipc_schema.specs.Views.{header_of, message_of}
 use Rattle.ipc_schema.specs.declared.footer.Footer.{Footer}
@@ -65,13 +69,17 @@ footer_ids bytes (Err e) b h = tt
 
 -- metadata
 pub was_read : (m : FileMetadata) (footer : Footer) → SchemaMayBeWritten (footer_view footer).schema.fields (footer_view footer).schema.metadata → IdsMayBeWritten (footer_view footer).schema.fields → meta_view m ≡ footer_view footer → rc_value m.schema ≡ footer.schema → m.ipc_schema ≡ footer.ipc_schema
-    → have_shapes (fields_in footer.schema) (ids_of footer.ipc_schema.fields.items) ≡ true → m.size < 2 ^ 63 → m.custom_metadata ≡ None → WasRead m
-was_read m footer may ids same schema ipc shapes most none =
+    → have_shapes (fields_in footer.schema) (ids_of footer.ipc_schema.fields.items) ≡ true → m.size < 2 ^ 63 → m.custom_metadata ≡ None → m.blocks ≡ footer.blocks → m.dictionaries ≡ footer.dictionaries → HasNaturalBlocks footer → WasRead m
+was_read m footer may ids same schema ipc shapes most none blocks dictionaries natural =
     let is : SchemaMayBeWritten (meta_view m).schema.fields (meta_view m).schema.metadata = subst (λ (x : Meta). SchemaMayBeWritten x.schema.fields x.schema.metadata) (sym same) may in
     record {
       may = is;
       ids = subst (λ (x : Meta). IdsMayBeWritten x.schema.fields) (sym same) ids;
       custom = subst CustomMayBeWritten (sym (ap metadata_of none)) (record { ascend = tt; few = omega arith });
+      natural = record {
+        blocks = subst (λ (v : Vec Block Global). All IsNatural v.items) (sym blocks) natural.blocks;
+        dictionaries = subst (λ (v : Vec Block Global). All IsNatural v.items) (sym dictionaries) natural.dictionaries;
+      };
       readable = record {
         shapes = rw (schema, ipc) shapes;
         columns = fields_column 64 (meta_view m).schema.fields is.fit;

@@ -4,6 +4,7 @@ use Rattle.std.specs.Prelude.{nat_lt, slice_get}
 use Rattle.std.specs.Rc.{rc_value}
 use Rattle.std.proofs.lemmas.Bool.{and_from, lt-ltb}
 use Rattle.arrow_spec.specs.declared.error.IpcError.{IpcError}
+use Rattle.arrow_spec.specs.declared.message.Block.{Block}
 use Rattle.arrow_spec.specs.declared.error.IpcError.TheVariants as errors
 use Rattle.arrow_spec.specs.Arrays.{Dictionaries}
 use Rattle.arrow_spec.specs.Files.{FileBlock, columns_right}
@@ -44,10 +45,10 @@ right_of_file file columns s is h = subst (λ n. columns_right columns n ≡ Ok 
 -- ── what a block means then ──
 
 -- a block that is read by rising numbers
-abbrev pub ReadsRising : Option (List ℕ) → Held → FileMetadata → Dictionaries → List ℕ → FileBlock → Option ℕ → Result Batch IpcError → Type 0
+abbrev pub ReadsRising : Option (List ℕ) → Held → FileMetadata → Dictionaries → List ℕ → Block → Option ℕ → Result Batch IpcError → Type 0
 ReadsRising content held file d rising block left result = IfSome content (λ b. ReadsBlock b held (asked_under b (meta_view file) d (asked (Some rising) left)) block left result)
 
-pub selected_answer : (content : Option (List ℕ)) (held : Held) (file : FileMetadata) (d : Dictionaries) (columns : Option (List ℕ)) (p : ProjectionInfo) (rising : List ℕ) (left : Option ℕ) (block : FileBlock) (x : Batch) (result : Result Batch IpcError) → rising ≡ p.columns.items → IsSelected (rc_value file.schema) columns p
+pub selected_answer : (content : Option (List ℕ)) (held : Held) (file : FileMetadata) (d : Dictionaries) (columns : Option (List ℕ)) (p : ProjectionInfo) (rising : List ℕ) (left : Option ℕ) (block : Block) (x : Batch) (result : Result Batch IpcError) → rising ≡ p.columns.items → IsSelected (rc_value file.schema) columns p
     → columns_right columns (width (meta_view file).schema.fields) ≡ Ok tt → IfOk result (IsReordered p.map x) → IfErr result (λ e. e ≡ errors.Memory) → IfSome content (λ b. ReadsBlock b held (asked_under b (meta_view file) d (asked (Some rising) left)) block left (Ok x))
     → IfSome content (λ b. ReadsBlock b held (asked_under b (meta_view file) d (asked columns left)) block left result)
 selected_answer content held file d columns p rising left block x (Ok y) same h right order memory read =

@@ -1,6 +1,7 @@
 -- What is read of a file's blocks.
 use Rattle.std.specs.Prelude.{◌≡◌, ℕ, ◌+◌, List, length, Option, Result, Ok, IfOk, IfErr}
 use Rattle.arrow_spec.specs.declared.error.IpcError.{IpcError}
+use Rattle.arrow_spec.specs.declared.message.Block.{Block}
 use Rattle.arrow_spec.specs.Counts.{first_place}
 use Rattle.arrow_spec.specs.Arrays.{Dictionaries}
 use Rattle.arrow_spec.specs.Features.{chosen_floats}
@@ -12,7 +13,7 @@ use Rattle.ipc_projection.specs.Below.{columns_read, Held, HoldsCells}
 use Rattle.laws_columns.specs.Below.{AreAsked, HeaderFits}
 use Rattle.ipc_read.specs.Batches.{table_of}
 use Rattle.ipc_read.specs.declared.body.Body.{Body}
-use Rattle.ipc_files.specs.FileBlocks.{PairedMessage, block_record}
+use Rattle.ipc_files.specs.FileBlocks.{PairedMessage, block_by, block_record, file_block, given}
 
 -- where the body of a block's message stands
 abbrev pub body_place : FileBlock → Body
@@ -37,13 +38,18 @@ pub record BlockRead (b : List ℕ) (h : Held) (a : Asked) (block : FileBlock) (
 abbrev pub BatchRead : List ℕ → Held → Meta → Request → FileBlock → Batch → Type 0
 BatchRead b h meta r block x = (d : Dictionaries) → HoldsCells d h → BlockRead b h (asked_under b meta d r) block r.limit x
 
--- a block that was read, or a refusal of the block
-pub record ReadsBlock (b : List ℕ) (h : Held) (a : Asked) (block : FileBlock) (left : Option ℕ) (result : Result Batch IpcError) : Type 0 where
-  pub read : IfOk result (λ x. BlockRead b h a block left x)
-  pub refused : IfErr result (λ e. Refuses e (refusals (batch_of to_read b a block left)))
+-- a block that is given
+unfoldable pub batch_given : List ℕ → Asked → Block → Option ℕ → Reading TableBatch
+batch_given b a x left = given x (λ block. batch_of to_read b a block left)
 
--- the record batch of a block under a request and the dictionaries that were read: by the features of its columns' kinds and then by its block
-unfoldable pub batch_in : Request → List ℕ → Meta → Dictionaries → FileBlock → Reading TableBatch
-batch_in r b meta d block = do
+-- a block that was read, none of whose numbers is negative, or a refusal of the block
+pub record ReadsBlock (b : List ℕ) (h : Held) (a : Asked) (x : Block) (left : Option ℕ) (result : Result Batch IpcError) : Type 0 where
+  pub is : IfOk result (λ y. block_by x ≡ Ok (file_block x))
+  pub read : IfOk result (λ y. BlockRead b h a (file_block x) left y)
+  pub refused : IfErr result (λ e. Refuses e (refusals (batch_given b a x left)))
+
+-- the record batch of a block that is given under a request and the dictionaries that were read: by the features of its columns' kinds and then by its block
+unfoldable pub batch_in : Request → List ℕ → Meta → Dictionaries → Block → Reading TableBatch
+batch_in r b meta d x = do
   floats ← free_of (chosen_floats r.columns meta.schema.fields 0)
-  batch_of to_read b (asked_under b meta d r) block r.limit
+  batch_given b (asked_under b meta d r) x r.limit

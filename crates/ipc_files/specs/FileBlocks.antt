@@ -4,14 +4,19 @@ use Rattle.arrow_spec.specs.declared.error.IpcError.{IpcError}
 use Rattle.arrow_spec.specs.declared.error.IpcError.TheVariants as errors
 use Rattle.arrow_spec.specs.declared.error.OutOfSpecKind.TheVariants as kinds
 use Rattle.arrow_spec.specs.Readings.{Reading, Gives, ◌>>=◌, only_if}
+use Rattle.arrow_spec.specs.declared.message.Block.{Block}
 use Rattle.arrow_spec.specs.declared.message.MetadataVersion.{MetadataVersion}
 use Rattle.arrow_spec.specs.Messages.{BatchHeader, RecordMessage, message_pairs, prefix_of, record_message}
 use Rattle.ipc_fields.specs.IpcFields.{metadata_of}
 use Rattle.arrow_spec.specs.Kinds.{Metadata}
 use Rattle.arrow_spec.specs.Files.{FileBlock}
-pub use Rattle.ipc_schema.specs.Footers.{file_block}
+pub use Rattle.ipc_schema.specs.Footers.{block_by, file_block}
 use Rattle.ipc_schema.specs.Views.{message_of}
 use Rattle.ipc_files.specs.declared.block.BlockMessage.{BlockMessage}
+
+-- what is read of a block by the numbers that a caller gives: none of them may be negative, which is looked at first
+abbrev pub given : {A : Type 0} → Block → (FileBlock → Reading A) → Reading A
+given x reading = block_by x >>= reading
 
 -- the metadata of a block
 abbrev pub block_metadata : List ℕ → FileBlock → List ℕ
@@ -71,10 +76,10 @@ abbrev pub PrefixIn : Option (List ℕ) → ℕ → ℕ → Result (ℕ × ℕ) 
 PrefixIn None at size r = ⊤
 PrefixIn (Some b) at size r = Gives (λ p. p) r (prefix_of (take size (drop at b)))
 
--- the record batch's message of a block
-abbrev pub BlockIn : Option (List ℕ) → FileBlock → Result BlockMessage IpcError → Type 0
-BlockIn None block r = ⊤
-BlockIn (Some b) block r = Gives paired_of r (block_record b block)
+-- the record batch's message of a block that is given
+abbrev pub BlockIn : Option (List ℕ) → Block → Result BlockMessage IpcError → Type 0
+BlockIn None x r = ⊤
+BlockIn (Some b) x r = Gives paired_of r (given x (block_record b))
 
 -- a call gives what a reading says of the bytes
 abbrev pub GivesIn : {X Y : Type 0} → Option (List ℕ) → (X → Y) → Result X IpcError → (List ℕ → Reading Y) → Type 0

@@ -1,9 +1,10 @@
 -- What is read of a file's dictionary blocks. (Arrow Columnar Format, "IPC File Format", "Dictionary Messages".)
-use Rattle.std.specs.Prelude.{◌≡◌, ℕ, ◌+◌, ◌≤◌, List, [], ◌∷◌, length, sum_by, false, ⊤, Option, Some, None, Ok, Err, Result, IfOk, IfErr, ℤ}
+use Rattle.std.specs.Prelude.{◌≡◌, ℕ, ◌+◌, ◌≤◌, List, [], ◌∷◌, length, map, sum_by, false, ⊤, Option, Some, None, Ok, Err, Result, IfOk, IfErr, ℤ}
 use Rattle.std.specs.BTreeMap.{BTreeMap}
 use Rattle.std.specs.declared.alloc.Global.{Global}
 use Rattle.std.specs.declared.vec.Vec.{Vec}
 use Rattle.arrow_spec.specs.declared.error.IpcError.{IpcError}
+use Rattle.arrow_spec.specs.declared.message.Block.{Block}
 use Rattle.arrow_spec.specs.Readings.{Reading, Gives, Refuses, meaning, refusals, ◌>>=◌}
 use Rattle.arrow_spec.specs.Arrays.{Dictionaries, HeldDictionary}
 use Rattle.arrow_spec.specs.Files.{FileBlock, Meta, Request, TableBatch, batch_of, block_body, dictionaries_of, dictionary_of, record_batch_of, to_read}
@@ -20,19 +21,24 @@ use Rattle.ipc_read.specs.DictionaryBatches.{HoldsPart}
 use Rattle.ipc_read.specs.Held.{held_in}
 use Rattle.ipc_files.specs.Blocks.{asked_under}
 use Rattle.ipc_files.specs.Fetching.{block_cost}
-use Rattle.ipc_files.specs.FileBlocks.{message_metadata}
+use Rattle.ipc_files.specs.FileBlocks.{file_block, given, message_metadata}
 
 -- the message of a dictionary in a block
 unfoldable pub block_dictionary : List ℕ → FileBlock → Reading DictionaryTables
 block_dictionary b block = message_metadata b block >>= λ bytes. dictionary_message bytes
 
-abbrev pub DictionaryIn : Option (List ℕ) → FileBlock → Result DictionaryMessage IpcError → Type 0
-DictionaryIn None block r = ⊤
-DictionaryIn (Some b) block r = Gives dictionary_message_of r (block_dictionary b block)
+abbrev pub DictionaryIn : Option (List ℕ) → Block → Result DictionaryMessage IpcError → Type 0
+DictionaryIn None x r = ⊤
+DictionaryIn (Some b) x r = Gives dictionary_message_of r (given x (block_dictionary b))
 
 -- the values of a dictionary block, under the dictionaries that were read before it
 unfoldable pub block_values : List ℕ → Meta → Dictionaries → FileBlock → Reading HeldDictionary
 block_values b meta d block = block_dictionary b block >>= λ m. dictionary_of meta.schema d (length b) m.dictionary m.version (block_body b block) false
+
+-- the values of dictionary blocks that are given, one after another
+unfoldable pub dictionaries_given : List ℕ → Meta → Dictionaries → List Block → Reading Dictionaries
+dictionaries_given b meta d [] = Ok d
+dictionaries_given b meta d (x ∷ xs) = given x (block_values b meta d) >>= λ values. dictionaries_given b meta (values ∷ d) xs
 
 -- under each id of a file's schema the parts are of the kind of its values
 abbrev pub HoldsUses : Meta → Held → Type 0
@@ -60,10 +66,12 @@ done (Ok x) = Ok tt
 done (Err e) = Err e
 
 -- a map holds what these blocks say behind those that were read before, or they are refused
-pub record ReadsDictionaries (b : List ℕ) (meta : Meta) (blocks : List FileBlock) (result : Result (BTreeMap ℤ (Vec Array Global)) IpcError) : Type 0 where
-  pub ok : IfOk result (λ m. (d : Dictionaries) × (dictionaries_of b meta [] blocks ≡ Ok d) × HoldsCells d (held_in m))
-  pub steps : IfOk result (λ m. (d : Dictionaries) → dictionaries_of b meta [] blocks ≡ Ok d → AreHeld b meta d (held_in m))
-  pub err : IfErr result (λ e. Refuses e (refusals (dictionaries_of b meta [] blocks)))
+pub record ReadsDictionaries (b : List ℕ) (meta : Meta) (xs : List Block) (result : Result (BTreeMap ℤ (Vec Array Global)) IpcError) : Type 0 where
+  pub ok : IfOk result (λ m. (d : Dictionaries) × (dictionaries_given b meta [] xs ≡ Ok d) × HoldsCells d (held_in m))
+  -- no number of a block is negative then
+  pub said : IfOk result (λ m. (d : Dictionaries) × (dictionaries_of b meta [] (map file_block xs) ≡ Ok d) × HoldsCells d (held_in m))
+  pub steps : IfOk result (λ m. (d : Dictionaries) → dictionaries_of b meta [] (map file_block xs) ≡ Ok d → AreHeld b meta d (held_in m))
+  pub err : IfErr result (λ e. Refuses e (refusals (dictionaries_given b meta [] xs)))
 
 -- ── what is fetched ──
 

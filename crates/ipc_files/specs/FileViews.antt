@@ -1,5 +1,5 @@
 -- What the values of a file that is read stand for.
-use Rattle.std.specs.Prelude.{◌≡◌, ℕ, ◌^◌, ◌<◌, List, [], Ok, map, true, ⊤}
+use Rattle.std.specs.Prelude.{◌≡◌, ℕ, ◌^◌, ◌<◌, List, [], Ok, map, true, ⊤, All}
 use Rattle.std.specs.Rc.{rc_value}
 use Rattle.arrow_spec.specs.declared.error.IpcError.{IpcError}
 use Rattle.arrow_spec.specs.declared.error.IpcError.TheVariants.{OutOfSpec, Unsupported, TooMany, TooDeep, ReadFault, Memory}
@@ -11,6 +11,7 @@ use Rattle.arrow_types.specs.Schemas.{fields_in}
 use Rattle.ipc_fields.specs.IpcFields.{have_shapes, ids_of, metadata_of, schema_view}
 use Rattle.ipc_io.specs.Outside.{Rose}
 use Rattle.ipc_read.specs.Batches.{are_column_fields}
+use Rattle.ipc_schema.specs.Footers.{IsNatural}
 use Rattle.ipc_files.specs.FileBlocks.{file_block}
 use Rattle.ipc_files.specs.declared.metadata.FileMetadata.{FileMetadata}
 
@@ -38,11 +39,17 @@ pub record IsReadable (m : FileMetadata) : Type 0 where
   pub agree : uses_agree [] (uses_in (meta_view m).schema.fields) ≡ Ok tt
   pub most : m.size < 2 ^ 63
 
--- metadata that was read of bytes: its schema, the ids of its dictionaries and its pairs may be written too
+-- no number of a file's blocks is negative
+pub record HasNaturalNumbers (m : FileMetadata) : Type 0 where
+  pub blocks : All IsNatural m.blocks.items
+  pub dictionaries : All IsNatural m.dictionaries.items
+
+-- metadata that was read of bytes: its schema, the ids of its dictionaries and its pairs may be written too, and no number of its blocks is negative
 pub record WasRead (m : FileMetadata) : Type 0 where
   pub may : SchemaMayBeWritten (meta_view m).schema.fields (meta_view m).schema.metadata
   pub ids : IdsMayBeWritten (meta_view m).schema.fields
   pub custom : CustomMayBeWritten (file_custom m)
+  pub natural : HasNaturalNumbers m
   pub readable : IsReadable m
 
 -- why metadata is refused: what the bytes say, want of memory, or a fault of the source

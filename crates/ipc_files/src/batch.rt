@@ -4,6 +4,7 @@ ghost use Rattle.std.specs.Rc.{rc_value};
 ghost use Rattle.arrow_spec.specs.Arrays.{Dictionaries as History};
 ghost use Rattle.arrow_spec.specs.Features.{chosen_floats};
 ghost use Rattle.arrow_spec.specs.Files.{FileBlock};
+ghost use Rattle.arrow_spec.specs.declared.message.Block.{Block};
 ghost use Rattle.arrow_spec.specs.Readings.{Gives};
 ghost use Rattle.arrow_arrays.specs.Parts.{kind_in};
 ghost use Rattle.ipc_io.specs.Outside.{IsSize, SourceKept};
@@ -54,7 +55,7 @@ pub fn read_block<S: Source>(
     requires rising { are_rising (columns_of projection) ≡ true }
     requires range { are_columns (columns_of projection) (length (rc_value file.now.schema)) ≡ true }
     requires whole { IsSize (S.content source.old) file.now.size }
-    ensures gives { IfSome (S.content source.old) (λ b. (d : History) → HoldsCells d (held_in dictionaries.now) → ReadsBlock b (held_in dictionaries.now) (asked_under b (meta_view file.now) d (asked (columns_of projection.entry) left)) (file_block block.now) left result) }
+    ensures gives { IfSome (S.content source.old) (λ b. (d : History) → HoldsCells d (held_in dictionaries.now) → ReadsBlock b (held_in dictionaries.now) (asked_under b (meta_view file.now) d (asked (columns_of projection.entry) left)) block.now left result) }
     ensures few { IfOk result (λ x. x.height < 2 ^ 63) }
     ensures schema { IfOk result (λ x. x.schema ≡ chosen (columns_of projection.entry) 0 (rc_value file.now.schema)) }
     ensures kinds { IfOk result (λ x. map kind_in x.arrays ≡ chosen (columns_of projection.entry) 0 (kinds_of (rc_value file.now.schema))) }
@@ -110,7 +111,7 @@ pub fn read_batch<S: Source>(
     requires whole { IsSize (S.content source.old) metadata.now.size }
 
     // The batch is what the block means under the dictionaries whose cells are held, the columns and the limit, or a refusal of its.
-    ensures gives { (block : FileBlock) → slice_get (meta_view metadata.now).blocks index ≡ Some block → IfSome (S.content source.old) (λ b. (d : History) → HoldsCells d (held_in dictionaries.now) → Gives table_of result (batch_in (asked (columns_of projection.entry) limit) b (meta_view metadata.now) d block)) }
+    ensures gives { (block : Block) → slice_get metadata.now.blocks.items index ≡ Some block → IfSome (S.content source.old) (λ b. (d : History) → HoldsCells d (held_in dictionaries.now) → Gives table_of result (batch_in (asked (columns_of projection.entry) limit) b (meta_view metadata.now) d block)) }
     ensures read { (block : FileBlock) → slice_get (meta_view metadata.now).blocks index ≡ Some block → IfOk result (λ x. IfSome (S.content source.old) (λ b. BatchRead b (held_in dictionaries.now) (meta_view metadata.now) (asked (columns_of projection.entry) limit) block x)) }
     ensures schema { IfOk result (λ x. x.schema ≡ chosen (columns_of projection.entry) 0 (rc_value metadata.now.schema)) }
     ensures kinds { IfOk result (λ x. map kind_in x.arrays ≡ chosen (columns_of projection.entry) 0 (kinds_of (rc_value metadata.now.schema))) }

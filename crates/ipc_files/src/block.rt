@@ -6,14 +6,14 @@ ghost use Rattle.ipc_schema.specs.Headers.{dictionary_message, dictionary_messag
 ghost use Rattle.ipc_schema.specs.Views.{header_of, message_of};
 ghost use Rattle.arrow_spec.specs.WrittenSchemas.{CustomMayBeWritten};
 ghost use Rattle.laws_columns.specs.Below.{HeaderFits};
-ghost use Rattle.ipc_files.specs.FileBlocks.{block_header, message_metadata as metadata_at, paired_message, paired_of, Lies, PrefixIn, BlockIn, GivesIn, file_block};
+ghost use Rattle.ipc_files.specs.FileBlocks.{block_header, given, message_metadata as metadata_at, paired_message, paired_of, Lies, PrefixIn, BlockIn, GivesIn, file_block};
 ghost use Rattle.ipc_files.specs.FileDictionaries.{DictionaryIn};
 ghost use Rattle.ipc_files.specs.FileViews.{FileCause};
 ghost use Rattle.ipc_files.specs.Fetching.{FrontFetched, MessageFetched, MetadataFetched};
 ghost use Rattle.ipc_files.specs.RowCounts.{CountCause};
 
 use crate::fetch::fetch;
-use crate::integers::magnitude;
+use crate::integers::natural;
 use arrow_spec::{Block, IpcError, OutOfSpecKind};
 use arrow_types::Metadata;
 use ipc_schema::{
@@ -83,8 +83,8 @@ fn dictionary_in(alloc: Global, bytes: &[u8]) -> Result<DictionaryMessage, IpcEr
     read_dictionary_message(alloc, bytes)
 }
 
-/// The metadata of the message in a block of a file of `size` bytes, behind its prefix.
-#[tactic(auto, using(crate::proofs::BlockMessages::prefix_refused))]
+/// The metadata of the message in a block of a file of `size` bytes, behind its prefix. No number of the block may be
+/// negative, which is looked at before anything is read.
 fn fetch_metadata<S: Source>(
     alloc: Global,
     source: &mut S,
@@ -93,14 +93,14 @@ fn fetch_metadata<S: Source>(
 ) -> Result<Vec<u8>, IpcError>
     requires { IsSize (S.content source.old) size }
     ensures within { OnOk result ((file_block block.now).offset + (file_block block.now).metadata + (file_block block.now).body ≤ size) }
-    ensures metadata { GivesIn (S.content source.old) (λ v. v.items) result (λ b. metadata_at b (file_block block.now)) }
+    ensures metadata { GivesIn (S.content source.old) (λ v. v.items) result (λ b. given block.now (metadata_at b)) }
     ensures cause { IfErr result (λ e. CountCause e (S.faults source.old) (S.faults source.new)) }
     ensures fetched { MetadataFetched (S.content source.old) (file_block block.now) (S.fetched source.old) (S.fetched source.new) }
     ensures kept { SourceKept S.content S.faults S.references source.old source.new }
 {
-    let offset = magnitude(block.offset);
-    let metadata = magnitude(i64::from(block.meta_data_length));
-    let body = magnitude(block.body_length);
+    let offset = natural(block.offset)?;
+    let metadata = natural(i64::from(block.meta_data_length))?;
+    let body = natural(block.body_length)?;
     if offset > size || metadata > size - offset || body > size - offset - metadata {
         return Err(IpcError::OutOfSpec(OutOfSpecKind::BlockRange));
     }
@@ -112,8 +112,8 @@ fn fetch_metadata<S: Source>(
 ///
 /// # Errors
 ///
-/// `OutOfSpec(BlockRange)` where the block passes the end of the file, `OutOfSpec` with the kind of the part that is not
-/// as the format says, `Unsupported(Version)`, `TooMany(Pairs)`, `ReadFault` and `Memory`.
+/// `OutOfSpec(UnexpectedNegativeInteger)` where a number of the block is negative, `OutOfSpec(BlockRange)` where it passes
+/// the end of the file, `OutOfSpec` with the kind of the part that is not as the format says, `Unsupported(Version)`, `TooMany(Pairs)`, `ReadFault` and `Memory`.
 #[tactic(auto, using(crate::proofs::FetchedFiles::message_fetched))]
 pub(crate) fn read_block_message<S: Source>(
     alloc: Global,
@@ -123,7 +123,7 @@ pub(crate) fn read_block_message<S: Source>(
 ) -> Result<BlockMessage, IpcError>
     requires { IsSize (S.content source.old) size }
     ensures within { OnOk result ((file_block block.now).offset + (file_block block.now).metadata + (file_block block.now).body ≤ size) }
-    ensures message { BlockIn (S.content source.old) (file_block block.now) result }
+    ensures message { BlockIn (S.content source.old) block.now result }
     ensures fits { IfOk result (λ m. HeaderFits (paired_of m).tables) }
     ensures ordered { IfOk result (λ m. CustomMayBeWritten (paired_of m).custom) }
     ensures cause { IfErr result (λ e. FileCause e (S.faults source.old) (S.faults source.new)) }
@@ -143,7 +143,7 @@ pub(crate) fn read_block_dictionary<S: Source>(
 ) -> Result<DictionaryMessage, IpcError>
     requires { IsSize (S.content source.old) size }
     ensures within { OnOk result ((file_block block.now).offset + (file_block block.now).metadata + (file_block block.now).body ≤ size) }
-    ensures message { DictionaryIn (S.content source.old) (file_block block.now) result }
+    ensures message { DictionaryIn (S.content source.old) block.now result }
     ensures fits { IfOk result (λ m. HeaderFits (header_of m.header)) }
     ensures cause { IfErr result (λ e. FileCause e (S.faults source.old) (S.faults source.new)) }
     ensures fetched { MetadataFetched (S.content source.old) (file_block block.now) (S.fetched source.old) (S.fetched source.new) }
@@ -166,7 +166,7 @@ pub fn read_block_header<S: Source>(
     size: u64,
 ) -> Result<RecordMessage, IpcError>
     requires { IsSize (S.content source.old) size }
-    ensures header { GivesIn (S.content source.old) message_of result (λ b. block_header b (file_block block.now)) }
+    ensures header { GivesIn (S.content source.old) message_of result (λ b. given block.now (block_header b)) }
     ensures cause { IfErr result (λ e. CountCause e (S.faults source.old) (S.faults source.new)) }
     ensures fetched { MetadataFetched (S.content source.old) (file_block block.now) (S.fetched source.old) (S.fetched source.new) }
     ensures kept { SourceKept S.content S.faults S.references source.old source.new }

@@ -1,11 +1,11 @@
 //! The dictionaries of a file (Arrow Columnar Format, "IPC File Format", "Dictionary Messages").
-ghost use Rattle.std.specs.Prelude.{◌≡◌, IfOk, IfErr, IfSome};
+ghost use Rattle.std.specs.Prelude.{◌≡◌, ◌<◌, length, IfOk, IfErr, IfSome, ℤ};
 ghost use Rattle.arrow_spec.specs.Arrays.{Dictionaries as History};
 ghost use Rattle.ipc_io.specs.Outside.{IsSize, SourceKept};
 ghost use Rattle.ipc_read.specs.DictionaryBatches.{AddsDictionary};
 ghost use Rattle.ipc_read.specs.Held.{held_in};
 ghost use Rattle.ipc_projection.specs.Below.{HoldsCells};
-ghost use Rattle.ipc_files.specs.FileBlocks.{file_block};
+ghost use Rattle.ipc_files.specs.FileBlocks.{file_block, given};
 ghost use Rattle.ipc_files.specs.FileDictionaries.{block_values, done, DictionariesFetched, DictionaryFetched, HoldsBlock, HoldsUses, ReadsDictionaries};
 ghost use Rattle.ipc_files.specs.FileViews.{meta_view, FileCause, IsReadable};
 
@@ -34,11 +34,14 @@ pub fn read_dictionary_block<S: Source>(
     requires read { IsReadable file.now }
     requires uses { HoldsUses (meta_view file.now) (held_in dictionaries.old) }
     requires whole { IsSize (S.content source.old) file.now.size }
-    ensures adds { IfSome (S.content source.old) (λ b. (d : History) → HoldsCells d (held_in dictionaries.old) → AddsDictionary d (held_in dictionaries.new) (done result) (block_values b (meta_view file.now) d (file_block block.now))) }
+    ensures adds { IfSome (S.content source.old) (λ b. (d : History) → HoldsCells d (held_in dictionaries.old) → AddsDictionary d (held_in dictionaries.new) (done result) (given block.now (block_values b (meta_view file.now) d))) }
 
     // The last part under the id is the one of the block's buffers.
     ensures part { IfOk result (λ id. IfSome (S.content source.old) (λ b. (d : History) → HoldsCells d (held_in dictionaries.old) → HoldsBlock b (meta_view file.now) (file_block block.now) (held_in dictionaries.old) (held_in dictionaries.new) id)) }
     ensures uses { IfOk result (λ _. HoldsUses (meta_view file.now) (held_in dictionaries.new)) }
+
+    // A refusal leaves the map as it was.
+    ensures refused { IfErr result (λ _. (q : ℤ) → held_in dictionaries.new q ≡ held_in dictionaries.old q) }
     ensures cause { IfErr result (λ e. FileCause e (S.faults source.old) (S.faults source.new)) }
     ensures fetched { DictionaryFetched (S.content source.old) (meta_view file.now) (file_block block.now) (S.fetched source.old) (S.fetched source.new) }
     ensures kept { SourceKept S.content S.faults S.references source.old source.new }
@@ -67,7 +70,8 @@ pub fn read_dictionary_block<S: Source>(
 ///
 /// # Errors
 ///
-/// `InvalidId` where no column has the id, `DuplicateDictionary`, and as `read_batch` of the values.
+/// `InvalidId` where no column has the id, `DuplicateDictionary`, and as `read_batch` of the values; of blocks with a
+/// negative number too.
 pub fn read_file_dictionaries<S: Source>(
     alloc: Global,
     source: &mut S,
@@ -78,8 +82,11 @@ pub fn read_file_dictionaries<S: Source>(
     requires whole { IsSize (S.content source.old) metadata.now.size }
 
     // Under each id stand the values of the blocks, one part a block, or a block is refused.
-    ensures reads { IfSome (S.content source.old) (λ b. ReadsDictionaries b (meta_view metadata.now) (meta_view metadata.now).dictionaries result) }
+    ensures reads { IfSome (S.content source.old) (λ b. ReadsDictionaries b (meta_view metadata.now) metadata.now.dictionaries.items result) }
     ensures uses { IfOk result (λ m. HoldsUses (meta_view metadata.now) (held_in m)) }
+
+    // Where there are no blocks nothing is refused.
+    ensures some { IfErr result (λ _. 0 < length metadata.now.dictionaries.items) }
     ensures cause { IfErr result (λ e. FileCause e (S.faults source.old) (S.faults source.new)) }
 
     // Of blocks that can be read no more is fetched than their messages and the buffers that are looked at.

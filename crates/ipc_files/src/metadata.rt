@@ -7,7 +7,7 @@ ghost use Rattle.arrow_spec.specs.WrittenSchemas.{CustomMayBeWritten, IdsMayBeWr
 ghost use Rattle.arrow_types.specs.Schemas.{fields_in};
 ghost use Rattle.ipc_fields.specs.IpcFields.{have_shapes, ids_of, metadata_in, metadata_of};
 ghost use Rattle.ipc_fields.specs.Causes.{Decodes};
-ghost use Rattle.ipc_schema.specs.Footers.{footer_view};
+ghost use Rattle.ipc_schema.specs.Footers.{footer_view, HasNaturalBlocks};
 ghost use Rattle.ipc_files.specs.FileBlocks.{GivesIn};
 ghost use Rattle.ipc_files.specs.FileViews.{file_custom, meta_view, FileCause, FileSays, IsReadable, WasRead};
 ghost use Rattle.ipc_files.specs.Fetching.{FooterFetched};
@@ -52,6 +52,8 @@ impl FileMetadata {
         ensures size { IfOk result (λ m. m.size ≡ self.now.size) }
         ensures schema { IfOk result (λ m. rc_value m.schema ≡ rc_value self.now.schema) }
         ensures ids { IfOk result (λ m. ids_of m.ipc_schema.fields.items ≡ ids_of self.now.ipc_schema.fields.items) }
+        ensures blocks { IfOk result (λ m. m.blocks.items ≡ self.now.blocks.items) }
+        ensures dictionaries { IfOk result (λ m. m.dictionaries.items ≡ self.now.dictionaries.items) }
         ensures readable { IsReadable self.now → IfOk result IsReadable }
     {
         Ok(FileMetadata {
@@ -110,6 +112,7 @@ fn footer_in(alloc: Global, bytes: &[u8]) -> Result<Footer, IpcError>
     ensures gives { Decodes footer_view result (meta_in bytes.now) }
     ensures may { IfOk result (λ f. SchemaMayBeWritten (footer_view f).schema.fields (footer_view f).schema.metadata) }
     ensures ids { IfOk result (λ f. IdsMayBeWritten (footer_view f).schema.fields) }
+    ensures natural { IfOk result HasNaturalBlocks }
     ensures shapes { IfOk result (λ f. have_shapes (fields_in f.schema) (ids_of f.ipc_schema.fields.items) ≡ true) }
 {
     deserialize_schema_and_blocks(alloc, bytes)
@@ -119,6 +122,7 @@ fn footer_in(alloc: Global, bytes: &[u8]) -> Result<Footer, IpcError>
 fn metadata_in(alloc: Global, footer: &FooterBytes) -> Result<FileMetadata, IpcError>
     requires { footer.now.size < 2 ^ 63 }
     ensures gives { Decodes meta_view result (meta_in footer.now.bytes.items) }
+    ensures custom { IfOk result (λ m. m.custom_metadata ≡ None) }
     ensures size { IfOk result (λ m. m.size ≡ footer.now.size) }
     ensures read { IfOk result WasRead }
 {
@@ -142,6 +146,7 @@ fn metadata_in(alloc: Global, footer: &FooterBytes) -> Result<FileMetadata, IpcE
 /// `OutOfSpec` with the kind of the part that is not as the format says, what `read_schema` answers, `ReadFault` and `Memory`.
 pub fn read_file_schema<S: Source>(alloc: Global, source: &mut S) -> Result<FileMetadata, IpcError>
     ensures gives { IfSome (S.content source.old) (λ b. Gives meta_view result (meta_of b)) }
+    ensures custom { IfOk result (λ m. m.custom_metadata ≡ None) }
     ensures size { IfOk result (λ m. IsSize (S.content source.old) m.size) }
     ensures read { IfOk result WasRead }
     ensures cause { IfErr result (λ e. FileCause e (S.faults source.old) (S.faults source.new)) }

@@ -4,6 +4,7 @@ ghost use Rattle.std.specs.Rc.{rc_value};
 ghost use Rattle.arrow_spec.specs.Arrays.{Dictionaries as History};
 ghost use Rattle.arrow_spec.specs.Features.{chosen_floats};
 ghost use Rattle.arrow_spec.specs.Files.{FileBlock};
+ghost use Rattle.arrow_spec.specs.declared.message.Block.{Block};
 ghost use Rattle.arrow_spec.specs.Readings.{Gives};
 ghost use Rattle.ipc_io.specs.Outside.{IsSize, SourceKept};
 ghost use Rattle.ipc_read.specs.Batches.{table_of};
@@ -77,7 +78,7 @@ pub fn read_projected_batch<S: Source>(
     requires whole { IsSize (S.content source.old) metadata.now.size }
 
     // The batch is what the block means under the dictionaries whose cells are held, the columns that were asked for and the limit, or a refusal of its.
-    ensures gives { (columns : Option (List ℕ)) (block : FileBlock) → MayProject (rc_value metadata.now.schema) columns (option_copied projection.entry) → slice_get (meta_view metadata.now).blocks index ≡ Some block → IfSome (S.content source.old) (λ b. (d : History) → HoldsCells d (held_in dictionaries.now) → Gives table_of result (batch_in (asked columns limit) b (meta_view metadata.now) d block)) }
+    ensures gives { (columns : Option (List ℕ)) (block : Block) → MayProject (rc_value metadata.now.schema) columns (option_copied projection.entry) → slice_get metadata.now.blocks.items index ≡ Some block → IfSome (S.content source.old) (λ b. (d : History) → HoldsCells d (held_in dictionaries.now) → Gives table_of result (batch_in (asked columns limit) b (meta_view metadata.now) d block)) }
     ensures read { (columns : Option (List ℕ)) (block : FileBlock) → MayProject (rc_value metadata.now.schema) columns (option_copied projection.entry) → slice_get (meta_view metadata.now).blocks index ≡ Some block → IfOk result (λ x. IfSome (S.content source.old) (λ b. BatchRead b (held_in dictionaries.now) (meta_view metadata.now) (asked columns limit) block x)) }
     ensures schema { (columns : Option (List ℕ)) → MayProject (rc_value metadata.now.schema) columns (option_copied projection.entry) → IfOk result (λ x. HasFields x (schema_shown (rc_value metadata.now.schema) (option_copied projection.entry))) }
     ensures cause { IfErr result (λ e. FileCause e (S.faults source.old) (S.faults source.new)) }

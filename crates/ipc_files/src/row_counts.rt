@@ -4,7 +4,7 @@ ghost use Rattle.arrow_spec.specs.Files.{footer_of};
 ghost use Rattle.arrow_spec.specs.Readings.{Gives, natural};
 ghost use Rattle.ipc_fields.specs.Causes.{Decodes};
 ghost use Rattle.ipc_io.specs.Outside.{IsSize, SourceKept};
-ghost use Rattle.ipc_files.specs.FileBlocks.{file_block, GivesIn};
+ghost use Rattle.ipc_files.specs.FileBlocks.{file_block, given, GivesIn};
 ghost use Rattle.ipc_files.specs.Fetching.{MetadataFetched};
 ghost use Rattle.ipc_files.specs.RowCounts.{block_rows, file_row_count, row_count_of, CountCause, MessagesFetched, RowCountFetched};
 
@@ -37,7 +37,7 @@ pub fn read_block_rows<S: Source>(
     size: u64,
 ) -> Result<u64, IpcError>
     requires { IsSize (S.content source.old) size }
-    ensures gives { GivesIn (S.content source.old) (λ n. n) result (λ b. block_rows b (file_block block.now)) }
+    ensures gives { GivesIn (S.content source.old) (λ n. n) result (λ b. given block.now (block_rows b)) }
     ensures small { IfOk result (λ n. n < 2 ^ 63) }
     ensures cause { IfErr result (λ e. CountCause e (S.faults source.old) (S.faults source.new)) }
     ensures fetched { MetadataFetched (S.content source.old) (file_block block.now) (S.fetched source.old) (S.fetched source.new) }
@@ -55,9 +55,9 @@ fn count_rows<S: Source>(
     size: u64,
 ) -> Result<i64, IpcError>
     requires { IsSize (S.content source.old) size }
-    ensures gives { GivesIn (S.content source.old) (λ n. n) result (λ b. row_count_of b (map file_block blocks.now)) }
+    ensures gives { GivesIn (S.content source.old) (λ n. n) result (λ b. row_count_of b blocks.now) }
     ensures cause { IfErr result (λ e. CountCause e (S.faults source.old) (S.faults source.new)) }
-    ensures fetched { MessagesFetched (S.content source.old) (map file_block blocks.now) (λ b. row_count_of b (map file_block blocks.now)) (S.fetched source.old) (S.fetched source.new) }
+    ensures fetched { MessagesFetched (S.content source.old) (map file_block blocks.now) (λ b. row_count_of b blocks.now) (S.fetched source.old) (S.fetched source.new) }
     ensures kept { SourceKept S.content S.faults S.references source.old source.new }
 {
     let mut total = 0u64;
@@ -83,11 +83,11 @@ pub fn get_row_count_from_blocks<S: Source>(
     source: &mut S,
     blocks: &[Block],
 ) -> Result<i64, IpcError>
-    ensures gives { IfSome (S.content source.old) (λ b. Gives (λ n. n) result (row_count_of b (map file_block blocks.now))) }
+    ensures gives { IfSome (S.content source.old) (λ b. Gives (λ n. n) result (row_count_of b blocks.now)) }
     ensures cause { IfErr result (λ e. CountCause e (S.faults source.old) (S.faults source.new)) }
 
     // Of each block, at most its prefix and its metadata are fetched.
-    ensures fetched { MessagesFetched (S.content source.old) (map file_block blocks.now) (λ b. row_count_of b (map file_block blocks.now)) (S.fetched source.old) (S.fetched source.new) }
+    ensures fetched { MessagesFetched (S.content source.old) (map file_block blocks.now) (λ b. row_count_of b blocks.now) (S.fetched source.old) (S.fetched source.new) }
     ensures kept { SourceKept S.content S.faults S.references source.old source.new }
 {
     let size = source.size()?;

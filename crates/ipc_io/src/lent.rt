@@ -42,6 +42,8 @@ impl<'a, W: Sink> Sink for &'a mut W {
 
     ghost references = { λ s. s.ghost_name ∷ W.references s.now };
 
+    ghost longest = { λ s. W.longest s.now };
+
     fn put(&mut self, bytes: &[u8]) -> Result<(), PutError> {
         (**self).put(bytes)
     }

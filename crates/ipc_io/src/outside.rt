@@ -1,5 +1,5 @@
 //! Each object is seen by the bytes that it tells, where it tells any, and by counts that never fall.
-ghost use Rattle.std.specs.Prelude.{◌≡◌, ℕ, ◌+◌, ◌^◌, ◌<◌, ◌≤◌, List, [], Option, length, IfOk};
+ghost use Rattle.std.specs.Prelude.{◌≡◌, ℕ, ◌+◌, ◌^◌, ◌<◌, ◌≤◌, List, [], Option, length, max, IfOk};
 ghost use Rattle.std.specs.Io.{ReadsAtMost};
 ghost use Rattle.std.specs.Io.KnownBytes.{ReadConsumes};
 ghost use Rattle.arrow_spec.specs.declared.error.IpcError.TheVariants.{ReadFault};
@@ -114,11 +114,15 @@ pub trait Sink {
     /// The names of the references that it holds, outermost first.
     ghost references: { Self → List ℕ } = { λ _. [] };
 
+    /// How many bytes it was handed at once, at most.
+    ghost longest: { Self → ℕ } = { λ _. 0 };
+
     /// Adds all bytes. A failed call adds a part from the front, and one that wants memory adds nothing.
     fn put(&mut self, bytes: &[u8]) -> Result<(), PutError>
         ensures bytes { Puts (written self.old) (written self.new) result bytes.now }
         ensures cause { PutHasCause (faults self.old) (faults self.new) (wants self.old) (wants self.new) result }
-        ensures same_references { references self.new ≡ references self.old };
+        ensures same_references { references self.new ≡ references self.old }
+        ensures longest { longest self.new ≤ max (longest self.old) (length bytes.now) };
 }
 
 /// Bytes under names.

@@ -9,3 +9,13 @@ pub struct Refused<T> {
     /// The object, which is handed back.
     pub object: T,
 }
+
+impl<T: Drop> From<Refused<T>> for IpcError {
+    ghost use Rattle.std.specs.Prelude.{◌≡◌};
+
+    ghost from_gives = { λ refused e. e ≡ refused.error };
+
+    fn from(refused: Refused<T>) -> IpcError {
+        refused.error
+    }
+}

@@ -31,6 +31,7 @@ use Rattle.ipc_write.specs.declared.options.WriteOptions.{WriteOptions}
 use Rattle.ipc_messages.specs.Fields.{AreIdsFor}
 use Rattle.ipc_messages.specs.declared.pairs.StreamPairs.{StreamPairs}
 use Rattle.ipc_messages.specs.Schemas.{GivesText, IsNoStart, IsRefusedAs, SchemaIsSaid, StartMayBeWritten, begun_message, begun_metadata, features_checked, stream_text}
+use Rattle.ipc_messages.proofs.Lengths.{length-message}
 use Rattle.ipc_messages.proofs.Planning.{only_memory}
 
 -- ── readings ──
@@ -162,6 +163,29 @@ done_first (Err es) f x h = cc
 pub text_plain : (options : WriteOptions) (fs : Fields) (below : Ids) (pairs : StreamPairs) (bytes : List ℕ) → stream_text options fs below pairs ≡ Ok bytes → is_absent options.compression ≡ true
 text_plain options fs below pairs bytes h =
     features_plain options (floats_in fs) (done_first (features_checked options (floats_in fs)) (λ plain. bind (begun_metadata fs below pairs) (behind options fs below pairs)) bytes (sym (as_steps options fs below pairs) ∙ h))
+
+-- its message has bytes
+behind_some : (options : WriteOptions) (fs : Fields) (below : Ids) (pairs : StreamPairs) (b : Bool) (bytes : List ℕ) → bind (unless b errors.TooLarge) (λ small. Ok (message_bytes (begun_message fs below pairs).node [])) ≡ Ok bytes → 0 < length bytes
+unfolding bind
+behind_some options fs below pairs true bytes h =
+    let same : message_bytes (begun_message fs below pairs).node [] ≡ bytes = cc in
+    omega (arith, ap length same, length-message (begun_message fs below pairs).node [])
+behind_some options fs below pairs false bytes h = cc
+
+metadata_some : (options : WriteOptions) (fs : Fields) (below : Ids) (pairs : StreamPairs) (r : Reading (List ℕ)) (bytes : List ℕ) → bind r (behind options fs below pairs) ≡ Ok bytes → 0 < length bytes
+unfolding bind
+metadata_some options fs below pairs (Err es) bytes h = cc
+metadata_some options fs below pairs (Ok metadata) bytes h = behind_some options fs below pairs (nat_le (up_to 8 (length metadata)) (min options.metadata_limit 2147483647)) bytes h
+
+second_done : {A : Type 0} (r : Reading (Unit {0})) (q : Reading A) (x : A) → bind r (λ plain. q) ≡ Ok x → q ≡ Ok x
+unfolding bind
+second_done (Ok u) q x h = h
+second_done (Err es) q x h = cc
+
+pub start_some : (options : WriteOptions) (fs : Fields) (below : Ids) (pairs : StreamPairs) (bytes : List ℕ) → stream_text options fs below pairs ≡ Ok bytes → 0 < length bytes
+start_some options fs below pairs bytes h =
+    metadata_some options fs below pairs (begun_metadata fs below pairs) bytes
+    (second_done (features_checked options (floats_in fs)) (bind (begun_metadata fs below pairs) (behind options fs below pairs)) bytes (sym (as_steps options fs below pairs) ∙ h))
 
 -- the framed message is given, or memory was wanted
 pub text_answered : (r : Result (Vec ℕ Global) IpcError) (options : WriteOptions) (fs : Fields) (below : Ids) (pairs : StreamPairs) (metadata ms : List ℕ) → ms ≡ metadata → features_checked options (floats_in fs) ≡ Ok tt → begun_metadata fs below pairs ≡ Ok metadata

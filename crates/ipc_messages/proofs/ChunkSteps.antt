@@ -1,8 +1,9 @@
 -- What is found of dictionaries, and what is encoded of it.
-use Rattle.std.proofs.Common.{◌≡◌, ◌⊎◌, inl, inr, ℤ, false, List, map, refl, ap, ◌∙◌, subst, Result, Ok, Err}
+use Rattle.std.proofs.Common.{◌≡◌, ◌⊎◌, inl, inr, ℤ, false, None, List, map, refl, ap, ◌∙◌, subst, Result, Ok, Err}
 use Rattle.arrow_spec.specs.declared.error.IpcError.{IpcError}
 use Rattle.arrow_spec.specs.declared.error.IpcError.TheVariants as errors
 use Rattle.arrow_spec.specs.declared.error.Feature.TheVariants as features
+use Rattle.arrow_spec.specs.Kinds.{Kind}
 use Rattle.arrow_arrays.specs.Batches.{Batch}
 use Rattle.arrow_arrays.specs.Parts.{Forest}
 use Rattle.ipc_fields.specs.IpcFields.{Ids}
@@ -18,7 +19,7 @@ use Rattle.ipc_write.specs.Outcomes.{Encodes, Plans, Same}
 use Rattle.ipc_write.specs.declared.encoded.EncodedData.{EncodedData}
 use Rattle.ipc_write.specs.declared.options.WriteOptions.{WriteOptions}
 use Rattle.ipc_messages.specs.Encoded.{AreMessagesOf, AddsEach, RefusesOne, messages_of}
-use Rattle.ipc_messages.specs.Chunks.{found, IsSentBy, Stops, AddsDictionary, IsOfBatch, MayBeSent, RefusesChunk, lacks_deltas}
+use Rattle.ipc_messages.specs.Chunks.{found, IsSentBy, Stops, AddsDictionary, IsOfBatch, MayBeSent, RefusesChunk, cannot_be_sent}
 use Rattle.ipc_messages.proofs.MessageSteps.{encoded_fit, encoded_may}
 
 -- ── a batch ──
@@ -50,9 +51,9 @@ batch_refused e options sent ms b old new h k =
 -- ── what is found ──
 
 -- it is sent by messages
-pub sent_by : (options : WriteOptions) (old new : DictionaryTracker) (columns : Forest) (below : Ids) (n : NewDictionaries) (ms : List EncodedData) → Sends (Ok n) old new columns below → AreMessagesOf options (map to_send n.messages.items) ms
+pub sent_by : (options : WriteOptions) (old new : DictionaryTracker) (columns : Forest) (below : Ids) (n : NewDictionaries) (ms : List EncodedData) → options.compression ≡ None → Sends (Ok n) old new columns below → AreMessagesOf options (map to_send n.messages.items) ms
     → IsSentBy options old new columns below ms
-sent_by options old new columns below n ms h k = record { used = h.0.0; sent = map to_send n.messages.items; is_found = h.0.1; messages = k }
+sent_by options old new columns below n ms none h k = record { uncompressed = none; used = h.0.0; sent = map to_send n.messages.items; is_found = h.0.1; messages = k }
 
 -- it is not, for its messages or the batch's are refused
 pub stops_behind : (e : IpcError) (old new : DictionaryTracker) (columns : Forest) (below : Ids) (n : NewDictionaries) (refused : List ToSend → Type 0) → Sends (Ok n) old new columns below → refused (map to_send n.messages.items)
@@ -86,7 +87,7 @@ same_options a b e = (ap (λ o. o.cannot_replace) e, ap (λ o. o.deltas) e)
 
 -- ── one dictionary ──
 
-pub dictionary_added : (r : Result (Unit {0}) IpcError) (options : WriteOptions) (id : ℤ) (parts values : Forest) (was is : List EncodedData) → parts ≡ values → lacks_deltas options values ≡ false
-    → AddsEach r options (messages_of id false parts) was is → AddsDictionary r options id values was is
-dictionary_added (Ok u) options id parts values was is e f h = (f, h.0, h.1, subst (λ ps. AreMessagesOf options (messages_of id false ps) h.0) e h.2)
-dictionary_added (Err x) options id parts values was is e f h = (inr (f, subst (λ ps. (x ≡ errors.Memory) ⊎ RefusesOne x options (messages_of id false ps)) e h.0), h.1)
+pub dictionary_added : (r : Result (Unit {0}) IpcError) (options : WriteOptions) (id : ℤ) (k : Kind) (parts values : Forest) (was is : List EncodedData) → options.compression ≡ None → parts ≡ values → cannot_be_sent options k values ≡ false
+    → AddsEach r options (messages_of id false parts) was is → AddsDictionary r options id k values was is
+dictionary_added (Ok u) options id k parts values was is none e f h = (f, h.0, h.1, subst (λ ps. AreMessagesOf options (messages_of id false ps) h.0) e h.2)
+dictionary_added (Err x) options id k parts values was is none e f h = (inr (none, inr (f, subst (λ ps. (x ≡ errors.Memory) ⊎ RefusesOne x options (messages_of id false ps)) e h.0)), h.1)

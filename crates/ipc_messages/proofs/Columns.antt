@@ -10,7 +10,7 @@ use Rattle.arrow_types.specs.declared.data_type.Field.{Field, the_lemmas}
 use Rattle.arrow_arrays.specs.Parts.{kind_in}
 use Rattle.arrow_arrays.specs.PartsOf.{forest_of, parts_of}
 use Rattle.arrow_arrays.specs.declared.array.Array.{Array}
-use Rattle.ipc_dictionaries.specs.Columns.{columns_of}
+use Rattle.arrow_arrays.specs.Columns.{columns_of}
 
 pub kind_of_field : (f : Field) → (child_of f).kind ≡ kind_of f.dtype
 kind_of_field f = search (rules, the_lemmas)

@@ -14,7 +14,7 @@ use Rattle.ipc_write.specs.declared.encoded.EncodedData.{EncodedData}
 use Rattle.ipc_write.proofs.Putting.{frame_of, frame_whole}
 use Rattle.ipc_write.proofs.Written.{length-frame}
 use Rattle.ipc_messages.specs.Messages.{Sizes}
-use Rattle.ipc_messages.specs.declared.framed.FramedMessage.{FramedMessage}
+use Rattle.ipc_messages.specs.declared.framed_message.FramedMessage.{FramedMessage}
 use Rattle.ipc_messages.specs.Framed.{AreFramed, FramesEach, FramesOne, IsFramed, are_short, framed_sizes, framed_text, given_sizes, given_text, is_short, padded_body}
 
 -- ── one message ──

@@ -18,7 +18,7 @@ use Rattle.ipc_messages.specs.Encoded.{all_fit, fits}
 use Rattle.ipc_write.specs.Batches.{batch_message, is_within, written_batch_of}
 use Rattle.ipc_write.specs.declared.options.WriteOptions.{WriteOptions}
 use Rattle.ipc_write.proofs.Written.{same_message}
-use Rattle.ipc_messages.specs.declared.messages.PlannedMessage.{PlannedMessage}
+use Rattle.ipc_messages.specs.declared.planned.PlannedMessage.{PlannedMessage}
 use Rattle.ipc_messages.specs.Chunks.{MayBeSent}
 use Rattle.ipc_messages.specs.Messages.{Sizes, chunk_text, message_of, planned_sizes, sent_sizes, sizes_of, total, values_text}
 

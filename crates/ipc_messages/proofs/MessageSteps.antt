@@ -1,6 +1,6 @@
 -- Messages that are encoded one after another.
-use Rattle.std.proofs.Common.{◌≡◌, inl, inr, ℕ, ◌+◌, ◌<◌, ◌≤◌, ◌++◌, ℤ, List, [], ◌∷◌, Bool, true, map, length, drop, get_or, refl, sym, ap, ◌∙◌, subst, Ok, append_assoc, append-nil}
-use Rattle.std.specs.Prelude.{◌&&◌}
+use Rattle.std.proofs.Common.{◌≡◌, inl, inr, ℕ, ◌+◌, ◌<◌, ◌≤◌, ◌++◌, ℤ, List, [], ◌∷◌, Bool, true, false, map, length, drop, get_or, refl, sym, ap, ◌∙◌, subst, Ok, append_assoc, append-nil}
+use Rattle.std.specs.Prelude.{◌&&◌, if◌then◌else◌}
 use Rattle.std.proofs.lemmas.List.{drop_all}
 use Rattle.arrow_spec.specs.declared.error.IpcError.{IpcError}
 use Rattle.arrow_arrays.specs.PartsOf.{parts_of, forest_of}
@@ -11,7 +11,7 @@ use Rattle.ipc_dictionaries.specs.Walks.{to_send}
 use Rattle.ipc_dictionaries.specs.declared.walk.ToEncode.{ToEncode}
 use Rattle.ipc_write.specs.declared.encoded.EncodedData.{EncodedData}
 use Rattle.ipc_write.specs.declared.options.WriteOptions.{WriteOptions}
-use Rattle.ipc_messages.specs.Encoded.{AddsOne, AllMayBeValues, AreMessagesOf, IsMessageOf, Refuses, RefusesOne, all_fit, fits, messages_of}
+use Rattle.ipc_messages.specs.Encoded.{AddsOne, AllMayBeValues, AreMessagesOf, IsMessageOf, Refuses, RefusesOne, all_fit, fits, is_passed, messages_of}
 
 -- ── lists of messages ──
 
@@ -75,9 +75,22 @@ pub all_encoded : (options : WriteOptions) (ms : List EncodedData) (xs : List To
 all_encoded options ms xs i all h l = left_none options ms (map to_send (drop i xs)) all (ap (map to_send) (drop_all i xs h)) l
 
 -- of a dictionary's parts
-pub next_part : (id : ℤ) (is_delta : Bool) (xs : List Array) (i : ℕ) (x : Array) → i < length xs → x ≡ get_or xs i x
+pub next_part : (id : ℤ) (is_delta : Bool) (xs : List Array) (i : ℕ) (x : Array) → i < length xs → x ≡ get_or xs i x → is_passed is_delta (parts_of x) ≡ false
     → messages_of id is_delta (forest_of (drop i xs)) ≡ message_of id is_delta (parts_of x) ∷ messages_of id true (forest_of (drop (i + 1) xs))
-next_part id is_delta xs i x h e = ap (λ ys. messages_of id is_delta (forest_of ys)) (drop_item xs i x x h e)
+next_part id is_delta xs i x h e sent =
+    let rest = messages_of id true (forest_of (drop (i + 1) xs)) in
+    ap (λ ys. messages_of id is_delta (forest_of ys)) (drop_item xs i x x h e) ∙ ap (λ b. if b then rest else message_of id is_delta (parts_of x) ∷ rest) sent
+
+-- one without rows is passed over
+pub passed_part : (id : ℤ) (is_delta : Bool) (xs : List Array) (i : ℕ) (x : Array) → i < length xs → x ≡ get_or xs i x → is_passed is_delta (parts_of x) ≡ true
+    → messages_of id is_delta (forest_of (drop i xs)) ≡ messages_of id is_delta (forest_of (drop (i + 1) xs))
+passed_part id false xs i x h e passed = cc
+passed_part id true xs i x h e passed =
+    let rest = messages_of id true (forest_of (drop (i + 1) xs)) in
+    ap (λ ys. messages_of id true (forest_of ys)) (drop_item xs i x x h e) ∙ ap (λ b. if b then rest else message_of id true (parts_of x) ∷ rest) passed
+
+pub left_passed : (options : WriteOptions) (ms : List EncodedData) (left rest all : List ToSend) → left ≡ rest → IsLeft options ms left all → IsLeft options ms rest all
+left_passed options ms left rest all e l = subst (λ ss. IsLeft options ms ss all) e l
 
 pub parts_encoded : (options : WriteOptions) (ms : List EncodedData) (id : ℤ) (is_delta : Bool) (xs : List Array) (i : ℕ) (all : List ToSend) → length xs ≤ i
     → IsLeft options ms (messages_of id is_delta (forest_of (drop i xs))) all → AreMessagesOf options all ms

@@ -29,7 +29,7 @@ use Rattle.ipc_write.proofs.Putting.{aligned_pieces, frame_whole, plan_frame}
 use Rattle.ipc_write.proofs.Written.{framed_is_batch, framed_whole, length-frame}
 use Rattle.ipc_messages.specs.Chunks.{RefusesChunk}
 use Rattle.ipc_messages.specs.Encoded.{AllMayBeValues, Refuses, RefusesOne, all_fit, fits}
-use Rattle.ipc_messages.specs.declared.messages.PlannedMessage.{PlannedMessage}
+use Rattle.ipc_messages.specs.declared.planned.PlannedMessage.{PlannedMessage}
 use Rattle.ipc_messages.specs.Messages.{ArePlanned, IsBatchPlanned, IsChunkPlanned, IsPlanned, PlansBatch, PlansOne, chunk_text, message_of, planned_sizes, planned_text, Sizes, sent_sizes, sizes_of, values_text}
 
 -- ── one message ──

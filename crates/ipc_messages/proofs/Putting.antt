@@ -1,5 +1,5 @@
 -- Messages that are put one after another, and where a put stops.
-use Rattle.std.proofs.Common.{◌≡◌, inl, ℕ, ◌+◌, ◌<◌, List, [], ◌∷◌, ◌++◌, Bool, true, false, length, map, take, drop, get_or, Option, None, Some, Result, Ok, Err, refl, sym, ap, ◌∙◌, subst, append-nil, arith, ◌^◌}
+use Rattle.std.proofs.Common.{◌≡◌, inl, ℕ, ◌+◌, ◌<◌, List, [], ◌∷◌, ◌++◌, Bool, true, false, length, map, take, drop, get_or, Option, None, Some, Result, Ok, Err, refl, sym, ap, ◌∙◌, subst, append-nil, arith, ◌^◌, length-append}
 use Rattle.std.specs.List.{flat_map}
 use Rattle.std.specs.Result.{IsErrAnd}
 use Rattle.std.specs.Io.KnownBytes.{Appends, Keeps}
@@ -7,19 +7,23 @@ use Rattle.std.proofs.KnownBytes.{Appends-kept, Keeps-refl}
 use Rattle.std.proofs.Math.Seq.{take-length}
 use Rattle.std.proofs.lemmas.Grind.{flat_map-append}
 use Rattle.std.proofs.lemmas.List.{take_more, take-append-drop}
-use Rattle.hex.specs.Hex.{encode_with}
+use Rattle.hex.specs.Hex.{encode_with, lower_digits}
+use Rattle.hex.proofs.HexLemmas.{length-encode_with}
 use Rattle.arrow_spec.specs.declared.error.IpcError.{IpcError}
-use Rattle.arrow_spec.specs.declared.error.IpcError.TheVariants.{Memory}
+use Rattle.arrow_spec.specs.declared.error.IpcError.TheVariants.{Memory, WriteFault}
 use Rattle.ipc_write.specs.Below.{text_of, Moved, moved, NoneFalls, PutsPart, Encoding, Bytes, HexText, Rose}
 use Rattle.ipc_write.proofs.Below.{text_of-append, more_part, then_all, then_part}
 use Rattle.ipc_messages.specs.declared.puts.Stop.{Stop}
 use Rattle.arrow_arrays.specs.Batches.{Batch}
 use Rattle.ipc_dictionaries.specs.NewDictionaries.{ToSend}
 use Rattle.ipc_write.specs.declared.options.WriteOptions.{WriteOptions}
-use Rattle.ipc_messages.specs.declared.messages.PlannedMessage.{PlannedMessage}
+use Rattle.ipc_messages.specs.declared.planned.PlannedMessage.{PlannedMessage}
+use Rattle.arrow_spec.specs.Framing.{body_bytes}
 use Rattle.ipc_messages.specs.Chunks.{MayBeSent}
 use Rattle.ipc_messages.specs.Messages.{IsChunkPlanned, chunk_text, planned_sizes, planned_text, total}
-use Rattle.ipc_messages.specs.Puts.{PutsBehind, PutsOrStops, SendStops, SendsChunk, StopsIn, Untouched, stop_behind}
+use Rattle.ipc_messages.specs.Framed.{framed_text, padded_body}
+use Rattle.ipc_messages.specs.declared.framed_message.FramedMessage.{FramedMessage}
+use Rattle.ipc_messages.specs.Puts.{Grew, PutsBeforeWant, PutsBehind, PutsOrStops, SendStops, SendsChunk, StopsByFault, StopsIn, Untouched, stop_behind}
 use Rattle.ipc_messages.proofs.Lengths.{chunk_length, few_bytes}
 
 -- ── nothing is put ──
@@ -150,6 +154,75 @@ pub item_behind : {A : Type 0} (old mid new : Option (List ℕ)) (f g h w y z : 
 item_behind old mid new f g h w y z text xs i x lt is p q =
     let both = then_all old mid new f g h w y z (flat_map text (take i xs)) (text x) p q in
     (subst (Appends old new) (item_put text xs i x lt is) both.0, both.1)
+
+-- ── where memory is wanted behind a first put ──
+
+-- bytes and what stands behind them
+grew_behind : (old mid new : Option (List ℕ)) (xs ys : List ℕ) → 0 < length xs → Appends old mid xs → Appends mid new ys → Grew old new
+grew_behind None mid new xs ys some p q = tt
+grew_behind (Some a) None new xs ys some p q = absurd p
+grew_behind (Some a) (Some b) None xs ys some p q = absurd q
+grew_behind (Some a) (Some b) (Some c) xs ys some p q = omega (arith, some, ap length p, ap length q, length-append a xs, length-append b ys)
+
+grew_later : (old mid new : Option (List ℕ)) (xs : List ℕ) → Appends old mid xs → Grew mid new → Grew old new
+grew_later None mid new xs p q = tt
+grew_later (Some a) None new xs p q = absurd p
+grew_later (Some a) (Some b) None xs p q = absurd q
+grew_later (Some a) (Some b) (Some c) xs p q = omega (arith, ap length p, q, length-append a xs)
+
+-- a call that stops for want of memory keeps what was put, and may have put more
+appends_some : (b : Bool) (m : Moved) (e : IpcError) (piece : List ℕ) → e ≡ Memory → StopsIn b m e piece → (n : ℕ) × Appends m.old m.new (take n piece)
+appends_some true m e piece is p = let part : PutsPart m Memory piece = subst (λ k. PutsPart m k piece) is p in part.0
+appends_some false m e piece is p = (0, kept m.old m.new p.1.bytes)
+  where
+    kept : (a b : Option (List ℕ)) → Keeps a b → Appends a b (take 0 piece)
+    kept None b h = tt
+    kept (Some ws) None h = absurd h
+    kept (Some ws) (Some bs) h = h ∙ sym (append-nil ws)
+
+pub wants_as : {T : Type 0} → (r : Result T Stop) (s : Stop) (old new : Option (List ℕ)) → IsErrAnd r (λ t. t ≡ s) → PutsBeforeWant {T = Unit {0}} (Err s) old new → PutsBeforeWant r old new
+wants_as (Ok t) s old new h w = tt
+wants_as (Err t) s old new h w = λ e b. w (ap (λ (u : Stop). u.error) (sym h) ∙ e) (ap (λ (u : Stop). u.has_begun) (sym h) ∙ b)
+
+-- one put wants memory before a byte of it is put
+pub whole_wants : (s : Stop) (old new : Option (List ℕ)) → (s.has_begun ≡ true → s.error ≡ WriteFault) → PutsBeforeWant {T = Unit {0}} (Err s) old new
+whole_wants s old new h = λ e b.
+    let fault : s.error ≡ WriteFault = h b in
+    let both : WriteFault ≡ Memory = sym fault ∙ e in
+    absurd (cc)
+
+pub fault_wants : {T : Type 0} → (r : Result T Stop) (old new : Option (List ℕ)) → StopsByFault r → PutsBeforeWant r old new
+fault_wants (Ok t) old new h = tt
+fault_wants (Err s) old new h = whole_wants s old new h
+
+-- behind a first piece
+pub piece_wants : (old mid new : Option (List ℕ)) (g h x y : ℕ) (r : Result (Unit {0}) Stop) (xs ys : List ℕ) → 0 < length xs → Appends old mid xs → PutsBehind (moved mid new g h x y) r ys → PutsBeforeWant r old new
+piece_wants old mid new g h x y (Ok u) xs ys some p q = tt
+piece_wants old mid new g h x y (Err s) xs ys some p q = λ e b.
+    let more = appends_some true (moved mid new g h x y) s.error ys e q.1 in
+    grew_behind old mid new xs (take more.0 ys) some p more.1
+
+-- a message of a list behind those before it
+pub item_wants : (begun : Bool) (old mid new : Option (List ℕ)) (g h x y : ℕ) (s t : Stop) (before piece : List ℕ) → t ≡ stop_behind begun s → (begun ≡ true → 0 < length before) → Appends old mid before
+    → StopsIn s.has_begun (moved mid new g h x y) s.error piece → PutsBeforeWant {T = Unit {0}} (Err s) mid new → PutsBeforeWant {T = Unit {0}} (Err t) old new
+item_wants true old mid new g h x y s t before piece is some p q w = λ e b.
+    let more = appends_some s.has_begun (moved mid new g h x y) s.error piece (ap (λ (u : Stop). u.error) (sym is) ∙ e) q in
+    grew_behind old mid new before (take more.0 piece) (some refl) p more.1
+item_wants false old mid new g h x y s t before piece is some p q w = λ e b. grew_later old mid new before p (w (ap (λ (u : Stop). u.error) (sym is) ∙ e) (ap (λ (u : Stop). u.has_begun) (sym is) ∙ b))
+
+-- texts that are not empty
+pub text_some : (encoding : Encoding) (xs : List ℕ) → 0 < length xs → 0 < length (text_of encoding xs)
+text_some Bytes xs h = h
+text_some HexText xs h = omega (arith, h, length-encode_with lower_digits xs)
+
+pub planned_some : (encoding : Encoding) (p : PlannedMessage) → 0 < length (text_of encoding (planned_text p))
+planned_some encoding p = text_some encoding (planned_text p) (omega (arith, p.begins, length-append p.front.items (body_bytes 0 p.buffers.items)))
+
+pub framed_some : (p : FramedMessage) → 0 < length (framed_text p)
+framed_some p = omega (arith, p.begins, length-append p.front.items (padded_body p.body.now))
+
+pub items_some : {A : Type 0} (text : A → List ℕ) (xs : List A) (i : ℕ) (x : A) → i < length xs → x ≡ get_or xs i x → 0 < length (text x) → 0 < length (flat_map text (take (i + 1) xs))
+items_some text xs i x h e some = omega (arith, some, ap length (item_put text xs i x h e), length-append (flat_map text (take i xs)) (text x))
 
 -- ── a batch and its dictionaries ──
 

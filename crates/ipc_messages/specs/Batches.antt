@@ -4,7 +4,7 @@ use Rattle.arrow_spec.specs.Kinds.{have_same_kinds}
 use Rattle.arrow_types.specs.Schemas.{Keyed, fields_in}
 use Rattle.arrow_arrays.specs.Batches.{Batch}
 use Rattle.arrow_arrays.specs.Parts.{forest}
-use Rattle.ipc_dictionaries.specs.Columns.{columns_of}
+use Rattle.arrow_arrays.specs.Columns.{columns_of}
 use Rattle.ipc_fields.specs.IpcFields.{Ids}
 use Rattle.ipc_messages.specs.Fields.{IsOwn}
 

@@ -1,13 +1,18 @@
 -- What crates below say, handed on to those above.
 pub use Rattle.arrow_arrays.specs.Batches.{Batch}
 pub use Rattle.arrow_arrays.specs.CellCode.{Content, content_from, content_from-content_to, content_to}
-pub use Rattle.arrow_arrays.specs.Heads.{Cut, Indexed, are_of, child_fields, each_of, indexed, is_dictionary, joined, list_size, listed, mapped, run, sized, structured, suits, tagged, tagged_cut, values_kind, whole}
-pub use Rattle.arrow_arrays.specs.Parts.{Forest, Parts, also, cells_each, cells_in, cut, fault_each, fault_in, forest, kind_in, kinds_each, leaf, nested, none, part_of, rows_in}
+pub use Rattle.arrow_arrays.specs.Heads.{Cut, Indexed, are_of, child_fields, each_of, indexed, is_dictionary, joined, list_size, listed, mapped, run}
+pub use Rattle.arrow_arrays.specs.Heads.{sized, structured, suits, tagged, tagged_cut, values_kind, whole}
+pub use Rattle.arrow_arrays.specs.Parts.{Forest, Parts, also, cells_each, cells_in, cut, fault_each, fault_in, forest, kind_in, kinds_each, leaf}
+pub use Rattle.arrow_arrays.specs.Parts.{nested, none, part_of, rows_in}
 pub use Rattle.ipc_dictionaries.specs.Batches.{Sends, begun}
 pub use Rattle.ipc_dictionaries.specs.Changes.{undone}
-pub use Rattle.ipc_dictionaries.specs.Columns.{columns_fault, columns_of, columns_sent, unless_fault}
-pub use Rattle.ipc_dictionaries.specs.NewDictionaries.{Options, Sending, ToSend, array_sent, arrays_sent, dictionary_sent, fixing, has_several, holding, message_of, parts_sent, rows_from, scoped, sending, then_by}
-pub use Rattle.ipc_dictionaries.specs.Shapes.{agree, are_apart, is_apart}
+pub use Rattle.arrow_arrays.specs.Columns.{columns_of}
+pub use Rattle.ipc_dictionaries.specs.Columns.{columns_fault, columns_sent, unless_fault}
+pub use Rattle.ipc_dictionaries.specs.NewDictionaries.{Options, Sending, ToSend, array_sent, arrays_sent, dictionary_sent, fixing, has_several}
+pub use Rattle.ipc_dictionaries.specs.NewDictionaries.{holding, message_of, parts_sent, rows_from, scoped, sending, then_by}
+pub use Rattle.ipc_fields.specs.Representable.{all_representable, is_representable}
+pub use Rattle.ipc_dictionaries.specs.Shapes.{agree}
 pub use Rattle.ipc_dictionaries.specs.Standing.{allowed, are_same_cells, by_cells, delta_start, standing}
 pub use Rattle.ipc_dictionaries.specs.Tracker.{Held, IsKept, held_by, is_indexed, values_in}
 pub use Rattle.ipc_dictionaries.specs.Walks.{options_of, to_send}

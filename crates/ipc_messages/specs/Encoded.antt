@@ -1,21 +1,26 @@
 -- The messages of dictionaries' values, one after another. (Arrow Columnar Format, "Dictionary Messages".)
-use Rattle.std.specs.Prelude.{◌≡◌, ◌⊎◌, ◌++◌, ◌&&◌, ℤ, List, [], ◌∷◌, Bool, true, Result, Ok, Err}
+use Rattle.std.specs.Prelude.{◌≡◌, ◌⊎◌, ◌++◌, ◌&&◌, ℤ, List, [], ◌∷◌, Bool, true, nat_eq, if◌then◌else◌, Result, Ok, Err}
 use Rattle.std.specs.List.{AllByRecursion}
 use Rattle.std.specs.declared.alloc.Global.{Global}
 use Rattle.std.specs.declared.vec.Vec.{Vec}
 use Rattle.arrow_spec.specs.declared.error.IpcError.{IpcError}
 use Rattle.arrow_spec.specs.declared.error.IpcError.TheVariants.{Memory}
-use Rattle.arrow_arrays.specs.Parts.{Forest, none, also, rows_in}
+use Rattle.arrow_arrays.specs.Parts.{Forest, Parts, none, also, rows_in}
 use Rattle.ipc_dictionaries.specs.NewDictionaries.{ToSend, message_of}
 use Rattle.ipc_write.specs.Planned.{is_short}
 use Rattle.ipc_write.specs.Values.{IsOfValues, MayBeValues, PlansValues, values_message}
 use Rattle.ipc_write.specs.declared.encoded.EncodedData.{EncodedData}
 use Rattle.ipc_write.specs.declared.options.WriteOptions.{WriteOptions}
 
--- the parts of a dictionary under an id: after the first each goes on with those before it
+-- a part that goes on with others is passed over where it has no rows
+abbrev pub is_passed : Bool → Parts → Bool
+is_passed is_delta p = is_delta && nat_eq (rows_in p) 0
+
+-- the parts of a dictionary under an id: after the first each that has rows goes on with those before it
 abbrev pub messages_of : ℤ → Bool → Forest → List ToSend
 messages_of id is_delta none = []
-messages_of id is_delta (also p ps) = message_of id is_delta p ∷ messages_of id true ps
+messages_of id is_delta (also p ps) =
+    if is_passed is_delta p then messages_of id true ps else message_of id is_delta p ∷ messages_of id true ps
 
 -- it is the message of what is sent, which may be sent
 pub record IsMessageOf (options : WriteOptions) (s : ToSend) (m : EncodedData) : Type 0 where

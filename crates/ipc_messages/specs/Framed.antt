@@ -9,7 +9,7 @@ use Rattle.arrow_spec.specs.Layout.{up_to, zeros}
 use Rattle.ipc_write.specs.Outcomes.{message_frame}
 use Rattle.ipc_write.specs.declared.encoded.EncodedData.{EncodedData}
 use Rattle.ipc_messages.specs.Messages.{Sizes}
-use Rattle.ipc_messages.specs.declared.framed.FramedMessage.{FramedMessage}
+use Rattle.ipc_messages.specs.declared.framed_message.FramedMessage.{FramedMessage}
 
 -- a message's bytes, and how many stand before its body and in it
 abbrev pub given_text : EncodedData → List ℕ

@@ -18,7 +18,7 @@ use Rattle.ipc_write.specs.Values.{MayBeValues, values_message}
 use Rattle.ipc_write.specs.declared.options.WriteOptions.{WriteOptions}
 use Rattle.ipc_messages.specs.Chunks.{MayBeSent, RefusesChunk}
 use Rattle.ipc_messages.specs.Encoded.{AllMayBeValues, Refuses, RefusesOne, all_fit, fits}
-use Rattle.ipc_messages.specs.declared.messages.PlannedMessage.{PlannedMessage}
+use Rattle.ipc_messages.specs.declared.planned.PlannedMessage.{PlannedMessage}
 
 -- how many bytes of a message stand before its body, and how many are its body
 pub record Sizes : Type 0 where

@@ -1,8 +1,8 @@
 -- What is put into a sink before a call stops.
-use Rattle.std.specs.Prelude.{◌≡◌, ◌⊎◌, ◌+◌, ◌^◌, ◌<◌, List, ℕ, Bool, true, false, length, min, Result, Ok, Err}
+use Rattle.std.specs.Prelude.{◌≡◌, ◌⊎◌, ◌+◌, ◌^◌, ◌<◌, ⊤, List, ℕ, Bool, true, false, length, min, Option, Some, None, Result, Ok, Err}
 use Rattle.std.specs.Io.KnownBytes.{Appends, Keeps}
 use Rattle.arrow_spec.specs.declared.error.IpcError.{IpcError}
-use Rattle.arrow_spec.specs.declared.error.IpcError.TheVariants.{Memory}
+use Rattle.arrow_spec.specs.declared.error.IpcError.TheVariants.{Memory, WriteFault}
 use Rattle.arrow_arrays.specs.Batches.{Batch}
 use Rattle.ipc_write.specs.Below.{Moved, NoneFalls, PutsPart, Rose}
 use Rattle.ipc_dictionaries.specs.NewDictionaries.{ToSend}
@@ -35,6 +35,22 @@ PutsBehind m (Err s) bytes = (s.has_begun ≡ true) × PutsPart m s.error bytes
 abbrev pub stop_behind : Bool → Stop → Stop
 stop_behind true s = record { error = s.error; has_begun = true }
 stop_behind false s = s
+
+-- the bytes that are told have become more
+abbrev pub Grew : Option (List ℕ) → Option (List ℕ) → Type 0
+Grew None new = ⊤
+Grew (Some old) None = ⊥
+Grew (Some old) (Some new) = length old < length new
+
+-- a call that stops for want of memory, and not in its first put, has put something
+abbrev pub PutsBeforeWant : {T : Type 0} → Result T Stop → Option (List ℕ) → Option (List ℕ) → Type 0
+PutsBeforeWant (Ok t) old new = ⊤
+PutsBeforeWant (Err s) old new = s.error ≡ Memory → s.has_begun ≡ true → Grew old new
+
+-- a call of one put stops behind a byte by a fault alone
+abbrev pub StopsByFault : {T : Type 0} → Result T Stop → Type 0
+StopsByFault (Ok t) = ⊤
+StopsByFault (Err s) = s.has_begun ≡ true → s.error ≡ WriteFault
 
 -- values and the batch behind them were sent as they are encoded, or not before a byte was put
 abbrev pub SendStops : (List ℕ → List ℕ) → Bool → Moved → IpcError → WriteOptions → List ToSend → Batch → Type 0

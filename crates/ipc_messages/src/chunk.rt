@@ -7,10 +7,10 @@ ghost use Rattle.ipc_messages.specs.Chunks.{EncodesChunk, EncodesChunkInto, Enco
 
 use crate::encoded::encode_messages;
 use arrow_arrays::RecordBatch;
-use arrow_spec::IpcError;
+use arrow_spec::{Feature, IpcError};
 use ipc_dictionaries::{DictionaryTracker, ToEncode, new_dictionaries};
 use ipc_fields::IpcField;
-use ipc_write::{EncodedData, WriteOptions, encode_record_batch};
+use ipc_write::{EncodedData, WriteOptions, encode_any_batch};
 use std::alloc::Global;
 
 /// The messages of dictionary batches, and the message of the batch behind them.
@@ -24,7 +24,7 @@ fn encode_found(
     ensures { EncodesFound result options.now (map to_send messages.now) batch.now encoded.old encoded.new }
 {
     let dictionaries = encode_messages(alloc, messages, options)?;
-    encode_record_batch(alloc, batch, options, encoded)?;
+    encode_any_batch(alloc, batch, options, encoded)?;
     Ok(dictionaries)
 }
 
@@ -33,8 +33,9 @@ fn encode_found(
 ///
 /// # Errors
 ///
-/// As for [`ipc_dictionaries::new_dictionaries`]; then, of the first message that is refused, as for [`ipc_write::encode_values`]; then as
-/// for [`ipc_write::encode_record_batch`]. Each leaves what the tracker holds, and `encoded`.
+/// `Unsupported(Compression)` where compression is asked for, also where nothing is to be sent. As for
+/// [`ipc_dictionaries::new_dictionaries`]; then, of the first message that is refused, as for [`ipc_write::encode_any_values`]; then as for
+/// [`ipc_write::encode_any_batch`]. Each leaves what the tracker holds, and `encoded`.
 pub fn encode_chunk_amortized(
     alloc: Global,
     batch: &RecordBatch,
@@ -47,6 +48,9 @@ pub fn encode_chunk_amortized(
     ensures encodes { EncodesChunkInto result options.now tracker.old tracker.new (forest batch.now.arrays) (ids_of fields.now) batch.now encoded.old encoded.new }
     ensures options { (tracker.new.cannot_replace ≡ tracker.old.cannot_replace) × (tracker.new.deltas ≡ tracker.old.deltas) }
 {
+    if options.compression.is_some() {
+        return Err(IpcError::Unsupported(Feature::Compression));
+    }
     let new = new_dictionaries(alloc, fields, batch.arrays(), tracker)?;
     match encode_found(alloc, new.messages.as_slice(), batch, options, encoded) {
         Ok(dictionaries) => Ok(dictionaries),

@@ -1,14 +1,14 @@
 //! Values of dictionaries to messages, one after another.
-ghost use Rattle.std.specs.Prelude.{map, false};
+ghost use Rattle.std.specs.Prelude.{◌≡◌, map, false};
 ghost use Rattle.arrow_arrays.specs.PartsOf.{parts_of, forest_of};
 ghost use Rattle.ipc_dictionaries.specs.NewDictionaries.{message_of};
 ghost use Rattle.ipc_dictionaries.specs.Walks.{to_send};
-ghost use Rattle.ipc_messages.specs.Encoded.{AddsOne, AddsEach, EncodesEach, messages_of};
+ghost use Rattle.ipc_messages.specs.Encoded.{AddsOne, AddsEach, EncodesEach, is_passed, messages_of};
 
 use arrow_arrays::Array;
 use arrow_spec::IpcError;
 use ipc_dictionaries::ToEncode;
-use ipc_write::{EncodedData, WriteOptions, encode_values};
+use ipc_write::{EncodedData, WriteOptions, encode_any_values};
 use std::alloc::Global;
 
 /// Adds the message of an array as values under an id.
@@ -22,7 +22,7 @@ fn add_message(
 ) -> Result<(), IpcError>
     ensures { AddsOne result options.now (message_of id is_delta (parts_of values.now)) encoded.old.items encoded.new.items }
 {
-    let message = encode_values(alloc, id, values, is_delta, options)?;
+    let message = encode_any_values(alloc, id, values, is_delta, options)?;
     encoded.push(message)?;
     Ok(())
 }
@@ -44,7 +44,14 @@ pub(crate) fn encode_messages(
     Ok(encoded)
 }
 
-/// The messages of a dictionary's parts under an id: the first part as its values, each other as more of them.
+/// Whether a part that goes on with others has no rows, so that no message is made of it.
+fn is_passed(is_delta: bool, part: &Array) -> bool
+    ensures { result ≡ is_passed is_delta (parts_of part.now) }
+{
+    is_delta && part.len() == 0
+}
+
+/// The messages of a dictionary's parts under an id: the first part as its values, each other that has rows as more of them.
 pub(crate) fn encode_parts(
     alloc: Global,
     id: i64,
@@ -56,6 +63,9 @@ pub(crate) fn encode_parts(
     let mut encoded = Vec::new(alloc);
     let mut is_delta = false;
     for part in parts {
+        if is_passed(is_delta, part) {
+            continue;
+        }
         add_message(alloc, id, part, is_delta, options, &mut encoded)?;
         is_delta = true;
     }

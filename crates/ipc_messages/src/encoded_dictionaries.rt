@@ -1,17 +1,18 @@
 //! The dictionaries of one column, and one dictionary, as messages.
 ghost use Rattle.std.specs.Prelude.{◌≡◌, [], ◌∷◌, not, ◌&&◌, true};
-ghost use Rattle.arrow_arrays.specs.Parts.{also, none};
+ghost use Rattle.arrow_arrays.specs.Parts.{also, kind_in, none};
 ghost use Rattle.arrow_arrays.specs.PartsOf.{parts_of, forest_of};
 ghost use Rattle.ipc_fields.specs.IpcFields.{ids_of};
 ghost use Rattle.ipc_dictionaries.specs.NewDictionaries.{has_several};
 ghost use Rattle.ipc_dictionaries.specs.Tracker.{is_indexed, values_in};
-ghost use Rattle.ipc_messages.specs.Chunks.{AddsDictionary, AddsNew};
+ghost use Rattle.ipc_messages.specs.Chunks.{AddsDictionary, AddsNew, cannot_be_sent};
 
 use crate::encoded::{add_messages, add_parts};
 use arrow_arrays::Array;
-use arrow_spec::IpcError;
+use arrow_spec::{Feature, IpcError};
 use ipc_dictionaries::{DictionaryTracker, new_dictionaries};
 use ipc_fields::IpcField;
+use ipc_fields::representable::is_representable;
 use ipc_write::{EncodedData, WriteOptions};
 use std::alloc::Global;
 use std::slice;
@@ -21,7 +22,8 @@ use std::slice;
 ///
 /// # Errors
 ///
-/// As for [`ipc_dictionaries::new_dictionaries`] and then, of the first message that is refused, as for [`ipc_write::encode_values`].
+/// `Unsupported(Compression)` where compression is asked for, also where nothing is to be sent. As for
+/// [`ipc_dictionaries::new_dictionaries`] and then, of the first message that is refused, as for [`ipc_write::encode_any_values`].
 /// Each leaves what the tracker holds, and the list.
 pub fn encode_new_dictionaries(
     alloc: Global,
@@ -35,6 +37,9 @@ pub fn encode_new_dictionaries(
     ensures adds { AddsNew result options.now tracker.old tracker.new (also (parts_of array.now) none) (ids_of (field.now ∷ [])) encoded.old.items encoded.new.items }
     ensures options { (tracker.new.cannot_replace ≡ tracker.old.cannot_replace) × (tracker.new.deltas ≡ tracker.old.deltas) }
 {
+    if options.compression.is_some() {
+        return Err(IpcError::Unsupported(Feature::Compression));
+    }
     let fields = slice::from_ref(field);
     let arrays = slice::from_ref(array);
     let new = new_dictionaries(alloc, fields, arrays, tracker)?;
@@ -66,12 +71,21 @@ fn lack_deltas(parts: &[Array], options: &WriteOptions) -> bool
     !options.deltas && parts.len() > 1
 }
 
-/// Adds the messages of all parts of a dictionary's values under an id behind a list: the first part as the dictionary, each other as a delta.
+/// Whether a dictionary cannot be sent: the tables of a schema cannot say its type, or its parts need deltas, and none are sent.
+fn cannot_be_sent(array: &Array, options: &WriteOptions) -> bool
+    requires { is_indexed (parts_of array.now) ≡ true }
+    ensures { result ≡ cannot_be_sent options.now (kind_in (parts_of array.now)) (values_in (parts_of array.now)) }
+{
+    !is_representable(array.dtype()) || lack_deltas(parts_in(array), options)
+}
+
+/// Adds the messages of a dictionary's values under an id behind a list: the first part as the dictionary, each other that has rows as a delta.
 ///
 /// # Errors
 ///
-/// `NotRepresentable` where there are several parts and the options send no deltas; then, of the first message that is refused, as for
-/// [`ipc_write::encode_values`]; `Memory`. Each leaves the list.
+/// `Unsupported(Compression)` where compression is asked for; `NotRepresentable` where a dictionary stands directly in a dictionary or in an
+/// extension, or a size, a precision or a scale passes 2^31 - 1, or where there are several parts and the options send no deltas; then, of
+/// the first message that is refused, as for [`ipc_write::encode_any_values`]; `Memory`. Each leaves the list.
 pub fn encode_dictionary(
     alloc: Global,
     id: i64,
@@ -80,11 +94,13 @@ pub fn encode_dictionary(
     encoded: &mut Vec<EncodedData>,
 ) -> Result<(), IpcError>
     requires { is_indexed (parts_of array.now) ≡ true }
-    ensures { AddsDictionary result options.now id (values_in (parts_of array.now)) encoded.old.items encoded.new.items }
+    ensures { AddsDictionary result options.now id (kind_in (parts_of array.now)) (values_in (parts_of array.now)) encoded.old.items encoded.new.items }
 {
-    let parts = parts_in(array);
-    if lack_deltas(parts, options) {
+    if options.compression.is_some() {
+        return Err(IpcError::Unsupported(Feature::Compression));
+    }
+    if cannot_be_sent(array, options) {
         return Err(IpcError::NotRepresentable);
     }
-    add_parts(alloc, id, parts, options, encoded)
+    add_parts(alloc, id, parts_in(array), options, encoded)
 }

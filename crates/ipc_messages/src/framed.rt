@@ -2,18 +2,10 @@
 ghost use Rattle.std.specs.Prelude.{◌++◌, ◌∷◌, []};
 ghost use Rattle.ipc_messages.specs.Framed.{FramesEach, FramesOne};
 
+use crate::framed_message::FramedMessage;
 use arrow_spec::IpcError;
 use ipc_write::{EncodedData, message_to_bytes};
 use std::alloc::Global;
-
-/// A message that is to be put.
-#[derive(Drop)]
-pub struct FramedMessage<'a> {
-    /// The mark, the length of the padded metadata, and that metadata.
-    pub front: Vec<u8>,
-    /// The body, without padding at its end.
-    pub body: &'a [u8],
-}
 
 /// A message with its front.
 fn framed<'a>(

@@ -2,10 +2,10 @@
 ghost use Rattle.std.specs.Prelude.{◌≡◌, ◌≤◌, length};
 ghost use Rattle.std.specs.List.{flat_map};
 ghost use Rattle.ipc_write.specs.Below.{moved, PutsText};
-ghost use Rattle.ipc_messages.specs.Puts.{PutsBehind, PutsOrStops};
+ghost use Rattle.ipc_messages.specs.Puts.{PutsBeforeWant, PutsBehind, PutsOrStops};
 ghost use Rattle.ipc_messages.specs.Framed.{framed_text, padded_body};
 
-use crate::framed::FramedMessage;
+use crate::framed_message::FramedMessage;
 use crate::{Stop, behind_begun, put_whole};
 use arrow_spec::IpcError;
 use ipc_write::{Encoding, Sink, pad_to_64, put_bytes_as};
@@ -40,6 +40,7 @@ fn put_message<W: Sink>(
 ) -> Result<(), Stop>
     requires { 64 ≤ length scratch.old }
     ensures puts { PutsOrStops (moved (W.written sink.old) (W.written sink.new) (W.faults sink.old) (W.faults sink.new) (W.wants sink.old) (W.wants sink.new)) result (framed_text message.now) }
+    ensures wants { PutsBeforeWant result (W.written sink.old) (W.written sink.new) }
     ensures same_references { W.references sink.new ≡ W.references sink.old }
     ensures scratch { length scratch.new ≡ length scratch.old }
 {
@@ -59,6 +60,7 @@ pub fn put_framed<W: Sink>(
 ) -> Result<(), Stop>
     requires { 64 ≤ length scratch.old }
     ensures puts { PutsOrStops (moved (W.written sink.old) (W.written sink.new) (W.faults sink.old) (W.faults sink.new) (W.wants sink.old) (W.wants sink.new)) result (flat_map framed_text messages.now) }
+    ensures wants { PutsBeforeWant result (W.written sink.old) (W.written sink.new) }
     ensures same_references { W.references sink.new ≡ W.references sink.old }
     ensures scratch { length scratch.new ≡ length scratch.old }
 {

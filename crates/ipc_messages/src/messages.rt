@@ -7,22 +7,12 @@ ghost use Rattle.ipc_dictionaries.specs.Walks.{to_send};
 ghost use Rattle.ipc_write.specs.Outcomes.{message_frame};
 ghost use Rattle.ipc_messages.specs.Messages.{PlansBatch, PlansChunk, PlansEach, PlansOne, planned_sizes, planned_text};
 
+use crate::planned::PlannedMessage;
 use arrow_arrays::RecordBatch;
 use arrow_spec::IpcError;
 use ipc_dictionaries::ToEncode;
-use ipc_write::{BodyBuffer, BodyPlan, WriteOptions, message_to_bytes, plan_batch, plan_values};
+use ipc_write::{BodyPlan, WriteOptions, message_to_bytes, plan_any_batch, plan_any_values};
 use std::alloc::Global;
-
-/// A message that is to be put.
-#[derive(Drop)]
-pub struct PlannedMessage {
-    /// The mark, the length of the padded metadata, and that metadata.
-    pub front: Vec<u8>,
-    /// The buffers of the body.
-    pub buffers: Vec<BodyBuffer>,
-    /// How many bytes the body has, with the zeros behind each buffer.
-    pub body_length: usize,
-}
 
 /// A planned body with its front.
 fn with_front(alloc: Global, plan: BodyPlan) -> Result<PlannedMessage, IpcError>
@@ -54,7 +44,7 @@ fn values_message(
 {
     let id = message.id;
     let is_delta = message.is_delta;
-    let plan = plan_values(alloc, id, &message.values, is_delta, options)?;
+    let plan = plan_any_values(alloc, id, &message.values, is_delta, options)?;
     with_front(alloc, plan)
 }
 
@@ -66,7 +56,7 @@ fn batch_message(
 ) -> Result<PlannedMessage, IpcError>
     ensures { PlansBatch result options.now batch.now }
 {
-    let plan = plan_batch(alloc, batch, options)?;
+    let plan = plan_any_batch(alloc, batch, options)?;
     with_front(alloc, plan)
 }
 

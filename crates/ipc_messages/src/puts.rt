@@ -1,14 +1,15 @@
 //! Messages that are put into a sink, and where a put fails.
-ghost use Rattle.std.specs.Prelude.{◌≡◌, ◌≤◌, ◌*◌, ℕ, List, length, map};
+ghost use Rattle.std.specs.Prelude.{◌≡◌, ◌≤◌, ◌<◌, ◌*◌, ℕ, List, length, map};
 ghost use Rattle.std.specs.List.{flat_map};
 ghost use Rattle.hex.specs.Hex.{encode_lower};
 ghost use Rattle.arrow_spec.specs.Framing.{body_bytes};
-ghost use Rattle.ipc_write.specs.Below.{made_width, text_of, Moved, moved, PutsText};
+ghost use Rattle.ipc_write.specs.Below.{Bytes, made_width, text_of, Moved, moved, PutsText};
 ghost use Rattle.ipc_dictionaries.specs.Walks.{to_send};
 ghost use Rattle.ipc_messages.specs.Messages.{planned_sizes, planned_text, total};
-ghost use Rattle.ipc_messages.specs.Puts.{PutsBehind, PutsOrStops, SendsChunk, stop_behind};
+ghost use Rattle.ipc_messages.specs.Puts.{PutsBeforeWant, PutsBehind, PutsOrStops, SendsChunk, StopsByFault, stop_behind};
 
-use crate::messages::{PlannedMessage, chunk_messages};
+use crate::messages::chunk_messages;
+use crate::planned::PlannedMessage;
 use arrow_arrays::RecordBatch;
 use arrow_spec::IpcError;
 use ipc_dictionaries::ToEncode;
@@ -46,6 +47,7 @@ impl Stop {
 /// `Memory` and `WriteFault` of the sink.
 pub fn put_whole<W: Sink>(sink: &mut W, bytes: &[u8]) -> Result<(), Stop>
     ensures puts { PutsOrStops (moved (W.written sink.old) (W.written sink.new) (W.faults sink.old) (W.faults sink.new) (W.wants sink.old) (W.wants sink.new)) result bytes.now }
+    ensures whole { StopsByFault result }
     ensures same_references { W.references sink.new ≡ W.references sink.old }
 {
     match sink.put(bytes) {
@@ -78,6 +80,7 @@ pub fn behind_begun(put: Result<(), IpcError>) -> Result<(), Stop>
 fn put_digits<W: Sink>(sink: &mut W, bytes: &[u8], digits: &mut [u8]) -> Result<(), Stop>
     requires { length digits.old ≡ 2 * length bytes.now }
     ensures puts { PutsOrStops (moved (W.written sink.old) (W.written sink.new) (W.faults sink.old) (W.faults sink.new) (W.wants sink.old) (W.wants sink.new)) result (encode_lower bytes.now) }
+    ensures whole { StopsByFault result }
     ensures same_references { W.references sink.new ≡ W.references sink.old }
     ensures digits { length digits.new ≡ length digits.old }
 {
@@ -89,6 +92,7 @@ fn put_digits<W: Sink>(sink: &mut W, bytes: &[u8], digits: &mut [u8]) -> Result<
 fn put_hex_text<W: Sink>(sink: &mut W, bytes: &[u8], scratch: &mut [u8]) -> Result<(), Stop>
     requires { 2 ≤ length scratch.old }
     ensures puts { PutsOrStops (moved (W.written sink.old) (W.written sink.new) (W.faults sink.old) (W.faults sink.new) (W.wants sink.old) (W.wants sink.new)) result (encode_lower bytes.now) }
+    ensures wants { 0 < length bytes.now → PutsBeforeWant result (W.written sink.old) (W.written sink.new) }
     ensures same_references { W.references sink.new ≡ W.references sink.old }
     ensures scratch { length scratch.new ≡ length scratch.old }
 {
@@ -111,6 +115,8 @@ pub fn put_whole_as<W: Sink>(
 ) -> Result<(), Stop>
     requires { 2 ≤ length scratch.old }
     ensures puts { PutsOrStops (moved (W.written sink.old) (W.written sink.new) (W.faults sink.old) (W.faults sink.new) (W.wants sink.old) (W.wants sink.new)) result (text_of encoding bytes.now) }
+    ensures wants { 0 < length bytes.now → PutsBeforeWant result (W.written sink.old) (W.written sink.new) }
+    ensures whole { encoding ≡ Bytes → StopsByFault result }
     ensures same_references { W.references sink.new ≡ W.references sink.old }
     ensures scratch { length scratch.new ≡ length scratch.old }
 {
@@ -144,6 +150,7 @@ fn put_message<W: Sink>(
 ) -> Result<(), Stop>
     requires { 64 * made_width encoding ≤ length scratch.old }
     ensures puts { PutsOrStops (moved (W.written sink.old) (W.written sink.new) (W.faults sink.old) (W.faults sink.new) (W.wants sink.old) (W.wants sink.new)) result (text_of encoding (planned_text message.now)) }
+    ensures wants { PutsBeforeWant result (W.written sink.old) (W.written sink.new) }
     ensures same_references { W.references sink.new ≡ W.references sink.old }
     ensures scratch { length scratch.new ≡ length scratch.old }
 {
@@ -165,6 +172,7 @@ pub fn put_messages_as<W: Sink>(
 ) -> Result<(), Stop>
     requires { 64 * made_width encoding ≤ length scratch.old }
     ensures puts { PutsOrStops (moved (W.written sink.old) (W.written sink.new) (W.faults sink.old) (W.faults sink.new) (W.wants sink.old) (W.wants sink.new)) result (text_of encoding (flat_map planned_text messages.now)) }
+    ensures wants { PutsBeforeWant result (W.written sink.old) (W.written sink.new) }
     ensures same_references { W.references sink.new ≡ W.references sink.old }
     ensures scratch { length scratch.new ≡ length scratch.old }
 {
@@ -190,6 +198,7 @@ pub fn put_messages<W: Sink>(
 ) -> Result<(), Stop>
     requires { 64 ≤ length scratch.old }
     ensures puts { PutsOrStops (moved (W.written sink.old) (W.written sink.new) (W.faults sink.old) (W.faults sink.new) (W.wants sink.old) (W.wants sink.new)) result (flat_map planned_text messages.now) }
+    ensures wants { PutsBeforeWant result (W.written sink.old) (W.written sink.new) }
     ensures same_references { W.references sink.new ≡ W.references sink.old }
     ensures scratch { length scratch.new ≡ length scratch.old }
 {
@@ -224,6 +233,7 @@ pub fn send_chunk_as<W: Sink>(
 ) -> Result<u128, Stop>
     requires { 64 * made_width encoding ≤ length scratch.old }
     ensures sends { SendsChunk (text_of encoding) (moved (W.written sink.old) (W.written sink.new) (W.faults sink.old) (W.faults sink.new) (W.wants sink.old) (W.wants sink.new)) result options.now (map to_send messages.now) batch.now }
+    ensures wants { PutsBeforeWant result (W.written sink.old) (W.written sink.new) }
     ensures same_references { W.references sink.new ≡ W.references sink.old }
     ensures scratch { length scratch.new ≡ length scratch.old }
 {

@@ -5,7 +5,7 @@ ghost use Rattle.arrow_types.specs.KindOf.{child_of};
 ghost use Rattle.arrow_types.specs.Schemas.{fields_in};
 ghost use Rattle.arrow_arrays.specs.Parts.{kind_in};
 ghost use Rattle.arrow_arrays.specs.PartsOf.{forest_of, parts_of};
-ghost use Rattle.ipc_dictionaries.specs.Columns.{columns_of};
+ghost use Rattle.arrow_arrays.specs.Columns.{columns_of};
 
 use arrow_arrays::Array;
 use arrow_types::{ArrowSchema, Field};

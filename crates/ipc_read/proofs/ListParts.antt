@@ -8,9 +8,8 @@ use Rattle.arrow_spec.specs.declared.error.OutOfSpecKind.TheVariants as out
 use Rattle.arrow_spec.specs.Readings.{IsAmong, Refuses}
 use Rattle.arrow_spec.specs.Kinds.{Kind, Offsets, large, map, extension}
 use Rattle.arrow_arrays.specs.Heads.{is_map}
-use Rattle.arrow_spec.specs.Counts.{RecordBatch, Place, magnitude}
-use Rattle.arrow_spec.specs.Arrays.{node_of}
-use Rattle.arrow_spec.specs.Faults.{cause, if_sound, offsets_buffer_faults, offsets_faults}
+use Rattle.arrow_spec.specs.Counts.{RecordBatch, Place}
+use Rattle.arrow_spec.specs.Faults.{cause, if_sound, offsets_buffer_faults, end_of, offsets_faults}
 use Rattle.arrow_buffers.specs.Variable.{place_at, rise_from, are_offsets}
 use Rattle.arrow_buffers.proofs.Rising.{offset_between}
 use Rattle.ipc_read_laws.proofs.OffsetsRead.{offsets_told, offsets-bad}
@@ -47,24 +46,24 @@ offsets_refused m p rows o e r =
     refuses_right (head_faults m p rows) _ e
     (refuses_by short buffer _ e (λ s. refuses_left short _ e s) (λ s. refuses_right short _ e (refuses_sound buffer _ e s)) r)
 
-pub offsets_well : (m : RecordBatch) (p : Place) (rows : ℕ) (o : Offsets) (os : List ℤ) (most : ℕ) → os ≡ offsets_of_rows m o (p.buffer + 1) rows → most ≡ magnitude (node_of m (suc p.node)).length → are_offsets os most ≡ true
+pub offsets_well : (m : RecordBatch) (p : Place) (rows : ℕ) (o : Offsets) (os : List ℤ) (most : ℕ) → os ≡ offsets_of_rows m o (p.buffer + 1) rows → most ≡ end_of m (suc p.node) → are_offsets os most ≡ true
     → head_faults m p rows ≡ [] → short_of m.buffers (p.buffer + 1) ++ faults_where rows (offsets_buffer_faults m o (p.buffer + 1) rows) ≡ [] → list_faults m p rows o ≡ []
 offsets_well m p zero o os most e f a h b = both_none (head_faults m p 0) _ h b
 offsets_well m p (suc n) o os most e f a h b =
     let parts = none_of_both (short_of m.buffers (p.buffer + 1)) _ b in
-    let rise : are_offsets (offsets_told m o (p.buffer + 1) (suc n)) (magnitude (node_of m (suc p.node)).length) ≡ true = ap (are_offsets (offsets_told m o (p.buffer + 1) (suc n))) (sym f) ∙ ap (λ xs. are_offsets xs most) (sym e) ∙ a in
-    let none : offsets_faults m o (p.buffer + 1) (suc n) (magnitude (node_of m (suc p.node)).length) ≡ [] = faults_are m o (p.buffer + 1) (suc n) (magnitude (node_of m (suc p.node)).length) ∙ ap (λ b. cause (not b) (OutOfSpec out.InvalidOffsets)) rise in
-    both_none (head_faults m p (suc n)) _ h (both_none (short_of m.buffers (p.buffer + 1)) _ parts.0 (ap (λ es. if_sound es (offsets_faults m o (p.buffer + 1) (suc n) (magnitude (node_of m (suc p.node)).length))) parts.1 ∙ none))
+    let rise : are_offsets (offsets_told m o (p.buffer + 1) (suc n)) (end_of m (suc p.node)) ≡ true = ap (are_offsets (offsets_told m o (p.buffer + 1) (suc n))) (sym f) ∙ ap (λ xs. are_offsets xs most) (sym e) ∙ a in
+    let none : offsets_faults m o (p.buffer + 1) (suc n) (end_of m (suc p.node)) ≡ [] = faults_are m o (p.buffer + 1) (suc n) (end_of m (suc p.node)) ∙ ap (λ b. cause (not b) (OutOfSpec out.InvalidOffsets)) rise in
+    both_none (head_faults m p (suc n)) _ h (both_none (short_of m.buffers (p.buffer + 1)) _ parts.0 (ap (λ es. if_sound es (offsets_faults m o (p.buffer + 1) (suc n) (end_of m (suc p.node)))) parts.1 ∙ none))
 
 none_bad : (most : ℕ) → are_offsets (pos 0 ∷ []) most ≡ true
 none_bad most = let e : nat_le 0 most ≡ true = le-leb 0 most (omega arith) in rw e refl
 
-pub offsets_bad_refused : (m : RecordBatch) (p : Place) (rows : ℕ) (o : Offsets) (os : List ℤ) (most : ℕ) → os ≡ offsets_of_rows m o (p.buffer + 1) rows → most ≡ magnitude (node_of m (suc p.node)).length → are_offsets os most ≡ false
+pub offsets_bad_refused : (m : RecordBatch) (p : Place) (rows : ℕ) (o : Offsets) (os : List ℤ) (most : ℕ) → os ≡ offsets_of_rows m o (p.buffer + 1) rows → most ≡ end_of m (suc p.node) → are_offsets os most ≡ false
     → short_of m.buffers (p.buffer + 1) ++ faults_where rows (offsets_buffer_faults m o (p.buffer + 1) rows) ≡ [] → IsAmong (list_faults m p rows o) (OutOfSpec out.InvalidOffsets)
 offsets_bad_refused m p zero o os most e f a b = let c : true ≡ false = sym (none_bad most) ∙ ap (λ xs. are_offsets xs most) (sym e) ∙ a in cc
 offsets_bad_refused m p (suc n) o os most e f a b =
     let i = p.buffer + 1 in
-    let limit = magnitude (node_of m (suc p.node)).length in
+    let limit = end_of m (suc p.node) in
     let parts = none_of_both (short_of m.buffers i) _ b in
     let bad : are_offsets (offsets_told m o i (suc n)) limit ≡ false = ap (are_offsets (offsets_told m o i (suc n))) (sym f) ∙ ap (λ xs. are_offsets xs most) (sym e) ∙ a in
     let one : offsets_faults m o i (suc n) limit ≡ OutOfSpec out.InvalidOffsets ∷ [] = faults_are m o i (suc n) limit ∙ ap (λ b. cause (not b) (OutOfSpec out.InvalidOffsets)) bad in

@@ -8,9 +8,9 @@ use Rattle.arrow_spec.specs.declared.message.MetadataVersion.{MetadataVersion}
 use Rattle.arrow_spec.specs.Readings.{IsAmong, Refuses}
 use Rattle.arrow_spec.specs.Kinds.{Kind, Fields, Offsets, small, large, width, «list», map, extension}
 use Rattle.arrow_spec.specs.Schema.{first_is_struct_of_two}
-use Rattle.arrow_spec.specs.Counts.{RecordBatch, Place, magnitude, after, inside, views}
-use Rattle.arrow_spec.specs.Arrays.{node_of, offset, Dictionaries}
-use Rattle.arrow_spec.specs.Faults.{if_sound, node_faults, validity_faults, offsets_buffer_faults, offsets_faults, count_faults, view_count_faults, array_faults, child_faults}
+use Rattle.arrow_spec.specs.Counts.{RecordBatch, Place, after, inside, views}
+use Rattle.arrow_spec.specs.Arrays.{offset, Dictionaries}
+use Rattle.arrow_spec.specs.Faults.{if_sound, node_faults, validity_faults, offsets_buffer_faults, end_of, offsets_faults, count_faults, view_count_faults, array_faults, child_faults}
 use Rattle.arrow_spec.specs.Needed.{looked_at, validity_looked_at}
 use Rattle.arrow_spec.specs.Sent.{offset_read}
 use Rattle.arrow_types.specs.Child.{Child, one_field}
@@ -81,7 +81,7 @@ list_top_refused m d o x p (suc n) e r =
     let k = ListOf o x in
     let es = read_faults m d k p (suc n) in
     let own = node_faults m p (suc n) ++ validity_faults m p (suc n) in
-    let bad = offsets_faults m o (p.buffer + 1) (suc n) (magnitude (node_of m (suc p.node)).length) in
+    let bad = offsets_faults m o (p.buffer + 1) (suc n) (end_of m (suc p.node)) in
     let buffer = offsets_buffer_faults m o (p.buffer + 1) (suc n) in
     let children = child_faults m d (one_field x) (inside 2 p) (λ q. offset m o (p.buffer + 1) (suc n)) in
     refuses_by (head_faults m p (suc n)) _ es e
@@ -95,10 +95,10 @@ pub list_parts_refused : (m : RecordBatch) (d : Dictionaries) (k : Kind) (o : Of
 list_parts_refused m d k o x p rows e u r = list_reads (Refuses e) m d k (ListOf o x) p rows u (list_top_refused m d o x p rows e r)
 
 -- nothing is wrong with the offsets
-buffer_none : (m : RecordBatch) (o : Offsets) (p : Place) (n : ℕ) → list_faults m p (suc n) o ≡ [] → (offsets_buffer_faults m o (p.buffer + 1) (suc n) ≡ []) × (offsets_faults m o (p.buffer + 1) (suc n) (magnitude (node_of m (suc p.node)).length) ≡ [])
+buffer_none : (m : RecordBatch) (o : Offsets) (p : Place) (n : ℕ) → list_faults m p (suc n) o ≡ [] → (offsets_buffer_faults m o (p.buffer + 1) (suc n) ≡ []) × (offsets_faults m o (p.buffer + 1) (suc n) (end_of m (suc p.node)) ≡ [])
 buffer_none m o p n h = by (offsets_buffer_faults m o (p.buffer + 1) (suc n)) (none_of_both (short_of m.buffers (p.buffer + 1)) _ (none_of_both (head_faults m p (suc n)) _ h).1).1
   where
-    by : (es : List IpcError) → if_sound es (offsets_faults m o (p.buffer + 1) (suc n) (magnitude (node_of m (suc p.node)).length)) ≡ [] → (es ≡ []) × (offsets_faults m o (p.buffer + 1) (suc n) (magnitude (node_of m (suc p.node)).length) ≡ [])
+    by : (es : List IpcError) → if_sound es (offsets_faults m o (p.buffer + 1) (suc n) (end_of m (suc p.node))) ≡ [] → (es ≡ []) × (offsets_faults m o (p.buffer + 1) (suc n) (end_of m (suc p.node)) ≡ [])
     by [] g = (refl, g)
     by (y ∷ es) g = cc
 
@@ -108,7 +108,7 @@ one_child m d x q n = refl
 child_in : (m : RecordBatch) (d : Dictionaries) (o : Offsets) (x : Child) (p : Place) (rows : ℕ) (e : IpcError) → list_faults m p rows o ≡ [] → IsAmong (child_faults m d (one_field x) (inside 2 p) (λ q. offset_read m o p rows)) e → IsAmong (array_faults m d (ListOf o x) p rows) e
 child_in m d o x p zero e h a = among_right (node_faults m p 0) _ e a
 child_in m d o x p (suc n) e h a =
-    let bad = offsets_faults m o (p.buffer + 1) (suc n) (magnitude (node_of m (suc p.node)).length) in
+    let bad = offsets_faults m o (p.buffer + 1) (suc n) (end_of m (suc p.node)) in
     let children = child_faults m d (one_field x) (inside 2 p) (λ q. offset m o (p.buffer + 1) (suc n)) in
     among_right (node_faults m p (suc n) ++ validity_faults m p (suc n)) _ e (subst (λ es. IsAmong (if_sound es (bad ++ children)) e) (sym (buffer_none m o p n h).0) (among_right bad children e a))
 
@@ -132,7 +132,7 @@ list_array_none m d o x p (suc n) h c =
     let valid = none_of_both (short_of m.buffers p.buffer) _ head.1 in
     let b = buffer_none m o p n h in
     let children = child_faults m d (one_field x) (inside 2 p) (λ q. offset m o (p.buffer + 1) (suc n)) in
-    both_none _ _ (both_none _ _ head.0 valid.1) (ap (λ es. if_sound es (offsets_faults m o (p.buffer + 1) (suc n) (magnitude (node_of m (suc p.node)).length) ++ children)) b.0 ∙ both_none _ _ b.1 c)
+    both_none _ _ (both_none _ _ head.0 valid.1) (ap (λ es. if_sound es (offsets_faults m o (p.buffer + 1) (suc n) (end_of m (suc p.node)) ++ children)) b.0 ∙ both_none _ _ b.1 c)
 
 list_none : (m : RecordBatch) (d : Dictionaries) (o : Offsets) (x : Child) (p : Place) (rows : ℕ) (ns : List FieldNode) (bs : List IpcBuffer) (vs : List ℤ) → AllAt m (after m x.kind (inside 2 p)) ns bs vs → list_faults m p rows o ≡ [] → read_faults m d x.kind (inside 2 p) (offset_read m o p rows) ≡ [] → read_faults m d (ListOf o x) p rows ≡ []
 unfolding read_faults

@@ -17,7 +17,8 @@ use Rattle.arrow_spec.specs.Kinds.{Kind, Fields, none, field, width, union}
 use Rattle.arrow_spec.specs.Schema.{are_ids}
 use Rattle.arrow_spec.specs.Counts.{RecordBatch, Place, magnitude, is_negative, after, inside, union_buffers}
 use Rattle.arrow_spec.specs.Arrays.{Dictionaries, node_of, from_on, signed_in, has_nulls, types_buffer, id_place}
-use Rattle.arrow_spec.specs.Faults.{cause, if_sound, place_in, node_faults, numbers_faults, is_no_id, is_bad_row, some_row, dense_buffer_faults, dense_faults, union_faults, count_faults, array_faults, child_faults}
+use Rattle.arrow_spec.specs.Faults.{cause, if_sound, place_in, node_faults, numbers_faults, is_no_id, end_of, is_bad_row, some_row, dense_buffer_faults, dense_faults, union_faults, count_faults, array_faults, child_faults}
+use Rattle.arrow_spec.proofs.Fewer.{child_ends}
 use Rattle.arrow_spec.specs.Needed.{looked_at, looked_at_in, union_looked_at}
 use Rattle.arrow_types.specs.Physical.{under_extensions}
 use Rattle.arrow_types.specs.UnionIds.{are_right}
@@ -247,14 +248,20 @@ child_rows_at m none q i h = absurd (omega (arith, h))
 child_rows_at m (field name nullable metadata k others) q zero h = refl
 child_rows_at m (field name nullable metadata k others) q (suc i) h = child_rows_at m others (after m k q) i (omega (arith, h))
 
-bad_same : (m : RecordBatch) (ids : List ℤ) (fs : Fields) (q : Place) (t at : ℤ) (r : Option ℕ) → id_place ids t ≡ r → length ids ≡ width fs → is_bad_place (rows_of_each m fs q (λ q. magnitude (node_of m q.node).length)) r at ≡ is_bad_row m fs q r at
-bad_same m ids fs q t at None e h = refl
-bad_same m ids fs q t at (Some i) e h = let below : i < width fs = omega (arith, id_below ids t i e, h) in ap (λ n. is_negative at || nat_le n (magnitude at)) (child_rows_at m fs q i below)
+-- each child has the rows that its node says
+abbrev Ends : RecordBatch → Fields → Place → Type 0
+Ends m fs q = (i : ℕ) → i < width fs → end_of m (place_in m fs i q).node ≡ magnitude (node_of m (place_in m fs i q).node).length
+
+bad_same : (m : RecordBatch) (ids : List ℤ) (fs : Fields) (q : Place) (t at : ℤ) (r : Option ℕ) → id_place ids t ≡ r → length ids ≡ width fs → Ends m fs q → is_bad_place (rows_of_each m fs q (λ q. magnitude (node_of m q.node).length)) r at ≡ is_bad_row m fs q r at
+bad_same m ids fs q t at None e h ends = refl
+bad_same m ids fs q t at (Some i) e h ends =
+    let below : i < width fs = omega (arith, id_below ids t i e, h) in
+    ap (λ n. is_negative at || nat_le n (magnitude at)) (child_rows_at m fs q i below ∙ sym (ends i below))
 
 -- each offset is a row of its child, or one is none
-places_are : (m : RecordBatch) (ids : List ℤ) (fs : Fields) (p : Place) (rows : ℕ) → length ids ≡ width fs
+places_are : (m : RecordBatch) (ids : List ℤ) (fs : Fields) (p : Place) (rows : ℕ) → length ids ≡ width fs → Ends m fs (inside (union_buffers m.version Dense) p)
     → fits_places ids (types_in m (types_buffer m p) rows) (places_in m Dense (suc (types_buffer m p)) rows) (rows_of_each m fs (inside (union_buffers m.version Dense) p) (λ q. magnitude (node_of m q.node).length)) ≡ not (places_bad m ids fs p rows)
-places_are m ids fs p rows h =
+places_are m ids fs p rows h ends =
     let i = types_buffer m p in
     let ts = types_in m i rows in
     let os = from_on (λ j. signed_in m w32 (suc i) j) 0 rows in
@@ -263,7 +270,7 @@ places_are m ids fs p rows h =
     ap (λ c. not (some_row (λ row. is_bad_place ns (id_place ids (number_at ts row)) (number_at os row)) c)) (types_many m i rows)
     ∙ ap not (some_row-same (λ row. is_bad_place ns (id_place ids (number_at ts row)) (number_at os row)) (λ row. is_bad_row m fs q (id_place ids (signed_in m w8 i row)) (signed_in m w32 (suc i) row)) rows
     (λ row lt. ap (λ t. is_bad_place ns (id_place ids t) (number_at os row)) (type_at m i rows row lt) ∙ ap (is_bad_place ns (id_place ids (signed_in m w8 i row))) (place_at m (suc i) rows row lt)
-    ∙ bad_same m ids fs q (signed_in m w8 i row) (signed_in m w32 (suc i) row) (id_place ids (signed_in m w8 i row)) refl h))
+    ∙ bad_same m ids fs q (signed_in m w8 i row) (signed_in m w32 (suc i) row) (id_place ids (signed_in m w8 i row)) refl h ends))
 
 -- what the array that was made says of them
 pub record Fits (k : Kind) (top : UnionTop) (held : List ℕ) : Type 0 where
@@ -279,10 +286,10 @@ not_true true c e h = refl
 not_true false c e h = cc
 
 dense_none : (m : RecordBatch) (mode : UnionMode) (k : Kind) (fs : Fields) (p : Place) (n : ℕ) (held : List ℕ) → length (ids_in k) ≡ width fs → held ≡ rows_of_each m fs (inside (union_buffers m.version mode) p) (rows_by (children_rows mode (suc n)) m)
-    → fits_places (ids_in k) (types_in m (types_buffer m p) (suc n)) (places_in m mode (suc (types_buffer m p)) (suc n)) held ≡ true → dense_faults m mode (ids_in k) fs p (suc n) ≡ []
-dense_none m Sparse k fs p n held i e h = refl
-dense_none m Dense k fs p n held i e h =
-    no_cause (places_bad m (ids_in k) fs p (suc n)) _ (not_false _ _ (places_are m (ids_in k) fs p (suc n) i) (ap (fits_places (ids_in k) (types_in m (types_buffer m p) (suc n)) (places_in m Dense (suc (types_buffer m p)) (suc n))) (sym e) ∙ h))
+    → Ends m fs (inside (union_buffers m.version mode) p) → fits_places (ids_in k) (types_in m (types_buffer m p) (suc n)) (places_in m mode (suc (types_buffer m p)) (suc n)) held ≡ true → dense_faults m mode (ids_in k) fs p (suc n) ≡ []
+dense_none m Sparse k fs p n held i e ends h = refl
+dense_none m Dense k fs p n held i e ends h =
+    no_cause (places_bad m (ids_in k) fs p (suc n)) _ (not_false _ _ (places_are m (ids_in k) fs p (suc n) i ends) (ap (fits_places (ids_in k) (types_in m (types_buffer m p) (suc n)) (places_in m Dense (suc (types_buffer m p)) (suc n))) (sym e) ∙ h))
 
 where_none : (n : ℕ) (m : RecordBatch) (mode : UnionMode) (p : Place) → union_parts_faults m mode p (suc n) ≡ [] → (node_faults m p (suc n) ≡ []) × ((cause (nat_lt p.buffer (types_buffer m p) && has_nulls m p) (Unsupported UnionNulls) ≡ []) × (buffers_bad m mode p (suc n) ≡ []))
 where_none n m mode p h =
@@ -298,17 +305,19 @@ where_none n m mode p h =
     dense Dense g = (none_of_both (short_of m.buffers (suc (types_buffer m p))) _ g).1
 
 own_none : (m : RecordBatch) (mode : UnionMode) (k : Kind) (fs : Fields) (p : Place) (n : ℕ) (held : List ℕ) → length (ids_in k) ≡ width fs → held ≡ rows_of_each m fs (inside (union_buffers m.version mode) p) (rows_by (children_rows mode (suc n)) m)
-    → Fits k (union_top_read m mode p (suc n)) held → union_parts_faults m mode p (suc n) ≡ [] → union_faults m mode (ids_in k) fs p (suc n) ≡ []
-own_none m mode k fs p n held i e f h =
+    → Ends m fs (inside (union_buffers m.version mode) p) → Fits k (union_top_read m mode p (suc n)) held → union_parts_faults m mode p (suc n) ≡ [] → union_faults m mode (ids_in k) fs p (suc n) ≡ []
+own_none m mode k fs p n held i e ends f h =
     let w = where_none n m mode p h in
     let ids = no_cause (ids_bad m (ids_in k) p (suc n)) (OutOfSpec out.InvalidUnion) (not_false _ _ (ids_are m (ids_in k) p (suc n)) f.ids) in
     own_are m mode (ids_in k) fs p (suc n)
-    ∙ both_none _ _ w.1.0 (ap (λ es. if_sound es (rows_bad m mode (ids_in k) fs p (suc n))) w.1.1 ∙ both_none _ _ ids (dense_none m mode k fs p n held i e f.places))
+    ∙ both_none _ _ w.1.0 (ap (λ es. if_sound es (rows_bad m mode (ids_in k) fs p (suc n))) w.1.1 ∙ both_none _ _ ids (dense_none m mode k fs p n held i e ends f.places))
 
 union_none : (m : RecordBatch) (d : Dictionaries) (mode : UnionMode) (k : Kind) (fs : Fields) (p : Place) (rows : ℕ) (held : List ℕ) → length (ids_in k) ≡ width fs → held ≡ rows_of_each m fs (inside (union_buffers m.version mode) p) (rows_by (children_rows mode rows) m)
     → Fits k (union_top_read m mode p rows) held → union_parts_faults m mode p rows ≡ [] → below m d mode fs p rows ≡ [] → array_faults m d (union_as k mode fs) p rows ≡ []
 union_none m d mode k fs p zero held i e f h c = array_none m d mode (stated_in k) (ids_in k) fs p ∙ both_none _ _ (none_of_both (node_faults m p 0) _ h).0 c
-union_none m d mode k fs p (suc n) held i e f h c = array_is m d mode (stated_in k) (ids_in k) fs p n ∙ both_none _ _ (both_none _ _ (where_none n m mode p h).0 (own_none m mode k fs p n held i e f h)) c
+union_none m d mode k fs p (suc n) held i e f h c =
+    let ends = child_ends m d fs (inside (union_buffers m.version mode) p) (rows_by (children_rows mode (suc n)) m) c in
+    array_is m d mode (stated_in k) (ids_in k) fs p n ∙ both_none _ _ (both_none _ _ (where_none n m mode p h).0 (own_none m mode k fs p n held i e ends f h)) c
 
 well_at : (m : RecordBatch) (d : Dictionaries) (k : Kind) (mode : UnionMode) (fs : Fields) (p : Place) (rows : ℕ) (held : List ℕ) (ns : List FieldNode) (bs : List IpcBuffer) (vs : List ℤ) → length (ids_in k) ≡ width fs → AllAt m (behind m fs (inside (union_buffers m.version mode) p)) ns bs vs
     → held ≡ rows_of_each m fs (inside (union_buffers m.version mode) p) (rows_by (children_rows mode rows) m) → Fits k (union_top_read m mode p rows) held → union_parts_faults m mode p rows ≡ []
@@ -340,11 +349,11 @@ type_refused m d mode k fs p (suc n) h f =
     rows_in_all m d mode k fs p n _ h (among_left (cause (ids_bad m (ids_in k) p (suc n)) (OutOfSpec out.InvalidUnion)) _ _ (among_cause _ _ (not_true _ _ (ids_are m (ids_in k) p (suc n)) f)))
 
 place_refused : (m : RecordBatch) (d : Dictionaries) (mode : UnionMode) (k : Kind) (fs : Fields) (p : Place) (rows : ℕ) (held : List ℕ) → length (ids_in k) ≡ width fs → held ≡ rows_of_each m fs (inside (union_buffers m.version mode) p) (rows_by (children_rows mode rows) m) → union_parts_faults m mode p rows ≡ []
-    → fits_places (ids_in k) (types_in m (types_buffer m p) rows) (places_in m mode (suc (types_buffer m p)) rows) held ≡ false → IsAmong (read_faults m d (union_as k mode fs) p rows) (OutOfSpec out.InvalidOffsets)
-place_refused m d Sparse k fs p rows held i e h f = cc
-place_refused m d Dense k fs p zero held i e h f = cc
-place_refused m d Dense k fs p (suc n) held i e h f =
-    rows_in_all m d Dense k fs p n _ h (among_right (cause (ids_bad m (ids_in k) p (suc n)) (OutOfSpec out.InvalidUnion)) _ _ (among_cause _ _ (not_true _ _ (places_are m (ids_in k) fs p (suc n) i)
+    → Ends m fs (inside (union_buffers m.version mode) p) → fits_places (ids_in k) (types_in m (types_buffer m p) rows) (places_in m mode (suc (types_buffer m p)) rows) held ≡ false → IsAmong (read_faults m d (union_as k mode fs) p rows) (OutOfSpec out.InvalidOffsets)
+place_refused m d Sparse k fs p rows held i e h ends f = cc
+place_refused m d Dense k fs p zero held i e h ends f = cc
+place_refused m d Dense k fs p (suc n) held i e h ends f =
+    rows_in_all m d Dense k fs p n _ h (among_right (cause (ids_bad m (ids_in k) p (suc n)) (OutOfSpec out.InvalidUnion)) _ _ (among_cause _ _ (not_true _ _ (places_are m (ids_in k) fs p (suc n) i ends)
     (ap (fits_places (ids_in k) (types_in m (types_buffer m p) (suc n)) (places_in m Dense (suc (types_buffer m p)) (suc n))) (sym e) ∙ f))))
 
 -- why an array of these parts is not made
@@ -352,16 +361,16 @@ abbrev pub WhyRefused : Kind → UnionTop → List ℕ → IpcError → Type 0
 WhyRefused k top held e = (e ≡ Memory) ⊎ (((e ≡ OutOfSpec out.InvalidOffsets) × (fits_places (ids_in k) top.types top.offsets held ≡ false)) ⊎ ((e ≡ OutOfSpec out.InvalidUnion) × (have_ids (ids_in k) top.types ≡ false)))
 
 made_refused : (m : RecordBatch) (d : Dictionaries) (mode : UnionMode) (k : Kind) (fs : Fields) (p : Place) (rows : ℕ) (held : List ℕ) (e : IpcError) → length (ids_in k) ≡ width fs → held ≡ rows_of_each m fs (inside (union_buffers m.version mode) p) (rows_by (children_rows mode rows) m) → union_parts_faults m mode p rows ≡ []
-    → WhyRefused k (union_top_read m mode p rows) held e → Refuses e (read_faults m d (union_as k mode fs) p rows)
-made_refused m d mode k fs p rows held e i g h (inl x) = memory_refuses e _ x
-made_refused m d mode k fs p rows held e i g h (inr (inl x)) = subst (λ f. Refuses f (read_faults m d (union_as k mode fs) p rows)) (sym x.0) (place_refused m d mode k fs p rows held i g h x.1)
-made_refused m d mode k fs p rows held e i g h (inr (inr x)) = subst (λ f. Refuses f (read_faults m d (union_as k mode fs) p rows)) (sym x.0) (type_refused m d mode k fs p rows h x.1)
+    → Ends m fs (inside (union_buffers m.version mode) p) → WhyRefused k (union_top_read m mode p rows) held e → Refuses e (read_faults m d (union_as k mode fs) p rows)
+made_refused m d mode k fs p rows held e i g h ends (inl x) = memory_refuses e _ x
+made_refused m d mode k fs p rows held e i g h ends (inr (inl x)) = subst (λ f. Refuses f (read_faults m d (union_as k mode fs) p rows)) (sym x.0) (place_refused m d mode k fs p rows held i g h ends x.1)
+made_refused m d mode k fs p rows held e i g h ends (inr (inr x)) = subst (λ f. Refuses f (read_faults m d (union_as k mode fs) p rows)) (sym x.0) (type_refused m d mode k fs p rows h x.1)
 
 pub union_refused : (m : RecordBatch) (d : Dictionaries) (k : Kind) (mode : UnionMode) (fs : Fields) (p : Place) (rows : ℕ) (top : UnionTop) (held : List ℕ) (e : IpcError) → under_extensions k ≡ union_as k mode fs → is_carried k ≡ true
-    → top ≡ union_top_read m mode p rows → held ≡ rows_of_each m fs (inside (union_buffers m.version mode) p) (rows_by (children_rows mode rows) m) → union_parts_faults m mode p rows ≡ [] → WhyRefused k top held e → Refuses e (read_faults m d k p rows)
-union_refused m d k mode fs p rows top held e u g t w h y =
+    → top ≡ union_top_read m mode p rows → held ≡ rows_of_each m fs (inside (union_buffers m.version mode) p) (rows_by (children_rows mode rows) m) → union_parts_faults m mode p rows ≡ [] → Ends m fs (inside (union_buffers m.version mode) p) → WhyRefused k top held e → Refuses e (read_faults m d k p rows)
+union_refused m d k mode fs p rows top held e u g t w h ends y =
     wrapped_reads (Refuses e) m d k (union_as k mode fs) p rows u
-    (made_refused m d mode k fs p rows held e (ids_many (ids_in k) (width fs) (union_right k mode fs u g).0) w h (subst (λ z. WhyRefused k z held e) t y))
+    (made_refused m d mode k fs p rows held e (ids_many (ids_in k) (width fs) (union_right k mode fs u g).0) w h ends (subst (λ z. WhyRefused k z held e) t y))
 
 -- ── the array ──
 
@@ -391,7 +400,9 @@ union_made (Ok x) m d hs l k mode fs p rows top held cs ns bs vs u g same plain 
   err = tt;
 }
 union_made (Err e) m d hs l k mode fs p rows top held cs ns bs vs u g same plain a t w h c f made places ids y =
-    record { ok = tt; err = union_refused m d k mode fs p rows top held e u g t w h (subst (λ z. (e ≡ Memory) ⊎ (((e ≡ OutOfSpec out.InvalidOffsets) × (fits_places z top.types top.offsets held ≡ false)) ⊎ ((e ≡ OutOfSpec out.InvalidUnion) × (have_ids z top.types ≡ false)))) same y) }
+    let q = inside (union_buffers m.version mode) p in
+    let ends = child_ends m d fs q (rows_by (children_rows mode rows) m) (none_of_both (place_faults m q (behind m fs q)) _ c).1 in
+    record { ok = tt; err = union_refused m d k mode fs p rows top held e u g t w h ends (subst (λ z. (e ≡ Memory) ⊎ (((e ≡ OutOfSpec out.InvalidOffsets) × (fits_places z top.types top.offsets held ≡ false)) ⊎ ((e ≡ OutOfSpec out.InvalidUnion) × (have_ids z top.types ≡ false)))) same y) }
 
 pub union_bytes : (m : RecordBatch) (k : Kind) (mode : UnionMode) (fs : Fields) (p : Place) (rows : ℕ) → under_extensions k ≡ union_as k mode fs → AllHaveBytes m fs (inside (union_buffers m.version mode) p) (rows_by (children_rows mode rows) m) → HaveBytes m k p rows
 union_bytes m k mode fs p rows u b = wrapped (λ j. HaveBytes m j p rows) (λ name metadata j h. h) k (union_as k mode fs) u (by mode rows b)

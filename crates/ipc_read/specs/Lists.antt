@@ -4,9 +4,8 @@ use Rattle.arrow_spec.specs.declared.error.IpcError.{IpcError}
 use Rattle.arrow_spec.specs.declared.error.IpcError.TheVariants.{OutOfSpec}
 use Rattle.arrow_spec.specs.declared.error.OutOfSpecKind.TheVariants.{ExpectedBuffer}
 use Rattle.arrow_spec.specs.Kinds.{Kind, Offsets, small, «list», map, extension}
-use Rattle.arrow_spec.specs.Counts.{RecordBatch, Place, magnitude}
-use Rattle.arrow_spec.specs.Arrays.{node_of}
-use Rattle.arrow_spec.specs.Faults.{cause, if_sound, offsets_buffer_faults, offsets_faults}
+use Rattle.arrow_spec.specs.Counts.{RecordBatch, Place}
+use Rattle.arrow_spec.specs.Faults.{cause, if_sound, offsets_buffer_faults, end_of, offsets_faults}
 use Rattle.arrow_arrays.specs.Heads.{Head, Listed, listed, mapped}
 use Rattle.ipc_read.specs.Sources.{head_faults, faults_where}
 
@@ -39,7 +38,7 @@ abbrev pub list_faults : RecordBatch → Place → ℕ → Offsets → List IpcE
 list_faults m p rows o = head_faults m p rows
     ++ (cause (nat_le (length m.buffers) (p.buffer + 1)) (OutOfSpec ExpectedBuffer)
     ++ if_sound (faults_where rows (offsets_buffer_faults m o (p.buffer + 1) rows))
-    (faults_where rows (offsets_faults m o (p.buffer + 1) rows (magnitude (node_of m (suc p.node)).length))))
+    (faults_where rows (offsets_faults m o (p.buffer + 1) rows (end_of m (suc p.node)))))
 
 -- offsets, and the rows that are not null
 pub record ListTop : Type 0 where

@@ -2,10 +2,11 @@
 ghost use Rattle.std.specs.Prelude.{◌≡◌, ℕ};
 ghost use Rattle.arrow_spec.specs.Counts.{RecordBatch as Batch, Place, magnitude};
 ghost use Rattle.arrow_spec.specs.Arrays.{node_of};
+ghost use Rattle.arrow_spec.specs.Faults.{end_of};
 ghost use Rattle.ipc_read.specs.ChildRows.{rows_by};
 ghost use Rattle.ipc_read.specs.Queues.{Left};
 
-use crate::integers::magnitude;
+use crate::integers::{is_negative, magnitude};
 use arrow_spec::FieldNode;
 use std::collections::VecDeque;
 
@@ -23,6 +24,22 @@ pub(crate) fn next_rows(nodes: &VecDeque<FieldNode>) -> usize
     match nodes.front() {
         Some(node) => magnitude(node.length) as usize,
         None => 0,
+    }
+}
+
+/// The rows of the next node, past which no offset is to be. Where there is none, or where it is negative, which is told
+/// when it is taken, a number that no offset passes.
+pub(crate) fn next_end(nodes: &VecDeque<FieldNode>) -> usize
+    ensures { (m : Batch) (i : ℕ) → Left m.nodes i nodes.now.items → result ≡ end_of m i }
+{
+    match nodes.front() {
+        Some(node) => {
+            if is_negative(node.length) {
+                return 9_223_372_036_854_775_807;
+            }
+            magnitude(node.length) as usize
+        }
+        None => 9_223_372_036_854_775_807,
     }
 }
 

@@ -20,7 +20,7 @@ ghost use Rattle.ipc_read.specs.Queues.{Left, short_of, Shortened};
 ghost use Rattle.ipc_read.specs.Readers.{LeafAt, KnownTo, CanRead, KeepsSource, KeepsQueues, FailsToRead, FailsToReadColumn, TakesBuffer, ShortensBuffers, GivesNumbers, FetchesBuffer};
 ghost use Rattle.ipc_read.specs.Sources.{Answers, offsets_of_rows, faults_where, bytes_where, validity_fetched};
 
-use crate::child_rows::next_rows;
+use crate::child_rows::next_end;
 use crate::readers::{BufferReader, ColumnReader};
 use arrow_arrays::{Array, ListOffsets, MapArray, list_of};
 use arrow_buffers::{ArrayError, Bitmap, Buffer, place_of, rise_within};
@@ -187,7 +187,7 @@ impl<'a, S: Source> BufferReader<'a, S> {
 }
 
 impl<'n, 'a, S: Source> ColumnReader<'n, 'a, S> {
-    /// Takes a node, a validity and offsets, which rise within the rows of the next node.
+    /// Takes a node, a validity and offsets, which rise within the rows of the next node. A node that is missing or negative is told when it is taken.
     pub(crate) fn read_list_parts(
         &mut self,
         is_large: bool,
@@ -211,7 +211,7 @@ impl<'n, 'a, S: Source> ColumnReader<'n, 'a, S> {
     {
         let validity = self.read_head(rows)?;
         let offsets = self.buffers.read_list_offsets(is_large, rows)?;
-        let most = next_rows(self.nodes);
+        let most = next_end(self.nodes);
         match last_place(&offsets, rows, most) {
             Some(last) => Ok(ListParts {
                 offsets,

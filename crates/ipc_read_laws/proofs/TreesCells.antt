@@ -5,10 +5,10 @@ use Rattle.arrow_spec.specs.Kinds as kind
 use Rattle.arrow_spec.specs.Kinds.{Kind, Fields, Metadata, Offsets, small, large, width, none, field}
 use Rattle.arrow_spec.specs.Cells as cells
 use Rattle.arrow_spec.specs.Cells.{Cell, cells_of}
-use Rattle.arrow_spec.specs.Counts.{RecordBatch, Place, magnitude, after, inside}
-use Rattle.arrow_spec.specs.Arrays.{Dictionaries, node_of, offset, from_on, if_valid}
+use Rattle.arrow_spec.specs.Counts.{RecordBatch, Place, after, inside}
+use Rattle.arrow_spec.specs.Arrays.{Dictionaries, offset, from_on, if_valid}
 use Rattle.arrow_spec.specs.ArrayCells.{cell, cell_in, row_of}
-use Rattle.arrow_spec.specs.Faults.{array_faults, child_faults, offsets_faults, view_count_faults}
+use Rattle.arrow_spec.specs.Faults.{array_faults, child_faults, end_of, offsets_faults, view_count_faults}
 use Rattle.arrow_spec.specs.Laws.{AreBytes}
 use Rattle.arrow_spec.specs.Sent.{offset_read}
 use Rattle.arrow_spec.proofs.Fewer.{none_first, none_second, sound_second, offset-fewer}
@@ -66,9 +66,9 @@ list_cells m d l o fs p zero css w e h = refl
 list_cells m d l o fs p (suc n) css w e h =
     let i = p.buffer + 1 in
     let read : ℕ → Cell = λ row. cells.«list» (cells_of (row_items (offsets_told m o i (suc n)) (first_of css) row)) in
-    let well : offsets_faults m o i (suc n) (magnitude (node_of m (suc p.node)).length) ≡ [] = none_first _ _ (sound_second _ _ (none_second _ _ h)) in
+    let well : offsets_faults m o i (suc n) (end_of m (suc p.node)) ≡ [] = none_first _ _ (sound_second _ _ (none_second _ _ h)) in
     ap (λ c. masked (validity_read m p (suc n)) (from_on read 0 c)) (rows-told m o i (suc n))
-    ∙ masked_same m p (suc n) read (listed_cell m d o fs p) (λ row lt v. ap (λ xs. cells.«list» (cells_of xs)) (list_items m d o fs p n row (magnitude (node_of m (suc p.node)).length) css w e well lt))
+    ∙ masked_same m p (suc n) read (listed_cell m d o fs p) (λ row lt v. ap (λ xs. cells.«list» (cells_of xs)) (list_items m d o fs p n row (end_of m (suc p.node)) css w e well lt))
 
 -- ── lists of one size, and structs ──
 

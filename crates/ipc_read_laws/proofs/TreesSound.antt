@@ -3,9 +3,9 @@ use Rattle.std.proofs.Common.{◌≡◌, ℕ, zero, suc, ◌+◌, ◌*◌, List,
 use Rattle.std.proofs.lemmas.Bool.{and_from, eq-eqb, le-ltb, or_parts, or_from}
 use Rattle.arrow_spec.specs.Kinds as kind
 use Rattle.arrow_spec.specs.Kinds.{Kind, Fields, Metadata, Offsets, small, large, width, none, field}
-use Rattle.arrow_spec.specs.Counts.{RecordBatch, Place, magnitude, after, inside}
-use Rattle.arrow_spec.specs.Arrays.{Dictionaries, node_of, offset}
-use Rattle.arrow_spec.specs.Faults.{array_faults, child_faults, offsets_faults, view_count_faults}
+use Rattle.arrow_spec.specs.Counts.{RecordBatch, Place, after, inside}
+use Rattle.arrow_spec.specs.Arrays.{Dictionaries, offset}
+use Rattle.arrow_spec.specs.Faults.{array_faults, child_faults, end_of, offsets_faults, view_count_faults}
 use Rattle.arrow_spec.specs.Sent.{offset_read}
 use Rattle.arrow_spec.proofs.Fewer.{cause-none, none_first, none_second, sound_second}
 use Rattle.arrow_types.specs.KindCode.{kind_eq}
@@ -146,7 +146,7 @@ list_children m d o fs p (suc n) h = none_second _ _ (sound_second _ _ (none_sec
 
 pub list_rises : (m : RecordBatch) (d : Dictionaries) (l : Kind) (o : Offsets) (fs : Fields) (p : Place) (rows : ℕ) → array_faults m d (kind.«list» o fs) p rows ≡ [] → are_offsets (listed_read m l o p rows).offsets (offset_read m o p rows) ≡ true
 list_rises m d l o fs p zero h = refl
-list_rises m d l o fs p (suc n) h = offsets_rise m o (p.buffer + 1) (suc n) (magnitude (node_of m (suc p.node)).length) (none_first _ _ (sound_second _ _ (none_second _ _ h)))
+list_rises m d l o fs p (suc n) h = offsets_rise m o (p.buffer + 1) (suc n) (end_of m (suc p.node)) (none_first _ _ (sound_second _ _ (none_second _ _ h)))
 
 pub map_is_list : (m : RecordBatch) (d : Dictionaries) (sorted : Bool) (fs : Fields) (p : Place) (rows : ℕ) → array_faults m d (kind.map sorted fs) p rows ≡ array_faults m d (kind.«list» small fs) p rows
 map_is_list m d sorted fs p zero = refl

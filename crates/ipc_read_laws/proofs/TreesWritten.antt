@@ -15,9 +15,9 @@ use Rattle.arrow_spec.specs.declared.types.UnionMode.{UnionMode}
 use Rattle.arrow_spec.specs.declared.types.UnionMode.TheVariants.{Dense, Sparse}
 use Rattle.arrow_spec.specs.Kinds as kind
 use Rattle.arrow_spec.specs.Kinds.{Kind, Fields, Metadata, Offsets, small, large, half, single, double, width, none, field}
-use Rattle.arrow_spec.specs.Counts.{RecordBatch, Place, Written, magnitude, after, inside, union_buffers}
-use Rattle.arrow_spec.specs.Arrays.{Dictionaries, node_of, buf, bit, has_nulls, valid, signed_in, integer_in, offset, offset_width, integer_width, from_on}
-use Rattle.arrow_spec.specs.Faults.{array_faults, child_faults, offsets_faults, node_faults, view_count_faults, view_parts_faults, views_faults, view_text_faults}
+use Rattle.arrow_spec.specs.Counts.{RecordBatch, Place, Written, after, inside, union_buffers}
+use Rattle.arrow_spec.specs.Arrays.{Dictionaries, buf, bit, has_nulls, valid, signed_in, integer_in, offset, offset_width, integer_width, from_on}
+use Rattle.arrow_spec.specs.Faults.{array_faults, child_faults, end_of, offsets_faults, node_faults, view_count_faults, view_parts_faults, views_faults, view_text_faults}
 use Rattle.arrow_spec.specs.Sent.{own, with_views, nothing_written, also_written, validity_length, null_count, views_written, offset_read, dense_rows, written_part, parts_written, written}
 use Rattle.arrow_spec.proofs.Fewer.{none_first, none_second, sound_first, sound_second, offset-fewer}
 use Rattle.arrow_types.specs.Physical.{primitive_size, physical_of}
@@ -366,7 +366,7 @@ list_below m d held l o fs p zero zero (suc n) c v h fine below = absurd (omega 
 list_below m d held l o fs p zero (suc from) n c v h fine below = absurd (omega (arith, h))
 list_below m d held l o fs p (suc r) from n c v h fine below =
     let i = p.buffer + 1 in
-    let most = magnitude (node_of m (suc p.node)).length in
+    let most = end_of m (suc p.node) in
     let well : offsets_faults m o i (suc r) most ≡ [] = none_first _ _ (sound_second _ _ (none_second _ _ fine)) in
     let first : offset m o i from ≤ offset m o i (suc r) = offset-fewer m o i (suc r) from most (omega (arith, h)) well in
     let last : offset m o i (from + n) ≤ offset m o i (suc r) = offset-fewer m o i (suc r) (from + n) most h well in

@@ -1,5 +1,5 @@
 -- Unions, sparse and dense: their types are ids, each row stands in a row of its child, and their cells are those of the record batch.
-use Rattle.std.proofs.Common.{◌≡◌, ℕ, zero, suc, ◌+◌, ◌*◌, ◌<◌, ◌≤◌, ◌&&◌, List, [], ◌∷◌, length, Bool, true, false, Option, Some, None, ℤ, pos, not, nat_eq, refl, sym, ap, ◌∙◌, arith}
+use Rattle.std.proofs.Common.{◌≡◌, ℕ, zero, suc, ◌+◌, ◌*◌, ◌<◌, ◌≤◌, ◌&&◌, List, [], ◌∷◌, length, Bool, true, false, Option, Some, None, ℤ, pos, not, nat_eq, refl, sym, ap, ◌∙◌, arith, subst}
 use Rattle.std.specs.Prelude.{slice_index_or, nat_le, nat_lt}
 use Rattle.std.specs.Int.{w8, w32}
 use Rattle.std.proofs.lemmas.Bool.{and_parts, and_from, eqb-true, eq-eqb, leb-false, lt-leb, or_parts, or_from}
@@ -12,9 +12,9 @@ use Rattle.arrow_spec.specs.Cells.{Cell}
 use Rattle.arrow_spec.specs.Counts.{RecordBatch, Place, magnitude, is_negative, union_buffers, inside}
 use Rattle.arrow_spec.specs.Arrays.{Dictionaries, from_on, signed_in, types_buffer, id_place, child_row, or_0}
 use Rattle.arrow_spec.specs.ArrayCells.{cell}
-use Rattle.arrow_spec.specs.Faults.{array_faults, child_faults, union_faults, some_row, is_no_id, is_bad_row, place_in}
+use Rattle.arrow_spec.specs.Faults.{array_faults, child_faults, union_faults, some_row, is_no_id, end_of, is_bad_row, place_in}
 use Rattle.arrow_spec.specs.Sent.{dense_rows}
-use Rattle.arrow_spec.proofs.Fewer.{cause-none, none_first, none_second, sound_second, some_row-none, some_row-all}
+use Rattle.arrow_spec.proofs.Fewer.{cause-none, child_ends, none_first, none_second, sound_second, some_row-none, some_row-all}
 use Rattle.arrow_types.specs.UnionIds.{are_right}
 use Rattle.arrow_buffers.specs.Rows.{part}
 use Rattle.arrow_buffers.proofs.Parts.{length-part, length-from_on, shift-from_on}
@@ -98,18 +98,18 @@ unfolding union_faults
 type_known m mode ids fs p n row h lt =
     some_row-none (λ row. is_no_id (id_place ids (signed_in m w8 (types_buffer m p) row))) (suc n) row (cause-none _ _ (none_first _ _ (sound_second _ _ (none_second _ _ h)))) lt
 
-row_within : (m : RecordBatch) (mode : UnionMode) (ids : List ℤ) (fs : Fields) (p : Place) (n row i : ℕ) → union_faults m mode ids fs p (suc n) ≡ [] → row < suc n → id_place ids (type_of m p row) ≡ Some i
-    → (is_below m mode p row ≡ false) × (child_row m mode p row < child_rows m mode (suc n) (place_in m fs i (children_at m mode p)))
+row_within : (m : RecordBatch) (d : Dictionaries) (mode : UnionMode) (ids : List ℤ) (fs : Fields) (p : Place) (n row i : ℕ) → union_faults m mode ids fs p (suc n) ≡ [] → child_faults m d fs (children_at m mode p) (λ q. child_rows m mode (suc n) q) ≡ []
+    → row < suc n → i < width fs → id_place ids (type_of m p row) ≡ Some i → (is_below m mode p row ≡ false) × (child_row m mode p row < child_rows m mode (suc n) (place_in m fs i (children_at m mode p)))
 unfolding union_faults
-row_within m Sparse ids fs p n row i h lt e = (refl, lt)
-row_within m Dense ids fs p n row i h lt e =
+row_within m d Sparse ids fs p n row i h c lt among e = (refl, lt)
+row_within m d Dense ids fs p n row i h c lt among e =
     let q = children_at m Dense p in
     let at : ℕ → ℤ = λ row. signed_in m w32 (suc (types_buffer m p)) row in
     let here : is_bad_row m fs q (id_place ids (type_of m p row)) (at row) ≡ false =
     some_row-none (λ row. is_bad_row m fs q (id_place ids (signed_in m w8 (types_buffer m p) row)) (at row)) (suc n) row (cause-none _ _ (none_second _ _ (sound_second _ _ (none_second _ _ h)))) lt in
     let fine : is_bad_row m fs q (Some i) (at row) ≡ false = ap (λ r. is_bad_row m fs q r (at row)) (sym e) ∙ here in
     let both = or_parts (is_negative (at row)) _ fine in
-    (both.0, leb-false _ _ both.1)
+    (both.0, subst (λ many. magnitude (at row) < many) (child_ends m d fs q (λ q. dense_rows m q (suc n)) c i among) (leb-false (end_of m (place_in m fs i q).node) (magnitude (at row)) both.1))
 
 stands : (m : RecordBatch) (d : Dictionaries) (mode : UnionMode) (stated : Bool) (ids : List ℤ) (fs : Fields) (p : Place) (rows row : ℕ) → are_right ids (width fs) ≡ true → array_faults m d (union mode stated ids fs) p rows ≡ [] → row < rows
     → Stands m mode ids fs p rows row
@@ -117,8 +117,9 @@ stands m d mode stated ids fs p zero row right h lt = absurd (omega (arith, lt))
 stands m d mode stated ids fs p (suc n) row right h lt =
     let own = own_fine m d mode stated ids fs p n h in
     let known = is_known (id_place ids (type_of m p row)) (type_known m mode ids fs p n row own lt) in
-    let there = row_within m mode ids fs p n row (child_of m ids p row) own lt known in
-    record { known = known; among = omega (arith, id_below ids (type_of m p row) (child_of m ids p row) known, ids_many ids (width fs) right); above = there.0; within = there.1 }
+    let among : child_of m ids p row < width fs = omega (arith, id_below ids (type_of m p row) (child_of m ids p row) known, ids_many ids (width fs) right) in
+    let there = row_within m d mode ids fs p n row (child_of m ids p row) own (union_children m d mode stated ids fs p (suc n) h) lt among known in
+    record { known = known; among = among; above = there.0; within = there.1 }
 
 -- ── types and offsets ──
 

@@ -1,22 +1,25 @@
 -- The dictionaries that a cursor keeps, and what a call gives by them.
 use mathlib.Core.Bool.{Bool-set}
-use Rattle.std.proofs.Common.{◌≡◌, ℕ, ◌≤◌, List, [], false, Option, Some, None, Result, Ok, Err, IfErr, IfOk, IfSome, ℤ, refl, sym, ap, ◌∙◌, subst, rules}
+use Rattle.std.proofs.Common.{◌≡◌, ℕ, ◌≤◌, ◌<◌, List, [], length, false, Option, Some, None, Result, Ok, Err, IfErr, IfOk, IfSome, ℤ, refl, sym, ap, ◌∙◌, subst, rules}
 use Rattle.std.proofs.Math.Logic.{∥∥₁_elim}
 use Rattle.std.proofs.Props.{props}
 use Rattle.arrow_spec.specs.declared.error.IpcError.{IpcError}
+use Rattle.arrow_spec.specs.declared.error.IpcError.TheVariants as errors
+use Rattle.arrow_spec.specs.declared.message.Block.{Block}
 use Rattle.arrow_spec.specs.Arrays.{Dictionaries}
 use Rattle.arrow_spec.specs.Features.{chosen_floats}
-use Rattle.arrow_spec.specs.Files.{FileBlock, Meta, Request, dictionaries_of}
+use Rattle.arrow_spec.specs.Files.{FileBlock, Meta, Request}
 use Rattle.arrow_spec.specs.Kinds.{Kind}
-use Rattle.arrow_spec.specs.Readings.{Gives, Refuses, bind, free_of, refusals}
+use Rattle.arrow_spec.specs.Readings.{Gives, IsAmong, Refuses, bind, free_of, refusals}
 use Rattle.arrow_spec.proofs.Projection.{on}
 use Rattle.arrow_arrays.specs.Batches.{Batch}
 use Rattle.arrow_arrays.specs.Parts.{Forest}
-use Rattle.ipc_files.specs.Below.{Held, HasKind, HoldsCells, HasKindOf, values_of_id, table_of, held_in}
+use Rattle.ipc_files.specs.Below.{Held, HasKind, IsRefusal, HoldsCells, HasKindOf, values_of_id, table_of, held_in}
 use Rattle.ipc_files.specs.Blocks.{BatchRead, batch_in}
 use Rattle.ipc_files.specs.Fetching.{BlockFetched}
-use Rattle.ipc_files.specs.FileDictionaries.{DictionariesFetched, HoldsUses, ReadsDictionaries}
-use Rattle.ipc_files.specs.FileViews.{FileCause}
+use Rattle.ipc_files.specs.FileDictionaries.{DictionariesFetched, HoldsUses, ReadsDictionaries, dictionaries_given}
+use Rattle.ipc_files.specs.FileViews.{FileCause, meta_view}
+use Rattle.ipc_files.specs.declared.metadata.FileMetadata.{FileMetadata}
 use Rattle.ipc_files.proofs.BlockMessages.{refused_first}
 use Rattle.ipc_files.proofs.FetchedDictionaries.{first_fetched, first_stopped}
 use Rattle.ipc_files.proofs.ReadBatches.{refused_place}
@@ -61,65 +64,72 @@ cause_since result f mid f' h cause = search rules
 -- ── the dictionaries are read ──
 
 -- the features of the columns are refused
-pub kinds_stop : (content : Option (List ℕ)) (meta : Meta) (columns : Option (List ℕ)) (result : Result HeldParts IpcError) (e : IpcError) → result ≡ Err e → Refuses e (chosen_floats columns meta.schema.fields 0) → IfSome content (λ b. GivesHeld result (dictionaries_in columns b meta))
+pub kinds_stop : (content : Option (List ℕ)) (file : FileMetadata) (columns : Option (List ℕ)) (result : Result HeldParts IpcError) (e : IpcError) → result ≡ Err e → Refuses e (chosen_floats columns (meta_view file).schema.fields 0) → IfSome content (λ b. GivesHeld result (dictionaries_in columns b file))
 unfolding dictionaries_in
-kinds_stop None meta columns result e is refused = tt
-kinds_stop (Some b) meta columns result e is refused =
-    let fs = meta.schema.fields in
-    subst (λ r. GivesHeld r (dictionaries_in columns b meta)) (sym is) (refused_first e (free_of (chosen_floats columns fs 0)) (λ _. dictionaries_of b meta [] meta.dictionaries) (refused_place e (chosen_floats columns fs 0) refused))
+kinds_stop None file columns result e is refused = tt
+kinds_stop (Some b) file columns result e is refused =
+    let fs = (meta_view file).schema.fields in
+    subst (λ r. GivesHeld r (dictionaries_in columns b file)) (sym is) (refused_first e (free_of (chosen_floats columns fs 0)) (λ _. dictionaries_given b (meta_view file) [] file.dictionaries.items) (refused_place e (chosen_floats columns fs 0) refused))
 
-pub kinds_kept : (content : Option (List ℕ)) (meta : Meta) (columns : Option (List ℕ)) (after : KeptDictionaries) (result : Result HeldParts IpcError) (e : IpcError) → after ≡ kept.NotRead → result ≡ Err e → Refuses e (chosen_floats columns meta.schema.fields 0)
-    → IfErr result (λ _. KeptAfter content meta columns kept.NotRead after result)
-kinds_kept content meta columns after result e k is refused =
-    subst (λ q. IfErr result (λ _. KeptAfter content meta columns kept.NotRead q result)) (sym k) (subst (λ r. IfErr r (λ _. KeptAfter content meta columns kept.NotRead kept.NotRead r)) (sym is) refused)
+-- what only the bytes refuse is one of the refusals
+among_of : (e : IpcError) (es : List IpcError) → IsRefusal e → Refuses e es → IsAmong es e
+among_of (errors.OutOfSpec kind) es plain h = h
+among_of (errors.Unsupported feature) es plain h = h
+among_of e es plain h = absurd plain
+
+pub kinds_kept : (content : Option (List ℕ)) (file : FileMetadata) (columns : Option (List ℕ)) (after : KeptDictionaries) (result : Result HeldParts IpcError) (e : IpcError) → after ≡ kept.NotRead → result ≡ Err e → IsRefusal e → Refuses e (chosen_floats columns (meta_view file).schema.fields 0)
+    → IfErr result (λ _. KeptAfter content file columns kept.NotRead after result)
+kinds_kept content file columns after result e k is plain refused =
+    let here : KeptAfter {X = HeldParts} content file columns kept.NotRead kept.NotRead (Err e) = among_of e (chosen_floats columns (meta_view file).schema.fields 0) plain refused in
+    subst (λ q. IfErr result (λ _. KeptAfter content file columns kept.NotRead q result)) (sym k) (subst (λ r. IfErr r (λ _. KeptAfter content file columns kept.NotRead kept.NotRead r)) (sym is) here)
 
 -- behind the features of the columns
-behind_kinds : (columns : Option (List ℕ)) (b : List ℕ) (meta : Meta) → chosen_floats columns meta.schema.fields 0 ≡ [] → dictionaries_in columns b meta ≡ dictionaries_of b meta [] meta.dictionaries
+behind_kinds : (columns : Option (List ℕ)) (b : List ℕ) (file : FileMetadata) → chosen_floats columns (meta_view file).schema.fields 0 ≡ [] → dictionaries_in columns b file ≡ dictionaries_given b (meta_view file) [] file.dictionaries.items
 unfolding dictionaries_in bind
-behind_kinds columns b meta floats = let place : free_of (chosen_floats columns meta.schema.fields 0) ≡ Ok tt = ap free_of floats in rw place refl
+behind_kinds columns b file floats = let place : free_of (chosen_floats columns (meta_view file).schema.fields 0) ≡ Ok tt = ap free_of floats in rw place refl
 
-pub all_held : (content : Option (List ℕ)) (meta : Meta) (columns : Option (List ℕ)) (m : HeldParts) → chosen_floats columns meta.schema.fields 0 ≡ [] → IfSome content (λ b. ReadsDictionaries b meta meta.dictionaries (Ok m)) → IfSome content (λ b. GivesHeld (Ok m) (dictionaries_in columns b meta))
-all_held None meta columns m floats read = tt
-all_held (Some b) meta columns m floats read = (read.ok.0, behind_kinds columns b meta floats ∙ read.ok.1, read.ok.2)
+pub all_held : (content : Option (List ℕ)) (file : FileMetadata) (columns : Option (List ℕ)) (m : HeldParts) → chosen_floats columns (meta_view file).schema.fields 0 ≡ [] → IfSome content (λ b. ReadsDictionaries b (meta_view file) file.dictionaries.items (Ok m)) → IfSome content (λ b. GivesHeld (Ok m) (dictionaries_in columns b file))
+all_held None file columns m floats read = tt
+all_held (Some b) file columns m floats read = (read.ok.0, behind_kinds columns b file floats ∙ read.ok.1, read.ok.2)
 
-pub dictionaries_stop : (content : Option (List ℕ)) (meta : Meta) (columns : Option (List ℕ)) (e : IpcError) → chosen_floats columns meta.schema.fields 0 ≡ [] → IfSome content (λ b. ReadsDictionaries b meta meta.dictionaries (Err e)) → IfSome content (λ b. GivesHeld (Err e) (dictionaries_in columns b meta))
-dictionaries_stop None meta columns e floats read = tt
-dictionaries_stop (Some b) meta columns e floats read = subst (λ r. Refuses e (refusals r)) (sym (behind_kinds columns b meta floats)) read.err
+pub dictionaries_stop : (content : Option (List ℕ)) (file : FileMetadata) (columns : Option (List ℕ)) (e : IpcError) → chosen_floats columns (meta_view file).schema.fields 0 ≡ [] → IfSome content (λ b. ReadsDictionaries b (meta_view file) file.dictionaries.items (Err e)) → IfSome content (λ b. GivesHeld (Err e) (dictionaries_in columns b file))
+dictionaries_stop None file columns e floats read = tt
+dictionaries_stop (Some b) file columns e floats read = subst (λ r. Refuses e (refusals r)) (sym (behind_kinds columns b file floats)) read.err
 
-pub dictionaries_kept : (content : Option (List ℕ)) (meta : Meta) (columns : Option (List ℕ)) (e : IpcError) → IfSome content (λ b. ReadsDictionaries b meta meta.dictionaries (Err e)) → KeptAfter {X = HeldParts} content meta columns kept.NotRead kept.Refused (Err e)
-dictionaries_kept None meta columns e read = tt
-dictionaries_kept (Some b) meta columns e read = read.err
+pub dictionaries_kept : (content : Option (List ℕ)) (file : FileMetadata) (columns : Option (List ℕ)) (e : IpcError) → 0 < length file.dictionaries.items → IfSome content (λ b. ReadsDictionaries b (meta_view file) file.dictionaries.items (Err e)) → KeptAfter {X = HeldParts} content file columns kept.NotRead kept.Refused (Err e)
+dictionaries_kept None file columns e some read = (some, tt)
+dictionaries_kept (Some b) file columns e some read = (some, read.err)
 
 -- ── the batch ──
 
 -- where they are refused the first batch is
-first_refused : (b : List ℕ) (r : Request) (meta : Meta) (block : FileBlock) (e : IpcError) → Refuses e (refusals (dictionaries_in r.columns b meta)) → Refuses e (refusals (first_in r b meta block))
+first_refused : (b : List ℕ) (r : Request) (file : FileMetadata) (block : Block) (e : IpcError) → Refuses e (refusals (dictionaries_in r.columns b file)) → Refuses e (refusals (first_in r b file block))
 unfolding first_in
-first_refused b r meta block e h = refused_first e (dictionaries_in r.columns b meta) (λ d. batch_in r b meta d block) h
+first_refused b r file block e h = refused_first e (dictionaries_in r.columns b file) (λ d. batch_in r b (meta_view file) d block) h
 
-pub batch_stops : (content : Option (List ℕ)) (k : KeptDictionaries) (r : Request) (meta : Meta) (block : FileBlock) (e : IpcError) (result : Result Batch IpcError) → is_refused k ≡ false → result ≡ Err e → ((m : HeldParts) → k ≡ kept.Held m → Err e ≡ Ok m)
-    → (k ≡ kept.NotRead → IfSome content (λ b. GivesHeld (Err e) (dictionaries_in r.columns b meta))) → IfSome content (λ b. GivesBy k r b meta block result)
-batch_stops None k r meta block e result live is held first = tt
-batch_stops (Some b) kept.Refused r meta block e result live is held first = cc
-batch_stops (Some b) (kept.Held m) r meta block e result live is held first = let no = held m refl in cc
-batch_stops (Some b) kept.NotRead r meta block e result live is held first = subst (λ q. Gives table_of q (first_in r b meta block)) (sym is) (first_refused b r meta block e (first refl))
+pub batch_stops : (content : Option (List ℕ)) (k : KeptDictionaries) (r : Request) (file : FileMetadata) (block : Block) (e : IpcError) (result : Result Batch IpcError) → is_refused k ≡ false → result ≡ Err e → ((m : HeldParts) → k ≡ kept.Held m → Err e ≡ Ok m)
+    → (k ≡ kept.NotRead → IfSome content (λ b. GivesHeld (Err e) (dictionaries_in r.columns b file))) → IfSome content (λ b. GivesBy k r b file block result)
+batch_stops None k r file block e result live is held first = tt
+batch_stops (Some b) kept.Refused r file block e result live is held first = cc
+batch_stops (Some b) (kept.Held m) r file block e result live is held first = let no = held m refl in cc
+batch_stops (Some b) kept.NotRead r file block e result live is held first = subst (λ q. Gives table_of q (first_in r b file block)) (sym is) (first_refused b r file block e (first refl))
 
 -- and else it is read under them
-first_read : (b : List ℕ) (r : Request) (meta : Meta) (block : FileBlock) (d : Dictionaries) → dictionaries_in r.columns b meta ≡ Ok d → batch_in r b meta d block ≡ first_in r b meta block
+first_read : (b : List ℕ) (r : Request) (file : FileMetadata) (block : Block) (d : Dictionaries) → dictionaries_in r.columns b file ≡ Ok d → batch_in r b (meta_view file) d block ≡ first_in r b file block
 unfolding first_in
-first_read b r meta block d is = sym (on (dictionaries_in r.columns b meta) (λ x. batch_in r b meta x block) d is)
+first_read b r file block d is = sym (on (dictionaries_in r.columns b file) (λ x. batch_in r b (meta_view file) x block) d is)
 
-pub batch_goes : (content after : Option (List ℕ)) (k : KeptDictionaries) (r : Request) (meta : Meta) (block : FileBlock) (m : HeldParts) (result : Result Batch IpcError) → is_refused k ≡ false → after ≡ content → ((n : HeldParts) → k ≡ kept.Held n → ◌≡◌ {A = Result HeldParts IpcError} (Ok m) (Ok n))
-    → (k ≡ kept.NotRead → IfSome content (λ b. GivesHeld (Ok m) (dictionaries_in r.columns b meta))) → IfSome after (λ b. (d : Dictionaries) → HoldsCells d (held_in m) → Gives table_of result (batch_in r b meta d block)) → IfSome content (λ b. GivesBy k r b meta block result)
-batch_goes None after k r meta block m result live same held first gives = tt
-batch_goes (Some b) after kept.Refused r meta block m result live same held first gives = cc
-batch_goes (Some b) after (kept.Held n) r meta block m result live same held first gives =
+pub batch_goes : (content after : Option (List ℕ)) (k : KeptDictionaries) (r : Request) (file : FileMetadata) (block : Block) (m : HeldParts) (result : Result Batch IpcError) → is_refused k ≡ false → after ≡ content → ((n : HeldParts) → k ≡ kept.Held n → ◌≡◌ {A = Result HeldParts IpcError} (Ok m) (Ok n))
+    → (k ≡ kept.NotRead → IfSome content (λ b. GivesHeld (Ok m) (dictionaries_in r.columns b file))) → IfSome after (λ b. (d : Dictionaries) → HoldsCells d (held_in m) → Gives table_of result (batch_in r b (meta_view file) d block)) → IfSome content (λ b. GivesBy k r b file block result)
+batch_goes None after k r file block m result live same held first gives = tt
+batch_goes (Some b) after kept.Refused r file block m result live same held first gives = cc
+batch_goes (Some b) after (kept.Held n) r file block m result live same held first gives =
     let one : m ≡ n = let e = held n refl in cc in
-    subst (λ q. (d : Dictionaries) → HoldsCells d (held_in q) → Gives table_of result (batch_in r b meta d block)) one (subst (λ o. IfSome o (λ b. (d : Dictionaries) → HoldsCells d (held_in m) → Gives table_of result (batch_in r b meta d block))) same gives)
-batch_goes (Some b) after kept.NotRead r meta block m result live same held first gives =
-    let here = subst (λ o. IfSome o (λ b. (d : Dictionaries) → HoldsCells d (held_in m) → Gives table_of result (batch_in r b meta d block))) same gives in
+    subst (λ q. (d : Dictionaries) → HoldsCells d (held_in q) → Gives table_of result (batch_in r b (meta_view file) d block)) one (subst (λ o. IfSome o (λ b. (d : Dictionaries) → HoldsCells d (held_in m) → Gives table_of result (batch_in r b (meta_view file) d block))) same gives)
+batch_goes (Some b) after kept.NotRead r file block m result live same held first gives =
+    let here = subst (λ o. IfSome o (λ b. (d : Dictionaries) → HoldsCells d (held_in m) → Gives table_of result (batch_in r b (meta_view file) d block))) same gives in
     let read = first refl in
-    subst (Gives table_of result) (first_read b r meta block read.0 read.1) (here read.0 read.2)
+    subst (Gives table_of result) (first_read b r file block read.0 read.1) (here read.0 read.2)
 
 pub read_goes : (content after : Option (List ℕ)) (r : Request) (meta : Meta) (block : FileBlock) (m : HeldParts) (result : Result Batch IpcError) → after ≡ content → IfOk result (λ x. IfSome after (λ b. BatchRead b (held_in m) meta r block x))
     → IfOk result (ReadUnderKept content meta r block (kept.Held m))
@@ -128,9 +138,9 @@ read_goes content after r meta block m (Err e) same read = tt
 
 -- ── what is kept behind it ──
 
-pub file_held : (content : Option (List ℕ)) (meta : Meta) (m : HeldParts) → IfSome content (λ b. ReadsDictionaries b meta meta.dictionaries (Ok m)) → IfSome content (λ b. HoldsFile b meta m)
-file_held None meta m read = tt
-file_held (Some b) meta m read = (read.ok.0, read.ok.1, read.ok.2, read.steps read.ok.0 read.ok.1)
+pub file_held : (content : Option (List ℕ)) (file : FileMetadata) (m : HeldParts) → IfSome content (λ b. ReadsDictionaries b (meta_view file) file.dictionaries.items (Ok m)) → IfSome content (λ b. HoldsFile b (meta_view file) m)
+file_held None file m read = tt
+file_held (Some b) file m read = (read.said.0, read.said.1, read.said.2, read.steps read.said.0 read.said.1)
 
 pub file_kept : (content : Option (List ℕ)) (meta : Meta) (m : HeldParts) → IfSome content (λ b. HoldsFile b meta m) → KeepsFile content meta (kept.Held m)
 file_kept content meta m held = λ n is. let one : m ≡ n = cc in subst (λ q. IfSome content (λ b. HoldsFile b meta q)) one held
@@ -142,22 +152,26 @@ not_read_left k m is held = cc
 refused_by : (result : Result Batch IpcError) (e : IpcError) (P : IpcError → Type 0) → result ≡ Err e → P e → IsRefusedBy result P
 refused_by result e P is h = subst (λ z. IsRefusedBy z P) (sym is) h
 
-refused_kept : (content : Option (List ℕ)) (meta : Meta) (columns : Option (List ℕ)) (after : KeptDictionaries) (e : IpcError) (result : Result Batch IpcError) → result ≡ Err e → KeptAfter {X = HeldParts} content meta columns kept.NotRead after (Err e) → KeptAfter content meta columns kept.NotRead after result
-refused_kept content meta columns kept.NotRead e result is h = refused_by result e (λ e. Refuses e (chosen_floats columns meta.schema.fields 0)) is h
-refused_kept content meta columns (kept.Held m) e result is h = h
-refused_kept content meta columns kept.Refused e result is h = refused_by result e (λ e. IfSome content (λ b. Refuses e (refusals (dictionaries_of b meta [] meta.dictionaries)))) is h
+refused_kept : (content : Option (List ℕ)) (file : FileMetadata) (columns : Option (List ℕ)) (after : KeptDictionaries) (e : IpcError) (result : Result Batch IpcError) → result ≡ Err e → KeptAfter {X = HeldParts} content file columns kept.NotRead after (Err e) → KeptAfter content file columns kept.NotRead after result
+refused_kept content file columns kept.NotRead e result is h = refused_by result e (λ e. IsAmong (chosen_floats columns (meta_view file).schema.fields 0) e) is h
+refused_kept content file columns (kept.Held m) e result is h = h
+refused_kept content file columns kept.Refused e result is h = (h.0, refused_by result e (λ e. IfSome content (λ b. Refuses e (refusals (dictionaries_given b (meta_view file) [] file.dictionaries.items)))) is h.1)
 
-pub stops_kept : (content : Option (List ℕ)) (meta : Meta) (columns : Option (List ℕ)) (k after : KeptDictionaries) (e : IpcError) (result : Result Batch IpcError) → is_refused k ≡ false → result ≡ Err e → ((m : HeldParts) → k ≡ kept.Held m → Err e ≡ Ok m)
-    → (k ≡ kept.NotRead → KeptAfter {X = HeldParts} content meta columns kept.NotRead after (Err e)) → KeptAfter content meta columns k after result
-stops_kept content meta columns kept.Refused after e result live is held first = cc
-stops_kept content meta columns (kept.Held m) after e result live is held first = let no = held m refl in cc
-stops_kept content meta columns kept.NotRead after e result live is held first = refused_kept content meta columns after e result is (first refl)
+pub stops_kept : (content : Option (List ℕ)) (file : FileMetadata) (columns : Option (List ℕ)) (k after : KeptDictionaries) (e : IpcError) (result : Result Batch IpcError) → is_refused k ≡ false → result ≡ Err e → ((m : HeldParts) → k ≡ kept.Held m → Err e ≡ Ok m)
+    → (k ≡ kept.NotRead → KeptAfter {X = HeldParts} content file columns kept.NotRead after (Err e)) → KeptAfter content file columns k after result
+stops_kept content file columns kept.Refused after e result live is held first = cc
+stops_kept content file columns (kept.Held m) after e result live is held first = let no = held m refl in cc
+stops_kept content file columns kept.NotRead after e result live is held first = refused_kept content file columns after e result is (first refl)
 
-pub goes_kept : (content : Option (List ℕ)) (meta : Meta) (columns : Option (List ℕ)) (k : KeptDictionaries) (m : HeldParts) (result : Result Batch IpcError) → is_refused k ≡ false → ((n : HeldParts) → k ≡ kept.Held n → ◌≡◌ {A = Result HeldParts IpcError} (Ok m) (Ok n))
-    → (k ≡ kept.NotRead → IfSome content (λ b. GivesHeld (Ok m) (dictionaries_in columns b meta))) → KeptAfter content meta columns k (kept.Held m) result
-goes_kept content meta columns kept.Refused m result live held first = cc
-goes_kept content meta columns (kept.Held n) m result live held first = let one : m ≡ n = let e = held n refl in cc in ap kept.Held one
-goes_kept content meta columns kept.NotRead m result live held first = first refl
+pub goes_kept : (content : Option (List ℕ)) (file : FileMetadata) (columns : Option (List ℕ)) (k : KeptDictionaries) (m : HeldParts) (result : Result Batch IpcError) → is_refused k ≡ false → ((n : HeldParts) → k ≡ kept.Held n → ◌≡◌ {A = Result HeldParts IpcError} (Ok m) (Ok n))
+    → (k ≡ kept.NotRead → IfSome content (λ b. GivesHeld (Ok m) (dictionaries_in columns b file))) → KeptAfter content file columns k (kept.Held m) result
+goes_kept content file columns kept.Refused m result live held first = cc
+goes_kept content file columns (kept.Held n) m result live held first = let one : m ≡ n = let e = held n refl in cc in ap kept.Held one
+goes_kept content file columns kept.NotRead m result live held first = first refl
+
+-- where they are held they do not end the reader
+pub goes_on : (m : HeldParts) → kept.Held m ≡ kept.Refused → ⊥
+goes_on m is = cc
 
 -- ── what is fetched ──
 

@@ -149,6 +149,7 @@ impl FileCursor {
 
     /// Takes the memory that is used again. Its bytes are of no meaning.
     pub fn take_scratch(&mut self, alloc: Global) -> Vec<u8>
+        ensures taken { result ≡ self.old.scratch }
         ensures block { self.new.block ≡ self.old.block }
         ensures left { self.new.left ≡ self.old.left }
         ensures projection { self.new.projection ≡ self.old.projection }
@@ -160,6 +161,7 @@ impl FileCursor {
 
     /// Gives memory to be used again.
     pub fn set_scratch(&mut self, scratch: Vec<u8>)
+        ensures given { self.new.scratch ≡ scratch }
         ensures block { self.new.block ≡ self.old.block }
         ensures left { self.new.left ≡ self.old.left }
         ensures projection { self.new.projection ≡ self.old.projection }

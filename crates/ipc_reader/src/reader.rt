@@ -144,6 +144,7 @@ impl<S: Source> FileReader<S> {
 
     /// Takes the memory that is used again. Its bytes are of no meaning.
     pub fn take_scratch(&mut self) -> Vec<u8>
+        ensures taken { result ≡ self.old.cursor.scratch }
         ensures block { self.new.cursor.block ≡ self.old.cursor.block }
         ensures left { self.new.cursor.left ≡ self.old.cursor.left }
         ensures projection { self.new.cursor.projection ≡ self.old.cursor.projection }
@@ -156,6 +157,7 @@ impl<S: Source> FileReader<S> {
 
     /// Gives memory to be used again.
     pub fn set_scratch(&mut self, scratch: Vec<u8>)
+        ensures given { self.new.cursor.scratch ≡ scratch }
         ensures block { self.new.cursor.block ≡ self.old.cursor.block }
         ensures left { self.new.cursor.left ≡ self.old.cursor.left }
         ensures projection { self.new.cursor.projection ≡ self.old.cursor.projection }

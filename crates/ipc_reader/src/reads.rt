@@ -3,8 +3,7 @@ ghost use Rattle.std.specs.Prelude.{◌≡◌, ◌≤◌, ◌<◌, false, length
 ghost use Rattle.arrow_spec.specs.Files.{what_is_left};
 ghost use Rattle.ipc_io.specs.Outside.{IsSize, SourceKept};
 ghost use Rattle.ipc_files.specs.FileBlocks.{GivesIn, file_block};
-ghost use Rattle.ipc_files.specs.FileViews.{FileCause};
-ghost use Rattle.ipc_files.specs.RowCounts.{blocks_passed, MessagesFetched};
+ghost use Rattle.ipc_files.specs.RowCounts.{blocks_passed, CountCause, MessagesFetched};
 ghost use Rattle.ipc_reader.specs.Cursors.{left_after};
 ghost use Rattle.ipc_reader.specs.Kept.{is_refused};
 ghost use Rattle.ipc_reader.specs.Reads.{NextBatch, NextMessage, ReadsCurrent, SkipsBlocks};
@@ -53,10 +52,10 @@ fn pass_blocks<S: Source>(
     offset: u64,
 ) -> Result<RowPlace, IpcError>
     requires { IsSize (S.content source.old) size }
-    ensures gives { GivesIn (S.content source.old) (λ p. (p.block, p.rows)) result (λ b. blocks_passed b (map file_block blocks.now) 0 offset) }
+    ensures gives { GivesIn (S.content source.old) (λ p. (p.block, p.rows)) result (λ b. blocks_passed b blocks.now 0 offset) }
     ensures within { IfOk result (λ p. p.block ≤ length blocks.now) }
-    ensures cause { IfErr result (λ e. FileCause e (S.faults source.old) (S.faults source.new)) }
-    ensures fetched { MessagesFetched (S.content source.old) (map file_block blocks.now) (λ b. blocks_passed b (map file_block blocks.now) 0 offset) (S.fetched source.old) (S.fetched source.new) }
+    ensures cause { IfErr result (λ e. CountCause e (S.faults source.old) (S.faults source.new)) }
+    ensures fetched { MessagesFetched (S.content source.old) (map file_block blocks.now) (λ b. blocks_passed b blocks.now 0 offset) (S.fetched source.old) (S.fetched source.new) }
     ensures kept { SourceKept S.content S.faults S.references source.old source.new }
 {
     let mut place = RowPlace {

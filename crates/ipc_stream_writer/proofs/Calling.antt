@@ -1,10 +1,11 @@
 -- What calls of a writer come to.
-use Rattle.std.proofs.Common.{◌≡◌, inl, inr, ℕ, ℤ, List, Bool, true, false, length, None, Some, Option, Result, Ok, Err, refl, sym, ap, ◌∙◌, subst, []}
+use Rattle.std.proofs.Common.{◌≡◌, ◌<◌, inl, inr, ℕ, ℤ, List, Bool, true, false, length, None, Some, Option, Result, Ok, Err, refl, sym, ap, ◌∙◌, subst, [], arith}
 use Rattle.std.specs.Result.{IsErrAnd}
 use Rattle.std.specs.declared.alloc.Global.{Global}
 use Rattle.std.specs.declared.vec.Vec.{Vec}
 use Rattle.std.specs.Io.KnownBytes.{Appends}
 use Rattle.arrow_spec.specs.declared.error.IpcError.{IpcError}
+use Rattle.arrow_spec.specs.declared.error.IpcError.TheVariants.{Memory, WriteFault}
 use Rattle.arrow_spec.specs.Readings.{is_absent}
 use Rattle.arrow_spec.specs.Streams.{end_mark}
 use Rattle.arrow_types.specs.Schemas.{Keyed, fields_in}
@@ -12,6 +13,7 @@ use Rattle.arrow_arrays.specs.Batches.{Batch}
 use Rattle.ipc_fields.specs.IpcFields.{Ids, fields_with, ids_of, metadata_of}
 use Rattle.ipc_fields.specs.declared.ipc_field.IpcField.{IpcField}
 use Rattle.ipc_bodies.specs.Puts.{Moved, NoneFalls}
+use Rattle.ipc_bodies.specs.declared.encoding.Encoding.TheVariants.{Bytes}
 use Rattle.ipc_messages.specs.Below.{IsKept, held_by, DictionaryTracker}
 use Rattle.ipc_messages.specs.declared.puts.Stop.{Stop}
 use Rattle.ipc_messages.specs.declared.schema.StreamStart.{StreamStart}
@@ -19,9 +21,10 @@ use Rattle.ipc_messages.specs.declared.state.WriterState.TheVariants.{Started}
 use Rattle.ipc_stream_writer.specs.declared.stream.StreamCore.{StreamCore}
 use Rattle.ipc_stream_writer.specs.Calls.{Finishes, HasBegun, LeavesAll, Sends, Starts, Stays, SuitsStream, Writes}
 use Rattle.ipc_messages.specs.Fields.{AreIdsFor}
-use Rattle.ipc_messages.specs.Puts.{StopsIn, Untouched, counted}
+use Rattle.ipc_messages.specs.Puts.{Grew, StopsIn, Untouched, counted}
 use Rattle.ipc_messages.specs.Schemas.{Begins, IsStart, SchemaIsSaid, StartMayBeWritten, stream_text}
 use Rattle.ipc_messages.specs.States.{is_new, is_started, state_behind}
+use Rattle.ipc_messages.proofs.Beginning.{start_some}
 use Rattle.ipc_stream_writer.specs.Written.{IsWritten}
 use Rattle.ipc_stream_writer.proofs.Meaning.{begun_written, sent_written, still_written}
 
@@ -79,22 +82,24 @@ has_begun encode m old new s given start text n i t q state schema fields option
     }
 
 stopped_start : (encode : List ℕ → List ℕ) (b : Bool) (e : IpcError) (m : Moved) (old new : StreamCore) (s : List Keyed) (given : Option Ids) (start : StreamStart) → is_new old.state ≡ true
-    → IsStart old.options s given old.pairs start → StopsIn b m e (encode start.message.items) → new.state ≡ state_behind b old.state → new.tracker ≡ old.tracker → new.byte_count ≡ old.byte_count → Stays old new → Starts encode m (Err e) old new s given
-stopped_start encode true e m old new s given start n i q k t v y = inr (record {
+    → IsStart old.options s given old.pairs start → StopsIn b m e (encode start.message.items) → (e ≡ Memory → b ≡ true → Grew m.old m.new) → (old.encoding ≡ Bytes → b ≡ true → e ≡ WriteFault) → new.state ≡ state_behind b old.state → new.tracker ≡ old.tracker → new.byte_count ≡ old.byte_count → Stays old new → Starts encode m (Err e) old new s given
+stopped_start encode true e m old new s given start n i q w f k t v y = inr (record {
   new_before = n;
   below = ids_of start.fields.items;
   ids = i.ids;
   bytes = start.message.items;
   text = i.text;
-  failed = record { put = q; state = k; held = same_held old.tracker new.tracker t; count = v; stays = y };
+  failed = record { put = q; behind = λ is. w is refl; state = k; held = same_held old.tracker new.tracker t; count = v; stays = y };
+  whole = λ is. f is refl;
 })
-stopped_start encode false e m old new s given start n i q k t v y = inl (inr (n, inl q.0), stops_early m old new q.1 k t v y)
+stopped_start encode false e m old new s given start n i q w f k t v y = inl (inr (n, inl q.0), stops_early m old new q.1 k t v y)
 
 pub start_stopped : (encode : List ℕ → List ℕ) (x : IpcError) (stop : Stop) (m : Moved) (old new : StreamCore) (s : List Keyed) (given : Option Ids) (start : StreamStart) (text : List ℕ) → x ≡ stop.error → is_new old.state ≡ true
-    → IsStart old.options s given old.pairs start → text ≡ start.message.items → StopsIn stop.has_begun m stop.error (encode text) → new.state ≡ state_behind stop.has_begun old.state → new.tracker ≡ old.tracker → new.byte_count ≡ old.byte_count → Stays old new
+    → IsStart old.options s given old.pairs start → text ≡ start.message.items → StopsIn stop.has_begun m stop.error (encode text) → (0 < length text → stop.error ≡ Memory → stop.has_begun ≡ true → Grew m.old m.new) → (old.encoding ≡ Bytes → stop.has_begun ≡ true → stop.error ≡ WriteFault) → new.state ≡ state_behind stop.has_begun old.state → new.tracker ≡ old.tracker → new.byte_count ≡ old.byte_count → Stays old new
     → Starts encode m (Err x) old new s given
-start_stopped encode x stop m old new s given start text e n i t q k u v y =
-    subst (λ f. Starts encode m (Err f) old new s given) (sym e) (stopped_start encode stop.has_begun stop.error m old new s given start n i (subst (λ ys. StopsIn stop.has_begun m stop.error (encode ys)) t q) k u v y)
+start_stopped encode x stop m old new s given start text e n i t q w f k u v y =
+    let some : 0 < length text = omega (arith, ap length t, start_some old.options (fields_in s) (ids_of start.fields.items) old.pairs start.message.items i.text) in
+    subst (λ z. Starts encode m (Err z) old new s given) (sym e) (stopped_start encode stop.has_begun stop.error m old new s given start n i (subst (λ ys. StopsIn stop.has_begun m stop.error (encode ys)) t q) (w some) f k u v y)
 
 pub not_begun : (encode : List ℕ → List ℕ) (r : Result (Unit {0}) IpcError) (e : IpcError) (m : Moved) (old new : StreamCore) (s : List Keyed) (given : Option Ids) → IsErrAnd r (λ f. f ≡ e) → is_new old.state ≡ true → Begins (Err e) old.options s given old.pairs
     → Untouched m → new.state ≡ old.state → IsKept (held_by old.tracker) (held_by new.tracker) → new.byte_count ≡ old.byte_count → Stays old new → Starts encode m r old new s given
@@ -104,13 +109,13 @@ not_begun encode (Err x) e m old new s given f n h t state held v y =
 
 -- ── end ──
 
-stopped_end : (encode : List ℕ → List ℕ) (b : Bool) (e : IpcError) (m : Moved) (old new : StreamCore) → is_started old.state ≡ true → StopsIn b m e (encode end_mark) → new.state ≡ state_behind b old.state → new.tracker ≡ old.tracker → new.byte_count ≡ old.byte_count → Stays old new → Finishes encode m (Err e) old new
-stopped_end encode true e m old new n q k t v y = inr (n, record { put = q; state = k; held = same_held old.tracker new.tracker t; count = v; stays = y })
-stopped_end encode false e m old new n q k t v y = inl (inr (n, q.0), stops_early m old new q.1 k t v y)
+stopped_end : (encode : List ℕ → List ℕ) (b : Bool) (e : IpcError) (m : Moved) (old new : StreamCore) → is_started old.state ≡ true → StopsIn b m e (encode end_mark) → (e ≡ Memory → b ≡ true → Grew m.old m.new) → (old.encoding ≡ Bytes → b ≡ true → e ≡ WriteFault) → new.state ≡ state_behind b old.state → new.tracker ≡ old.tracker → new.byte_count ≡ old.byte_count → Stays old new → Finishes encode m (Err e) old new
+stopped_end encode true e m old new n q w f k t v y = inr (n, record { put = q; behind = λ is. w is refl; state = k; held = same_held old.tracker new.tracker t; count = v; stays = y }, λ is. f is refl)
+stopped_end encode false e m old new n q w f k t v y = inl (inr (n, q.0), stops_early m old new q.1 k t v y)
 
-pub finish_stopped : (encode : List ℕ → List ℕ) (x : IpcError) (stop : Stop) (m : Moved) (old new : StreamCore) → x ≡ stop.error → is_started old.state ≡ true → StopsIn stop.has_begun m stop.error (encode end_mark) → new.state ≡ state_behind stop.has_begun old.state → new.tracker ≡ old.tracker → new.byte_count ≡ old.byte_count → Stays old new
+pub finish_stopped : (encode : List ℕ → List ℕ) (x : IpcError) (stop : Stop) (m : Moved) (old new : StreamCore) → x ≡ stop.error → is_started old.state ≡ true → StopsIn stop.has_begun m stop.error (encode end_mark) → (stop.error ≡ Memory → stop.has_begun ≡ true → Grew m.old m.new) → (old.encoding ≡ Bytes → stop.has_begun ≡ true → stop.error ≡ WriteFault) → new.state ≡ state_behind stop.has_begun old.state → new.tracker ≡ old.tracker → new.byte_count ≡ old.byte_count → Stays old new
     → Finishes encode m (Err x) old new
-finish_stopped encode x stop m old new e n q k t v y = subst (λ f. Finishes encode m (Err f) old new) (sym e) (stopped_end encode stop.has_begun stop.error m old new n q k t v y)
+finish_stopped encode x stop m old new e n q w f k t v y = subst (λ z. Finishes encode m (Err z) old new) (sym e) (stopped_end encode stop.has_begun stop.error m old new n q w f k t v y)
 
 -- ── batches ──
 

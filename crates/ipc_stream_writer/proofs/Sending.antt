@@ -1,5 +1,5 @@
 -- A batch that is sent with its dictionaries, or not.
-use Rattle.std.proofs.Common.{◌≡◌, ◌⊎◌, inl, inr, ℕ, ◌+◌, ℤ, List, Bool, true, false, map, Result, Ok, Err, sym, subst, arith}
+use Rattle.std.proofs.Common.{◌≡◌, ◌⊎◌, inl, inr, ℕ, ◌+◌, ℤ, List, Bool, true, false, map, Result, Ok, Err, refl, sym, subst, arith}
 use Rattle.std.specs.Result.{IsErrAnd}
 use Rattle.arrow_spec.specs.declared.error.IpcError.{IpcError}
 use Rattle.arrow_spec.specs.declared.error.IpcError.TheVariants.{Memory}
@@ -15,7 +15,7 @@ use Rattle.ipc_messages.specs.declared.puts.Stop.{Stop}
 use Rattle.ipc_stream_writer.specs.declared.stream.StreamCore.{StreamCore}
 use Rattle.ipc_stream_writer.specs.Calls.{SendCause, Sends, Stays}
 use Rattle.ipc_stream_writer.proofs.Meaning.{still_written}
-use Rattle.ipc_messages.specs.Puts.{SendStops, SendsChunk, Untouched, counted}
+use Rattle.ipc_messages.specs.Puts.{Grew, SendStops, SendsChunk, Untouched, counted}
 use Rattle.ipc_messages.specs.States.{state_behind}
 
 -- what is found of a batch's dictionaries is not to be sent
@@ -52,20 +52,20 @@ was_sent encode m k old new b n messages h e c s y v =
     }
 
 stopped_send : (encode : List ℕ → List ℕ) (b : Bool) (e : IpcError) (m : Moved) (old new : StreamCore) (middle : DictionaryTracker) (x : Batch) (n : NewDictionaries) → Found (Ok n) old.tracker middle (forest x.arrays) (ids_of old.fields.items)
-    → SendStops encode b m e old.options (map to_send n.messages.items) x → new.state ≡ state_behind b old.state → ((q : ℤ) → held_by new.tracker q ≡ undone n.changes.items (held_by middle) q) → new.byte_count ≡ old.byte_count → Stays old new → Sends encode m (Err e) old new x
-stopped_send encode true e m old new middle x n h c s u v k = inr (record {
+    → SendStops encode b m e old.options (map to_send n.messages.items) x → (e ≡ Memory → b ≡ true → Grew m.old m.new) → new.state ≡ state_behind b old.state → ((q : ℤ) → held_by new.tracker q ≡ undone n.changes.items (held_by middle) q) → new.byte_count ≡ old.byte_count → Stays old new → Sends encode m (Err e) old new x
+stopped_send encode true e m old new middle x n h c w s u v k = inr (record {
   sending = record { held = held_by middle; used = h.0.0; sent = map to_send n.messages.items };
   is_found = h.0.1;
   may = c.0;
-  failed = record { put = c.1; state = s; held = kept_again old.tracker middle new.tracker (forest x.arrays) (ids_of old.fields.items) n h u; count = v; stays = k };
+  failed = record { put = c.1; behind = λ is. w is refl; state = s; held = kept_again old.tracker middle new.tracker (forest x.arrays) (ids_of old.fields.items) n h u; count = v; stays = k };
 })
-stopped_send encode false e m old new middle x n h c s u v k =
+stopped_send encode false e m old new middle x n h c w s u v k =
     let held = kept_again old.tracker middle new.tracker (forest x.arrays) (ids_of old.fields.items) n h u in
     inl (why_not e old middle x n h c.0, record { untouched = c.1; state = s; held = held; count = v; stays = k; written = still_written old new held v k })
 
 -- it is not, and what was held is held again
 pub not_sent : (encode : List ℕ → List ℕ) (y : IpcError) (stop : Stop) (m : Moved) (old new : StreamCore) (middle : DictionaryTracker) (x : Batch) (n : NewDictionaries) (messages : List ToEncode) → y ≡ stop.error → Found (Ok n) old.tracker middle (forest x.arrays) (ids_of old.fields.items)
-    → messages ≡ n.messages.items → SendStops encode stop.has_begun m stop.error old.options (map to_send messages) x → new.state ≡ state_behind stop.has_begun old.state
+    → messages ≡ n.messages.items → SendStops encode stop.has_begun m stop.error old.options (map to_send messages) x → (stop.error ≡ Memory → stop.has_begun ≡ true → Grew m.old m.new) → new.state ≡ state_behind stop.has_begun old.state
     → ((q : ℤ) → held_by new.tracker q ≡ undone n.changes.items (held_by middle) q) → new.byte_count ≡ old.byte_count → Stays old new → Sends encode m (Err y) old new x
-not_sent encode y stop m old new middle x n messages f h e c s u v k =
-    subst (λ z. Sends encode m (Err z) old new x) (sym f) (stopped_send encode stop.has_begun stop.error m old new middle x n h (subst (λ xs. SendStops encode stop.has_begun m stop.error old.options (map to_send xs) x) e c) s u v k)
+not_sent encode y stop m old new middle x n messages f h e c w s u v k =
+    subst (λ z. Sends encode m (Err z) old new x) (sym f) (stopped_send encode stop.has_begun stop.error m old new middle x n h (subst (λ xs. SendStops encode stop.has_begun m stop.error old.options (map to_send xs) x) e c) w s u v k)

@@ -1,5 +1,6 @@
 -- What crates below say, handed on to those above.
-pub use Rattle.ipc_messages.specs.Below.{DictionaryTracker, Options, Sending, ToSend, are_apart, arrays_sent, begun, columns_fault, columns_of, held_by, is_indexed, options_of, unless_fault, values_in}
+pub use Rattle.ipc_messages.specs.Below.{DictionaryTracker, Options, Sending, ToSend, all_representable, arrays_sent, begun, columns_fault}
+pub use Rattle.ipc_messages.specs.Below.{columns_of, held_by, is_indexed, options_of, unless_fault, values_in}
 pub use Rattle.ipc_messages.specs.Chunks.{MayBeSent, RefusesChunk, Stops, found}
 pub use Rattle.ipc_messages.specs.Encoded.{Refuses, RefusesOne, all_fit, fits}
 pub use Rattle.ipc_messages.specs.Messages.{chunk_text}

@@ -4,7 +4,7 @@ use Rattle.std.specs.BTreeMap.{BTreeMap}
 use Rattle.std.specs.Io.KnownBytes.{Appends}
 use Rattle.std.specs.declared.alloc.Global.{Global}
 use Rattle.arrow_spec.specs.declared.error.IpcError.{IpcError}
-use Rattle.arrow_spec.specs.declared.error.IpcError.TheVariants.{Memory, SchemaMismatch, State}
+use Rattle.arrow_spec.specs.declared.error.IpcError.TheVariants.{Memory, SchemaMismatch, State, WriteFault}
 use Rattle.arrow_spec.specs.Files.{TableBatch}
 use Rattle.arrow_spec.specs.Regular.{regular}
 use Rattle.arrow_spec.specs.Streams.{end_mark}
@@ -14,6 +14,7 @@ use Rattle.arrow_arrays.specs.Parts.{forest}
 use Rattle.ipc_fields.specs.IpcFields.{Ids, fields_with, ids_of, metadata_of}
 use Rattle.ipc_bodies.specs.Puts.{Moved, NoneFalls, PutsPart}
 use Rattle.ipc_bodies.specs.declared.encoding.Encoding.{Encoding}
+use Rattle.ipc_bodies.specs.declared.encoding.Encoding.TheVariants.{Bytes}
 use Rattle.ipc_messages.specs.Below.{Sending, ToSend, IsKept, held_by, options_of, WriteOptions}
 use Rattle.ipc_messages.specs.Chunks.{MayBeSent, RefusesChunk, Stops, found}
 use Rattle.ipc_messages.specs.declared.state.WriterState.TheVariants.{New, Started, Finished, Failed}
@@ -21,7 +22,7 @@ use Rattle.ipc_stream_writer.specs.declared.stream.StreamCore.{StreamCore}
 use Rattle.ipc_messages.specs.Batches.{Suits}
 use Rattle.ipc_messages.specs.Fields.{AreIdsFor}
 use Rattle.ipc_messages.specs.Messages.{chunk_text}
-use Rattle.ipc_messages.specs.Puts.{Untouched, counted}
+use Rattle.ipc_messages.specs.Puts.{Grew, Untouched, counted}
 use Rattle.ipc_messages.specs.Schemas.{IsNoStart, SchemaIsSaid, stream_text}
 use Rattle.ipc_messages.specs.States.{is_new, is_started}
 use Rattle.ipc_messages.specs.declared.pairs.StreamPairs.{StreamPairs}
@@ -57,9 +58,11 @@ pub record LeavesAll (m : Moved) (old new : StreamCore) : Type 0 where
   -- the bytes mean what they meant
   pub written : (pairs : StreamPairs) (x : List ℕ) (bs : List TableBatch) → IsWritten pairs old x bs → IsWritten pairs new x bs
 
--- a put failed: a part of what was to be put is there, the dictionaries of it are not held, and the writer has failed
+-- a put failed, or wanted memory behind a byte that was put: a part of what was to be put is there, the dictionaries of it are not held, and the
+-- writer has failed
 pub record HasFailed (encode : List ℕ → List ℕ) (m : Moved) (e : IpcError) (bytes : List ℕ) (old new : StreamCore) : Type 0 where
   pub put : PutsPart m e (encode bytes)
+  pub behind : e ≡ Memory → Grew m.old m.new
   pub state : new.state ≡ Failed
   pub held : IsKept (held_by old.tracker) (held_by new.tracker)
   pub count : new.byte_count ≡ old.byte_count
@@ -118,6 +121,8 @@ pub record StartFailed (encode : List ℕ → List ℕ) (m : Moved) (e : IpcErro
   pub bytes : List ℕ
   pub text : stream_text old.options (fields_in s) below old.pairs ≡ Ok bytes
   pub failed : HasFailed encode m e bytes old new
+  -- bytes as they are go in one put
+  pub whole : old.encoding ≡ Bytes → e ≡ WriteFault
 
 abbrev pub Starts : (List ℕ → List ℕ) → Moved → Result (Unit {0}) IpcError → StreamCore → StreamCore → List Keyed → Option Ids → Type 0
 Starts encode m (Ok u) old new s given = HasBegun encode m old new s given
@@ -203,4 +208,4 @@ abbrev pub Finishes : (List ℕ → List ℕ) → Moved → Result (Unit {0}) Ip
 Finishes encode m (Ok u) old new = HasFinished encode m old new
 Finishes encode m (Err e) old new =
     ((((e ≡ State) × (is_started old.state ≡ false)) ⊎ ((is_started old.state ≡ true) × (e ≡ Memory))) × LeavesAll m old new)
-    ⊎ ((is_started old.state ≡ true) × HasFailed encode m e end_mark old new)
+    ⊎ ((is_started old.state ≡ true) × HasFailed encode m e end_mark old new × (old.encoding ≡ Bytes → e ≡ WriteFault))

@@ -1,5 +1,5 @@
 //! Bytes of a feed.
-ghost use Rattle.std.specs.Prelude.{◌≡◌, ◌+◌, ◌^◌, ◌<◌, ◌≤◌, length, take, drop, IfOk, IfErr};
+ghost use Rattle.std.specs.Prelude.{◌≡◌, ◌+◌, ◌^◌, ◌<◌, ◌≤◌, length, max, take, drop, IfOk, IfErr};
 ghost use Rattle.std.specs.Io.KnownBytes.{Consumes, IsAtEnd};
 ghost use Rattle.ipc_streams.specs.Feeds.{FeedKept, PullCause, Pulls, Takes};
 
@@ -24,9 +24,11 @@ fn pull_at<F: Feed>(feed: &mut F, bytes: &mut [u8], at: usize) -> Result<usize, 
     Ok(count)
 }
 
-/// Adds the next bytes of a feed, at most so many. None are added only at its end.
+/// Adds the next bytes of a feed, at most so many. None are added only at its end. It is the one place where room for bytes of
+/// a feed is taken, and takes no more than have come, but for a first piece.
 fn pull_piece<F: Feed>(feed: &mut F, bytes: &mut Vec<u8>, most: usize) -> Result<usize, IpcError>
-    requires { length bytes.old.items + most < 2 ^ 64 }
+    requires room { length bytes.old.items + most < 2 ^ 64 }
+    requires grows { most ≤ max 4096 (length bytes.old.items) }
     ensures pulls { IfOk result (λ n. Pulls (F.rest feed.old) (F.rest feed.new) bytes.old.items bytes.new.items most n) }
     ensures cause { IfErr result (λ e. PullCause e (F.faults feed.old) (F.faults feed.new)) }
     ensures kept { FeedKept F.faults F.references feed.old feed.new }

@@ -15,6 +15,7 @@ mod stream_output;
 mod text_output;
 
 pub use adapters::{InputFeed, OutputSink};
+pub use arrow_spec::IpcError;
 pub use command_line::{answer, status_of_process};
 pub use folder::FolderShelf;
 pub use ipc_append::{StreamReader, StreamState, read_stream_metadata};

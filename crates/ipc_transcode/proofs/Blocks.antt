@@ -94,4 +94,4 @@ suits x d h ps s own block left y file read plain f is =
 -- so nothing is wrong with them
 pub faultless : ColumnsAreRight → (x : Sending) (d : Dictionaries) (h : Held) (ps : List PartTree) (s : List Keyed) (own : Ids) (block : FileBlock) (left : Option ℕ) (y : Batch) → IsSentFile x.bytes x.request (meta_in x) (file_custom x.file) → WasRead x.file
     → plain_fields (fields_in s) ≡ fields_in s → AreSentFields x.file x.request.columns s own → IsOfBlock x d h ps block left y → columns_fault (columns_of (forest y.arrays)) own ≡ None
-faultless law x d h ps s own block left y file read plain f is = law (fields_in s) own (forest y.arrays) (suits x d h ps s own block left y file read plain f is) f.shapes f.agree f.apart
+faultless law x d h ps s own block left y file read plain f is = law (fields_in s) own (forest y.arrays) (suits x d h ps s own block left y file read plain f is) f.shapes f.agree f.representable

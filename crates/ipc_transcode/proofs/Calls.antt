@@ -17,6 +17,7 @@ use Rattle.ipc_stream_writer.specs.Calls.{HasWritten, LeavesAll, WriteCause, Wri
 use Rattle.ipc_stream_writer.specs.declared.stream.StreamCore.{StreamCore}
 use Rattle.laws_sent.specs.DictionaryLaws.{ColumnsAreRight, FileDictionariesAreSent}
 use Rattle.ipc_transcode.specs.Sends.{IsReadBy, IsWriter, Sending, SendsNext, SendsOne, SentSoFar, meta_in, schema_of_reader}
+use Rattle.ipc_reader.proofs.Below.{GivenAt, natural_at}
 use Rattle.ipc_transcode.proofs.NextBatches.{Answer, block_there, blocks_as, fields_by, none_left, read_refused, same_place, step}
 use Rattle.ipc_transcode.proofs.Writes.{refused, written}
 
@@ -37,6 +38,10 @@ module _ {S : Type 0} (content_of : S → Option (List ℕ)) (faults_of fetched_
   at_block x is less =
       let same = blocks_as x c is in
       block_there (meta_in x).blocks c.block (omega (arith, less, same))
+
+  -- as it is given
+  given_block : (x : Sending) → IsReadBy c x → (block : FileBlock) → slice_get (meta_in x).blocks c.block ≡ Some block → GivenAt c.metadata.blocks.items c.block block
+  given_block x is block at = subst (λ (f : FileMetadata). GivenAt f.blocks.items c.block block) (sym is.metadata) (natural_at x.file.blocks.items c.block block is.read.natural.blocks at)
 
   -- what is said of the reader's own metadata is said of the file's
   of_file : (x : Sending) → IsReadBy c x → (P : FileMetadata → Type 0) → P c.metadata → P x.file
@@ -61,13 +66,13 @@ module _ {S : Type 0} (content_of : S → Option (List ℕ)) (faults_of fetched_
       by None told = tt
       by (Some b) told = λ x bytes bs same enc is so_far.
           let there = at_block x is n.ended.0 in
-          let at : slice_get (meta_view c.metadata).blocks c.block ≡ Some there.0 = to_reader x is (λ f. slice_get (meta_view f).blocks c.block ≡ Some there.0) there.1 in
+          let y = given_block x is there.0 there.1 in
           let may = to_reader x is (λ f. MayProject (rc_value f.schema) x.request.columns c.projection) is.columns in
-          let gives : GivesBy c.dictionaries (asked x.request.columns c.left) b (meta_view c.metadata) there.0 (Err e) = subst (λ o. IfSome o (λ z. GivesBy c.dictionaries (asked x.request.columns c.left) z (meta_view c.metadata) there.0 (Err e))) told (n.gives x.request.columns there.0 may at) in
-          let own : GivesBy c.dictionaries (asked x.request.columns c.left) x.bytes (meta_in x) there.0 (Err e)
-          = subst (λ z. GivesBy c.dictionaries (asked x.request.columns c.left) z (meta_in x) there.0 (Err e)) (sym same) (of_file x is (λ f. GivesBy c.dictionaries (asked x.request.columns c.left) b (meta_view f) there.0 (Err e)) gives) in
+          let gives : GivesBy c.dictionaries (asked x.request.columns c.left) b c.metadata y.given (Err e) = subst (λ o. IfSome o (λ z. GivesBy c.dictionaries (asked x.request.columns c.left) z c.metadata y.given (Err e))) told (n.gives x.request.columns y.given may y.at) in
+          let own : GivesBy c.dictionaries (asked x.request.columns c.left) x.bytes x.file y.given (Err e)
+          = subst (λ z. GivesBy c.dictionaries (asked x.request.columns c.left) z x.file y.given (Err e)) (sym same) (of_file x is (λ f. GivesBy c.dictionaries (asked x.request.columns c.left) b f y.given (Err e)) gives) in
           let asked_writer = as_asked x c w enc writer in
-          subst (λ z. SendsNext z x c' w now bytes bs wants wants') (sym is_err) (read_refused x c w now bytes bs is asked_writer (fields_by x c w is asked_writer) so_far e there.0 _ _ wants wants' there.1 own n.cause)
+          subst (λ z. SendsNext z x c' w now bytes bs wants wants') (sym is_err) (read_refused x c w now bytes bs is asked_writer (fields_by x c w is asked_writer) so_far e there.0 y.given _ _ wants wants' there.1 y.is own n.cause)
 
   -- it was read
   answered : (y : Batch) → Next (Some (Ok y)) → fault_each (forest y.arrays) ≡ None → (b : List ℕ) → content_of s ≡ Some b → (x : Sending) (bytes : List ℕ) (bs : List TableBatch) → x.bytes ≡ b → (is : IsReadBy c x) (asked_writer : IsWriter (schema_of_reader c) x.encoding w)
@@ -82,7 +87,7 @@ module _ {S : Type 0} (content_of : S → Option (List ℕ)) (faults_of fetched_
         at = there.1;
         read = of_file x is (λ f. ReadUnderKept (Some x.bytes) (meta_view f) (asked x.request.columns c.left) there.0 c'.dictionaries y) (subst (λ o. ReadUnderKept o (meta_view c.metadata) (asked x.request.columns c.left) there.0 c'.dictionaries y) content (n.read x.request.columns there.0 may at));
         first = λ not_read m kept. of_file x is (λ f. IfSome (Some x.bytes) (λ z. HoldsFile z (meta_view f) m)) (subst (λ o. IfSome o (λ z. HoldsFile z (meta_view c.metadata) m)) content (n.first not_read m kept));
-        keeps = λ m kept. subst (λ (k : KeptDictionaries). KeptAfter {X = Batch} (content_of s) (meta_view c.metadata) x.request.columns k c'.dictionaries (Ok y)) kept (n.dictionaries x.request.columns may);
+        keeps = λ m kept. subst (λ (k : KeptDictionaries). KeptAfter {X = Batch} (content_of s) c.metadata x.request.columns k c'.dictionaries (Ok y)) kept (n.dictionaries x.request.columns may);
         metadata = n.metadata;
         next = n.block;
         left = n.left;

@@ -15,6 +15,7 @@ use Rattle.arrow_spec.proofs.ReadPairs.{same_read}
 use Rattle.laws_files.proofs.Cuts.{file-cut}
 use Rattle.ipc_bodies.specs.Encodings.{text_of}
 use Rattle.ipc_bodies.specs.Puts.{Moved, PutsPart}
+use Rattle.ipc_bodies.specs.declared.encoding.Encoding.TheVariants.{Bytes}
 use Rattle.ipc_reader.specs.Below.{file_custom}
 use Rattle.ipc_reader.specs.declared.cursor.FileCursor.{FileCursor}
 use Rattle.ipc_stream_writer.specs.Below.{counted, is_started}
@@ -89,7 +90,7 @@ module _ (x : Sending) (c : FileCursor) (w : StreamCore) (now : Option (List ℕ
       }
 
   -- its end mark is not put, or in part
-  pub not_finished : (e : IpcError) (w' : StreamCore) (m : Moved) → m.old ≡ now → ((((e ≡ errors.State) × (is_started w.state ≡ false)) ⊎ ((is_started w.state ≡ true) × (e ≡ errors.Memory))) × LeavesAll m w w') ⊎ ((is_started w.state ≡ true) × HasFailed (text_of w.encoding) m e end_mark w w')
+  pub not_finished : (e : IpcError) (w' : StreamCore) (m : Moved) → m.old ≡ now → ((((e ≡ errors.State) × (is_started w.state ≡ false)) ⊎ ((is_started w.state ≡ true) × (e ≡ errors.Memory))) × LeavesAll m w w') ⊎ ((is_started w.state ≡ true) × HasFailed (text_of w.encoding) m e end_mark w w' × (w.encoding ≡ Bytes → e ≡ errors.WriteFault))
       → Refused e x m.new m.wants m.wants_now
   unfolding stream
   not_finished e w' m old (inl (inl never, leaves)) = let clash : true ≡ false = sym (ap is_started writer.state) ∙ never.1 in cc

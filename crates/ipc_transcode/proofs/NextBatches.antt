@@ -5,6 +5,7 @@ use Rattle.std.proofs.lemmas.List.{length-map, length-take-le}
 use Rattle.std.specs.Rc.{rc_value}
 use Rattle.arrow_spec.specs.declared.error.IpcError.{IpcError}
 use Rattle.arrow_spec.specs.declared.error.IpcError.TheVariants as errors
+use Rattle.arrow_spec.specs.declared.message.Block.{Block}
 use Rattle.arrow_spec.specs.Arrays.{Dictionaries}
 use Rattle.arrow_spec.specs.Files.{FileBlock, Meta, TableBatch, batch_of, dictionaries_of, dictionaries_read, file_reading, to_read, to_send, what_is_left}
 use Rattle.arrow_spec.specs.Readings.{Reading, Refuses, meaning, refusals}
@@ -14,8 +15,8 @@ use Rattle.arrow_arrays.specs.Batches.{Batch}
 use Rattle.arrow_arrays.specs.Parts.{fault_each, forest}
 use Rattle.ipc_fields.specs.IpcFields.{Ids, ids_of}
 use Rattle.ipc_bodies.specs.Encodings.{text_of}
-use Rattle.ipc_reader.specs.Below.{held_in, batch_in, HoldsUses, file_block, FileMetadata, FileCause, file_custom, meta_view, asked, schema_shown, MayProject, ProjectionInfo}
-use Rattle.ipc_reader.proofs.Below.{picked_from, asked_below}
+use Rattle.ipc_reader.specs.Below.{held_in, batch_given, batch_in, block_by, HasNaturalNumbers, HoldsUses, file_block, FileMetadata, FileCause, file_custom, meta_view, asked, schema_shown, MayProject, ProjectionInfo}
+use Rattle.ipc_reader.proofs.Below.{picked_from, asked_below, given_in_file}
 use Rattle.laws_sent.proofs.SentFields.{are_sent_fields}
 use Rattle.ipc_reader.specs.Kept.{GivesBy, HeldParts, KeepsFile, ReadUnderKept, dictionaries_in, first_in, is_refused}
 use Rattle.ipc_reader.specs.declared.cursor.FileCursor.{FileCursor}
@@ -131,21 +132,21 @@ front_there x c w now bytes bs is writer f s =
         part_table x.bytes x.request (meta_in x) (file_custom x.file) d (length cs) cs is.file dictionaries.has (subst (λ n. BatchesSent x.bytes (asked_in x d) (take n (meta_in x).blocks) x.request.limit cs) (sym count) sent)
 
 -- under dictionaries a block is refused, which refuses the file
-block_refused : (e : IpcError) (x : Sending) (c : FileCursor) (d : Dictionaries) (block : FileBlock) (bs : List TableBatch) → IsSentFile x.bytes x.request (meta_in x) (file_custom x.file) → HasRead x.bytes (meta_in x) d → slice_get (meta_in x).blocks c.block ≡ Some block
-    → BatchesSent x.bytes (asked_in x d) (take c.block (meta_in x).blocks) x.request.limit bs → c.left ≡ left_of x.request.limit bs → Refuses e (refusals (batch_in (asked x.request.columns c.left) x.bytes (meta_in x) d block))
+block_refused : (e : IpcError) (x : Sending) (c : FileCursor) (d : Dictionaries) (block : FileBlock) (y : Block) (bs : List TableBatch) → block_by y ≡ Ok block → IsSentFile x.bytes x.request (meta_in x) (file_custom x.file) → HasRead x.bytes (meta_in x) d → slice_get (meta_in x).blocks c.block ≡ Some block
+    → BatchesSent x.bytes (asked_in x d) (take c.block (meta_in x).blocks) x.request.limit bs → c.left ≡ left_of x.request.limit bs → Refuses e (refusals (batch_in (asked x.request.columns c.left) x.bytes (meta_in x) d y))
     → Refuses e (refusals (file_reading to_send x.bytes x.request None)) × StopsBehind x.bytes x.request (length (take c.block (meta_in x).blocks)) e
-unfolding batch_in
-block_refused e x c d block bs file has at sent left h =
-    let plain : batch_in (asked x.request.columns c.left) x.bytes (meta_in x) d block ≡ batch_of to_read x.bytes (asked_in x d) block c.left = on _ _ tt (ok-place _ file.readable) in
+unfolding batch_in batch_given
+block_refused e x c d block y bs is file has at sent left h =
+    let plain : batch_in (asked x.request.columns c.left) x.bytes (meta_in x) d y ≡ batch_of to_read x.bytes (asked_in x d) block c.left = on _ _ tt (ok-place _ file.readable) ∙ on _ _ block is in
     let read : Refuses e (refusals (batch_of to_read x.bytes (asked_in x d) block c.left)) = subst (λ r. Refuses e (refusals r)) plain h in
     let here = subst (λ l. Refuses e (refusals (batch_of to_send x.bytes (asked_in x d) block l))) left (refused_sent e x.bytes (asked_in x d) block c.left read) in
     block_stops e x.bytes x.request (meta_in x) (file_custom x.file) d (take c.block (meta_in x).blocks) block (drop (c.block + 1) (meta_in x).blocks) bs file has (split_at (meta_in x).blocks c.block block at) sent here
 
 -- at the first block the dictionaries may be refused too
-first_refused : (e : IpcError) (x : Sending) (c : FileCursor) (block : FileBlock) → IsSentFile x.bytes x.request (meta_in x) (file_custom x.file) → slice_get (meta_in x).blocks c.block ≡ Some block → c.block ≡ 0 → c.left ≡ x.request.limit
-    → Refuses e (refusals (first_in (asked x.request.columns c.left) x.bytes (meta_in x) block)) → Refuses e (refusals (file_reading to_send x.bytes x.request None)) × StopsBehind x.bytes x.request 0 e
+first_refused : (e : IpcError) (x : Sending) (c : FileCursor) (block : FileBlock) (y : Block) → HasNaturalNumbers x.file → block_by y ≡ Ok block → IsSentFile x.bytes x.request (meta_in x) (file_custom x.file) → slice_get (meta_in x).blocks c.block ≡ Some block → c.block ≡ 0 → c.left ≡ x.request.limit
+    → Refuses e (refusals (first_in (asked x.request.columns c.left) x.bytes x.file y)) → Refuses e (refusals (file_reading to_send x.bytes x.request None)) × StopsBehind x.bytes x.request 0 e
 unfolding first_in dictionaries_in
-first_refused e x c block file at zero_block left h = by (dictionaries_of x.bytes (meta_in x) [] (meta_in x).dictionaries) refl
+first_refused e x c block y natural given file at zero_block left h = by (dictionaries_of x.bytes (meta_in x) [] (meta_in x).dictionaries) refl
   where
     meta : Meta
     meta = meta_in x
@@ -153,41 +154,41 @@ first_refused e x c block file at zero_block left h = by (dictionaries_of x.byte
     all : dictionaries_read meta.blocks meta.dictionaries ≡ meta.dictionaries
     all = reads_all meta.blocks meta.dictionaries c.block block at
 
-    readable : dictionaries_in x.request.columns x.bytes meta ≡ dictionaries_of x.bytes meta [] meta.dictionaries
-    readable = on _ _ tt (ok-place _ file.readable)
+    readable : dictionaries_in x.request.columns x.bytes x.file ≡ dictionaries_of x.bytes meta [] meta.dictionaries
+    readable = on _ _ tt (ok-place _ file.readable) ∙ given_in_file x.bytes meta [] x.file.dictionaries.items natural.dictionaries
 
     by : (r : Reading Dictionaries) → dictionaries_of x.bytes meta [] meta.dictionaries ≡ r → Refuses e (refusals (file_reading to_send x.bytes x.request None)) × StopsBehind x.bytes x.request 0 e
     by (Err es) is =
-        let whole : first_in (asked x.request.columns c.left) x.bytes meta block ≡ Err es = on_err _ _ es (readable ∙ is) in
+        let whole : first_in (asked x.request.columns c.left) x.bytes x.file y ≡ Err es = on_err _ _ es (readable ∙ is) in
         let here : Refuses e (refusals (dictionaries_of x.bytes meta [] (dictionaries_read meta.blocks meta.dictionaries))) = rw (all, is) (subst (λ r. Refuses e (refusals r)) whole h) in
         dictionaries_refuse_so e x.bytes x.request meta (file_custom x.file) file here
     by (Ok d) is =
-        let whole : first_in (asked x.request.columns c.left) x.bytes meta block ≡ batch_in (asked x.request.columns c.left) x.bytes meta d block = on _ _ d (readable ∙ is) in
+        let whole : first_in (asked x.request.columns c.left) x.bytes x.file y ≡ batch_in (asked x.request.columns c.left) x.bytes meta d y = on _ _ d (readable ∙ is) in
         let has : HasRead x.bytes meta d = record { read = ap (dictionaries_of x.bytes meta []) all ∙ is } in
         let none : BatchesSent x.bytes (asked_in x d) (take c.block meta.blocks) x.request.limit [] = subst (λ n. BatchesSent x.bytes (asked_in x d) (take n meta.blocks) x.request.limit []) (sym zero_block) (none_sent x.bytes (asked_in x d) x.request.limit) in
-        let both = block_refused e x c d block [] file has at none left (subst (λ r. Refuses e (refusals r)) whole h) in
+        let both = block_refused e x c d block y [] given file has at none left (subst (λ r. Refuses e (refusals r)) whole h) in
         (both.0, subst (λ n. StopsBehind x.bytes x.request (length (take n meta.blocks)) e) zero_block both.1)
 
 module _ (x : Sending) (c : FileCursor) (w : StreamCore) (now : Option (List ℕ)) (bytes : List ℕ) (bs : List TableBatch) (is : IsReadBy c x) (writer : IsWriter (schema_of_reader c) x.encoding w)
     (f : AreSentFields x.file x.request.columns (schema_of_reader c) (ids_of w.fields.items)) (s : SentSoFar x c w now bytes bs) where
   -- what a reader's answer refuses
-  file_refused : (e : IpcError) (block : FileBlock) → slice_get (meta_in x).blocks c.block ≡ Some block → GivesBy c.dictionaries (asked x.request.columns c.left) x.bytes (meta_in x) block (Err e)
+  file_refused : (e : IpcError) (block : FileBlock) (y : Block) → slice_get (meta_in x).blocks c.block ≡ Some block → block_by y ≡ Ok block → GivesBy c.dictionaries (asked x.request.columns c.left) x.bytes x.file y (Err e)
       → Refuses e (refusals (file_reading to_send x.bytes x.request None)) × StopsBehind x.bytes x.request (length bs) e
-  file_refused e block at gives = by s.batches s.count s.left
+  file_refused e block y at given gives = by s.batches s.count s.left
     where
       by : {cs : List TableBatch} → BatchesSoFar x c w cs → length cs ≡ c.block → c.left ≡ left_of x.request.limit cs → Refuses e (refusals (file_reading to_send x.bytes x.request None)) × StopsBehind x.bytes x.request (length cs) e
-      by (BatchesSoFar.none_yet none not_read held) count left = first_refused e x c block is.file at none left (subst (λ k. GivesBy k (asked x.request.columns c.left) x.bytes (meta_in x) block (Err e)) not_read gives)
+      by (BatchesSoFar.none_yet none not_read held) count left = first_refused e x c block y is.read.natural given is.file at none left (subst (λ k. GivesBy k (asked x.request.columns c.left) x.bytes x.file y (Err e)) not_read gives)
       by (BatchesSoFar.some_sent {d = d} {bs = cs} dictionaries sent some) count left =
-          let here = subst (λ k. GivesBy k (asked x.request.columns c.left) x.bytes (meta_in x) block (Err e)) dictionaries.kept gives in
-          let both = block_refused e x c d block cs is.file dictionaries.has at sent left (here d dictionaries.read.read.cells) in
+          let here = subst (λ k. GivesBy k (asked x.request.columns c.left) x.bytes x.file y (Err e)) dictionaries.kept gives in
+          let both = block_refused e x c d block y cs given is.file dictionaries.has at sent left (here d dictionaries.read.read.cells) in
           (both.0, subst (λ n. StopsBehind x.bytes x.request n e) (length-take-le c.block (meta_in x).blocks s.within ∙ sym count) both.1)
 
   -- the next batch is refused
-  pub read_refused : (e : IpcError) (block : FileBlock) (faults faults' wants wants' : ℕ) → slice_get (meta_in x).blocks c.block ≡ Some block → GivesBy c.dictionaries (asked x.request.columns c.left) x.bytes (meta_in x) block (Err e) → FileCause e faults faults'
+  pub read_refused : (e : IpcError) (block : FileBlock) (y : Block) (faults faults' wants wants' : ℕ) → slice_get (meta_in x).blocks c.block ≡ Some block → block_by y ≡ Ok block → GivesBy c.dictionaries (asked x.request.columns c.left) x.bytes x.file y (Err e) → FileCause e faults faults'
       → Refused e x now wants wants'
   unfolding front_there
-  read_refused e block faults faults' wants wants' at gives cause =
-      let both = file_refused e block at gives in
+  read_refused e block y faults faults' wants wants' at given gives cause =
+      let both = file_refused e block y at given gives in
       record { refused = both.0; part = front_stands e x.bytes x.request (text_of x.encoding) x.start now now wants wants' (never_of_sink e faults faults' cause) (front_there x c w now bytes bs is writer f s) both.1 (Keeps-refl now) }
 
   -- ── a batch that was read ──

@@ -73,7 +73,7 @@ module _ (c : FileCursor) (encoded : Encoding) (w w' : StreamCore) (m : Moved) (
         schema = h.schema;
         ids = h.ids;
         plain = plain;
-        apart = (are_sent_fields c.metadata reader.columns s own reader.read reader.right readable shown h.ids).apart;
+        representable = (are_sent_fields c.metadata reader.columns s own reader.read reader.right readable shown h.ids).representable;
         tracker = ap options_of h.tracker ∙ new.tracker;
       }
 

@@ -58,12 +58,12 @@ module _ (s : List Keyed) (encoded : Encoding) (w : StreamCore) (writer : IsWrit
 
   numbers : fields_with (fields_in s) below ≡ numbered (fields_in s) 0
   unfolding below
-  numbers = writer.ids.ids (numberable (fields_in s) writer.apart)
+  numbers = writer.ids.ids (numberable (fields_in s) writer.representable)
 
   -- they have no fault
   faultless : columns_fault (columns_of (forest y.arrays)) below ≡ None
   unfolding below
-  faultless = columns_right (fields_in s) below (forest y.arrays) kinds writer.ids.shaped (ap (λ fs. uses_agree [] (uses_in fs)) numbers ∙ uses_numbered (fields_in s)) writer.apart
+  faultless = columns_right (fields_in s) below (forest y.arrays) kinds writer.ids.shaped (ap (λ fs. uses_agree [] (uses_in fs)) numbers ∙ uses_numbered (fields_in s)) writer.representable
 
   -- and no values that are fixed already
   unreplaced : (id : ℤ) → Stops (errors.DictionaryReplaced id) (found_before w y) (λ sent. RefusesChunk (errors.DictionaryReplaced id) w.options sent y) → ⊥

@@ -13,7 +13,7 @@ use Rattle.laws_transcode.specs.Files.{BatchesSent, HasRead, IsSentFile, asked_o
 use Rattle.ipc_fields.specs.IpcFields.{ids_of, metadata_of}
 use Rattle.ipc_bodies.specs.Encodings.{text_of}
 use Rattle.ipc_bodies.specs.declared.encoding.Encoding.{Encoding}
-use Rattle.ipc_stream_writer.specs.Below.{are_apart, held_by, options_of, StreamPairs, New, Started}
+use Rattle.ipc_stream_writer.specs.Below.{all_representable, held_by, options_of, StreamPairs, New, Started}
 use Rattle.ipc_io.specs.Outside.{Rose}
 use Rattle.ipc_reader.specs.Below.{held_in, HoldsUses, FileSays, WasRead, file_custom, meta_view, FileMetadata, schema_shown, MayProject, WriteOptions}
 use Rattle.laws_sent.specs.Below.{plain_fields, IsNumbered}
@@ -40,7 +40,7 @@ pub record IsWriter (s : List Keyed) (encoded : Encoding) (w : StreamCore) : Typ
   pub schema : w.schema ≡ s
   pub ids : IsNumbered (fields_in s) (ids_of w.fields.items)
   pub plain : plain_fields (fields_in s) ≡ fields_in s
-  pub apart : are_apart (fields_in s) ≡ true
+  pub representable : all_representable (fields_in s) ≡ true
   pub tracker : options_of w.tracker ≡ record { cannot_replace = false; deltas = true }
 
 -- a writer that has written nothing, with the pairs of a file's schema and of its footer

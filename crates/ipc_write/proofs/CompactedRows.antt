@@ -1,21 +1,21 @@
 -- All rows that are laid anew, by an induction over those that are left.
-use Rattle.std.proofs.Common.{◌≡◌, ℕ, zero, suc, ◌+◌, ◌*◌, ◌^◌, ◌≤◌, ◌<◌, List, [], ◌∷◌, ◌++◌, true, false, length, nat_le, refl, sym, ap, subst, ◌∙◌, arith, inl, inr, append-nil, append_assoc, length-append}
-use Rattle.std.proofs.lemmas.Bool.{le-leb, lt-leb, cases_lt, cases_Bool}
+use Rattle.std.proofs.Common.{◌≡◌, ℕ, zero, suc, ◌+◌, ◌*◌, ◌^◌, ◌≤◌, ◌<◌, List, [], ◌∷◌, ◌++◌, true, false, length, nat_eq, nat_le, ◌||◌, refl, sym, ap, subst, ◌∙◌, arith, inl, inr, append-nil, append_assoc, length-append}
+use Rattle.std.proofs.lemmas.Bool.{eqb-true, le-leb, leb-true, lt-leb, cases_lt, cases_Bool}
 use Rattle.arrow_spec.specs.Layout.{zeros}
 use Rattle.arrow_spec.specs.Arrays.{u32_of}
 use Rattle.arrow_buffers.specs.Rows.{is_valid}
 use Rattle.arrow_buffers.specs.Views.{Views, view_rows, view_at}
 use Rattle.arrow_buffers.proofs.ViewParts.{Seen, good_row}
 use Rattle.arrow_arrays.proofs.PieceLaws.{Viewed}
-use Rattle.ipc_write.specs.Compaction.{Laid, view_before, buffer_before, laid_from, value_at, long_view, buffer_limit, begun_buffer}
+use Rattle.ipc_write.specs.Compaction.{Laid, view_before, buffer_before, laid_from, value_at, long_view, buffer_limit, begun_buffer, has_room}
 use Rattle.ipc_write.proofs.CompactedViews.{short_viewed, value_viewed, length-long_view, length-view, first_view, next_view}
 
 -- what holds of each way to lay a row holds of the row that is laid
 pub by_row : (P : Laid → Type 0) (p : Views) (row number : ℕ) (begun : List ℕ) (n : ℕ)
     → (is_valid p.validity row ≡ false → P (view_before (zeros 16) (laid_from p (suc row) number begun n)))
     → (is_valid p.validity row ≡ true → u32_of (view_at p.views row) 0 ≤ 12 → P (view_before (view_at p.views row) (laid_from p (suc row) number begun n)))
-    → (is_valid p.validity row ≡ true → 12 < u32_of (view_at p.views row) 0 → length begun + u32_of (view_at p.views row) 0 ≤ buffer_limit → P (view_before (long_view (value_at p row) number (length begun)) (laid_from p (suc row) number (begun ++ value_at p row) n)))
-    → (is_valid p.validity row ≡ true → 12 < u32_of (view_at p.views row) 0 → buffer_limit < length begun + u32_of (view_at p.views row) 0 → P (buffer_before begun (view_before (long_view (value_at p row) (suc number) 0) (laid_from p (suc row) (suc number) (value_at p row) n))))
+    → (is_valid p.validity row ≡ true → 12 < u32_of (view_at p.views row) 0 → has_room (length begun) (u32_of (view_at p.views row) 0) ≡ true → P (view_before (long_view (value_at p row) number (length begun)) (laid_from p (suc row) number (begun ++ value_at p row) n)))
+    → (is_valid p.validity row ≡ true → 12 < u32_of (view_at p.views row) 0 → has_room (length begun) (u32_of (view_at p.views row) 0) ≡ false → P (buffer_before begun (view_before (long_view (value_at p row) (suc number) 0) (laid_from p (suc row) (suc number) (value_at p row) n))))
     → P (laid_from p row number begun (suc n))
 by_row P p row number begun n null short here new =
     let size = u32_of (view_at p.views row) 0 in
@@ -28,15 +28,22 @@ by_row P p row number begun n null short here new =
                 rw (v, t) (short v few)
             | inl long ↦
                 let t : nat_le size 12 ≡ false = lt-leb _ 12 long in
-                elim (cases_lt buffer_limit (length begun + size)) [
-                  | inr fits ↦
-                      let f : nat_le (length begun + size) buffer_limit ≡ true = le-leb _ _ fits in
-                      rw (v, t, f) (here v long fits)
-                  | inl over ↦
-                      let f : nat_le (length begun + size) buffer_limit ≡ false = lt-leb _ _ over in
-                      rw (v, t, f) (new v long over)
+                elim (cases_Bool (has_room (length begun) size)) [
+                  | inl fits ↦ rw (v, t, fits) (here v long fits)
+                  | inr over ↦ rw (v, t, over) (new v long over)
                 ]
           ]
+    ]
+
+-- a buffer that has room is not long
+room_short : (begun count : ℕ) → has_room begun count ≡ true → begun < 2 ^ 32
+room_short begun count h =
+    elim (cases_Bool (nat_eq begun 0)) [
+      | inl e ↦ omega (arith, eqb-true begun 0 e)
+      | inr e ↦
+          let within : nat_le (begun + count) buffer_limit ≡ true = ap (λ b. b || nat_le (begun + count) buffer_limit) (sym e) ∙ h in
+          let near : begun + count ≤ buffer_limit = leb-true (begun + count) buffer_limit within in
+          omega arith
     ]
 
 -- a long value has the length that its view says, which is small
@@ -128,7 +135,7 @@ module _ (p : Views) (seen : Seen p) (values : (row : ℕ) → row < view_rows p
       let long_here : 12 < length value = l.long in
       let first = begins p n (suc row) number (begun ++ value) (omega (arith, length-append begun value)) in
       rows_before p (front ++ rest.buffers) (long_view value number (length begun)) rest.views row n (length-long_view value number (length begun) l.long)
-      (λ w. here_viewed front rest.buffers begun row number e l (omega arith) few first)
+      (λ w. here_viewed front rest.buffers begun row number e l (room_short (length begun) (u32_of (view_at p.views row) 0) fits) few first)
       (laid_rows n (suc row) number (begun ++ value) front e (omega arith) few))
       (λ v long over few.
       let value = value_at p row in

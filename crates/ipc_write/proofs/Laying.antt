@@ -1,14 +1,14 @@
 -- One row more is laid.
 use Rattle.std.proofs.Common.{◌≡◌, ℕ, inl, inr, Result, Ok, Err, OnOk, IfOk, is_ok, Vec, Global, suc, ◌+◌, ◌-◌, ◌≤◌, ◌<◌, ◌^◌, ◌++◌, List, [], ◌∷◌, Bool, true, false, Some, None, length, drop, nat_le, refl, sym, ap, ◌∙◌, arith, append_assoc, append-nil, add-one, length-append, length-take, length-drop}
 use Rattle.std.specs.Prelude.{if◌then◌else◌}
-use Rattle.std.proofs.lemmas.Bool.{le-leb, lt-leb, cases_lt}
+use Rattle.std.proofs.lemmas.Bool.{lt-leb, cases_Bool}
 use Rattle.arrow_spec.specs.Layout.{zeros}
 use Rattle.arrow_spec.specs.Arrays.{u32_of}
 use Rattle.arrow_buffers.specs.Rows.{is_valid}
 use Rattle.arrow_buffers.specs.Views.{Views, view_rows, view_at, view_fault, buffer_at}
 use Rattle.arrow_buffers.proofs.ViewParts.{view_sound, good_row}
 use Rattle.arrow_buffers.proofs.Views.{leads, long_view as long_is}
-use Rattle.ipc_write.specs.Compaction.{Laid, laid_from, value_at, long_view, buffer_limit, begun_buffer, laid_anew}
+use Rattle.ipc_write.specs.Compaction.{Laid, laid_from, value_at, long_view, has_room, begun_buffer, laid_anew}
 use Rattle.ipc_write.specs.Laying.{all_laid}
 
 -- what is laid before a row, behind some views and buffers
@@ -22,46 +22,42 @@ null_laid p row n views buffers begun h =
     rw (add-one, h) (ap (λ v. behind v buffers rest) refl ∙ ap (λ v. record { views = v; buffers = buffers ++ rest.buffers }) (append_assoc views (zeros 16) rest.views))
 
 -- a longer one, in the buffer that is begun or in a new one
-long_same : (p : Views) (row n : ℕ) (views : List ℕ) (buffers : List (List ℕ)) (begun : List ℕ) → is_valid p.validity row ≡ true → 12 < u32_of (view_at p.views row) 0 → length begun + u32_of (view_at p.views row) 0 ≤ buffer_limit
+long_same : (p : Views) (row n : ℕ) (views : List ℕ) (buffers : List (List ℕ)) (begun : List ℕ) → is_valid p.validity row ≡ true → 12 < u32_of (view_at p.views row) 0 → has_room (length begun) (u32_of (view_at p.views row) 0) ≡ true
     → all_laid p (suc row) n (views ++ long_view (value_at p row) (length buffers) (length begun)) buffers (begun ++ value_at p row) ≡ all_laid p row (suc n) views buffers begun
 long_same p row n views buffers begun h k f =
     let rest = laid_from p (suc row) (length buffers) (begun ++ value_at p row) n in
     let gt : nat_le (u32_of (view_at p.views row) 0) 12 ≡ false = lt-leb _ 12 k in
-    let fits : nat_le (length begun + u32_of (view_at p.views row) 0) buffer_limit ≡ true = le-leb _ _ f in
-    rw (h, gt, fits) (ap (λ v. record { views = v; buffers = buffers ++ rest.buffers }) (append_assoc views (long_view (value_at p row) (length buffers) (length begun)) rest.views))
+    rw (h, gt, f) (ap (λ v. record { views = v; buffers = buffers ++ rest.buffers }) (append_assoc views (long_view (value_at p row) (length buffers) (length begun)) rest.views))
 
-long_new : (p : Views) (row n : ℕ) (views : List ℕ) (buffers : List (List ℕ)) (begun : List ℕ) → is_valid p.validity row ≡ true → 12 < u32_of (view_at p.views row) 0 → buffer_limit < length begun + u32_of (view_at p.views row) 0
+long_new : (p : Views) (row n : ℕ) (views : List ℕ) (buffers : List (List ℕ)) (begun : List ℕ) → is_valid p.validity row ≡ true → 12 < u32_of (view_at p.views row) 0 → has_room (length begun) (u32_of (view_at p.views row) 0) ≡ false
     → all_laid p (suc row) n (views ++ long_view (value_at p row) (length (buffers ++ begun ∷ [])) 0) (buffers ++ begun ∷ []) (value_at p row) ≡ all_laid p row (suc n) views buffers begun
 long_new p row n views buffers begun h k f =
     let number : length (buffers ++ begun ∷ []) ≡ suc (length buffers) = omega (arith, length-append buffers (begun ∷ [])) in
     let rest = laid_from p (suc row) (suc (length buffers)) (value_at p row) n in
     let gt : nat_le (u32_of (view_at p.views row) 0) 12 ≡ false = lt-leb _ 12 k in
-    let over : nat_le (length begun + u32_of (view_at p.views row) 0) buffer_limit ≡ false = lt-leb _ _ f in
     let view = long_view (value_at p row) (suc (length buffers)) 0 in
-    rw (h, gt, over) (
+    rw (h, gt, f) (
     ap (λ m. record { views = (views ++ long_view (value_at p row) m 0) ++ (laid_from p (suc row) m (value_at p row) n).views; buffers = (buffers ++ begun ∷ []) ++ (laid_from p (suc row) m (value_at p row) n).buffers }) number
     ∙ ap (λ v. record { views = v; buffers = (buffers ++ begun ∷ []) ++ rest.buffers }) (append_assoc views view rest.views)
     ∙ ap (λ b. record { views = views ++ (view ++ rest.views); buffers = b }) (append_assoc buffers (begun ∷ []) rest.buffers))
 
 pub long_laid : (p : Views) (row n : ℕ) (views bytes new_views begun new_begun end_begun : List ℕ) (buffers new_buffers : List (List ℕ)) (count : ℕ) → is_valid p.validity row ≡ true → 12 < count → count ≡ u32_of (view_at p.views row) 0 → bytes ≡ value_at p row
-    → new_buffers ≡ (if nat_le (length begun + count) buffer_limit then buffers else buffers ++ begun ∷ []) → new_begun ≡ (if nat_le (length begun + count) buffer_limit then begun else [])
+    → new_buffers ≡ (if has_room (length begun) count then buffers else buffers ++ begun ∷ []) → new_begun ≡ (if has_room (length begun) count then begun else [])
     → new_views ≡ views ++ long_view bytes (length new_buffers) (length new_begun) → end_begun ≡ new_begun ++ bytes
     → all_laid p (row + 1) n new_views new_buffers end_begun ≡ all_laid p row (suc n) views buffers begun
 long_laid p row n views bytes new_views begun new_begun end_begun buffers new_buffers count h k hc hb hn hg hv he =
     let k2 : 12 < u32_of (view_at p.views row) 0 = rw (← hc) k in
-    elim (cases_lt buffer_limit (length begun + count)) [
-      | inr f ↦
-          let t : nat_le (length begun + count) buffer_limit ≡ true = le-leb _ _ f in
-          let f2 : length begun + u32_of (view_at p.views row) 0 ≤ buffer_limit = rw (← hc) f in
-          let hn2 : new_buffers ≡ buffers = rw t at hn in
-          let hg2 : new_begun ≡ begun = rw t at hg in
-          rw (he, hv, hn2, hg2, hb, add-one) (long_same p row n views buffers begun h k2 f2)
-      | inl f ↦
-          let t : nat_le (length begun + count) buffer_limit ≡ false = lt-leb _ _ f in
-          let f2 : buffer_limit < length begun + u32_of (view_at p.views row) 0 = rw (← hc) f in
-          let hn2 : new_buffers ≡ buffers ++ begun ∷ [] = rw t at hn in
-          let hg2 : new_begun ≡ [] = rw t at hg in
-          rw (he, hv, hn2, hg2, hb, add-one) (long_new p row n views buffers begun h k2 f2)
+    elim (cases_Bool (has_room (length begun) count)) [
+      | inl t ↦
+          let f : has_room (length begun) (u32_of (view_at p.views row) 0) ≡ true = ap (has_room (length begun)) (sym hc) ∙ t in
+          let hn2 : new_buffers ≡ buffers = hn ∙ ap (λ b. if b then buffers else buffers ++ begun ∷ []) t in
+          let hg2 : new_begun ≡ begun = hg ∙ ap (λ b. if b then begun else []) t in
+          rw (he, hv, hn2, hg2, hb, add-one) (long_same p row n views buffers begun h k2 f)
+      | inr t ↦
+          let f : has_room (length begun) (u32_of (view_at p.views row) 0) ≡ false = ap (has_room (length begun)) (sym hc) ∙ t in
+          let hn2 : new_buffers ≡ buffers ++ begun ∷ [] = hn ∙ ap (λ b. if b then buffers else buffers ++ begun ∷ []) t in
+          let hg2 : new_begun ≡ [] = hg ∙ ap (λ b. if b then begun else []) t in
+          rw (he, hv, hn2, hg2, hb, add-one) (long_new p row n views buffers begun h k2 f)
     ]
 
 -- what a value that is given or not says of its row
@@ -89,7 +85,7 @@ null_put (Ok t) p row views new buffers begun h e = λ n. rw e (null_laid p row 
 null_put (Err t) p row views new buffers begun h e = tt
 
 pub long_put : {T E : Type 0} → (r : Result T E) (p : Views) (row : ℕ) (views same bytes new_views begun new_begun end_begun : List ℕ) (buffers new_buffers end_buffers : List (List ℕ)) (count : ℕ) → is_valid p.validity row ≡ true → 12 < count → count ≡ u32_of (view_at p.views row) 0 → bytes ≡ value_at p row
-    → same ≡ views → new_buffers ≡ (if nat_le (length begun + count) buffer_limit then buffers else buffers ++ begun ∷ []) → new_begun ≡ (if nat_le (length begun + count) buffer_limit then begun else [])
+    → same ≡ views → new_buffers ≡ (if has_room (length begun) count then buffers else buffers ++ begun ∷ []) → new_begun ≡ (if has_room (length begun) count then begun else [])
     → OnOk r (new_views ≡ same ++ long_view bytes (length new_buffers) (length new_begun)) → end_buffers ≡ new_buffers → OnOk r (end_begun ≡ new_begun ++ bytes)
     → OnOk r ((n : ℕ) → all_laid p (row + 1) n new_views end_buffers end_begun ≡ all_laid p row (suc n) views buffers begun)
 long_put (Ok t) p row views same bytes new_views begun new_begun end_begun buffers new_buffers end_buffers count h k hc hb hs hn hg hv hm he = λ n. rw hm (long_laid p row n views bytes new_views begun new_begun end_begun buffers new_buffers count h k hc hb hn hg (rw hs at hv) he)

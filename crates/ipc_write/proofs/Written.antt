@@ -58,6 +58,14 @@ within_limits b h =
     let short : length (batch_body b) < 2 ^ 63 = omega (arith, leb-true (length (batch_body b)) 9223372036854775807 both.1) in
     (subst (λ n. up_to 8 n < 2 ^ 31) (sym (length-layout (batch_message b).node)) small, short)
 
+-- a message has bytes
+pub frame_some : (metadata body : List ℕ) → 0 < length (message_frame metadata body)
+unfolding message_frame
+frame_some metadata body =
+    let zero_count = up_to 8 (length metadata) - length metadata in
+    let front : length (metadata_frame metadata) ≡ 8 + up_to 8 (length metadata) = omega (arith, length-append metadata (zeros zero_count), length-replicate {A = ℕ} zero_count 0) in
+    omega (arith, front, length-append (metadata_frame metadata) (body ++ zeros (up_to 64 (length body) - length body)))
+
 -- how many bytes a message has whose body ends at a multiple of 64
 pub length-frame : (metadata body : List ℕ) → length body % 64 ≡ 0 → length (message_frame metadata body) ≡ 8 + up_to 8 (length metadata) + length body
 length-frame metadata body h =

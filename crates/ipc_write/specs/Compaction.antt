@@ -1,5 +1,5 @@
 -- A top view column is laid anew where much of its buffers is unused. (Arrow Columnar Format, "Variable-size Binary View Layout"; what a writer may choose is chosen here.)
-use Rattle.std.specs.Prelude.{ℕ, zero, suc, ◌+◌, ◌-◌, min, List, [], ◌∷◌, ◌++◌, length, take, Bool, nat_le, not, if◌then◌else◌, sum_by}
+use Rattle.std.specs.Prelude.{ℕ, zero, suc, ◌+◌, ◌-◌, min, List, [], ◌∷◌, ◌++◌, length, take, Bool, nat_eq, nat_le, not, ◌||◌, if◌then◌else◌, sum_by}
 use Rattle.arrow_spec.specs.Layout.{u32, zeros}
 use Rattle.arrow_spec.specs.Arrays.{u32_of}
 use Rattle.arrow_buffers.specs.Rows.{is_valid}
@@ -28,6 +28,10 @@ views_need_compaction p = nat_le (min (value_lengths p (view_rows p.views)) 1024
 abbrev pub buffer_limit : ℕ
 buffer_limit = 2147483647
 
+-- a value goes into the buffer that is begun where that is empty or stays within the limit: a buffer that is ended holds something
+abbrev pub has_room : ℕ → ℕ → Bool
+has_room begun count = nat_eq begun 0 || nat_le (begun + count) buffer_limit
+
 -- views and buffers
 pub record Laid : Type 0 where
   pub views : List ℕ
@@ -55,7 +59,7 @@ abbrev pub value_at : Views → ℕ → List ℕ
 value_at p row = view_bytes p.buffers (view_at p.views row)
 
 -- n rows from one on, where a buffer of some number is begun: a null row has a view of zeros, a value of up to 12 bytes
--- keeps its view, and a longer one stands in the buffer, or in a new one where that would pass the limit
+-- keeps its view, and a longer one stands in the buffer, or in a new one where that has no room
 abbrev pub laid_from : Views → ℕ → ℕ → List ℕ → ℕ → Laid
 laid_from p row number begun zero = record { views = []; buffers = begun_buffer begun }
 laid_from p row number begun (suc n) =
@@ -64,7 +68,7 @@ laid_from p row number begun (suc n) =
     let new = buffer_before begun (view_before (long_view (value_at p row) (suc number) 0) (laid_from p (suc row) (suc number) (value_at p row) n)) in
     if not (is_valid p.validity row) then passed (zeros 16)
     else (if nat_le (value_length p row) 12 then passed (view_at p.views row)
-    else (if nat_le (length begun + value_length p row) buffer_limit then here
+    else (if has_room (length begun) (value_length p row) then here
     else new))
 
 -- all rows

@@ -1,11 +1,12 @@
 -- What the calls of this crate do to what they are lent.
-use Rattle.std.specs.Prelude.{◌≡◌, ℕ, ◌-◌, List, [], ◌∷◌, ◌++◌, length, true, false, None, Result, Ok, Err, IsSome, ℤ}
+use Rattle.std.specs.Prelude.{◌≡◌, ◌⊎◌, ℕ, ◌-◌, List, [], ◌∷◌, ◌++◌, length, Bool, true, false, not, ◌&&◌, None, Result, Ok, Err, IsSome, ℤ}
 use Rattle.std.specs.Int.{w32, to_le_bytes, cast_unsigned}
 use Rattle.arrow_spec.specs.declared.error.IpcError.{IpcError}
 use Rattle.arrow_spec.specs.declared.error.IpcError.TheVariants as errors
 use Rattle.arrow_spec.specs.declared.error.Feature.TheVariants as features
 use Rattle.arrow_spec.specs.Layout.{layout, up_to, zeros}
 use Rattle.arrow_spec.specs.Framing.{prefixed}
+use Rattle.arrow_spec.specs.Readings.{is_absent}
 use Rattle.arrow_arrays.specs.Batches.{Batch}
 use Rattle.ipc_write.specs.Batches.{batch_message, batch_body, columns_pieces, is_within}
 use Rattle.ipc_write.specs.declared.encoded.BodyPlan.{BodyPlan}
@@ -28,6 +29,14 @@ continuation n = (255 ∷ 255 ∷ 255 ∷ 255 ∷ []) ++ to_le_bytes w32 (cast_u
 pub record Same (old new : EncodedData) : Type 0 where
   pub message : new.ipc_message.items ≡ old.ipc_message.items
   pub body : new.arrow_data.items ≡ old.arrow_data.items
+
+-- types that the tables of a schema cannot say are refused, where no compression is asked for, which is told before
+abbrev pub refuses_types : WriteOptions → Bool → Bool
+refuses_types options representable = is_absent options.compression && not representable
+
+-- a call does one thing where a test holds, and another where it does not
+abbrev pub Either : Bool → Type 0 → Type 0 → Type 0
+Either test does otherwise = ((test ≡ true) × does) ⊎ ((test ≡ false) × otherwise)
 
 -- a batch has been planned: its message and the buffers of its body; or it is refused
 abbrev pub Plans : Result BodyPlan IpcError → WriteOptions → Batch → Type 0

@@ -1,11 +1,11 @@
 //! View arrays of which much of the buffers is unused (Arrow Columnar Format, "Variable-size Binary View Layout").
-ghost use Rattle.std.specs.Prelude.{◌≡◌, ◌+◌, ◌^◌, ◌<◌, ◌≤◌, ◌++◌, ◌∷◌, [], ℕ, suc, length, true, None, OnOk, IfOk, sum_by, nat_le, if◌then◌else◌};
+ghost use Rattle.std.specs.Prelude.{◌≡◌, ◌+◌, ◌^◌, ◌<◌, ◌≤◌, ◌++◌, ◌∷◌, [], ℕ, suc, length, true, None, OnOk, IfOk, sum_by, if◌then◌else◌};
 ghost use Rattle.std.specs.Option.{option_map};
 ghost use Rattle.arrow_spec.specs.Arrays.{u32_of};
 ghost use Rattle.arrow_types.specs.Physical.{physical_of};
 ghost use Rattle.arrow_buffers.specs.Layouts.{is_view};
 ghost use Rattle.arrow_buffers.specs.Views.{view_rows, view_at, view_fault};
-ghost use Rattle.ipc_write.specs.Compaction.{value_length, value_lengths, views_need_compaction, buffer_limit, long_view, begun_buffer, laid_anew, compacted};
+ghost use Rattle.ipc_write.specs.Compaction.{value_length, value_lengths, views_need_compaction, has_room, long_view, begun_buffer, laid_anew, compacted};
 ghost use Rattle.ipc_write.specs.Laying.{all_laid, IsCompact, LaidFits};
 
 use arrow_buffers::{BinaryViewArrayGeneric, Bitmap, Buffer, ViewType};
@@ -101,15 +101,23 @@ struct Laying {
     begun: Vec<u8>,
 }
 
-/// Ends the buffer that is begun where a value would pass its limit, and begins another.
+/// Whether a value of so many bytes goes into a buffer that has some: it is the first, or the buffer stays within its limit.
+fn has_room(begun: usize, count: usize) -> bool
+    requires { begun + count < 2 ^ 64 }
+    ensures { result ≡ has_room begun count }
+{
+    begun == 0 || begun + count <= MOST_OF_BUFFER
+}
+
+/// Ends the buffer that is begun where it has no room for a value, and begins another.
 fn make_room(alloc: Global, laying: &mut Laying, count: usize) -> Result<(), AllocError>
     requires { count < 2 ^ 32 }
     ensures views { laying.new.views ≡ laying.old.views }
-    ensures buffers { OnOk result (laying.new.buffers.items ≡ (if nat_le (length laying.old.begun.items + count) buffer_limit then laying.old.buffers.items else laying.old.buffers.items ++ laying.old.begun.items ∷ [])) }
-    ensures begun { OnOk result (laying.new.begun.items ≡ (if nat_le (length laying.old.begun.items + count) buffer_limit then laying.old.begun.items else [])) }
+    ensures buffers { OnOk result (laying.new.buffers.items ≡ (if has_room (length laying.old.begun.items) count then laying.old.buffers.items else laying.old.buffers.items ++ laying.old.begun.items ∷ [])) }
+    ensures begun { OnOk result (laying.new.begun.items ≡ (if has_room (length laying.old.begun.items) count then laying.old.begun.items else [])) }
     ensures short { OnOk result (length laying.new.begun.items < 2 ^ 31) }
 {
-    if laying.begun.len() + count <= MOST_OF_BUFFER {
+    if has_room(laying.begun.len(), count) {
         return Ok(());
     }
     let ended = mem::replace(&mut laying.begun, Vec::new(alloc));
@@ -214,7 +222,8 @@ fn owned_validity(validity: Option<&Bitmap>) -> Result<Option<Bitmap>, AllocErro
 }
 
 /// The array laid anew, where at least min(v, 1024) bytes of its buffers are unused, v being the sum of its values' lengths: rows that
-/// are null have views of zeros, and the values of more than 12 bytes stand one behind another in buffers of up to 2^31 - 1 bytes.
+/// are null have views of zeros, and the values of more than 12 bytes stand one behind another in buffers of up to 2^31 - 1 bytes. A value
+/// that is longer stands in a buffer of its own, and no buffer is empty.
 ///
 /// # Errors
 ///

@@ -1,14 +1,18 @@
 //! Record batches to messages (Arrow Columnar Format, "RecordBatch message").
-ghost use Rattle.std.specs.Prelude.{◌≡◌, map, IfOk};
+ghost use Rattle.std.specs.Prelude.{◌≡◌, ◌&&◌, not, map, Err, IfOk};
 ghost use Rattle.arrow_spec.specs.Framing.{body_bytes};
-ghost use Rattle.arrow_arrays.specs.Parts.{cells_in};
+ghost use Rattle.arrow_spec.specs.declared.error.IpcError.TheVariants.{NotRepresentable};
+ghost use Rattle.arrow_arrays.specs.Parts.{cells_in, forest};
+ghost use Rattle.arrow_arrays.specs.Columns.{columns_of};
+ghost use Rattle.ipc_fields.specs.Representable.{all_representable};
 ghost use Rattle.ipc_write.specs.Batches.{written_batch_of};
 ghost use Rattle.ipc_write.specs.Encoding.{IsWhole, Makes, MayBeBatch};
-ghost use Rattle.ipc_write.specs.Outcomes.{Encodes, Plans};
+ghost use Rattle.ipc_write.specs.Outcomes.{Either, Encodes, Plans, Same, refuses_types};
 
 use crate::columns::plan_columns;
 use crate::metadata::Content;
 use crate::planned::{MOST_ROWS, message_plan};
+use crate::representable::are_representable;
 use crate::{BodyPlan, EncodedData, WriteOptions};
 use arrow_arrays::RecordBatch;
 use arrow_spec::{Feature, IpcError};
@@ -48,15 +52,12 @@ fn batch_plan(alloc: Global, batch: &RecordBatch, limit: usize) -> Result<BodyPl
     )
 }
 
-/// The message of a batch in little-endian order, with its pairs and the buffers of its body, which share what the batch holds. Of its
-/// dictionaries the keys are written, and no values. A view column of which at least min(v, 1024) bytes of its buffers are unused,
-/// where v is the sum of the lengths of its values, is laid anew.
+/// The message of [`plan_batch`], also of a batch of which the tables of a schema cannot say a type: for those who have looked at the types.
 ///
 /// # Errors
 ///
-/// `Unsupported(Compression)` where compression is asked for; `TooLarge` where the padded metadata passes its limit, or the
-/// rows or the body pass 2^63 - 1; `Memory`.
-pub fn plan_batch(
+/// As for [`plan_batch`], without `NotRepresentable`.
+pub fn plan_any_batch(
     alloc: Global,
     batch: &RecordBatch,
     options: &WriteOptions,
@@ -69,6 +70,40 @@ pub fn plan_batch(
         return Err(IpcError::Unsupported(Feature::Compression));
     }
     batch_plan(alloc, batch, options.metadata_limit)
+}
+
+/// Whether types are refused: the tables of a schema cannot say them, and no compression is asked for, which is told before.
+pub(crate) fn refuses_types(options: &WriteOptions, are_representable: bool) -> bool
+    ensures { result ≡ refuses_types options.now are_representable }
+{
+    match options.compression {
+        Some(_) => false,
+        None => !are_representable,
+    }
+}
+
+/// The message of a batch in little-endian order, with its pairs and the buffers of its body, which share what the batch holds. Of its
+/// dictionaries the keys are written, and no values. A view column of which at least min(v, 1024) bytes of its buffers are unused,
+/// where v is the sum of the lengths of its values, is laid anew.
+///
+/// # Errors
+///
+/// `Unsupported(Compression)` where compression is asked for; `NotRepresentable` where a dictionary stands directly in a dictionary or
+/// in an extension, or a size, a precision or a scale passes 2^31 - 1; `TooLarge` where the padded metadata passes its limit, or the
+/// rows or the body pass 2^63 - 1; `Memory`.
+pub fn plan_batch(
+    alloc: Global,
+    batch: &RecordBatch,
+    options: &WriteOptions,
+) -> Result<BodyPlan, IpcError>
+    ensures plans { Either (refuses_types options.now (all_representable (columns_of (forest batch.now.arrays)))) (result ≡ Err NotRepresentable) (Plans result options.now batch.now) }
+    ensures may { IfOk result (λ _. MayBeBatch batch.now) }
+    ensures cells { IfOk result (λ _. map (λ c. c.cells) (written_batch_of batch.now).columns ≡ map cells_in batch.now.arrays) }
+{
+    if refuses_types(options, are_representable(batch.arrays())) {
+        return Err(IpcError::NotRepresentable);
+    }
+    plan_any_batch(alloc, batch, options)
 }
 
 /// The message with its body in one piece.
@@ -89,14 +124,13 @@ pub(crate) fn in_one_piece(alloc: Global, plan: BodyPlan) -> Result<EncodedData,
     })
 }
 
-/// The message of a batch in little-endian order, with its pairs. Of its dictionaries the keys are written, and no values. A view column of which at least min(v, 1024) bytes of
-/// its buffers are unused, where v is the sum of the lengths of its values, is laid anew.
+/// The message of [`encode_record_batch`], also of a batch of which the tables of a schema cannot say a type: for those who have looked at
+/// the types.
 ///
 /// # Errors
 ///
-/// `Unsupported(Compression)` where compression is asked for; `TooLarge` where the padded metadata passes its limit, or the
-/// rows or the body pass 2^63 - 1; `Memory`. Each leaves `encoded` as it was.
-pub fn encode_record_batch(
+/// As for [`encode_record_batch`], without `NotRepresentable`.
+pub fn encode_any_batch(
     alloc: Global,
     batch: &RecordBatch,
     options: &WriteOptions,
@@ -106,7 +140,7 @@ pub fn encode_record_batch(
     ensures may { IfOk result (λ _. MayBeBatch batch.now) }
     ensures cells { IfOk result (λ _. map (λ c. c.cells) (written_batch_of batch.now).columns ≡ map cells_in batch.now.arrays) }
 {
-    match plan_batch(alloc, batch, options) {
+    match plan_any_batch(alloc, batch, options) {
         Ok(plan) => match in_one_piece(alloc, plan) {
             Ok(message) => {
                 *encoded = message;
@@ -116,4 +150,26 @@ pub fn encode_record_batch(
         },
         Err(error) => Err(error),
     }
+}
+
+/// The message of a batch in little-endian order, with its pairs. Of its dictionaries the keys are written, and no values. A view column
+/// of which at least min(v, 1024) bytes of its buffers are unused, where v is the sum of the lengths of its values, is laid anew.
+///
+/// # Errors
+///
+/// As for [`plan_batch`]. Each leaves `encoded` as it was.
+pub fn encode_record_batch(
+    alloc: Global,
+    batch: &RecordBatch,
+    options: &WriteOptions,
+    encoded: &mut EncodedData,
+) -> Result<(), IpcError>
+    ensures encodes { Either (refuses_types options.now (all_representable (columns_of (forest batch.now.arrays)))) ((result ≡ Err NotRepresentable) × Same encoded.old encoded.new) (Encodes result options.now batch.now encoded.old encoded.new) }
+    ensures may { IfOk result (λ _. MayBeBatch batch.now) }
+    ensures cells { IfOk result (λ _. map (λ c. c.cells) (written_batch_of batch.now).columns ≡ map cells_in batch.now.arrays) }
+{
+    if refuses_types(options, are_representable(batch.arrays())) {
+        return Err(IpcError::NotRepresentable);
+    }
+    encode_any_batch(alloc, batch, options, encoded)
 }

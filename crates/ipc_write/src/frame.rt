@@ -255,6 +255,7 @@ fn joined(alloc: Global, metadata: &[u8], padded: usize, body: &[u8]) -> Result<
 /// `TooLarge` where the padded metadata passes 2^31 - 1 bytes; `Memory`.
 pub fn message_to_bytes(alloc: Global, metadata: &[u8], body: &[u8]) -> Result<Vec<u8>, IpcError>
     ensures bytes { IfOk result (λ v. v.items ≡ message_frame metadata.now body.now) }
+    ensures some { IfOk result (λ v. 0 < length v.items) }
     ensures small { OnOk result (up_to 8 (length metadata.now) < 2 ^ 31) }
     ensures err { IfErr result (λ e. (e ≡ Memory) ⊎ ((e ≡ TooLarge) × (2 ^ 31 ≤ up_to 8 (length metadata.now)))) }
     ensures too_large { (result ≡ Err TooLarge) ↔ (2 ^ 31 ≤ up_to 8 (length metadata.now)) }

@@ -12,10 +12,11 @@ mod metadata;
 mod options;
 mod planned;
 mod record;
+mod representable;
 mod values;
 
 pub use dictionary::write_dictionary;
-pub use encode::{encode_record_batch, plan_batch};
+pub use encode::{encode_any_batch, encode_record_batch, plan_any_batch, plan_batch};
 pub use encoded::{BodyPlan, EncodedData};
 pub use frame::{
     message_to_bytes, pad_to_64, write_continuation, write_message, write_plan, write_plan_as,
@@ -26,4 +27,4 @@ pub use ipc_schema::{IpcSchema, default_ipc_fields, schema_message, serialize_sc
 pub use ipc_write_arrays::write;
 pub use options::{Compression, WriteOptions};
 pub use record::Record;
-pub use values::{encode_values, plan_values};
+pub use values::{encode_any_values, encode_values, plan_any_values, plan_values};

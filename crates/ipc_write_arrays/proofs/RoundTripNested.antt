@@ -11,9 +11,9 @@ use Rattle.arrow_spec.specs.Kinds.{Kind, Fields, none, field, Offsets, small, la
 use Rattle.arrow_spec.specs.Cells as cells
 use Rattle.arrow_spec.specs.Cells.{Cell, cells_of}
 use Rattle.arrow_spec.specs.Counts.{RecordBatch, Place, inside, magnitude}
-use Rattle.arrow_spec.specs.Arrays.{Dictionaries, from_on, if_valid, offset, offset_width, node_of, node_or_none}
+use Rattle.arrow_spec.specs.Arrays.{Dictionaries, from_on, if_valid, offset, offset_width}
 use Rattle.arrow_spec.specs.ArrayCells.{cell, cell_in, row_of}
-use Rattle.arrow_spec.specs.Faults.{node_faults, validity_faults, child_faults, array_faults, offsets_buffer_faults, offsets_faults, if_sound}
+use Rattle.arrow_spec.specs.Faults.{node_faults, validity_faults, child_faults, array_faults, offsets_buffer_faults, child_end, end_of, offsets_faults, if_sound}
 use Rattle.arrow_spec.specs.Framing.{validity_bytes}
 use Rattle.arrow_spec.specs.Bodies.{BufferHeld}
 use Rattle.arrow_buffers.specs.Rows.{part, has_rows, null_rows, masked}
@@ -149,7 +149,7 @@ record ListShape (d : Dictionaries) (k : Kind) (o : Offsets) (fs : Fields) : Typ
   top : TopShape k fs 2
   empty : (m : RecordBatch) (p : Place) → array_faults m d k p 0 ≡ node_faults m p 0 ++ child_faults m d fs (inside 2 p) (λ q. 0)
   some : (m : RecordBatch) (p : Place) (n : ℕ) → array_faults m d k p (suc n) ≡ node_faults m p (suc n) ++ validity_faults m p (suc n)
-      ++ if_sound (offsets_buffer_faults m o (p.buffer + 1) (suc n)) (offsets_faults m o (p.buffer + 1) (suc n) (magnitude (node_of m (suc p.node)).length)
+      ++ if_sound (offsets_buffer_faults m o (p.buffer + 1) (suc n)) (offsets_faults m o (p.buffer + 1) (suc n) (end_of m (suc p.node))
       ++ child_faults m d fs (inside 2 p) (λ q. offset m o (p.buffer + 1) (suc n)))
   row : (m : RecordBatch) (p : Place) (row : ℕ) → cell m d k p row ≡ if_valid m p row (cells.«list» (cells_of
       (from_on (λ j. cell_in m d fs 0 (inside 2 p) j) (offset m o (p.buffer + 1) row) (offset m o (p.buffer + 1) (suc row) - offset m o (p.buffer + 1) row))))
@@ -201,8 +201,8 @@ module _ (order : Order) (d : Dictionaries) (k : Kind) (o : Offsets) (rows last 
         let e : offset m o (p.buffer + 1) j ≡ place_at offsets j - place_at offsets 0 = offset_read order o offsets m (p.buffer + 1) in_places j (omega arith) in
         omega arith
 
-    child_node : magnitude (node_of m (suc p.node)).length ≡ last
-    child_node = ap (λ n. magnitude (node_or_none n).length) (node_there order d last good.nulls x good.others good.own m (inside 2 p) (first_child m (inside 2 p) x [] s.children))
+    child_node : end_of m (suc p.node) ≡ last
+    child_node = ap child_end (node_there order d last good.nulls x good.others good.own m (inside 2 p) (first_child m (inside 2 p) x [] s.children))
 
     children : (read : Place → ℕ) → ((q : Place) → read q ≡ last) → child_faults m d (child_fields k) (inside 2 p) read ≡ []
     children read e = children_right order (child_fields k) (x ∷ []) m d read (λ y. last) (inside 2 p) kinds one five (all_read order d last (x ∷ []) m read (good, tt) e) s.children
@@ -214,11 +214,11 @@ module _ (order : Order) (d : Dictionaries) (k : Kind) (o : Offsets) (rows last 
         let l : length (offset_bytes order o offsets) ≡ w * suc (suc n) = length-offset_bytes order o offsets ∙ ap (λ c. w * c) count in
         numbers_right m (p.buffer + 1) w (suc (suc n)) (offset_bytes order o offsets) in_places.held (omega (arith, l))
 
-    places_right : offsets_faults m o (p.buffer + 1) rows (magnitude (node_of m (suc p.node)).length) ≡ []
+    places_right : offsets_faults m o (p.buffer + 1) rows (end_of m (suc p.node)) ≡ []
     places_right =
         let z : place_at offsets 0 ≡ 0 = climbing.first in
         let e : place_at offsets rows ≡ last = climbing.end in
-        offsets_right order o offsets m (p.buffer + 1) in_places rows (magnitude (node_of m (suc p.node)).length) climbing.long climbing.climbs (omega (arith, child_node))
+        offsets_right order o offsets m (p.buffer + 1) in_places rows (end_of m (suc p.node)) climbing.long climbing.climbs (omega (arith, child_node))
 
     list_right : (n : ℕ) → rows ≡ n → array_faults m d k p n ≡ []
     list_right zero e =
@@ -227,7 +227,7 @@ module _ (order : Order) (d : Dictionaries) (k : Kind) (o : Offsets) (rows last 
     list_right (suc n) e =
         let h : Headed m p (suc n) v = rw e at (top_head m p rows v (offset_bytes order o offsets ∷ []) (x ∷ []) s bits) in
         let last_read : offset m o (p.buffer + 1) (suc n) ≡ last = ap (offset m o (p.buffer + 1)) (sym e) ∙ place_read rows (omega arith) ∙ climbing.end in
-        let there : offsets_faults m o (p.buffer + 1) (suc n) (magnitude (node_of m (suc p.node)).length) ≡ [] = rw e at places_right in
+        let there : offsets_faults m o (p.buffer + 1) (suc n) (end_of m (suc p.node)) ≡ [] = rw e at places_right in
         shape.some m p n ∙ rw (node_right m p (suc n) (null_rows v) h.node, validity_right m p (suc n) v h, offsets_there n e, there, children (λ q. offset m o (p.buffer + 1) (suc n)) (λ q. last_read)) refl
 
     item_rows : (row : ℕ) → row < rows

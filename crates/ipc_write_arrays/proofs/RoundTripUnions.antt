@@ -16,7 +16,7 @@ use Rattle.arrow_spec.specs.Cells.{Cell}
 use Rattle.arrow_spec.specs.Counts.{RecordBatch, Place, nodes, buffers, views, inside, after, union_buffers, magnitude, is_negative}
 use Rattle.arrow_spec.specs.Arrays.{Dictionaries, from_on, signed_in, types_buffer, id_place, or_0, offset, node_of, node_or_none}
 use Rattle.arrow_spec.specs.ArrayCells.{cell, cell_in}
-use Rattle.arrow_spec.specs.Faults.{node_faults, union_faults, child_faults, array_faults, some_row, is_no_id, is_bad_row, place_in}
+use Rattle.arrow_spec.specs.Faults.{node_faults, union_faults, child_faults, array_faults, some_row, is_no_id, child_end, end_of, is_bad_row, place_in}
 use Rattle.arrow_spec.specs.Bodies.{BufferHeld}
 use Rattle.arrow_spec.proofs.Bodies.{held_bytes}
 use Rattle.arrow_spec.proofs.CellLists.{from_on-same}
@@ -161,7 +161,7 @@ both_there m five = rw five refl
 
 -- the child under a number: its rows are told by its node, and each of them is read as its cell
 record ChildAt (m : RecordBatch) (d : Dictionaries) (fs : Fields) (i row : ℕ) (q : Place) (cs : List WrittenColumn) : Type 0 where
-  rows : magnitude (node_of m (place_in m fs i q).node).length ≡ get_or (map own_rows cs) i 0
+  rows : end_of m (place_in m fs i q).node ≡ get_or (map own_rows cs) i 0
   read : cell_in m d fs i q row ≡ get_or (get_or (map (λ c. c.cells) cs) i []) row cells.null
 
 child_at : (order : Order) (d : Dictionaries) (row i : ℕ) (fs : Fields) (cs : List WrittenColumn) (m : RecordBatch) (q : Place) → row < get_or (map own_rows cs) i 0 → AreOf fs cs → m.order ≡ order → m.version ≡ V5 → AllByRecursion (λ x. MeansOwn order d (own_rows x) x) cs → StandTogether m q cs
@@ -174,7 +174,7 @@ child_at order d row zero (field name nullable metadata k others) (x ∷ cs) m q
     let here : from_on (cell m d k q) 0 (own_rows x) ≡ x.cells = rw kinds.0 (good.0.means.cells_read m q o v stands) in
     let z : 0 + row ≡ row = omega arith in
     record {
-      rows = ap (λ n. magnitude (node_or_none n).length) (node_there order d (own_rows x) good.0.nulls x good.0.others good.0.own m q stands);
+      rows = ap child_end (node_there order d (own_rows x) good.0.nulls x good.0.others good.0.own m q stands);
       read = ap (cell m d k q) (sym z) ∙ cell_at (cell m d k q) 0 (own_rows x) row cells.null lt ∙ ap (λ xs. get_or xs row cells.null) here;
     }
 child_at order d row (suc i) (field name nullable metadata k others) (x ∷ cs) m q lt kinds o v good h =

@@ -7,7 +7,7 @@ use Rattle.arrow_spec.specs.declared.types.UnionMode.TheVariants.{Dense, Sparse}
 use Rattle.arrow_spec.specs.Kinds.{Kind, Fields, none, field, null, boolean, integer, float, date32, date64, time32, time64, timestamp, duration, interval, decimal, decimal256, binary, utf8, binary_view, utf8_view, fixed_size_binary, «list», fixed_size_list, struct, map, union, dictionary, extension, small}
 use Rattle.arrow_spec.specs.Counts.{RecordBatch, Place, magnitude, is_negative, inside, after, union_buffers}
 use Rattle.arrow_spec.specs.Arrays.{Dictionaries, offset, node_of}
-use Rattle.arrow_spec.specs.Faults.{node_causes, node_faults, validity_faults, flat_faults, array_faults, child_faults, view_count_faults, offsets_buffer_faults, offsets_faults, union_faults, if_sound}
+use Rattle.arrow_spec.specs.Faults.{node_causes, node_faults, validity_faults, flat_faults, array_faults, child_faults, view_count_faults, offsets_buffer_faults, end_of, offsets_faults, union_faults, if_sound}
 use Rattle.ipc_write_laws.proofs.Children.{no_first, no_second}
 
 none_causes : (o : Option FieldNode) (r : ℕ) → node_causes o r ≡ [] → node_causes o 0 ≡ []
@@ -44,7 +44,7 @@ mutual
   array_none m d («list» o fs) p (suc n) e =
       let front = node_faults m p (suc n) ++ validity_faults m p (suc n) in
       let buffer = offsets_buffer_faults m o (p.buffer + 1) (suc n) in
-      let places = offsets_faults m o (p.buffer + 1) (suc n) (magnitude (node_of m (suc p.node)).length) in
+      let places = offsets_faults m o (p.buffer + 1) (suc n) (end_of m (suc p.node)) in
       let read : Place → ℕ = λ q. offset m o (p.buffer + 1) (suc n) in
       let below = child_faults m d fs (inside 2 p) read in
       let rest = no_second places below (sound_second buffer (places ++ below) (no_second front (if_sound buffer (places ++ below)) e)) in
@@ -54,7 +54,7 @@ mutual
   array_none m d (map sorted fs) p (suc n) e =
       let front = node_faults m p (suc n) ++ validity_faults m p (suc n) in
       let buffer = offsets_buffer_faults m small (p.buffer + 1) (suc n) in
-      let places = offsets_faults m small (p.buffer + 1) (suc n) (magnitude (node_of m (suc p.node)).length) in
+      let places = offsets_faults m small (p.buffer + 1) (suc n) (end_of m (suc p.node)) in
       let read : Place → ℕ = λ q. offset m small (p.buffer + 1) (suc n) in
       let below = child_faults m d fs (inside 2 p) read in
       let rest = no_second places below (sound_second buffer (places ++ below) (no_second front (if_sound buffer (places ++ below)) e)) in

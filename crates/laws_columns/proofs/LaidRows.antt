@@ -63,17 +63,15 @@ begun_length (x ∷ begun) = let some : nat_lt 0 (length (x ∷ begun)) ≡ true
 passed_row : (m : RecordBatch) (p : Place) (row begun n : ℕ) → view_length m p row ≤ 12 → sent.compacted m p row begun (suc n) ≡ sent.compacted m p (suc row) begun n
 passed_row m p row begun n h = let t : nat_le (view_length m p row) 12 ≡ true = le-leb _ 12 h in rw t refl
 
-here_row : (m : RecordBatch) (p : Place) (row begun n : ℕ) → 12 < view_length m p row → begun + view_length m p row ≤ 2147483647 → sent.compacted m p row begun (suc n) ≡ sent.compacted m p (suc row) (begun + view_length m p row) n
+here_row : (m : RecordBatch) (p : Place) (row begun n : ℕ) → 12 < view_length m p row → sent.has_room begun (view_length m p row) ≡ true → sent.compacted m p row begun (suc n) ≡ sent.compacted m p (suc row) (begun + view_length m p row) n
 here_row m p row begun n h k =
     let t : nat_le (view_length m p row) 12 ≡ false = lt-leb _ 12 h in
-    let f : nat_le (begun + view_length m p row) 2147483647 ≡ true = le-leb _ _ k in
-    rw (t, f) refl
+    rw (t, k) refl
 
-new_row : (m : RecordBatch) (p : Place) (row begun n : ℕ) → 12 < view_length m p row → 2147483647 < begun + view_length m p row → sent.compacted m p row begun (suc n) ≡ begun ∷ sent.compacted m p (suc row) (view_length m p row) n
+new_row : (m : RecordBatch) (p : Place) (row begun n : ℕ) → 12 < view_length m p row → sent.has_room begun (view_length m p row) ≡ false → sent.compacted m p row begun (suc n) ≡ begun ∷ sent.compacted m p (suc row) (view_length m p row) n
 new_row m p row begun n h k =
     let t : nat_le (view_length m p row) 12 ≡ false = lt-leb _ 12 h in
-    let f : nat_le (begun + view_length m p row) 2147483647 ≡ false = lt-leb _ _ k in
-    rw (t, f) refl
+    rw (t, k) refl
 
 length_null : (v : Bool) (a b : ℕ) → v ≡ false → (if v then a else 0) ≡ b → b ≡ 0
 length_null v a b e h = sym (rw e at h)

@@ -9,13 +9,13 @@ use Rattle.arrow_spec.specs.declared.types.UnionMode.{UnionMode}
 use Rattle.arrow_spec.specs.declared.types.UnionMode.TheVariants.{Dense, Sparse}
 use Rattle.arrow_spec.specs.declared.types.IntervalUnit.TheVariants.{YearMonth}
 use Rattle.arrow_spec.specs.declared.types.IntegerType.{IntegerType}
-use Rattle.arrow_spec.specs.Kinds.{Kind, Fields, none, field, null, interval, «list», fixed_size_list, struct, map as map_of, union, dictionary, extension, small}
+use Rattle.arrow_spec.specs.Kinds.{Kind, Fields, none, field, width, null, interval, «list», fixed_size_list, struct, map as map_of, union, dictionary, extension, small}
 use Rattle.arrow_spec.specs.Counts.{RecordBatch, Place, magnitude, is_negative, inside, after, union_buffers}
 use Rattle.arrow_spec.specs.Cells as cells
 use Rattle.arrow_spec.specs.Cells.{Cell, cells_of}
 use Rattle.arrow_spec.specs.Arrays.{Dictionaries, cell_or_null, found, from_on, id_place, if_valid, integer_in, integer_width, keyed, node_of, offset, or_0, signed_in, types_buffer, valid}
 use Rattle.arrow_spec.specs.ArrayCells.{cell, cell_in, row_of}
-use Rattle.arrow_spec.specs.Faults.{array_faults, cause, child_faults, dense_faults, fixed_faults, flat_faults, is_bad_row, is_no_id, key_faults, node_faults, offsets_buffer_faults, offsets_faults, place_in, some_row, some_valid_row, union_faults, validity_faults, view_count_faults}
+use Rattle.arrow_spec.specs.Faults.{array_faults, cause, child_faults, dense_faults, fixed_faults, flat_faults, end_of, is_bad_row, is_no_id, key_faults, node_faults, offsets_buffer_faults, offsets_faults, place_in, some_row, some_valid_row, union_faults, validity_faults, view_count_faults}
 use Rattle.arrow_spec.proofs.Fewer.{dense_row, fixed_row, row_offset, along, along_sound, cause-false, cause-none, none_first, none_second, some_row-all, some_row-none, sound_second}
 use Rattle.laws_files.specs.Files.{GoesOn}
 
@@ -121,24 +121,24 @@ module _ (m : RecordBatch) (d d' : Dictionaries) (goes : GoesOn (λ id. found d 
     cell-more (interval YearMonth) p n row below h = refl
     cell-more («list» o fs) p zero row below h = absurd (omega (arith, below))
     cell-more («list» o fs) p (suc n) row below h =
-        let inner : offsets_faults m o (p.buffer + 1) (suc n) (magnitude (node_of m (suc p.node)).length) ++ child_faults m d fs (inside 2 p) (λ q. offset m o (p.buffer + 1) (suc n)) ≡ [] = sound_second (offsets_buffer_faults m o (p.buffer + 1) (suc n)) _ (none_second (node_faults m p (suc n) ++ validity_faults m p (suc n)) _ h) in
+        let inner : offsets_faults m o (p.buffer + 1) (suc n) (end_of m (suc p.node)) ++ child_faults m d fs (inside 2 p) (λ q. offset m o (p.buffer + 1) (suc n)) ≡ [] = sound_second (offsets_buffer_faults m o (p.buffer + 1) (suc n)) _ (none_second (node_faults m p (suc n) ++ validity_faults m p (suc n)) _ h) in
         let children = from_on-same (λ j. cell_in m d' fs 0 (inside 2 p) j) (λ j. cell_in m d fs 0 (inside 2 p) j) (offset m o (p.buffer + 1) row) (offset m o (p.buffer + 1) (suc row) - offset m o (p.buffer + 1) row)
-        (λ j above j_below. cell_in-more fs 0 (inside 2 p) (λ q. offset m o (p.buffer + 1) (suc n)) j (row_offset m o (p.buffer + 1) (suc n) row (magnitude (node_of m (suc p.node)).length) below (none_first _ _ inner) j j_below) (none_second _ _ inner)) in
+        (λ j above j_below. cell_in-more fs 0 (inside 2 p) (λ q. offset m o (p.buffer + 1) (suc n)) j (λ _. row_offset m o (p.buffer + 1) (suc n) row (end_of m (suc p.node)) below (none_first _ _ inner) j j_below) (none_second _ _ inner)) in
         ap (λ xs. if_valid m p row (cells.«list» (cells_of xs))) children
     cell-more (map_of sorted fs) p zero row below h = absurd (omega (arith, below))
     cell-more (map_of sorted fs) p (suc n) row below h =
-        let inner : offsets_faults m small (p.buffer + 1) (suc n) (magnitude (node_of m (suc p.node)).length) ++ child_faults m d fs (inside 2 p) (λ q. offset m small (p.buffer + 1) (suc n)) ≡ [] = sound_second (offsets_buffer_faults m small (p.buffer + 1) (suc n)) _ (none_second (node_faults m p (suc n) ++ validity_faults m p (suc n)) _ h) in
+        let inner : offsets_faults m small (p.buffer + 1) (suc n) (end_of m (suc p.node)) ++ child_faults m d fs (inside 2 p) (λ q. offset m small (p.buffer + 1) (suc n)) ≡ [] = sound_second (offsets_buffer_faults m small (p.buffer + 1) (suc n)) _ (none_second (node_faults m p (suc n) ++ validity_faults m p (suc n)) _ h) in
         let children = from_on-same (λ j. cell_in m d' fs 0 (inside 2 p) j) (λ j. cell_in m d fs 0 (inside 2 p) j) (offset m small (p.buffer + 1) row) (offset m small (p.buffer + 1) (suc row) - offset m small (p.buffer + 1) row)
-        (λ j above j_below. cell_in-more fs 0 (inside 2 p) (λ q. offset m small (p.buffer + 1) (suc n)) j (row_offset m small (p.buffer + 1) (suc n) row (magnitude (node_of m (suc p.node)).length) below (none_first _ _ inner) j j_below) (none_second _ _ inner)) in
+        (λ j above j_below. cell_in-more fs 0 (inside 2 p) (λ q. offset m small (p.buffer + 1) (suc n)) j (λ _. row_offset m small (p.buffer + 1) (suc n) row (end_of m (suc p.node)) below (none_first _ _ inner) j j_below) (none_second _ _ inner)) in
         ap (λ xs. if_valid m p row (cells.«list» (cells_of xs))) children
     cell-more (fixed_size_list size fs) p n row below h =
         let children = from_on-same (λ j. cell_in m d' fs 0 (inside 1 p) j) (λ j. cell_in m d fs 0 (inside 1 p) j) (size * row) size
-        (λ j above j_below. cell_in-more fs 0 (inside 1 p) (λ q. size * n) j (fixed_row size n row j below j_below) (none_second _ _ h)) in
+        (λ j above j_below. cell_in-more fs 0 (inside 1 p) (λ q. size * n) j (λ _. fixed_row size n row j below j_below) (none_second _ _ h)) in
         ap (λ xs. if_valid m p row (cells.«list» (cells_of xs))) children
     cell-more (struct fs) p n row below h = ap (λ xs. if_valid m p row (cells.struct xs)) (row_of-more fs (inside 1 p) n row below (none_second _ _ h))
     cell-more (union Sparse stated ids fs) p zero row below h = absurd (omega (arith, below))
     cell-more (union Sparse stated ids fs) p (suc n) row below h =
-        let child = cell_in-more fs (or_0 (id_place ids (signed_in m w8 (types_buffer m p) row))) (inside (union_buffers m.version Sparse) p) (λ x. suc n) row below (none_second _ _ h) in
+        let child = cell_in-more fs (or_0 (id_place ids (signed_in m w8 (types_buffer m p) row))) (inside (union_buffers m.version Sparse) p) (λ x. suc n) row (λ _. below) (none_second _ _ h) in
         ap (λ x. cells.tagged (signed_in m w8 (types_buffer m p) row) x) child
     cell-more (union Dense stated ids fs) p zero row below h = absurd (omega (arith, below))
     cell-more (union Dense stated ids fs) p (suc n) row below h =
@@ -146,17 +146,17 @@ module _ (m : RecordBatch) (d d' : Dictionaries) (goes : GoesOn (λ id. found d 
         let tests = union_tests m Dense ids fs p (suc n) (none_second _ _ (none_first _ _ h)) in
         let is_one = some_row-none (λ k. is_no_id (id_place ids (signed_in m w8 (types_buffer m p) k))) (suc n) row (cause-none _ _ (none_first _ _ tests)) below in
         let is_row = some_row-none (λ k. is_bad_row m fs q (id_place ids (signed_in m w8 (types_buffer m p) k)) (signed_in m w32 (suc (types_buffer m p)) k)) (suc n) row (cause-none _ _ (none_second _ _ tests)) below in
-        let child = cell_in-more fs (or_0 (id_place ids (signed_in m w8 (types_buffer m p) row))) q (λ x. magnitude (node_of m x.node).length) (offset m small (suc (types_buffer m p)) row) (dense_row m fs q _ _ is_one is_row) (none_second _ _ h) in
+        let child = cell_in-more fs (or_0 (id_place ids (signed_in m w8 (types_buffer m p) row))) q (λ x. magnitude (node_of m x.node).length) (offset m small (suc (types_buffer m p)) row) (dense_row m d fs q (λ x. magnitude (node_of m x.node).length) _ _ is_one is_row (none_second _ _ h)) (none_second _ _ h) in
         ap (λ x. cells.tagged (signed_in m w8 (types_buffer m p) row) x) child
     cell-more (dictionary t ordered id k) p zero row below h = absurd (omega (arith, below))
     cell-more (dictionary t ordered id k) p (suc n) row below h = keyed-more m (found d id) (found d' id) (goes id) t id p (suc n) row below (sound_second (fixed_faults m p (byte_len (integer_width t)) (suc n)) _ (none_second _ _ h))
     cell-more (extension name metadata k) p n row below h = cell-more k p n row below h
     cell-more k p n row below h = refl
 
-    cell_in-more : (fs : Fields) (i : ℕ) (p : Place) (rows : Place → ℕ) (row : ℕ) → row < rows (place_in m fs i p) → child_faults m d fs p rows ≡ [] → cell_in m d' fs i p row ≡ cell_in m d fs i p row
+    cell_in-more : (fs : Fields) (i : ℕ) (p : Place) (rows : Place → ℕ) (row : ℕ) → (i < width fs → row < rows (place_in m fs i p)) → child_faults m d fs p rows ≡ [] → cell_in m d' fs i p row ≡ cell_in m d fs i p row
     cell_in-more none i p rows row below h = refl
-    cell_in-more (field name nullable metadata k others) zero p rows row below h = cell-more k p (rows p) row below (none_first _ _ h)
-    cell_in-more (field name nullable metadata k others) (suc i) p rows row below h = cell_in-more others i (after m k p) rows row below (sound_second _ _ (none_second _ _ h))
+    cell_in-more (field name nullable metadata k others) zero p rows row below h = cell-more k p (rows p) row (below (omega arith)) (none_first _ _ h)
+    cell_in-more (field name nullable metadata k others) (suc i) p rows row below h = cell_in-more others i (after m k p) rows row (λ less. below (omega (arith, less))) (sound_second _ _ (none_second _ _ h))
 
     row_of-more : (fs : Fields) (p : Place) (n row : ℕ) → row < n → child_faults m d fs p (λ q. n) ≡ [] → row_of m d' fs p row ≡ row_of m d fs p row
     row_of-more none p n row below h = refl

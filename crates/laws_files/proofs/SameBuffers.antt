@@ -13,13 +13,13 @@ use Rattle.arrow_spec.specs.declared.types.UnionMode.TheVariants.{Dense, Sparse}
 use Rattle.arrow_spec.specs.declared.types.IntervalUnit.TheVariants.{YearMonth, DayTime, MonthDayNano}
 use Rattle.arrow_spec.specs.declared.types.IntegerType.{IntegerType}
 use Rattle.arrow_spec.specs.Flat.{num}
-use Rattle.arrow_spec.specs.Kinds.{Kind, Fields, none, field, null, boolean, integer, float, date32, date64, time32, time64, timestamp, duration, interval, decimal, decimal256, binary, utf8, binary_view, utf8_view, fixed_size_binary, «list», fixed_size_list, struct, map as map_of, union, dictionary, extension, Offsets, small}
+use Rattle.arrow_spec.specs.Kinds.{Kind, Fields, none, field, width, null, boolean, integer, float, date32, date64, time32, time64, timestamp, duration, interval, decimal, decimal256, binary, utf8, binary_view, utf8_view, fixed_size_binary, «list», fixed_size_list, struct, map as map_of, union, dictionary, extension, Offsets, small}
 use Rattle.arrow_spec.specs.Counts.{RecordBatch, Place, magnitude, is_negative, inside, after, union_buffers, count_at}
 use Rattle.arrow_spec.specs.Cells as cells
 use Rattle.arrow_spec.specs.Cells.{Cell, cells_of}
 use Rattle.arrow_spec.specs.Arrays.{Dictionaries, buf, bit, or_0, valid, has_nulls, range_of, offset_width, offset, unsigned_in, signed_in, integer_in, is_unsigned, row_bytes, u32_of, view_of, view_bytes, integer_width, found, types_buffer, id_place, node_of, if_valid, keyed, from_on, part_of_row, number_in}
 use Rattle.arrow_spec.specs.ArrayCells.{cell, cell_in, row_of}
-use Rattle.arrow_spec.specs.Faults.{cause, if_sound, some_row, some_valid_row, node_faults, range_causes, range_faults, bitmap_faults, validity_faults, numbers_faults, fixed_faults, offsets_buffer_faults, offsets_faults, bytes_faults, utf8_faults, is_good_view, ranges_faults, data_faults, view_parts_faults, bad_view_faults, views_faults, is_no_text_view, view_text_faults, key_faults, is_no_id, place_in, is_bad_row, dense_buffer_faults, dense_faults, union_faults, flat_faults, array_faults, child_faults, view_count_faults}
+use Rattle.arrow_spec.specs.Faults.{cause, if_sound, some_row, some_valid_row, node_faults, range_causes, range_faults, bitmap_faults, validity_faults, numbers_faults, fixed_faults, offsets_buffer_faults, offsets_faults, bytes_faults, utf8_faults, is_good_view, ranges_faults, data_faults, view_parts_faults, bad_view_faults, views_faults, is_no_text_view, view_text_faults, key_faults, is_no_id, place_in, end_of, is_bad_row, dense_buffer_faults, dense_faults, union_faults, flat_faults, array_faults, child_faults, view_count_faults}
 use Rattle.arrow_spec.specs.Needed.{looked_at, looked_at_in, validity_looked_at, union_looked_at, numbers_from}
 use Rattle.arrow_spec.proofs.Fewer.{dense_row, fixed_row, row_offset, none_first, none_second, sound_second, cause-none, some_row-none}
 
@@ -217,7 +217,7 @@ place_in-same m b (field name nullable metadata k others) (suc i) p = place_in-s
 
 is_bad_row-same : (m : RecordBatch) (b : List ℕ) (fs : Fields) (p : Place) (i : Option ℕ) (at : ℤ) → is_bad_row (with_body m b) fs p i at ≡ is_bad_row m fs p i at
 is_bad_row-same m b fs p None at = refl
-is_bad_row-same m b fs p (Some i) at = ap (λ q. is_negative at || nat_le (magnitude (node_of m q.node).length) (magnitude at)) (place_in-same m b fs i p)
+is_bad_row-same m b fs p (Some i) at = ap (λ q. is_negative at || nat_le (end_of m q.node) (magnitude at)) (place_in-same m b fs i p)
 
 dense_buffer_faults-same : (m : RecordBatch) (b : List ℕ) (mode : UnionMode) (p : Place) (rows : ℕ) → length b ≡ length m.body → dense_buffer_faults (with_body m b) mode p rows ≡ dense_buffer_faults m mode p rows
 dense_buffer_faults-same m b Sparse p rows len = refl
@@ -333,7 +333,7 @@ mutual
       let parts = same_second m b (validity_looked_at m p) _ h in
       let children : child_faults (with_body m b) d' fs (inside 2 p) (λ q. offset (with_body m b) o (p.buffer + 1) (suc n)) ≡ child_faults m d fs (inside 2 p) (λ q. offset m o (p.buffer + 1) (suc n)) =
       ap (λ x. child_faults (with_body m b) d' fs (inside 2 p) (λ q. x)) (offset-same m b o (p.buffer + 1) (suc n) parts.0) ∙ child_faults-same m b d d' len same fs (inside 2 p) (λ q. offset m o (p.buffer + 1) (suc n)) parts.1 in
-      nested (node_faults-same m b p (suc n)) (validity_faults-same m b p (suc n) len) (numbers_faults-same m b (p.buffer + 1) (byte_len (offset_width o)) (suc (suc n)) len) (offsets_faults-same m b o (p.buffer + 1) (suc n) (magnitude (node_of m (suc p.node)).length) parts.0) children
+      nested (node_faults-same m b p (suc n)) (validity_faults-same m b p (suc n) len) (numbers_faults-same m b (p.buffer + 1) (byte_len (offset_width o)) (suc (suc n)) len) (offsets_faults-same m b o (p.buffer + 1) (suc n) (end_of m (suc p.node)) parts.0) children
   array_faults-same m b d d' len same (map_of sorted fs) p zero h =
       let first = node_faults-same m b p 0 in
       let parts = same_second m b (validity_looked_at m p) _ h in
@@ -343,7 +343,7 @@ mutual
       let parts = same_second m b (validity_looked_at m p) _ h in
       let children : child_faults (with_body m b) d' fs (inside 2 p) (λ q. offset (with_body m b) small (p.buffer + 1) (suc n)) ≡ child_faults m d fs (inside 2 p) (λ q. offset m small (p.buffer + 1) (suc n)) =
       ap (λ x. child_faults (with_body m b) d' fs (inside 2 p) (λ q. x)) (offset-same m b small (p.buffer + 1) (suc n) parts.0) ∙ child_faults-same m b d d' len same fs (inside 2 p) (λ q. offset m small (p.buffer + 1) (suc n)) parts.1 in
-      nested (node_faults-same m b p (suc n)) (validity_faults-same m b p (suc n) len) (numbers_faults-same m b (p.buffer + 1) (byte_len (offset_width small)) (suc (suc n)) len) (offsets_faults-same m b small (p.buffer + 1) (suc n) (magnitude (node_of m (suc p.node)).length) parts.0) children
+      nested (node_faults-same m b p (suc n)) (validity_faults-same m b p (suc n) len) (numbers_faults-same m b (p.buffer + 1) (byte_len (offset_width small)) (suc (suc n)) len) (offsets_faults-same m b small (p.buffer + 1) (suc n) (end_of m (suc p.node)) parts.0) children
   array_faults-same m b d d' len same (union Sparse stated ids fs) p zero h =
       let parts = same_second m b (union_looked_at m Sparse p) _ h in
       joined (node_faults-same m b p 0) (child_faults-same m b d d' len same fs (inside (union_buffers m.version Sparse) p) (λ q. 0) parts)
@@ -444,24 +444,24 @@ mutual
   cell-same m b d d' same («list» o fs) p zero row below h none_wrong = absurd (omega (arith, below))
   cell-same m b d d' same («list» o fs) p (suc n) row below h none_wrong =
       let parts = same_second m b (validity_looked_at m p) _ h in
-      let inner : offsets_faults m o (p.buffer + 1) (suc n) (magnitude (node_of m (suc p.node)).length) ++ child_faults m d fs (inside 2 p) (λ q. offset m o (p.buffer + 1) (suc n)) ≡ [] = sound_second (offsets_buffer_faults m o (p.buffer + 1) (suc n)) _ (none_second (node_faults m p (suc n) ++ validity_faults m p (suc n)) _ none_wrong) in
+      let inner : offsets_faults m o (p.buffer + 1) (suc n) (end_of m (suc p.node)) ++ child_faults m d fs (inside 2 p) (λ q. offset m o (p.buffer + 1) (suc n)) ≡ [] = sound_second (offsets_buffer_faults m o (p.buffer + 1) (suc n)) _ (none_second (node_faults m p (suc n) ++ validity_faults m p (suc n)) _ none_wrong) in
       let at = offset-same m b o (p.buffer + 1) row parts.0 in
       let to = offset-same m b o (p.buffer + 1) (suc row) parts.0 in
       let children = from_on-same (λ j. cell_in (with_body m b) d' fs 0 (inside 2 p) j) (λ j. cell_in m d fs 0 (inside 2 p) j) (offset m o (p.buffer + 1) row) (offset m o (p.buffer + 1) (suc row) - offset m o (p.buffer + 1) row)
-      (λ j above j_below. cell_in-same m b d d' same fs 0 (inside 2 p) (λ q. offset m o (p.buffer + 1) (suc n)) j (row_offset m o (p.buffer + 1) (suc n) row (magnitude (node_of m (suc p.node)).length) below (none_first _ _ inner) j j_below) parts.1 (none_second _ _ inner)) in
+      (λ j above j_below. cell_in-same m b d d' same fs 0 (inside 2 p) (λ q. offset m o (p.buffer + 1) (suc n)) j (λ _. row_offset m o (p.buffer + 1) (suc n) row (end_of m (suc p.node)) below (none_first _ _ inner) j j_below) parts.1 (none_second _ _ inner)) in
       if_valid-same m b p row _ _ (same_first m b (validity_looked_at m p) _ h) (λ is. rw (at, to) (ap (λ xs. cells.«list» (cells_of xs)) children))
   cell-same m b d d' same (map_of sorted fs) p zero row below h none_wrong = absurd (omega (arith, below))
   cell-same m b d d' same (map_of sorted fs) p (suc n) row below h none_wrong =
       let parts = same_second m b (validity_looked_at m p) _ h in
-      let inner : offsets_faults m small (p.buffer + 1) (suc n) (magnitude (node_of m (suc p.node)).length) ++ child_faults m d fs (inside 2 p) (λ q. offset m small (p.buffer + 1) (suc n)) ≡ [] = sound_second (offsets_buffer_faults m small (p.buffer + 1) (suc n)) _ (none_second (node_faults m p (suc n) ++ validity_faults m p (suc n)) _ none_wrong) in
+      let inner : offsets_faults m small (p.buffer + 1) (suc n) (end_of m (suc p.node)) ++ child_faults m d fs (inside 2 p) (λ q. offset m small (p.buffer + 1) (suc n)) ≡ [] = sound_second (offsets_buffer_faults m small (p.buffer + 1) (suc n)) _ (none_second (node_faults m p (suc n) ++ validity_faults m p (suc n)) _ none_wrong) in
       let at = offset-same m b small (p.buffer + 1) row parts.0 in
       let to = offset-same m b small (p.buffer + 1) (suc row) parts.0 in
       let children = from_on-same (λ j. cell_in (with_body m b) d' fs 0 (inside 2 p) j) (λ j. cell_in m d fs 0 (inside 2 p) j) (offset m small (p.buffer + 1) row) (offset m small (p.buffer + 1) (suc row) - offset m small (p.buffer + 1) row)
-      (λ j above j_below. cell_in-same m b d d' same fs 0 (inside 2 p) (λ q. offset m small (p.buffer + 1) (suc n)) j (row_offset m small (p.buffer + 1) (suc n) row (magnitude (node_of m (suc p.node)).length) below (none_first _ _ inner) j j_below) parts.1 (none_second _ _ inner)) in
+      (λ j above j_below. cell_in-same m b d d' same fs 0 (inside 2 p) (λ q. offset m small (p.buffer + 1) (suc n)) j (λ _. row_offset m small (p.buffer + 1) (suc n) row (end_of m (suc p.node)) below (none_first _ _ inner) j j_below) parts.1 (none_second _ _ inner)) in
       if_valid-same m b p row _ _ (same_first m b (validity_looked_at m p) _ h) (λ is. rw (at, to) (ap (λ xs. cells.«list» (cells_of xs)) children))
   cell-same m b d d' same (fixed_size_list size fs) p n row below h none_wrong =
       let children = from_on-same (λ j. cell_in (with_body m b) d' fs 0 (inside 1 p) j) (λ j. cell_in m d fs 0 (inside 1 p) j) (size * row) size
-      (λ j above j_below. cell_in-same m b d d' same fs 0 (inside 1 p) (λ q. size * n) j (fixed_row size n row j below j_below) (same_second m b (validity_looked_at m p) _ h) (none_second _ _ none_wrong)) in
+      (λ j above j_below. cell_in-same m b d d' same fs 0 (inside 1 p) (λ q. size * n) j (λ _. fixed_row size n row j below j_below) (same_second m b (validity_looked_at m p) _ h) (none_second _ _ none_wrong)) in
       if_valid-same m b p row _ _ (same_first m b (validity_looked_at m p) _ h) (λ is. ap (λ xs. cells.«list» (cells_of xs)) children)
   cell-same m b d d' same (struct fs) p n row below h none_wrong = if_valid-same m b p row _ _ (same_first m b (validity_looked_at m p) _ h) (λ is. ap cells.struct (row_of-same m b d d' same fs (inside 1 p) n row below (same_second m b (validity_looked_at m p) _ h) (none_second _ _ none_wrong)))
   cell-same m b d d' same (union Sparse stated ids fs) p zero row below h none_wrong = absurd (omega (arith, below))
@@ -469,7 +469,7 @@ mutual
       let q = inside (union_buffers m.version Sparse) p in
       let own = same_first m b (union_looked_at m Sparse p) _ h in
       let tag = signed_in-same m b w8 (types_buffer m p) row own.0 in
-      let child = cell_in-same m b d d' same fs (or_0 (id_place ids (signed_in m w8 (types_buffer m p) row))) q (λ x. suc n) row below (same_second m b (union_looked_at m Sparse p) _ h) (none_second _ _ none_wrong) in
+      let child = cell_in-same m b d d' same fs (or_0 (id_place ids (signed_in m w8 (types_buffer m p) row))) q (λ x. suc n) row (λ _. below) (same_second m b (union_looked_at m Sparse p) _ h) (none_second _ _ none_wrong) in
       ap (λ z. cells.tagged z (cell_in (with_body m b) d' fs (or_0 (id_place ids z)) q row)) tag ∙ ap (λ x. cells.tagged (signed_in m w8 (types_buffer m p) row) x) child
   cell-same m b d d' same (union Dense stated ids fs) p zero row below h none_wrong = absurd (omega (arith, below))
   cell-same m b d d' same (union Dense stated ids fs) p (suc n) row below h none_wrong =
@@ -480,17 +480,17 @@ mutual
       let tests = union_tests m Dense ids fs p (suc n) (none_second _ _ (none_first _ _ none_wrong)) in
       let is_one = some_row-none (λ k. is_no_id (id_place ids (signed_in m w8 (types_buffer m p) k))) (suc n) row (cause-none _ _ (none_first _ _ tests)) below in
       let is_row = some_row-none (λ k. is_bad_row m fs q (id_place ids (signed_in m w8 (types_buffer m p) k)) (signed_in m w32 (suc (types_buffer m p)) k)) (suc n) row (cause-none _ _ (none_second _ _ tests)) below in
-      let child = cell_in-same m b d d' same fs (or_0 (id_place ids (signed_in m w8 (types_buffer m p) row))) q (λ x. magnitude (node_of m x.node).length) (offset m small (suc (types_buffer m p)) row) (dense_row m fs q _ _ is_one is_row) (same_second m b (union_looked_at m Dense p) _ h) (none_second _ _ none_wrong) in
+      let child = cell_in-same m b d d' same fs (or_0 (id_place ids (signed_in m w8 (types_buffer m p) row))) q (λ x. magnitude (node_of m x.node).length) (offset m small (suc (types_buffer m p)) row) (dense_row m d fs q (λ x. magnitude (node_of m x.node).length) _ _ is_one is_row (none_second _ _ none_wrong)) (same_second m b (union_looked_at m Dense p) _ h) (none_second _ _ none_wrong) in
       ap (λ z. cells.tagged z (cell_in (with_body m b) d' fs (or_0 (id_place ids z)) q (offset (with_body m b) small (suc (types_buffer m p)) row))) tag
       ∙ ap (λ x. cells.tagged (signed_in m w8 (types_buffer m p) row) (cell_in (with_body m b) d' fs (or_0 (id_place ids (signed_in m w8 (types_buffer m p) row))) q x)) at
       ∙ ap (λ x. cells.tagged (signed_in m w8 (types_buffer m p) row) x) child
   cell-same m b d d' same (dictionary t ordered id k) p n row below h none_wrong = if_valid-same m b p row _ _ (same_first m b (validity_looked_at m p) _ h) (λ is. ap (λ xs. keyed xs (integer_in (with_body m b) t (p.buffer + 1) row)) (same id) ∙ ap (λ z. keyed (found d id) z) (integer_in-same m b t (p.buffer + 1) row (same_second m b (validity_looked_at m p) _ h).0))
   cell-same m b d d' same (extension name metadata k) p n row below h none_wrong = cell-same m b d d' same k p n row below h none_wrong
 
-  pub cell_in-same : (m : RecordBatch) (b : List ℕ) (d d' : Dictionaries) → SameCells d d' → (fs : Fields) (i : ℕ) (p : Place) (rows : Place → ℕ) (row : ℕ) → row < rows (place_in m fs i p) → AreSame m b (looked_at_in m fs p) → child_faults m d fs p rows ≡ [] → cell_in (with_body m b) d' fs i p row ≡ cell_in m d fs i p row
+  pub cell_in-same : (m : RecordBatch) (b : List ℕ) (d d' : Dictionaries) → SameCells d d' → (fs : Fields) (i : ℕ) (p : Place) (rows : Place → ℕ) (row : ℕ) → (i < width fs → row < rows (place_in m fs i p)) → AreSame m b (looked_at_in m fs p) → child_faults m d fs p rows ≡ [] → cell_in (with_body m b) d' fs i p row ≡ cell_in m d fs i p row
   cell_in-same m b d d' same none i p rows row below h none_wrong = refl
-  cell_in-same m b d d' same (field name nullable metadata k others) zero p rows row below h none_wrong = cell-same m b d d' same k p (rows p) row below (same_first m b (looked_at m k p) _ h) (none_first _ _ none_wrong)
-  cell_in-same m b d d' same (field name nullable metadata k others) (suc i) p rows row below h none_wrong = cell_in-same m b d d' same others i (after m k p) rows row below (same_second m b (looked_at m k p) _ h) (sound_second _ _ (none_second _ _ none_wrong))
+  cell_in-same m b d d' same (field name nullable metadata k others) zero p rows row below h none_wrong = cell-same m b d d' same k p (rows p) row (below (omega arith)) (same_first m b (looked_at m k p) _ h) (none_first _ _ none_wrong)
+  cell_in-same m b d d' same (field name nullable metadata k others) (suc i) p rows row below h none_wrong = cell_in-same m b d d' same others i (after m k p) rows row (λ less. below (omega (arith, less))) (same_second m b (looked_at m k p) _ h) (sound_second _ _ (none_second _ _ none_wrong))
 
   pub row_of-same : (m : RecordBatch) (b : List ℕ) (d d' : Dictionaries) → SameCells d d' → (fs : Fields) (p : Place) (n row : ℕ) → row < n → AreSame m b (looked_at_in m fs p) → child_faults m d fs p (λ q. n) ≡ [] → row_of (with_body m b) d' fs p row ≡ row_of m d fs p row
   row_of-same m b d d' same none p n row below h none_wrong = refl

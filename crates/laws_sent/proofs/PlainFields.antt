@@ -1,12 +1,12 @@
 -- Fields without the ids of their dictionaries: what is the same of fields whatever ids they have, and which fields are asked for of a schema.
 use Rattle.std.proofs.Common.{◌≡◌, ℕ, zero, suc, ◌+◌, List, [], ◌∷◌, Option, Some, None, ℤ, pos, refl, sym, ap, ◌∙◌}
-use Rattle.std.specs.Prelude.{slice_get}
+use Rattle.std.specs.Prelude.{◌&&◌, slice_get}
 use Rattle.arrow_spec.specs.Files.{fields_as_asked, fields_asked, with_field_at}
 use Rattle.arrow_spec.specs.Kinds as kind
 use Rattle.arrow_spec.specs.Kinds.{Kind, Fields, none, field, dictionary_count, dictionary_counts, numbered, numbered_kind}
-use Rattle.arrow_spec.specs.Regular.{is_no_dictionary}
+use Rattle.arrow_spec.specs.Regular.{is_no_dictionary, is_size}
 use Rattle.arrow_types.specs.Schemas.{Keyed, fields_in}
-use Rattle.laws_writers.specs.Below.{are_apart, is_apart}
+use Rattle.laws_writers.specs.Below.{all_representable, is_representable}
 use Rattle.ipc_fields.specs.IpcFields.{Ids, no_fields, ids, fields_with, kind_with}
 use Rattle.ipc_read_laws.proofs.PlainTypes.{plain_fields_with}
 use Rattle.ipc_read_laws.specs.PlainKinds.{plain_fields, plain_kind}
@@ -68,29 +68,29 @@ mutual
 pub same_with : (fs gs : Fields) → plain_fields fs ≡ plain_fields gs → (below : Ids) → fields_with fs below ≡ fields_with gs below
 same_with fs gs h below = sym (fields_plain fs below) ∙ ap (λ hs. fields_with hs below) h ∙ fields_plain gs below
 
--- ── their dictionaries stand apart alike ──
+-- ── the tables of a schema can say them alike ──
 
 dictionary_plain : (k : Kind) → is_no_dictionary (plain_kind k) ≡ is_no_dictionary k
 dictionary_plain (kind.dictionary t ordered id k) = refl
 dictionary_plain k = refl
 
 mutual
-  apart_plain : (k : Kind) → is_apart (plain_kind k) ≡ is_apart k
-  apart_plain (kind.«list» o fs) = all_apart_plain fs
-  apart_plain (kind.fixed_size_list n fs) = all_apart_plain fs
-  apart_plain (kind.struct fs) = all_apart_plain fs
-  apart_plain (kind.map sorted fs) = all_apart_plain fs
-  apart_plain (kind.union mode stated types fs) = all_apart_plain fs
-  apart_plain (kind.dictionary t ordered id k) = rw (dictionary_plain k, apart_plain k) refl
-  apart_plain (kind.extension name metadata k) = rw (dictionary_plain k, apart_plain k) refl
-  apart_plain k = refl
+  representable_plain : (k : Kind) → is_representable (plain_kind k) ≡ is_representable k
+  representable_plain (kind.«list» o fs) = all_representable_plain fs
+  representable_plain (kind.fixed_size_list n fs) = ap (λ b. is_size n && b) (all_representable_plain fs)
+  representable_plain (kind.struct fs) = all_representable_plain fs
+  representable_plain (kind.map sorted fs) = all_representable_plain fs
+  representable_plain (kind.union mode stated types fs) = all_representable_plain fs
+  representable_plain (kind.dictionary t ordered id k) = rw (dictionary_plain k, representable_plain k) refl
+  representable_plain (kind.extension name metadata k) = rw (dictionary_plain k, representable_plain k) refl
+  representable_plain k = refl
 
-  all_apart_plain : (fs : Fields) → are_apart (plain_fields fs) ≡ are_apart fs
-  all_apart_plain none = refl
-  all_apart_plain (field name nullable metadata k fs) = rw (apart_plain k, all_apart_plain fs) refl
+  all_representable_plain : (fs : Fields) → all_representable (plain_fields fs) ≡ all_representable fs
+  all_representable_plain none = refl
+  all_representable_plain (field name nullable metadata k fs) = rw (representable_plain k, all_representable_plain fs) refl
 
-pub same_apart : (fs gs : Fields) → plain_fields fs ≡ plain_fields gs → are_apart fs ≡ are_apart gs
-same_apart fs gs h = sym (all_apart_plain fs) ∙ ap are_apart h ∙ all_apart_plain gs
+pub same_representable : (fs gs : Fields) → plain_fields fs ≡ plain_fields gs → all_representable fs ≡ all_representable gs
+same_representable fs gs h = sym (all_representable_plain fs) ∙ ap all_representable h ∙ all_representable_plain gs
 
 -- ── those that are asked for ──
 

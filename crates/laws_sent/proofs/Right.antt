@@ -8,7 +8,7 @@ use Rattle.arrow_spec.specs.declared.error.OutOfSpecKind.TheVariants.{InvalidIdD
 use Rattle.arrow_spec.specs.Kinds as kind
 use Rattle.arrow_spec.specs.Kinds.{Kind, Fields, Use, agrees_with, have_same_kinds, is_same_kind, same, uses_in, uses_of, values_under}
 use Rattle.arrow_spec.specs.Readings.{Reading, is_absent, only_if, ◌>>=◌}
-use Rattle.arrow_spec.specs.Regular.{is_no_dictionary}
+use Rattle.arrow_spec.specs.Regular.{is_no_dictionary, is_size}
 use Rattle.arrow_spec.specs.Schema.{uses_agree}
 use Rattle.arrow_types.specs.Schemas.{Keyed, fields_in}
 use Rattle.arrow_arrays.specs.Parts.{Parts, forest, kind_in}
@@ -17,7 +17,7 @@ use Rattle.ipc_fields.specs.IpcFields as fields
 use Rattle.ipc_fields.specs.Uses.{id_under, use_as}
 use Rattle.arrow_spec.proofs.Forms.{form, forms}
 use Rattle.ipc_fields.proofs.SameKinds.{form_is_same, same_by_form, same_itself}
-use Rattle.laws_writers.specs.Below.{columns_of, are_apart, is_apart}
+use Rattle.laws_writers.specs.Below.{columns_of, all_representable, is_representable}
 use Rattle.ipc_files.specs.Below.{kinds_of}
 use Rattle.laws_sent.specs.DictionaryLaws.{ColumnsAreRight}
 
@@ -73,19 +73,19 @@ no_dictionary_form (kind.dictionary t ordered id k) = refl
 no_dictionary_form k = refl
 
 mutual
-  apart_form : (k : Kind) → is_apart (form k) ≡ is_apart k
-  apart_form (kind.«list» o fs) = aparts_form fs
-  apart_form (kind.fixed_size_list n fs) = aparts_form fs
-  apart_form (kind.struct fs) = aparts_form fs
-  apart_form (kind.map sorted fs) = aparts_form fs
-  apart_form (kind.union mode stated types fs) = aparts_form fs
-  apart_form (kind.dictionary t ordered id k) = rw (no_dictionary_form k, apart_form k) refl
-  apart_form (kind.extension name metadata k) = rw (no_dictionary_form k, apart_form k) refl
-  apart_form k = refl
+  representable_form : (k : Kind) → is_representable (form k) ≡ is_representable k
+  representable_form (kind.«list» o fs) = all_representable_form fs
+  representable_form (kind.fixed_size_list n fs) = ap (λ b. is_size n && b) (all_representable_form fs)
+  representable_form (kind.struct fs) = all_representable_form fs
+  representable_form (kind.map sorted fs) = all_representable_form fs
+  representable_form (kind.union mode stated types fs) = all_representable_form fs
+  representable_form (kind.dictionary t ordered id k) = rw (no_dictionary_form k, representable_form k) refl
+  representable_form (kind.extension name metadata k) = rw (no_dictionary_form k, representable_form k) refl
+  representable_form k = refl
 
-  aparts_form : (fs : Fields) → are_apart (forms fs) ≡ are_apart fs
-  aparts_form kind.none = refl
-  aparts_form (kind.field name nullable metadata k fs) = rw (apart_form k, aparts_form fs) refl
+  all_representable_form : (fs : Fields) → all_representable (forms fs) ≡ all_representable fs
+  all_representable_form kind.none = refl
+  all_representable_form (kind.field name nullable metadata k fs) = rw (representable_form k, all_representable_form fs) refl
 
 -- ── their uses ──
 
@@ -159,12 +159,12 @@ kinds_of_schema (q ∷ qs) (p ∷ ps) e =
 
 -- they have no fault
 pub columns_right : ColumnsAreRight
-columns_right fs below columns same shapes agree apart =
+columns_right fs below columns same shapes agree representable =
     let gs = columns_of columns in
     let structs : kind.struct (forms fs) ≡ kind.struct (forms gs) = form_is_same (kind.struct fs) (kind.struct gs) same in
     let one : forms gs ≡ forms fs = cc in
     let shaped : have_shapes gs below ≡ true = sym (shapes_form gs below) ∙ ap (λ hs. have_shapes hs below) one ∙ shapes_form fs below ∙ shapes in
-    let stand : are_apart gs ≡ true = sym (aparts_form gs) ∙ ap are_apart one ∙ aparts_form fs ∙ apart in
+    let stand : all_representable gs ≡ true = sym (all_representable_form gs) ∙ ap all_representable one ∙ all_representable_form fs ∙ representable in
     let uses : map use_form (uses_in (fields_with gs below)) ≡ map use_form (uses_in (fields_with fs below)) =
     all_uses_form (fields_with gs below) ∙ ap uses_in (with_forms gs below ∙ ap (λ hs. fields_with hs below) one ∙ sym (with_forms fs below)) ∙ sym (all_uses_form (fields_with fs below)) in
     let agreed : uses_agree [] (uses_in (fields_with gs below)) ≡ Ok tt = sym (agree_form [] (uses_in (fields_with gs below))) ∙ ap (uses_agree []) uses ∙ agree_form [] (uses_in (fields_with fs below)) ∙ agree in

@@ -1,4 +1,4 @@
--- Fields that may be written: they can be said under ids that count from 0, their dictionaries stand apart, and their pairs are their own.
+-- Fields that may be written: the tables of a schema can say them, also under ids that count from 0, and their pairs are their own.
 use Rattle.std.proofs.Common.{◌≡◌, ℕ, zero, suc, ◌^◌, ◌<◌, List, [], ◌∷◌, length, Bool, true, false, ◌&&◌, ◌||◌, refl, sym, ap, ◌∙◌, arith}
 use Rattle.std.specs.Prelude.{ℤ, pos, negsuc, nat_eq, nat_lt, FitsSigned}
 use Rattle.std.specs.Int.{w64}
@@ -10,7 +10,7 @@ use Rattle.arrow_spec.specs.Regular.{is_dictionary_id, is_no_dictionary, is_repr
 use Rattle.arrow_spec.specs.WrittenSchemas.{AreIds, AreStated, FieldsFit, IdsMayBeWritten, KindFits, Part, SchemaMayBeWritten, of_dictionary, of_extension, of_field, own_fields, own_kind}
 use Rattle.arrow_spec.proofs.ExtensionPairs.{own_same}
 use Rattle.arrow_spec.proofs.NumberedFields.{numbered_may}
-use Rattle.laws_writers.specs.Below.{are_apart, is_apart}
+use Rattle.laws_writers.specs.Below.{all_representable, is_representable}
 use Rattle.ipc_fields.specs.IpcFields.{is_encoded}
 use Rattle.ipc_fields.proofs.KindSteps.{ids_equal}
 use Rattle.ipc_read_laws.proofs.HeldUses.{split}
@@ -40,7 +40,10 @@ mutual
   fields_own zero (field name nullable metadata k others) fit = absurd fit
   fields_own (suc levels) (field name nullable metadata k others) fit = rw (own_same metadata fit.1, kind_own of_field levels k fit.2, fields_own (suc levels) others fit.3) refl
 
--- ── their dictionaries stand apart ──
+-- ── the tables of a schema can say them ──
+
+is_small : (n : ℕ) → n < 2 ^ 31 → is_size n ≡ true
+is_small n h = grind arith
 
 -- below a field no dictionary stands directly in a dictionary or an extension
 no_dictionary : (at : Part) (levels : ℕ) (k : Kind) → (at ≡ of_field → ⊥) → KindFits at levels k → is_no_dictionary k ≡ true
@@ -50,54 +53,54 @@ no_dictionary of_extension levels (kind.dictionary t ordered old k) inside fit =
 no_dictionary at levels k inside fit = refl
 
 mutual
-  kind_apart : (at : Part) (levels : ℕ) (k : Kind) → KindFits at levels k → is_apart k ≡ true
-  kind_apart at levels (kind.«list» o fs) fit = fields_apart levels fs fit.1
-  kind_apart at levels (kind.fixed_size_list n fs) fit = fields_apart levels fs fit.3
-  kind_apart at levels (kind.struct fs) fit = fields_apart levels fs fit
-  kind_apart at levels (kind.map sorted fs) fit = fields_apart levels fs fit.2
-  kind_apart at levels (kind.union mode stated types fs) fit = fields_apart levels fs fit.2
-  kind_apart of_field levels (kind.dictionary t ordered id k) fit = rw (no_dictionary of_dictionary levels k (λ e. cc) fit) (kind_apart of_dictionary levels k fit)
-  kind_apart of_dictionary levels (kind.dictionary t ordered id k) fit = absurd fit
-  kind_apart of_extension levels (kind.dictionary t ordered id k) fit = absurd fit
-  kind_apart of_field levels (kind.extension name metadata k) fit = rw (no_dictionary of_extension levels k (λ e. cc) fit.2) (kind_apart of_extension levels k fit.2)
-  kind_apart of_dictionary levels (kind.extension name metadata k) fit = rw (no_dictionary of_extension levels k (λ e. cc) fit.2) (kind_apart of_extension levels k fit.2)
-  kind_apart of_extension levels (kind.extension name metadata k) fit = absurd fit
-  kind_apart at levels k fit = refl
+  kind_representable : (at : Part) (levels : ℕ) (k : Kind) → KindFits at levels k → is_representable k ≡ true
+  kind_representable at levels (kind.decimal p s) fit = and_from (is_size p) (is_size s) (is_small p fit.0) (is_small s fit.1)
+  kind_representable at levels (kind.decimal256 p s) fit = and_from (is_size p) (is_size s) (is_small p fit.0) (is_small s fit.1)
+  kind_representable at levels (kind.fixed_size_binary n) fit = is_small n fit.1
+  kind_representable at levels (kind.«list» o fs) fit = fields_representable levels fs fit.1
+  kind_representable at levels (kind.fixed_size_list n fs) fit = and_from (is_size n) (all_representable fs) (is_small n fit.2) (fields_representable levels fs fit.3)
+  kind_representable at levels (kind.struct fs) fit = fields_representable levels fs fit
+  kind_representable at levels (kind.map sorted fs) fit = fields_representable levels fs fit.2
+  kind_representable at levels (kind.union mode stated types fs) fit = fields_representable levels fs fit.2
+  kind_representable of_field levels (kind.dictionary t ordered id k) fit = rw (no_dictionary of_dictionary levels k (λ e. cc) fit) (kind_representable of_dictionary levels k fit)
+  kind_representable of_dictionary levels (kind.dictionary t ordered id k) fit = absurd fit
+  kind_representable of_extension levels (kind.dictionary t ordered id k) fit = absurd fit
+  kind_representable of_field levels (kind.extension name metadata k) fit = rw (no_dictionary of_extension levels k (λ e. cc) fit.2) (kind_representable of_extension levels k fit.2)
+  kind_representable of_dictionary levels (kind.extension name metadata k) fit = rw (no_dictionary of_extension levels k (λ e. cc) fit.2) (kind_representable of_extension levels k fit.2)
+  kind_representable of_extension levels (kind.extension name metadata k) fit = absurd fit
+  kind_representable at levels k fit = refl
 
-  pub fields_apart : (levels : ℕ) (fs : Fields) → FieldsFit levels fs → are_apart fs ≡ true
-  fields_apart levels none fit = refl
-  fields_apart zero (field name nullable metadata k others) fit = absurd fit
-  fields_apart (suc levels) (field name nullable metadata k others) fit = and_from (is_apart k) (are_apart others) (kind_apart of_field levels k fit.2) (fields_apart (suc levels) others fit.3)
+  pub fields_representable : (levels : ℕ) (fs : Fields) → FieldsFit levels fs → all_representable fs ≡ true
+  fields_representable levels none fit = refl
+  fields_representable zero (field name nullable metadata k others) fit = absurd fit
+  fields_representable (suc levels) (field name nullable metadata k others) fit = and_from (is_representable k) (all_representable others) (kind_representable of_field levels k fit.2) (fields_representable (suc levels) others fit.3)
 
 -- so no dictionary's values are a dictionary behind extensions
-not_encoded : (k : Kind) → is_no_dictionary k ≡ true → is_apart k ≡ true → is_encoded k ≡ false
+not_encoded : (k : Kind) → is_no_dictionary k ≡ true → is_representable k ≡ true → is_encoded k ≡ false
 not_encoded (kind.dictionary t ordered id k) h a = cc
-not_encoded (kind.extension name metadata k) h a = let both = and_parts (is_no_dictionary k) (is_apart k) a in not_encoded k both.0 both.1
+not_encoded (kind.extension name metadata k) h a = let both = and_parts (is_no_dictionary k) (is_representable k) a in not_encoded k both.0 both.1
 not_encoded k h a = refl
 
 mutual
-  kind_numberable : (k : Kind) → is_apart k ≡ true → defaults.is_apart k ≡ true
+  kind_numberable : (k : Kind) → is_representable k ≡ true → defaults.is_apart k ≡ true
   kind_numberable (kind.«list» o fs) a = numberable fs a
-  kind_numberable (kind.fixed_size_list n fs) a = numberable fs a
+  kind_numberable (kind.fixed_size_list n fs) a = numberable fs (and_parts (is_size n) (all_representable fs) a).1
   kind_numberable (kind.struct fs) a = numberable fs a
   kind_numberable (kind.map sorted fs) a = numberable fs a
   kind_numberable (kind.union mode stated types fs) a = numberable fs a
   kind_numberable (kind.dictionary t ordered id k) a =
-      let both = and_parts (is_no_dictionary k) (is_apart k) a in
+      let both = and_parts (is_no_dictionary k) (is_representable k) a in
       rw (not_encoded k both.0 both.1) (kind_numberable k both.1)
-  kind_numberable (kind.extension name metadata k) a = kind_numberable k (and_parts (is_no_dictionary k) (is_apart k) a).1
+  kind_numberable (kind.extension name metadata k) a = kind_numberable k (and_parts (is_no_dictionary k) (is_representable k) a).1
   kind_numberable k a = refl
 
-  pub numberable : (fs : Fields) → are_apart fs ≡ true → defaults.are_apart fs ≡ true
+  pub numberable : (fs : Fields) → all_representable fs ≡ true → defaults.are_apart fs ≡ true
   numberable none a = refl
   numberable (field name nullable metadata k others) a =
-      let both = and_parts (is_apart k) (are_apart others) a in
+      let both = and_parts (is_representable k) (all_representable others) a in
       and_from (defaults.is_apart k) (defaults.are_apart others) (kind_numberable k both.0) (numberable others both.1)
 
--- ── what the tables of a schema can say ──
-
-is_small : (n : ℕ) → n < 2 ^ 31 → is_size n ≡ true
-is_small n h = grind arith
+-- ── with their ids ──
 
 is_id : (z : ℤ) → FitsSigned w64 z → is_dictionary_id z ≡ true
 is_id (pos n) h = le-leb n 9223372036854775807 (omega (arith, h.sfits))

@@ -8,7 +8,7 @@ use Rattle.arrow_spec.specs.WrittenSchemas.{SchemaMayBeWritten, own_fields}
 use Rattle.arrow_spec.proofs.NumberedFields.{bare_numbered, numbered_may, uses_numbered}
 use Rattle.arrow_arrays.specs.Carried.{are_carried}
 use Rattle.arrow_types.specs.Schemas.{Keyed, fields_in}
-use Rattle.laws_writers.specs.Below.{are_apart, SchemaIsSaid}
+use Rattle.laws_writers.specs.Below.{all_representable, SchemaIsSaid}
 use Rattle.ipc_fields.specs.IpcFields.{fields_with, ids_of}
 use Rattle.laws_transcode.specs.Files.{AreAsked, IsSendable, asked_schema}
 use Rattle.laws_transcode.proofs.AskedFloats.{floats_asked}
@@ -19,8 +19,8 @@ use Rattle.ipc_files.specs.declared.metadata.FileMetadata.{FileMetadata}
 use Rattle.ipc_read_laws.specs.PlainKinds.{plain_fields}
 use Rattle.laws_sent.specs.SchemaLaws.{FieldsAreSent}
 use Rattle.laws_sent.specs.SentFields.{AreReadable, fields_of}
-use Rattle.laws_sent.proofs.PlainFields.{asked_without_ids, same_apart, same_numbers, same_with}
-use Rattle.laws_sent.proofs.SayableFields.{fields_apart, fields_own, numberable}
+use Rattle.laws_sent.proofs.PlainFields.{asked_without_ids, same_representable, same_numbers, same_with}
+use Rattle.laws_sent.proofs.SayableFields.{fields_representable, fields_own, numberable}
 
 -- a stream takes the schema of the columns that are asked for as it is
 pub sendable : (file : FileMetadata) (columns : Option (List ℕ)) → columns_right columns (width (meta_view file).schema.fields) ≡ Ok tt → AreReadable (meta_view file) columns → WasRead file → IsSendable (asked_schema (meta_view file).schema columns)
@@ -48,8 +48,8 @@ are_sent_fields file columns s own w right readable asked ids =
     let pairs = (meta_view file).schema.metadata in
     let may = (sendable file columns right readable w).may in
     let plain = sent_plain file columns s asked in
-    let apart : are_apart fs ≡ true = same_apart fs gs plain ∙ fields_apart 64 gs may.fit in
-    let numbers : fields_with fs own ≡ numbered gs 0 = ids.ids (numberable fs apart) ∙ same_numbers fs gs plain 0 in
+    let representable : all_representable fs ≡ true = same_representable fs gs plain ∙ fields_representable 64 gs may.fit in
+    let numbers : fields_with fs own ≡ numbered gs 0 = ids.ids (numberable fs representable) ∙ same_numbers fs gs plain 0 in
     let said = sent_said gs pairs may in
     record {
       plain = plain;
@@ -57,7 +57,7 @@ are_sent_fields file columns s own w right readable asked ids =
       again = same_with gs fs (sym plain) own ∙ numbers;
       shapes = ids.shaped;
       agree = ap (λ hs. uses_agree [] (uses_in hs)) numbers ∙ uses_numbered gs;
-      apart = apart;
+      representable = representable;
       said = subst (λ hs. SchemaIsSaid hs pairs) (sym numbers) said.0;
       fields = ap (λ hs. bare (own_fields hs)) numbers ∙ ap bare said.1 ∙ bare_numbered gs 0;
     }

@@ -8,7 +8,7 @@ use Rattle.arrow_spec.specs.Schema.{uses_agree}
 use Rattle.arrow_arrays.specs.Carried.{are_carried}
 use Rattle.arrow_arrays.specs.Parts.{Forest, fault_each, rows_in}
 use Rattle.ipc_fields.specs.IpcFields.{Ids, fields_with, have_shapes}
-use Rattle.laws_writers.specs.Below.{columns_fault, columns_of, Options, Sending, ToSend, arrays_sent, are_apart}
+use Rattle.laws_writers.specs.Below.{columns_fault, columns_of, Options, Sending, ToSend, arrays_sent, all_representable}
 use Rattle.arrow_spec.specs.Sent.{SentMessage, dictionary_messages}
 use Rattle.ipc_read_laws.specs.Held.{Held}
 use Rattle.ipc_read_laws.specs.PlainKinds.{plain_fields}
@@ -49,10 +49,10 @@ abbrev pub FileDictionariesAreSent : Type 0
 FileDictionariesAreSent = (o : Options) (fs : Fields) (d : Dictionaries) (ps : List PartTree) (below : Ids) (columns : Forest) (s : Sending)
     → o.deltas ≡ true → AreFileColumns fs d ps below columns → ((id : ℤ) → s.held id ≡ None) → s.sent ≡ [] → SendsValues o fs d ps below columns s
 
--- Columns of the kinds of fields, whose ids have the fields' shape and agree, and of which no dictionary stands directly in another or in an extension, have no fault.
+-- Columns of the kinds of fields, whose ids have the fields' shape and agree, and which the tables of a schema can say, have no fault.
 abbrev pub ColumnsAreRight : Type 0
 ColumnsAreRight = (fs : Fields) (below : Ids) (columns : Forest) → have_same_kinds fs (columns_of columns) ≡ true → have_shapes fs below ≡ true
-    → uses_agree [] (uses_in (fields_with fs below)) ≡ Ok tt → are_apart fs ≡ true → columns_fault (columns_of columns) below ≡ None
+    → uses_agree [] (uses_in (fields_with fs below)) ≡ Ok tt → all_representable fs ≡ true → columns_fault (columns_of columns) below ≡ None
 
 -- Where the ids count from 0 in preorder and values may be replaced, no dictionary of such columns is refused for values under its id: none has the id of another, so that the batch has fixed none before.
 abbrev pub NoneIsReplaced : Type 0

@@ -5,7 +5,7 @@ use Rattle.arrow_spec.specs.Files.{Meta, fields_as_asked}
 use Rattle.arrow_spec.specs.Kinds.{Fields, bare, numbered, uses_in}
 use Rattle.arrow_spec.specs.Schema.{uses_agree}
 use Rattle.arrow_types.specs.Schemas.{Keyed, fields_in}
-use Rattle.laws_writers.specs.Below.{are_apart, SchemaIsSaid}
+use Rattle.laws_writers.specs.Below.{all_representable, SchemaIsSaid}
 use Rattle.ipc_fields.specs.IpcFields.{Ids, fields_with, have_shapes}
 use Rattle.ipc_read_laws.specs.PlainKinds.{plain_fields}
 use Rattle.laws_writers.specs.Written.{said_fields}
@@ -27,6 +27,6 @@ pub record AreSentFields (file : FileMetadata) (columns : Option (List ℕ)) (s 
   pub again : fields_with (fields_of file columns) own ≡ numbered (fields_of file columns) 0
   pub shapes : have_shapes (fields_in s) own ≡ true
   pub agree : uses_agree [] (uses_in (fields_with (fields_in s) own)) ≡ Ok tt
-  pub apart : are_apart (fields_in s) ≡ true
+  pub representable : all_representable (fields_in s) ≡ true
   pub said : SchemaIsSaid (fields_with (fields_in s) own) (meta_view file).schema.metadata
   pub fields : bare (said_fields (fields_in s) own) ≡ bare (fields_of file columns)

@@ -24,7 +24,7 @@ use Rattle.arrow_spec.specs.Cells.{Cell}
 use Rattle.arrow_spec.specs.Arrays.{Dictionaries, node_of, offset, range_of, range_or_none, valid}
 use Rattle.arrow_spec.specs.Faults.{array_faults, child_faults, cause, fixed_faults, is_big, node_causes, node_faults, numbers_faults, offsets_faults, range_faults, validity_faults, view_parts_faults, view_text_faults, views_faults}
 use Rattle.arrow_spec.specs.Columns.{columns_at, is_chosen, stands_in}
-use Rattle.arrow_spec.specs.Sent.{all_written, columns_written, compacted, compacted_written, needs_compaction, null_count, parts_written, top_views_written, top_written, view_length, views_written, written, written_as_asked, written_at, written_part}
+use Rattle.arrow_spec.specs.Sent.{all_written, columns_written, compacted, compacted_written, has_room, needs_compaction, null_count, parts_written, top_views_written, top_written, view_length, views_written, written, written_as_asked, written_at, written_part}
 use Rattle.arrow_spec.proofs.Fewer.{cause-none, none_first, none_second, offset-fewer, sound_first, sound_second}
 use Rattle.arrow_spec.proofs.MessageTables.{fits_pos}
 use Rattle.arrow_spec.specs.Bodies.{BufferFits, NodeFits}
@@ -226,7 +226,7 @@ compacted_few m p row begun (suc n) =
     let here : length (compacted m p (suc row) (begun + view_length m p row) n) ≤ suc (suc n) = omega (arith, compacted_few m p (suc row) (begun + view_length m p row) n) in
     let passed : length (compacted m p (suc row) begun n) ≤ suc (suc n) = omega (arith, compacted_few m p (suc row) begun n) in
     let new : length (begun ∷ compacted m p (suc row) (view_length m p row) n) ≤ suc (suc n) = omega (arith, compacted_few m p (suc row) (view_length m p row) n) in
-    if_few (nat_le (view_length m p row) 12) _ _ (suc (suc n)) passed (if_few (nat_le (begun + view_length m p row) 2147483647) _ _ (suc (suc n)) here new)
+    if_few (nat_le (view_length m p row) 12) _ _ (suc (suc n)) passed (if_few (has_room begun (view_length m p row)) _ _ (suc (suc n)) here new)
 
 if_fits : (b : Bool) (x y : Written) → WrittenFits x → WrittenFits y → WrittenFits (cond b x y)
 if_fits true x y h k = h

@@ -1,15 +1,20 @@
 -- Which schemas are regular, and which can be represented.
-use Rattle.std.proofs.Common.{◌≡◌, [], ◌∷◌, None, refl, true, false}
+use Rattle.std.proofs.Common.{◌≡◌, [], ◌∷◌, None, map, refl, true, false}
 use Rattle.std.specs.Prelude.{pos, negsuc, codes}
 use Rattle.arrow_spec.specs.declared.types.IntegerType.TheVariants.{Int32}
 use Rattle.arrow_spec.specs.declared.types.TimeUnit.TheVariants.{Second}
 use Rattle.arrow_spec.specs.declared.types.UnionMode.TheVariants.{Dense, Sparse}
 use Rattle.arrow_spec.specs.Kinds as kind
 use Rattle.arrow_spec.specs.Kinds.{Kind, Fields, none, field}
-use Rattle.arrow_spec.specs.Regular.{regular, representable}
+use Rattle.arrow_spec.specs.Regular.{fields_from, pairs_of_field, regular, representable}
+use Rattle.arrow_spec.specs.Schema.{extension_metadata, extension_name}
 
 abbrev pub one : Kind → Fields
 one k = field (codes "a") true [] k none
+
+-- a reserved key among a field's pairs is not written, and so not counted; the pair that an extension's name takes is
+pub reserved_pairs : map (λ f. pairs_of_field f) (fields_from 1 (field (codes "a") true ((extension_metadata, codes "m") ∷ (extension_name, codes "n") ∷ (codes "k", codes "v") ∷ []) kind.null (one (kind.extension (codes "e") None kind.null)))) ≡ 1 ∷ 1 ∷ []
+reserved_pairs = refl
 
 pub regular_list : regular (one (kind.«list» kind.small (one (kind.integer Int32)))) [] ≡ true
 regular_list = refl

@@ -70,6 +70,14 @@ pub views_laid_anew : top_written (viewed 26) kind.utf8_view first_place 1 ≡ r
 unfolding computed
 views_laid_anew = refl
 
+-- a value of 2^31 bytes stands in a buffer of its own, and no empty one stands before it
+abbrev pub long_viewed : RecordBatch
+long_viewed = record { order = little; version = V5; nodes = node 1 0 ∷ []; buffers = buffer 0 0 ∷ buffer 0 16 ∷ buffer 64 2147484672 ∷ []; variadic = pos 1 ∷ []; body = 0 ∷ 0 ∷ 0 ∷ 128 ∷ 97 ∷ 97 ∷ 97 ∷ 97 ∷ 0 ∷ 0 ∷ 0 ∷ 0 ∷ 0 ∷ 0 ∷ 0 ∷ 0 ∷ [] }
+
+pub long_view_laid_anew : top_written long_viewed kind.utf8_view first_place 1 ≡ record { nodes = node 1 0 ∷ []; lengths = 0 ∷ 16 ∷ 2147483648 ∷ []; views = 1 ∷ [] }
+unfolding computed
+long_view_laid_anew = refl
+
 -- a dictionary of structs that hold a dictionary of texts, under any ids
 abbrev pub nested_dictionaries : ℤ → ℤ → Fields
 nested_dictionaries outer inner = field (codes "s") true [] (kind.dictionary Int32 false outer (kind.struct (field (codes "d") true [] (kind.dictionary Int8 false inner (kind.utf8 small)) none))) none

@@ -4,7 +4,7 @@ use Rattle.std.specs.Prelude.{⊤, if◌then◌else◌, nat_le, not, ◌&&◌, i
 use Rattle.arrow_spec.specs.declared.error.IpcError.{IpcError}
 use Rattle.arrow_spec.specs.declared.error.IpcError.TheVariants as errors
 use Rattle.arrow_spec.specs.Kinds.{Fields, uses_in}
-use Rattle.ipc_messages.specs.Below.{Batch, indexed, Forest, Parts, also, forest, leaf, nested, none, rows_in, columns_fault, columns_of, columns_sent, unless_fault, Options, Sending, ToSend, has_several, holding, array_sent, arrays_sent, dictionary_sent, parts_sent, scoped, then_by, agree, are_apart, DictionaryTracker, Ids, fields_with, have_shapes, first_id, first_ids, other_ids}
+use Rattle.ipc_messages.specs.Below.{Batch, indexed, Forest, Parts, also, forest, leaf, nested, none, rows_in, columns_fault, columns_of, columns_sent, unless_fault, Options, Sending, ToSend, has_several, holding, array_sent, arrays_sent, dictionary_sent, parts_sent, scoped, then_by, agree, all_representable, DictionaryTracker, Ids, fields_with, have_shapes, first_id, first_ids, other_ids}
 use Rattle.ipc_messages.specs.Chunks.{RefusesChunk, Stops, found}
 use Rattle.ipc_messages.specs.Encoded.{RefusesOne}
 use Rattle.laws_columns.specs.Below.{Plans, PlansValues, WriteOptions}
@@ -83,7 +83,7 @@ chunk_refused d e options sent b (inr h) = of_chunk d (λ x. Plans (Err x) optio
 
 -- the faults that columns have
 pub fault_is : (fs : Fields) (below : Ids) (x : IpcError) → columns_fault fs below ≡ Some x → (x ≡ errors.SchemaMismatch) ⊎ (x ≡ errors.NotRepresentable)
-fault_is fs below x is = by (not (have_shapes fs below && agree (uses_in (fields_with fs below)))) (not (are_apart fs)) is
+fault_is fs below x is = by (not (have_shapes fs below && agree (uses_in (fields_with fs below)))) (not (all_representable fs)) is
   where
     by : (t q : Bool) → (if t then Some errors.SchemaMismatch else (if q then Some errors.NotRepresentable else None)) ≡ Some x → (x ≡ errors.SchemaMismatch) ⊎ (x ≡ errors.NotRepresentable)
     by true q k = let same : x ≡ errors.SchemaMismatch = cc in inl same

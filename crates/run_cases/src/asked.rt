@@ -1,6 +1,5 @@
 //! What is asked of bytes: `columns=LIST`, `limit=N` and `from=BLOCK` among the words of the bytes.
-use case_words::{Answer, counts};
-use device_words::{Names, add};
+use device_words::{Answer, Names, add, counts};
 
 /// What stands behind a name and an equals sign.
 fn option<'a>(words: &'a [&'a str], name: &str) -> Option<&'a str> {

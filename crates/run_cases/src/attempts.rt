@@ -1,8 +1,7 @@
 //! Runs whose device fails at its first call, its second and so on.
 use crate::groups::{Group, add};
 use crate::runs::{run_words, say_status};
-use case_words::{Answer, rest, word};
-use device_words::{NotingSink, Outside};
+use device_words::{Answer, NotingSink, Outside, rest, word};
 
 /// What a run puts whose device does not fail.
 fn whole(answer: &mut Answer, outside: &mut Outside, device: &str, words: &[&str]) -> NotingSink {

@@ -3,9 +3,9 @@ use crate::cuts::cut_each;
 use crate::readers::read;
 use crate::runs::{run_named, say_text};
 use crate::streams::{read_stream, transcode_words};
-use case_words::{Answer, Case, rest, word};
 use device_words::{
-    Names, NotingSink, Objects, Outside, bytes_of, call_sink, say_compared, say_sum,
+    Answer, Case, Names, NotingSink, Objects, Outside, bytes_of, call_sink, rest, say_compared,
+    say_sum, word,
 };
 use std::alloc::Global;
 

@@ -2,8 +2,7 @@
 use crate::asked::bytes;
 use crate::groups::{Group, add};
 use crate::streams::{read_bytes, transcode_bytes};
-use case_words::{Answer, rest, word};
-use device_words::{Names, NotingSink, Outside};
+use device_words::{Answer, Names, NotingSink, Outside, rest, word};
 
 /// The answer on the first bytes.
 fn answer_at(

@@ -1,5 +1,5 @@
 //! Answers in a row that are the same.
-use case_words::{Answer, text_of};
+use device_words::{Answer, text_of};
 
 /// Answers in a row with one text, and the least and the greatest of the numbers that stand with them.
 #[derive(Drop)]

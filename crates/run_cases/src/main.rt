@@ -12,7 +12,7 @@ mod shown;
 mod streams;
 
 use calls::Calls;
-use case_words::run_files;
+use device_words::run_files;
 use std::process::ExitCode;
 
 fn main(rt: HostRuntime) -> ExitCode {

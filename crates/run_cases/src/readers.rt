@@ -1,12 +1,10 @@
 //! Files that are read call by call, their footers, and counts of rows.
 use crate::asked::{bytes, columns, from, limit};
 use crate::shown::say_next;
-use case_words::{Answer, Fault, rest, word};
-use device_words::{Names, Outside};
-use ipc_schema::{IpcError, MemorySource};
+use device_words::{Answer, Fault, MemorySource, Names, Outside, rest, word};
 use ipc_tool::{
-    FileCursor, FileMetadata, FileReader, RecordMessage, get_row_count, get_row_count_from_blocks,
-    read_file_metadata,
+    FileCursor, FileMetadata, FileReader, IpcError, RecordMessage, get_row_count,
+    get_row_count_from_blocks, read_file_metadata,
 };
 use std::alloc::Global;
 

@@ -1,7 +1,6 @@
 //! Runs of the program.
 use crate::attempts::run_each;
-use case_words::Answer;
-use device_words::{Devices, NotingSink, Outside};
+use device_words::{Answer, Devices, NotingSink, Outside};
 use ipc_tool::{FolderShelf, answer as answered, run};
 use std::str::from_utf8;
 

@@ -1,7 +1,7 @@
 //! Batches as text.
 use arrow_arrays::{Array, DictionaryArray, RecordBatch};
-use case_words::{Answer, is_valid_at};
-use ipc_schema::IpcError;
+use device_words::{Answer, is_valid_at};
+use ipc_tool::IpcError;
 use std::str::from_utf8;
 
 /// The text of a row of a dictionary of texts.

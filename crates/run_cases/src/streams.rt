@@ -1,10 +1,8 @@
 //! Files that become streams, and streams that are read call by call.
 use crate::asked::{bytes, columns, limit};
 use crate::shown::say_next;
-use case_words::{Answer, Fault, rest, word};
-use device_words::{Names, NotingSink, Outside};
-use ipc_schema::{IpcError, MemoryFeed};
-use ipc_tool::{StreamReader, StreamState, read_stream_metadata, transcode};
+use device_words::{Answer, Fault, MemoryFeed, Names, NotingSink, Outside, rest, word};
+use ipc_tool::{IpcError, StreamReader, StreamState, read_stream_metadata, transcode};
 
 /// How many batches, rows and bytes were put.
 pub(crate) fn transcode_bytes(

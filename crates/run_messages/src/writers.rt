@@ -9,7 +9,7 @@ use crate::written::{
 };
 use arrow_spec::IpcError;
 use case_words::{Answer, schema_of, word};
-use ipc_append::{FileWriter, WriteOptions, try_from_file};
+use ipc_append::{Compression, FileWriter, WriteOptions, try_from_file};
 use ipc_disk::{DiskTail, MemoryDisk};
 use ipc_io::Refused;
 use ipc_reader::read_file_metadata;
@@ -54,12 +54,12 @@ pub(crate) fn settle(answer: &mut Answer, writing: &mut Writing, bytes: &mut Vec
     }
 }
 
-/// The most metadata, `limit N`, and whether there are `deltas`.
+/// The most metadata, `limit N`, whether there are `deltas`, and whether they are to be `compressed`.
 pub(crate) fn write_options(answer: &mut Answer, words: &[&str]) -> WriteOptions {
     let limit = optional_count(answer, words, "limit");
     let default = WriteOptions::default();
     WriteOptions {
-        compression: None,
+        compression: has(words, "compressed").then_some(Compression::LZ4),
         metadata_limit: limit.unwrap_or(default.metadata_limit),
         deltas: has(words, "deltas"),
     }

@@ -1,9 +1,10 @@
 -- How many bytes an array's buffers take: as many in either order, and what a message held is short.
-use Rattle.std.proofs.Common.{◌≡◌, ℕ, ◌^◌, ◌≤◌, ◌<◌, List, [], ◌∷◌, ◌++◌, length, take, drop, map, reverse, refl, sym, ap, ◌∙◌, arith, subst, Bool, true, false, length-append, length-take, length-drop, append-nil, ℤ}
-use Rattle.std.specs.Prelude.{◌&&◌, min, nat_le}
+use Rattle.std.proofs.Common.{◌≡◌, inl, inr, ℕ, ◌^◌, ◌≤◌, ◌<◌, List, [], ◌∷◌, ◌++◌, length, take, drop, map, reverse, refl, sym, ap, ◌∙◌, arith, subst, Bool, true, false, length-append, length-take, length-drop, append-nil, ℤ}
+use Rattle.std.specs.Prelude.{◌&&◌, min, nat_le, Ok, Err}
 use Rattle.std.specs.List.{flat_map}
 use Rattle.std.proofs.lemmas.Bool.{and_parts, leb-true}
 use Rattle.std.proofs.lemmas.List.{length-reverse}
+use Rattle.arrow_spec.specs.declared.error.IpcError.TheVariants.{NotRepresentable}
 use Rattle.arrow_spec.specs.Flat.{little, big, order_by}
 use Rattle.arrow_spec.specs.Framing.{validity_bytes}
 use Rattle.arrow_spec.specs.Arrays.{offset_width}
@@ -25,6 +26,9 @@ use Rattle.ipc_bodies.specs.Pieces.{in_order, rebased, offset_bytes}
 use Rattle.ipc_write.specs.Below.{Variable, layout_in_order, width_of_kind, bytes_between, variable_pieces, leaf_pieces, pieces_in, has_no_children, LeafMayHaveOrder, MayHaveOrder}
 use Rattle.ipc_write.specs.Batches.{batch_body, columns_pieces, is_within, batch_message}
 use Rattle.ipc_write.specs.Compaction.{top}
+use Rattle.ipc_write.specs.Outcomes.{Either, Encodes, Same}
+use Rattle.ipc_write.specs.declared.encoded.EncodedData.{EncodedData}
+use Rattle.ipc_write.specs.declared.options.WriteOptions.{WriteOptions}
 
 -- ── in either order ──
 
@@ -101,3 +105,8 @@ pub few_rows : (limit : ℕ) (b : Batch) → is_within limit b ≡ true → b.he
 few_rows limit b h =
     let most : b.height ≤ 9223372036854775807 = leb-true b.height 9223372036854775807 (short_and_few limit b h).1 in
     omega (arith, most)
+
+-- a batch that was encoded is within the limit
+pub encoded_within : (refuses : Bool) (options : WriteOptions) (b : Batch) (old new : EncodedData) (u : Unit {0}) → Either refuses ((Ok u ≡ Err NotRepresentable) × Same old new) (Encodes (Ok u) options b old new) → is_within options.metadata_limit b ≡ true
+encoded_within refuses options b old new u (inl (test, (never, same))) = cc
+encoded_within refuses options b old new u (inr (test, encodes)) = encodes.1

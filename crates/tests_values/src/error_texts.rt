@@ -50,6 +50,7 @@ const PLAIN: &[(OutOfSpecKind, &str)] = &[
     (OutOfSpecKind::InvalidKey, "InvalidKey"),
     (OutOfSpecKind::InvalidUnion, "InvalidUnion"),
     (OutOfSpecKind::RowCount, "RowCount"),
+    (OutOfSpecKind::InvalidLog, "InvalidLog"),
 ];
 
 /// Behind the name of a flatbuffer's kind stands what is wrong with the flatbuffer.
@@ -161,6 +162,8 @@ const FEATURES: &[(Feature, &str)] = &[
     (Feature::Compression, "Compression"),
     (Feature::UnionNulls, "UnionNulls"),
     (Feature::BigEndianAppend, "BigEndianAppend"),
+    (Feature::Nested, "Nested"),
+    (Feature::Predicate, "Predicate"),
 ];
 
 const COUNTED: &[(Counted, &str)] = &[

@@ -9,6 +9,7 @@ use files::{as_stream, file_again};
 use std::alloc::Global;
 use std::fs;
 use streams::stream_again;
+pub(crate) use streams::{next_batch, write_batches};
 
 fn named(done: Result<MemorySink, IpcError>) -> Result<MemorySink, &'static str> {
     match done {

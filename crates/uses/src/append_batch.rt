@@ -11,15 +11,12 @@ use std::alloc::Global;
 pub(crate) fn file_with(
     alloc: Global,
     file: Vec<u8>,
-    numbers: Vec<i32>,
+    numbers: &[i32],
 ) -> Result<Vec<u8>, IpcError> {
     let batch = batch_of(alloc, numbers)?;
     let mut disk = MemoryDisk::new(file, Vec::new(alloc), Vec::new(alloc));
     let metadata = read_file_metadata(alloc, &mut disk)?;
-    let mut writer = match try_from_file(alloc, disk, metadata, WriteOptions::default()) {
-        Ok(writer) => writer,
-        Err(refused) => return Err(refused.error),
-    };
+    let mut writer = try_from_file(alloc, disk, metadata, WriteOptions::default())?;
     writer.write(&batch, None)?;
     writer.finish()?;
     match writer.into_inner().cut_off() {

@@ -11,10 +11,7 @@ pub(crate) fn heights(
     limit: Option<usize>,
 ) -> Result<Vec<usize>, IpcError> {
     let metadata = read_file_metadata(alloc, source)?;
-    let reader = match FileReader::new(alloc, source, metadata, None, limit) {
-        Ok(reader) => reader,
-        Err(refused) => return Err(refused.error),
-    };
+    let reader = FileReader::new(alloc, source, metadata, None, limit)?;
     let mut heights = Vec::new(alloc);
     for read in reader {
         let batch = read?;

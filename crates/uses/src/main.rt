@@ -1,18 +1,25 @@
 //! Uses of `arrow_ipc`, by words, of which one command may stand behind another:
 //!
 //! - `show`, as without any word, shows eight uses, of an Arrow file on standard input;
+//! - `columns`, `dictionary`, `filter`, `grow` and `merge` show uses of arrays and batches that are made in memory;
 //! - `file-again FROM TO` and `stream-again FROM TO` write a file or a stream that they read, and `send FROM TO` a file as a stream;
 //! - `write-file NAME BATCHES ROWS` and `write-stream NAME BATCHES ROWS` write numbers, and `append NAME BATCHES ROWS` behind the batches of a file.
 #![tactic(auto)]
 
 mod again;
 mod append_batch;
+mod append_each;
+mod by_name;
+mod dictionary_file;
 mod each_batch;
 mod file_to_stream;
+mod filter_stream;
+mod merge_streams;
 mod numbers;
 mod read_column;
 mod read_stream;
 mod show;
+mod show_made;
 mod write_batch;
 mod write_file;
 mod write_stream;
@@ -20,6 +27,7 @@ mod write_stream;
 use again::write_again;
 use numbers::write_numbers;
 use show::show_uses;
+use show_made::show_use;
 use std::env;
 use std::process::ExitCode;
 
@@ -66,6 +74,10 @@ fn do_word<'a>(
     match word {
         "show" => {
             show_uses(rt)?;
+            Ok(words)
+        }
+        "columns" | "dictionary" | "filter" | "grow" | "merge" => {
+            show_use(rt, word)?;
             Ok(words)
         }
         "file-again" | "stream-again" | "send" => do_again(rt, word, words),

@@ -34,11 +34,7 @@ pub(crate) fn first_batch(
 fn rows_of(alloc: Global, numbers: &PrimitiveArray<i32>) -> Result<Vec<Option<i32>>, IpcError> {
     let mut rows = Vec::new(alloc);
     for row in 0..numbers.len() {
-        let number = match numbers.validity() {
-            Some(validity) if row < validity.len() && !validity.get(row) => None,
-            _ => Some(numbers.value(row)),
-        };
-        rows.push(number)?;
+        rows.push(numbers.get(row))?;
     }
     Ok(rows)
 }

@@ -20,10 +20,7 @@ fn height_of(state: StreamState) -> usize {
 pub(crate) fn first_height(alloc: Global, bytes: Vec<u8>) -> Result<Option<usize>, IpcError> {
     let mut feed = MemoryFeed::new(bytes, 65_536, Vec::new(alloc));
     let metadata = read_stream_metadata(alloc, &mut feed)?;
-    let mut reader = match StreamReader::new(alloc, feed, metadata, None) {
-        Ok(reader) => reader,
-        Err(refused) => return Err(refused.error),
-    };
+    let mut reader = StreamReader::new(alloc, feed, metadata, None)?;
     match reader.next() {
         Some(Ok(state)) => Ok(Some(height_of(state))),
         Some(Err(error)) => Err(error),

@@ -31,27 +31,27 @@ fn input(rt: &HostRuntime) -> Result<Vec<u8>, &'static str> {
 
 /// How many bytes a stream and a file of two numbers have.
 fn written(alloc: Global) -> Result<(usize, usize), IpcError> {
-    let stream = stream_of_numbers(alloc, vec![in alloc; 1, 3]?)?;
-    let file = file_of_numbers(alloc, vec![in alloc; 1, 3]?)?;
+    let stream = stream_of_numbers(alloc, &[1, 3])?;
+    let file = file_of_numbers(alloc, &[1, 3])?;
     Ok((stream.bytes().len(), file.bytes().len()))
 }
 
 /// How many rows are read of the first batch of a stream of two numbers.
 fn read_again(alloc: Global) -> Result<Option<usize>, IpcError> {
-    let stream = stream_of_numbers(alloc, vec![in alloc; 1, 3]?)?;
+    let stream = stream_of_numbers(alloc, &[1, 3])?;
     first_height(alloc, stream.bytes().to_vec(alloc)?)
 }
 
 /// How many bytes a file of two numbers has with a batch of two more.
 fn appended(alloc: Global) -> Result<usize, IpcError> {
-    let file = file_of_numbers(alloc, vec![in alloc; 1, 3]?)?;
+    let file = file_of_numbers(alloc, &[1, 3])?;
     let bytes = file.bytes().to_vec(alloc)?;
-    Ok(file_with(alloc, bytes, vec![in alloc; 5, 7]?)?.len())
+    Ok(file_with(alloc, bytes, &[5, 7])?.len())
 }
 
 /// The lengths of a message of two numbers, and of the stream of a file.
 fn lengths(alloc: Global, source: &mut MemorySource) -> Result<(usize, usize), IpcError> {
-    let message = message_of(alloc, vec![in alloc; 1, 3]?)?;
+    let message = message_of(alloc, &[1, 3])?;
     let stream = stream_of(alloc, source)?;
     Ok((message.len(), stream.bytes().len()))
 }

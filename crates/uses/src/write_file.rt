@@ -6,14 +6,11 @@ use arrow_ipc::io::ipc::write::{FileWriter, WriteOptions};
 use std::alloc::Global;
 
 /// A file of one batch of numbers, in memory.
-pub(crate) fn file_of_numbers(alloc: Global, numbers: Vec<i32>) -> Result<MemorySink, IpcError> {
+pub(crate) fn file_of_numbers(alloc: Global, numbers: &[i32]) -> Result<MemorySink, IpcError> {
     let batch = batch_of(alloc, numbers)?;
     let sink = MemorySink::new(alloc, None, Vec::new(alloc));
     let schema = batch.schema().clone()?;
-    let mut writer = match FileWriter::try_new(alloc, sink, schema, None, WriteOptions::default()) {
-        Ok(writer) => writer,
-        Err(refused) => return Err(refused.error),
-    };
+    let mut writer = FileWriter::try_new(alloc, sink, schema, None, WriteOptions::default())?;
     writer.write(&batch, None)?;
     writer.finish()?;
     Ok(writer.into_inner())

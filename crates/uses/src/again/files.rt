@@ -24,10 +24,7 @@ fn write_batches<W: BatchWriter>(
     writer: &mut W,
 ) -> Result<(), IpcError> {
     let metadata = read_file_metadata(alloc, source)?;
-    let reader = match FileReader::new(alloc, source, metadata, None, None) {
-        Ok(reader) => reader,
-        Err(refused) => return Err(refused.error),
-    };
+    let reader = FileReader::new(alloc, source, metadata, None, None)?;
     for read in reader {
         let batch = read?;
         writer.write_batch(&batch)?;

@@ -26,7 +26,9 @@ fn batch_in(state: StreamState) -> Option<RecordBatch> {
 }
 
 /// The next record batch, or none where the stream ends or has too few bytes for a message to begin.
-fn next_batch(reader: &mut StreamReader<MemoryFeed>) -> Result<Option<RecordBatch>, IpcError> {
+pub(crate) fn next_batch(
+    reader: &mut StreamReader<MemoryFeed>,
+) -> Result<Option<RecordBatch>, IpcError> {
     match reader.next() {
         None => Ok(None),
         Some(answer) => {
@@ -37,7 +39,7 @@ fn next_batch(reader: &mut StreamReader<MemoryFeed>) -> Result<Option<RecordBatc
 }
 
 /// Writes the record batches that a stream has left.
-fn write_batches(
+pub(crate) fn write_batches(
     reader: &mut StreamReader<MemoryFeed>,
     writer: &mut StreamWriter<MemorySink>,
 ) -> Result<(), IpcError> {
@@ -55,10 +57,7 @@ pub(crate) fn stream_again(alloc: Global, bytes: Vec<u8>) -> Result<MemorySink, 
     let mut feed = MemoryFeed::new(bytes, 65_536, Vec::new(alloc));
     let metadata = read_stream_metadata(alloc, &mut feed)?;
     let heading = heading_of(metadata.try_clone(alloc)?);
-    let mut reader = match StreamReader::new(alloc, feed, metadata, None) {
-        Ok(reader) => reader,
-        Err(refused) => return Err(refused.error),
-    };
+    let mut reader = StreamReader::new(alloc, feed, metadata, None)?;
     let mut writer = stream_writer(alloc, heading, true)?;
     write_batches(&mut reader, &mut writer)?;
     writer.finish()?;

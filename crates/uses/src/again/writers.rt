@@ -81,19 +81,13 @@ fn new_file(
     fields: Vec<IpcField>,
 ) -> Result<FileWriter<MemorySink>, IpcError> {
     let sink = MemorySink::new(alloc, None, Vec::new(alloc));
-    match FileWriter::new(alloc, sink, schema, Some(fields), options()) {
-        Ok(writer) => Ok(writer),
-        Err(refused) => Err(refused.error),
-    }
+    Ok(FileWriter::new(alloc, sink, schema, Some(fields), options())?)
 }
 
 /// A writer of a stream that is not begun.
 fn new_stream(alloc: Global) -> Result<StreamWriter<MemorySink>, IpcError> {
     let sink = MemorySink::new(alloc, None, Vec::new(alloc));
-    match StreamWriter::new(alloc, sink, options()) {
-        Ok(writer) => Ok(writer),
-        Err(refused) => Err(refused.error),
-    }
+    Ok(StreamWriter::new(alloc, sink, options())?)
 }
 
 fn give_schema_pairs<W: BatchWriter>(writer: &mut W, pairs: Option<Metadata>) {

@@ -1,6 +1,5 @@
 //! Tables of one column of numbers, as they are written.
 use arrow_ipc::array::{Array, PrimitiveArray};
-use arrow_ipc::buffer::Buffer;
 use arrow_ipc::datatypes::{ArrowDataType, ArrowSchema, Field};
 use arrow_ipc::io::ipc::IpcError;
 use arrow_ipc::io::ipc::append::try_from_file;
@@ -30,17 +29,11 @@ fn schema_of(alloc: Global) -> Result<ArrowSchema, AllocError> {
 /// A batch of so many numbers.
 fn batch_of(alloc: Global, rows: u32) -> Result<RecordBatch, IpcError> {
     let numbers = numbers(alloc, rows)?;
-    let height = numbers.len();
-    let values = Buffer::from_vec(numbers)?;
-    let Ok(column) = PrimitiveArray::try_new(ArrowDataType::Int64, values, None) else {
-        return Err(IpcError::SchemaMismatch);
-    };
+    let column = PrimitiveArray::from_slice(alloc, &numbers)?;
     let schema = schema_of(alloc)?;
     let columns = vec![in alloc; Array::Int64(column)]?;
-    match RecordBatch::try_new(height, Rc::new(alloc, schema)?, columns) {
-        Ok(batch) => Ok(batch),
-        Err(_) => Err(IpcError::SchemaMismatch),
-    }
+    let schema = Rc::new(alloc, schema)?;
+    Ok(RecordBatch::try_new(numbers.len(), schema, columns)?)
 }
 
 /// Writes a batch of so many rows, so many times, as a file.
@@ -52,10 +45,7 @@ pub(crate) fn write_file<W: Sink + Drop>(
 ) -> Result<(), IpcError> {
     let batch = batch_of(alloc, rows)?;
     let schema = batch.schema().clone()?;
-    let mut writer = match FileWriter::try_new(alloc, sink, schema, None, WriteOptions::default()) {
-        Ok(writer) => writer,
-        Err(refused) => return Err(refused.error),
-    };
+    let mut writer = FileWriter::try_new(alloc, sink, schema, None, WriteOptions::default())?;
     for _ in 0..batches {
         writer.write(&batch, None)?;
     }
@@ -70,10 +60,7 @@ pub(crate) fn write_stream<W: Sink + Drop>(
     rows: u32,
 ) -> Result<(), IpcError> {
     let batch = batch_of(alloc, rows)?;
-    let mut writer = match StreamWriter::new(alloc, sink, WriteOptions::default()) {
-        Ok(writer) => writer,
-        Err(refused) => return Err(refused.error),
-    };
+    let mut writer = StreamWriter::new(alloc, sink, WriteOptions::default())?;
     writer.start(batch.schema(), None)?;
     for _ in 0..batches {
         writer.write(&batch, None)?;
@@ -90,10 +77,7 @@ pub(crate) fn append<D: Disk + Drop>(
 ) -> Result<(), IpcError> {
     let mut disk = disk;
     let metadata = read_file_metadata(alloc, &mut disk)?;
-    let mut writer = match try_from_file(alloc, disk, metadata, WriteOptions::default()) {
-        Ok(writer) => writer,
-        Err(refused) => return Err(refused.error),
-    };
+    let mut writer = try_from_file(alloc, disk, metadata, WriteOptions::default())?;
     let batch = batch_of(alloc, rows)?;
     for _ in 0..batches {
         writer.write(&batch, None)?;

@@ -1,5 +1,10 @@
-use Rattle.ipc_append.proofs.Appending.{end_refusal, holds_file}
+use Rattle.ipc_append.proofs.Appending.{dictionaries_refusal, end_refusal, holds_file}
 use Rattle.ipc_append.proofs.append.continued.Goals as goal
+
+pub returns-in_err-dictionaries-clause-err : goal.returns-in_err-dictionaries-clause-err
+returns-in_err-dictionaries-clause-err g c =
+    dictionaries_refusal c.from_residual-in_err-dictionaries.result c.in_err-dictionaries.field-0.0 (g.D.Source.content c.args.disk.now) c.args.options c.args.metadata c.in_ok-place.place (g.D.Source.faults c.args.disk.now) _ c.from_residual-in_err-dictionaries.ensures.1
+    c.in_ok-place.ensures c.in_err-dictionaries.ensures.reads c.in_err-dictionaries.ensures.cause
 
 pub returns-in_err-check_end-clause-err : goal.returns-in_err-check_end-clause-err
 returns-in_err-check_end-clause-err g c =

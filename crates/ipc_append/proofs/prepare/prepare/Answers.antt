@@ -10,6 +10,9 @@ returns-in_err-file-clause-refused g c = refused _ c.from_residual.result c.in_e
 pub read_tracker-requires-clause-whole : goal.read_tracker-requires-clause-whole
 read_tracker-requires-clause-whole g c = subst (λ o. IsSize o c.in_ok-file.file.size) (sym c.in_ok-file.ensures.kept.content) c.in_ok-file.ensures.takes.metadata.size
 
+pub read_tracker-requires-clause-natural : goal.read_tracker-requires-clause-natural
+read_tracker-requires-clause-natural g c = c.in_ok-file.ensures.takes.metadata.read.natural.dictionaries
+
 pub returns-in_err-tracker-clause-refused : goal.returns-in_err-tracker-clause-refused
 returns-in_err-tracker-clause-refused g c =
     refused _ c.from_residual-in_err-tracker.result c.in_err-tracker.field-0.0 c.from_residual-in_err-tracker.ensures.1

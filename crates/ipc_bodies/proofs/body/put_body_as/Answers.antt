@@ -1,4 +1,4 @@
-use Rattle.std.proofs.Common.{◌+◌, length, map, take, drop, refl, ◌∙◌}
+use Rattle.std.proofs.Common.{◌+◌, length, map, take, drop, refl, ◌∙◌, arith}
 use Rattle.arrow_spec.specs.Framing.{body_bytes}
 use Rattle.arrow_spec.specs.Sent.{body_of}
 use Rattle.ipc_bodies.proofs.Bodies.{padded, body_rest, body_put}
@@ -6,7 +6,7 @@ use Rattle.ipc_bodies.proofs.Encoded.{no_text, text_stops_in}
 use Rattle.ipc_bodies.proofs.body.put_body_as.Goals as goal
 
 pub loop-buffer-init : goal.loop-buffer-init
-loop-buffer-init g c = record { puts = no_text c.args.encoding _ _ _; references = refl; scratch = refl }
+loop-buffer-init g c = record { puts = no_text c.args.encoding _ _ _; references = refl; scratch = refl; longest = omega arith }
 
 pub returns-in_err-put_padded-clause-puts : goal.returns-in_err-put_padded-clause-puts
 returns-in_err-put_padded-clause-puts g c =
@@ -23,4 +23,5 @@ loop-buffer-preserved g c =
       puts = body_put c.args.encoding _ _ _ _ _ _ _ _ _ c.args.buffers.now c.loop-buffer.buffer-index c.buffer-item.result c.loop-buffer-test.true c.buffer-item.is inv.puts c.in_ok-put_padded.ensures.puts;
       references = c.put_padded.ensures.same_references ∙ inv.references;
       scratch = c.put_padded.ensures.scratch ∙ inv.scratch;
+      longest = omega (arith, inv.longest, inv.scratch, c.put_padded.ensures.longest);
     }

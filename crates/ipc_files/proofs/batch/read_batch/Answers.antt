@@ -12,7 +12,7 @@ use Rattle.ipc_files.specs.FileViews.{meta_view}
 use Rattle.ipc_files.specs.Requests.{asked}
 use Rattle.ipc_files.proofs.Errors.{is_err}
 use Rattle.ipc_projection.proofs.Below.{chosen_with}
-use Rattle.ipc_files.proofs.ReadBatches.{batch_given, block_given, indexed, kinds_cause, kinds_refused}
+use Rattle.ipc_files.proofs.ReadBatches.{batch_given, block_given, indexed, indexed_given, kinds_cause, kinds_refused}
 use Rattle.ipc_files.proofs.ReadColumns.{columns_read}
 use Rattle.ipc_files.proofs.ReadFiles.{of_err}
 use Rattle.ipc_files.proofs.batch.read_batch.Goals as goal
@@ -48,7 +48,7 @@ returns-clause-gives g c = λ block at.
     let floats : chosen_floats columns (meta_view file).schema.fields 0 ≡ [] =
     chosen_with columns (fields_in (rc_value file.schema)) (ids_of file.ipc_schema.fields.items) 0 ∙ ap (λ s. chosen_floats columns (fields_in s) 0) (sym c.deref.ensures) ∙ c.in_ok-check_kinds.ensures.exact.ok.0 in
     batch_given (g.S.Source.content c.args.source.now) (held_in c.args.dictionaries.now) (asked columns c.args.limit) (meta_view file) block _ c.read_block.result
-    floats (indexed file.blocks.items c.args.index c.index.result.now block c.requires.in_range c.index.ensures at) c.read_block.ensures.gives
+    floats (indexed_given file.blocks.items c.args.index c.index.result.now block c.requires.in_range c.index.ensures at) c.read_block.ensures.gives
 
 pub returns-clause-read : goal.returns-clause-read
 returns-clause-read g c = λ block at.

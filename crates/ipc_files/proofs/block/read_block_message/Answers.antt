@@ -1,5 +1,4 @@
 use Rattle.std.proofs.Common.{◌≡◌, ℕ, List, Vec, Global, Err}
-use Rattle.ipc_files.specs.FileBlocks.{file_block}
 use Rattle.ipc_files.proofs.BlockMessages.{message_of_metadata, message_without_metadata}
 use Rattle.ipc_files.proofs.Errors.{is_err}
 use Rattle.ipc_files.proofs.block.read_block_message.Goals as goal
@@ -10,7 +9,7 @@ view v = v.items
 pub returns-in_err-bytes-clause-message : goal.returns-in_err-bytes-clause-message
 returns-in_err-bytes-clause-message g c =
     let e : c.from_residual.result ≡ Err c.in_err-bytes.field-0.0 = is_err _ _ _ c.from_residual.ensures.0 c.from_residual.ensures.1 (λ f h. h) in
-    message_without_metadata (g.S.Source.content c.args.source.now) (file_block c.args.block.now) view c.from_residual.result c.in_err-bytes.field-0.0 e c.in_err-bytes.ensures.metadata
+    message_without_metadata (g.S.Source.content c.args.source.now) c.args.block.now view c.from_residual.result c.in_err-bytes.field-0.0 e c.in_err-bytes.ensures.metadata
 
 pub returns-clause-message : goal.returns-clause-message
-returns-clause-message g c = message_of_metadata (g.S.Source.content c.args.source.now) (file_block c.args.block.now) view c.in_ok-bytes.bytes c.deref.result.now c.message_in.result c.in_ok-bytes.ensures.metadata c.deref.ensures.value c.message_in.ensures.gives
+returns-clause-message g c = message_of_metadata (g.S.Source.content c.args.source.now) c.args.block.now view c.in_ok-bytes.bytes c.deref.result.now c.message_in.result c.in_ok-bytes.ensures.metadata c.deref.ensures.value c.message_in.ensures.gives

@@ -4,9 +4,11 @@ use Rattle.std.specs.Rc.{rc_value}
 use Rattle.ipc_read.specs.Batches.{kinds_of}
 use Rattle.ipc_read.specs.Held.{held_in}
 use Rattle.ipc_projection.specs.Below.{are_columns, are_rising, chosen, columns_of}
+use Rattle.ipc_files.specs.FileBlocks.{file_block}
 use Rattle.ipc_files.specs.Selections.{numbers_read}
 use Rattle.ipc_projection.specs.Projections.{MayProject}
 use Rattle.ipc_files.proofs.Errors.{is_err}
+use Rattle.ipc_files.proofs.ReadBatches.{file_at}
 use Rattle.ipc_files.proofs.InOrder.{all_read, made_range, made_rising, may_reorder, none_shown, ordered_fetched, ordered_given, ordered_read, refused_given}
 use Rattle.ipc_files.proofs.ShownFields.{all_fields, ordered_fields}
 use Rattle.ipc_files.proofs.ordered.read_projected_batch.Goals as goal
@@ -58,7 +60,7 @@ pub returns-in-Some-clause-gives : goal.returns-in-Some-clause-gives
 returns-in-Some-clause-gives g c = λ columns block may at.
     ordered_given (g.S.Source.content c.args.source.now) (held_in c.args.dictionaries.now) c.args.metadata.now columns c.in-Some.projection.now (columns_of c.rising_numbers-numbers.result) c.args.limit block c.in_ok-batch.batch c.apply_projection.result
     (c.rising_numbers-numbers.ensures ∙ ap numbers_read (ap option_copied c.in-Some.is)) (subst (MayProject (rc_value c.args.metadata.now.schema) columns) (ap option_copied c.in-Some.is) may)
-    c.apply_projection.ensures.reordered c.apply_projection.ensures.memory (c.in_ok-batch.ensures.gives block at) (c.in_ok-batch.ensures.read block at)
+    c.apply_projection.ensures.reordered c.apply_projection.ensures.memory (c.in_ok-batch.ensures.gives block at) (c.in_ok-batch.ensures.read (file_block block) (file_at c.args.metadata.now.blocks.items c.args.index block at))
 
 pub returns-in-Some-clause-read : goal.returns-in-Some-clause-read
 returns-in-Some-clause-read g c = λ columns block may at.

@@ -33,11 +33,11 @@ returns-in_err-footer-clause-fetched g c = footer_alone (g.S.Source.content c.ar
 
 pub returns-clause-gives : goal.returns-clause-gives
 returns-clause-gives g c =
-    blocks_counted (g.S.Source.content c.args.source.now) _ view c.in_ok-footer.footer c.deref.result.now c.in_ok-blocks.blocks.items c.deref-2.result.now c.count_rows.result c.in_ok-footer.ensures.footer c.deref.ensures.value c.in_ok-blocks.ensures.gives c.deref-2.ensures.value c.in_ok-footer.ensures.kept.content c.count_rows.ensures.gives
+    blocks_counted (g.S.Source.content c.args.source.now) _ view c.in_ok-footer.footer c.deref.result.now c.in_ok-blocks.blocks.items c.deref-2.result.now c.count_rows.result c.in_ok-footer.ensures.footer c.deref.ensures.value c.in_ok-blocks.ensures.gives c.in_ok-blocks.ensures.natural c.deref-2.ensures.value c.in_ok-footer.ensures.kept.content c.count_rows.ensures.gives
 
 pub returns-clause-fetched : goal.returns-clause-fetched
 returns-clause-fetched g c =
-    footer_and_messages (g.S.Source.content c.args.source.now) _ view c.in_ok-footer.footer c.deref.result.now c.in_ok-blocks.blocks.items c.deref-2.result.now _ _ _ c.in_ok-footer.ensures.footer c.deref.ensures.value c.in_ok-blocks.ensures.gives c.deref-2.ensures.value c.in_ok-footer.ensures.kept.content c.in_ok-footer.ensures.fetched c.count_rows.ensures.fetched
+    footer_and_messages (g.S.Source.content c.args.source.now) _ view c.in_ok-footer.footer c.deref.result.now c.in_ok-blocks.blocks.items c.deref-2.result.now _ _ _ c.in_ok-footer.ensures.footer c.deref.ensures.value c.in_ok-blocks.ensures.gives c.in_ok-blocks.ensures.natural c.deref-2.ensures.value c.in_ok-footer.ensures.kept.content c.in_ok-footer.ensures.fetched c.count_rows.ensures.fetched
 
 pub returns-in_err-blocks-clause-cause : goal.returns-in_err-blocks-clause-cause
 returns-in_err-blocks-clause-cause g c =

@@ -2,7 +2,7 @@ use Rattle.std.proofs.Common.{◌≡◌, ap, sym, ◌∙◌, true, true≢false}
 use Rattle.arrow_spec.specs.Kinds.{have_same_kinds}
 use Rattle.arrow_types.specs.Schemas.{fields_in}
 use Rattle.arrow_arrays.specs.Parts.{forest}
-use Rattle.ipc_dictionaries.specs.Columns.{columns_of}
+use Rattle.arrow_arrays.specs.Columns.{columns_of}
 use Rattle.ipc_messages.proofs.batches.is_of_schema.Goals as goal
 
 pub returns-then-not-are_of_fields : goal.returns-then-not-are_of_fields

@@ -3,7 +3,7 @@ use Rattle.arrow_spec.specs.Kinds.{have_same_kinds}
 use Rattle.arrow_types.specs.Child.{fields_from}
 use Rattle.arrow_types.specs.Schemas.{fields_in}
 use Rattle.arrow_arrays.specs.PartsOf.{forest_of}
-use Rattle.ipc_dictionaries.specs.Columns.{columns_of}
+use Rattle.arrow_arrays.specs.Columns.{columns_of}
 use Rattle.ipc_messages.proofs.Columns.{child_in}
 use Rattle.ipc_messages.proofs.types.are_of_fields.Given as goal
 

@@ -4,7 +4,7 @@ use Rattle.ipc_bodies.proofs.Encoded.{no_text, text_piece_stops, text_piece_put}
 use Rattle.ipc_bodies.proofs.buffer.BodyBuffer.put_made.Goals as goal
 
 pub loop-at-init : goal.loop-at-init
-loop-at-init g c = record { within = omega arith; whole = inl refl; puts = no_text c.args.encoding _ _ _; references = refl; scratch = refl }
+loop-at-init g c = record { within = omega arith; whole = inl refl; puts = no_text c.args.encoding _ _ _; references = refl; scratch = refl; longest = omega arith }
 
 pub returns-in_err-put_part-clause-puts : goal.returns-in_err-put_part-clause-puts
 returns-in_err-put_part-clause-puts g c =
@@ -23,4 +23,5 @@ loop-at-preserved g c =
       puts = text_piece_put c.args.encoding _ _ _ _ _ _ _ _ _ all (take k (drop at all)) at k (at + k) refl refl l.invariant.puts c.in_ok-put_part.ensures.puts;
       references = c.put_part.ensures.same_references ∙ l.invariant.references;
       scratch = c.put_part.ensures.scratch ∙ l.invariant.scratch;
+      longest = omega (arith, l.invariant.longest, l.invariant.scratch, c.put_part.ensures.longest);
     }

@@ -2,7 +2,7 @@ use Rattle.std.proofs.Common.{◌≡◌, false, inl, refl, subst, sym, true, ◌
 use Rattle.std.specs.Io.KnownBytes.{Appends}
 use Rattle.ipc_messages.specs.States.{is_started}
 use Rattle.ipc_messages.proofs.Putting.{untouched}
-use Rattle.ipc_file_writer.proofs.Calling.{leaves, not_ended}
+use Rattle.ipc_file_writer.proofs.Calling.{end_stopped, leaves, not_ended}
 use Rattle.ipc_file_writer.proofs.file.FileCore.finish.Goals as goal
 
 pub returns-then-not-is_started-clause-finishes : goal.returns-then-not-is_started-clause-finishes
@@ -31,3 +31,9 @@ returns-in-Ok-clause-finishes g c = record {
   };
   means = c.in_ok-ending.ensures.means;
 }
+
+pub returns-clause-finishes : goal.returns-clause-finishes
+returns-clause-finishes g c =
+    let n : is_started c.args.self.now.state ≡ true = sym c.is_started.ensures ∙ c.if-not-is_started.false in
+    let k = c.stop_at.ensures in
+    end_stopped c.stop_at.result c.in-Err.stop _ c.args.self.now c.stop_at.new.self c.in_ok-ending.ending.items c.as_slice.result.now k.error n c.in_ok-ending.ensures.gives c.as_slice.ensures.value c.in-Err.ensures.puts c.in-Err.ensures.whole k.state k.same

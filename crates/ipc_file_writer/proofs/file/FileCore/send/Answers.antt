@@ -14,7 +14,7 @@ returns-in-Err-clause-sends g c =
     let p = c.in-Err.ensures.puts in
     let found = found_in (Ok n) self.tracker c.new_dictionaries.new.tracker (all_parts_of c.arrays.result.now) b.arrays c.as_slice-fields.result.now self.ipc_schema.fields.items c.arrays.ensures c.as_slice-fields.ensures.value
     c.in_ok-new.ensures.sends in
-    not_sent c.stop_at.result c.in-Err.stop _ self _ c.stop_at.new.self b n c.as_slice.result.now k.error found c.as_slice.ensures.value p.0
+    not_sent c.stop_at.result c.in-Err.stop _ self _ c.stop_at.new.self b n c.as_slice.result.now k.error found c.as_slice.ensures.value p.0 c.in-Err.ensures.wants
     (record { state = refl; blocks = refl; written = refl; stays = record { options = refl; schema = refl; ipc_schema = refl; pairs = refl; tracker = c.in_ok-new.ensures.options } })
     (k.state ∙ ap (state_behind c.in-Err.stop.has_begun) p.1.held.state)
     (undone_so self _ c.put.new.self _ c.stop_at.new.self b n found p.1

@@ -2,7 +2,7 @@ use Rattle.std.proofs.Common.{◌≡◌, arith, false, inl, refl, subst, sym, tr
 use Rattle.std.specs.Io.KnownBytes.{Appends}
 use Rattle.ipc_messages.specs.States.{is_new}
 use Rattle.ipc_messages.proofs.Putting.{untouched}
-use Rattle.ipc_file_writer.proofs.Calling.{leaves, not_begun}
+use Rattle.ipc_file_writer.proofs.Calling.{leaves, not_begun, start_stopped}
 use Rattle.ipc_file_writer.proofs.Meaning.{begun_file}
 use Rattle.ipc_file_writer.proofs.file.FileCore.start.Goals as goal
 
@@ -33,3 +33,9 @@ returns-in-Ok-clause-starts g c = record {
   means = λ nothing pairs reg.
       begun_file c.args.self.now.options _ c.in_ok-start.start.items c.in_ok-start.ensures.gives c.in_ok-start.ensures.may (record { held = nothing.held; dictionaries = nothing.dictionaries; records = nothing.records }) (omega (arith, c.len.ensures)) pairs reg;
 }
+
+pub returns-clause-starts : goal.returns-clause-starts
+returns-clause-starts g c =
+    let n : is_new c.args.self.now.state ≡ true = sym c.is_new.ensures ∙ c.if-not-is_new.false in
+    let k = c.stop_at.ensures in
+    start_stopped c.stop_at.result c.in-Err.stop _ c.args.self.now c.stop_at.new.self c.in_ok-start.start.items c.as_slice.result.now k.error n c.in_ok-start.ensures.gives c.as_slice.ensures.value c.in-Err.ensures.puts c.in-Err.ensures.whole k.state k.same

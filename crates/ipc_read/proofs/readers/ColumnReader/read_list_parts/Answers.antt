@@ -40,7 +40,7 @@ returns-in-Some-clause-gives g c = λ m p a t.
     let q = c.in_ok-validity.ensures.takes m p a in
     let v = (c.in_ok-validity.ensures.gives m p a t.told).ok in
     let w = (c.in_ok-offsets.ensures.gives m (p.buffer + 1) q.1 (known_on c.in_ok-validity.ensures.keeps.buffers t)).ok in
-    record { ok = (offsets_well m p c.args.rows (offsets_by c.args.is_large) _ _ w.1 (c.next_rows-most.ensures m (suc p.node) q.0) c.in-Some.ensures.some.1 v.0 w.0, top_same w.1 v.1); err = tt }
+    record { ok = (offsets_well m p c.args.rows (offsets_by c.args.is_large) _ _ w.1 (c.next_end-most.ensures m (suc p.node) q.0) c.in-Some.ensures.some.1 v.0 w.0, top_same w.1 v.1); err = tt }
 
 pub returns-in-Some-clause-buffers : goal.returns-in-Some-clause-buffers
 returns-in-Some-clause-buffers g c = taken_then c.in_ok-validity.ensures.buffers c.in_ok-offsets.ensures.shortened (omega arith)
@@ -57,7 +57,7 @@ pub returns-in-None-clause-gives : goal.returns-in-None-clause-gives
 returns-in-None-clause-gives g c = λ m p a t.
     let q = c.in_ok-validity.ensures.takes m p a in
     let w = (c.in_ok-offsets.ensures.gives m (p.buffer + 1) q.1 (known_on c.in_ok-validity.ensures.keeps.buffers t)).ok in
-    record { ok = tt; err = offsets_bad_refused m p c.args.rows (offsets_by c.args.is_large) _ _ w.1 (c.next_rows-most.ensures m (suc p.node) q.0) c.in-None.ensures.none w.0 }
+    record { ok = tt; err = offsets_bad_refused m p c.args.rows (offsets_by c.args.is_large) _ _ w.1 (c.next_end-most.ensures m (suc p.node) q.0) c.in-None.ensures.none w.0 }
 
 pub returns-in-None-clause-buffers : goal.returns-in-None-clause-buffers
 returns-in-None-clause-buffers g c = taken_then c.in_ok-validity.ensures.buffers c.in_ok-offsets.ensures.shortened (omega arith)

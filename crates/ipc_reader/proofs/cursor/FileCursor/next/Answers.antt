@@ -11,6 +11,7 @@ returns g c =
       read = read.ensures.read;
       first = read.ensures.first;
       dictionaries = read.ensures.dictionaries;
+      stopped = read.ensures.stopped;
       schema = read.ensures.schema;
       left = c.left_behind-self.ensures ∙ ap (λ n. left_after n (Some read.result)) read.ensures.left;
       block = ap (λ n. n + 1) read.ensures.block;

@@ -9,13 +9,14 @@ use Rattle.ipc_reader.proofs.kept.KeptDictionaries.read.Goals as goal
 
 pub returns-in_err-check_columns : goal.returns-in_err-check_columns
 returns-in_err-check_columns g c =
-    let meta = meta_view c.args.metadata.now in
+    let file = c.args.metadata.now in
+    let meta = meta_view file in
     let e : c.from_residual.result ≡ Err c.in_err-check_columns.field-0.0 = is_err _ _ _ c.from_residual.ensures.0 c.from_residual.ensures.1 (λ f h. h) in
     record {
-      gives = λ columns may. kinds_stop (g.S.Source.content c.args.source.now) meta columns c.from_residual.result c.in_err-check_columns.field-0.0 e (c.in_err-check_columns.ensures.exact columns may).err;
+      gives = λ columns may. kinds_stop (g.S.Source.content c.args.source.now) file columns c.from_residual.result c.in_err-check_columns.field-0.0 e (c.in_err-check_columns.ensures.exact columns may).err;
       held = ok_none c.from_residual.result c.in_err-check_columns.field-0.0 _ e;
       left = λ m is. not_read_left _ m c.requires.not_read is;
-      behind = λ columns may. kinds_kept (g.S.Source.content c.args.source.now) meta columns _ c.from_residual.result c.in_err-check_columns.field-0.0 c.requires.not_read e (c.in_err-check_columns.ensures.exact columns may).err;
+      behind = λ columns may. kinds_kept (g.S.Source.content c.args.source.now) file columns _ c.from_residual.result c.in_err-check_columns.field-0.0 c.requires.not_read e c.in_err-check_columns.ensures.cause (c.in_err-check_columns.ensures.exact columns may).err;
       uses = ok_none c.from_residual.result c.in_err-check_columns.field-0.0 _ e;
       keeps = not_held_uses meta _ c.requires.not_read;
       cause = of_err c.from_residual.result c.in_err-check_columns.field-0.0 _ e (kinds_cause c.in_err-check_columns.field-0.0 _ _ c.in_err-check_columns.ensures.cause);
@@ -25,10 +26,11 @@ returns-in_err-check_columns g c =
 
 pub returns-in-Ok : goal.returns-in-Ok
 returns-in-Ok g c =
-    let meta = meta_view c.args.metadata.now in
+    let file = c.args.metadata.now in
+    let meta = meta_view file in
     record {
-      gives = λ columns may. all_held (g.S.Source.content c.args.source.now) meta columns c.in-Ok.held (c.in_ok-check_columns.ensures.exact columns may).ok.0 c.in-Ok.ensures.reads;
-      held = file_held (g.S.Source.content c.args.source.now) meta c.in-Ok.held c.in-Ok.ensures.reads;
+      gives = λ columns may. all_held (g.S.Source.content c.args.source.now) file columns c.in-Ok.held (c.in_ok-check_columns.ensures.exact columns may).ok.0 c.in-Ok.ensures.reads;
+      held = file_held (g.S.Source.content c.args.source.now) file c.in-Ok.held c.in-Ok.ensures.reads;
       left = λ m is. not_read_left _ m c.requires.not_read is;
       behind = λ columns may. tt;
       uses = c.in-Ok.ensures.uses;
@@ -40,12 +42,13 @@ returns-in-Ok g c =
 
 pub returns-in-Err : goal.returns-in-Err
 returns-in-Err g c =
-    let meta = meta_view c.args.metadata.now in
+    let file = c.args.metadata.now in
+    let meta = meta_view file in
     record {
-      gives = λ columns may. dictionaries_stop (g.S.Source.content c.args.source.now) meta columns c.in-Err.error (c.in_ok-check_columns.ensures.exact columns may).ok.0 c.in-Err.ensures.reads;
+      gives = λ columns may. dictionaries_stop (g.S.Source.content c.args.source.now) file columns c.in-Err.error (c.in_ok-check_columns.ensures.exact columns may).ok.0 c.in-Err.ensures.reads;
       held = tt;
       left = λ m is. cc;
-      behind = λ columns may. dictionaries_kept (g.S.Source.content c.args.source.now) meta columns c.in-Err.error c.in-Err.ensures.reads;
+      behind = λ columns may. dictionaries_kept (g.S.Source.content c.args.source.now) file columns c.in-Err.error c.in-Err.ensures.some c.in-Err.ensures.reads;
       uses = tt;
       keeps = tt;
       cause = c.in-Err.ensures.cause;

@@ -1,4 +1,4 @@
-use Rattle.std.proofs.Common.{◌≡◌, inl, refl, sym, ◌∙◌, true, false}
+use Rattle.std.proofs.Common.{◌≡◌, arith, inl, refl, sym, ◌∙◌, true, false}
 use Rattle.ipc_bodies.specs.Encodings.{text_of}
 use Rattle.ipc_messages.specs.States.{is_started}
 use Rattle.ipc_messages.proofs.Putting.{untouched}
@@ -27,5 +27,5 @@ pub returns-in-Err-clause-finishes : goal.returns-in-Err-clause-finishes
 returns-in-Err-clause-finishes g c =
     let n : is_started c.args.self.now.state ≡ true = sym c.is_started.ensures ∙ c.if-not-is_started.false in
     let k = c.stop_at.ensures in
-    finish_stopped (text_of c.args.self.now.encoding) c.stop_at.result c.in-Err.stop _ c.args.self.now c.stop_at.new.self k.error n c.in-Err.ensures.puts k.state k.tracker k.count
+    finish_stopped (text_of c.args.self.now.encoding) c.stop_at.result c.in-Err.stop _ c.args.self.now c.stop_at.new.self k.error n c.in-Err.ensures.puts (c.in-Err.ensures.wants (omega arith)) c.in-Err.ensures.whole k.state k.tracker k.count
     (record { options = k.stays.options; encoding = k.stays.encoding; schema = k.stays.schema; fields = k.stays.fields; pairs = k.stays.pairs; tracker = k.stays.tracker })

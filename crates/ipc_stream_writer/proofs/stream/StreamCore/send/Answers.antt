@@ -28,5 +28,5 @@ returns-in-Err-clause-sends g c =
     let k = c.stop_at.ensures in
     not_sent (text_of c.args.self.now.encoding) c.stop_at.result c.in-Err.stop _ c.args.self.now c.stop_at.new.self c.new_dictionaries.new.tracker c.args.batch.now n c.as_slice-messages.result.now k.error
     (found_in (Ok n) c.args.self.now.tracker c.new_dictionaries.new.tracker (all_parts_of c.arrays.result.now) c.args.batch.now.arrays c.as_slice-fields.result.now c.args.self.now.fields.items c.arrays.ensures c.as_slice-fields.ensures.value c.in_ok-new.ensures.sends)
-    c.as_slice-messages.ensures.value c.in-Err.ensures.sends k.state (λ q. ap (λ (t : DictionaryTracker). held_by t q) k.tracker ∙ c.undo.ensures.held q) k.count
+    c.as_slice-messages.ensures.value c.in-Err.ensures.sends c.in-Err.ensures.wants k.state (λ q. ap (λ (t : DictionaryTracker). held_by t q) k.tracker ∙ c.undo.ensures.held q) k.count
     (record { options = k.stays.options; encoding = k.stays.encoding; schema = k.stays.schema; fields = k.stays.fields; pairs = k.stays.pairs; tracker = k.stays.tracker ∙ c.undo.ensures.options ∙ c.in_ok-new.ensures.options })

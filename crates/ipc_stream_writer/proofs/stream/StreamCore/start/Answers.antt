@@ -33,5 +33,5 @@ returns-in-Err-clause-starts g c =
     let n : is_new c.args.self.now.state ≡ true = sym c.is_new.ensures ∙ c.if-not-is_new.false in
     let k = c.stop_at.ensures in
     start_stopped (text_of c.args.self.now.encoding) c.stop_at.result c.in-Err.stop _ c.args.self.now c.stop_at.new.self c.args.schema.now (given_ids c.args.ipc_fields) c.in_ok-start.start c.as_slice.result.now k.error n
-    c.in_ok-start.ensures c.as_slice.ensures.value c.in-Err.ensures.puts k.state k.tracker k.count
+    c.in_ok-start.ensures c.as_slice.ensures.value c.in-Err.ensures.puts c.in-Err.ensures.wants c.in-Err.ensures.whole k.state k.tracker k.count
     (record { options = k.stays.options; encoding = k.stays.encoding; schema = k.stays.schema; fields = k.stays.fields; pairs = k.stays.pairs; tracker = k.stays.tracker })

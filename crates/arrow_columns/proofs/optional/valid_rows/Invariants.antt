@@ -1,0 +1,5 @@
+use Rattle.std.proofs.Common.{◌≡◌, map, take, is_some}
+use Rattle.arrow_columns.proofs.optional.valid_rows.Given as goal
+
+abbrev pub invariant-loop-row : goal.invariant-loop-row
+invariant-loop-row g l = l.valid.items ≡ map is_some (take l.row-index l.rows)

@@ -1,0 +1,18 @@
+use Rattle.std.proofs.Common.{◌≡◌, ◌∙◌, inl, inr, true, false, refl, sym, ap}
+use Rattle.arrow_arrays.specs.Parts.{forest}
+use Rattle.arrow_arrays.specs.Columns.{columns_of}
+use Rattle.ipc_fields.specs.Representable.{all_representable}
+use Rattle.ipc_write.specs.Outcomes.{refuses_types}
+use Rattle.ipc_write.proofs.encode.encode_record_batch.Goals as goal
+
+pub returns-then-refuses_types-clause-encodes : goal.returns-then-refuses_types-clause-encodes
+returns-then-refuses_types-clause-encodes c =
+    let o = c.args.options.now in
+    let test : refuses_types o (all_representable (columns_of (forest c.args.batch.now.arrays))) ≡ true = ap (λ ps. refuses_types o (all_representable (columns_of (forest ps)))) (sym c.arrays.ensures) ∙ ap (refuses_types o) (sym c.are_representable.ensures) ∙ sym c.refuses_types.ensures ∙ c.if-refuses_types.true in
+    inl (test, (refl, record { message = refl; body = refl }))
+
+pub returns-clause-encodes : goal.returns-clause-encodes
+returns-clause-encodes c =
+    let o = c.args.options.now in
+    let test : refuses_types o (all_representable (columns_of (forest c.args.batch.now.arrays))) ≡ false = ap (λ ps. refuses_types o (all_representable (columns_of (forest ps)))) (sym c.arrays.ensures) ∙ ap (refuses_types o) (sym c.are_representable.ensures) ∙ sym c.refuses_types.ensures ∙ c.if-refuses_types.false in
+    inr (test, c.encode_any_batch.ensures.encodes)

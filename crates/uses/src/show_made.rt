@@ -1,0 +1,69 @@
+//! Uses of arrays and batches that are made in memory, each by a word of its own.
+use crate::append_each::file_with_each;
+use crate::by_name::{cities, show_cities};
+use crate::dictionary_file::file_of_colours;
+use crate::each_batch::heights;
+use crate::filter_stream::kept;
+use crate::merge_streams::merged;
+use crate::read_stream::first_height;
+use crate::write_file::file_of_numbers;
+use crate::write_stream::stream_of_numbers;
+use arrow_ipc::io::ipc::IpcError;
+use arrow_ipc::io::{MemorySink, MemorySource};
+use std::alloc::{AllocError, Global};
+
+fn bytes_in(alloc: Global, sink: &MemorySink) -> Result<Vec<u8>, AllocError> {
+    sink.bytes().to_vec(alloc)
+}
+
+fn show_colours(rt: &HostRuntime, alloc: Global) -> Result<(), IpcError> {
+    let file = bytes_in(alloc, &file_of_colours(alloc, &[0, 2, 0, 1])?)?;
+    let mut source = MemorySource::new(file, Vec::new(alloc), Vec::new(alloc));
+    for height in &heights(alloc, &mut source, None)? {
+        let _ = println!(rt; "a file with a dictionary and a batch of {height} rows");
+    }
+    Ok(())
+}
+
+fn show_filtered(rt: &HostRuntime, alloc: Global) -> Result<(), IpcError> {
+    let stream = bytes_in(alloc, &stream_of_numbers(alloc, &[1, 3, 5])?)?;
+    let filtered = kept(alloc, stream, 3)?;
+    let height = first_height(alloc, bytes_in(alloc, &filtered)?)?.unwrap_or(0);
+    let _ = println!(rt; "{height} rows of 3 that are at least 3");
+    Ok(())
+}
+
+fn show_grown(rt: &HostRuntime, alloc: Global) -> Result<(), IpcError> {
+    let file = bytes_in(alloc, &file_of_numbers(alloc, &[1, 3])?)?;
+    let grown = file_with_each(alloc, file, &[5, 7, 9])?;
+    let mut source = MemorySource::new(grown, Vec::new(alloc), Vec::new(alloc));
+    let batches = heights(alloc, &mut source, None)?.len();
+    let _ = println!(rt; "a file of {batches} batches");
+    Ok(())
+}
+
+fn show_merged(rt: &HostRuntime, alloc: Global) -> Result<(), IpcError> {
+    let one = bytes_in(alloc, &stream_of_numbers(alloc, &[1, 3])?)?;
+    let other = bytes_in(alloc, &stream_of_numbers(alloc, &[5])?)?;
+    let length = merged(alloc, one, other)?.bytes().len();
+    let _ = println!(rt; "a stream of {length} bytes of two");
+    Ok(())
+}
+
+fn show(rt: &HostRuntime, alloc: Global, word: &str) -> Result<(), IpcError> {
+    match word {
+        "columns" => show_cities(rt, &cities(alloc)?),
+        "filter" => show_filtered(rt, alloc),
+        "grow" => show_grown(rt, alloc),
+        "merge" => show_merged(rt, alloc),
+        _ => show_colours(rt, alloc),
+    }
+}
+
+/// The use that a word names.
+pub(crate) fn show_use(rt: &HostRuntime, word: &str) -> Result<(), &'static str> {
+    match show(rt, rt.alloc(), word) {
+        Ok(()) => Ok(()),
+        Err(error) => Err(error.name()),
+    }
+}
