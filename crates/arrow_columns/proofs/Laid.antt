@@ -72,7 +72,7 @@ row_behind front (r ∷ rs) (suc k) h =
 pub laid_row : (limit : ℕ) (rows : List (List ℕ)) (offsets : List ℤ) (values : List ℕ) → Laid limit rows offsets values → (k : ℕ) → k < length rows → row_bytes offsets values k ≡ get_or rows k []
 laid_row limit rows offsets values s k h = ap (λ o. row_bytes o values k) s.ends ∙ ap (λ v. row_bytes (ends_from 0 rows) v k) s.bytes ∙ row_behind [] rows k h
 
-length-ends : (at : ℕ) (rows : List (List ℕ)) → length (ends_from at rows) ≡ suc (length rows)
+pub length-ends : (at : ℕ) (rows : List (List ℕ)) → length (ends_from at rows) ≡ suc (length rows)
 length-ends at [] = refl
 length-ends at (r ∷ rs) = ap suc (length-ends (at + length r) rs)
 
@@ -92,7 +92,7 @@ text_at [] k l h = absurd (omega arith)
 text_at (r ∷ rs) zero l h = (and_parts (is_utf8 r) (list_all is_utf8 rs) h).0
 text_at (r ∷ rs) (suc k) l h = text_at rs k (omega arith) (and_parts (is_utf8 r) (list_all is_utf8 rs) h).1
 
-none_bad : (bad : ℕ → Bool) (n : ℕ) → ((k : ℕ) → k < n → bad k ≡ false) → some_row bad n ≡ false
+pub none_bad : (bad : ℕ → Bool) (n : ℕ) → ((k : ℕ) → k < n → bad k ≡ false) → some_row bad n ≡ false
 none_bad bad zero h = refl
 none_bad bad (suc n) h = or_from (some_row bad n) (bad n) (none_bad bad n (λ k l. h k (omega arith))) (h n (omega arith))
 
@@ -125,7 +125,7 @@ pub more_refused : (limit few many : ℕ) (e : ArrayError) → few ≤ many → 
 more_refused limit few many e h (inl m) = inl m
 more_refused limit few many e h (inr p) = inr (p.0, omega (arith, p.1))
 
-refused : {X : Type 0} (P : ArrayError → Type 0) (r : Result X ArrayError) (e : ArrayError) → IsErrAnd r (λ f. f ≡ e) → P e → IfErr r P
+pub refused : {X : Type 0} (P : ArrayError → Type 0) (r : Result X ArrayError) (e : ArrayError) → IsErrAnd r (λ f. f ≡ e) → P e → IfErr r P
 refused P (Ok x) e h p = absurd h
 refused P (Err f) e h p = subst P (sym h) p
 

@@ -1,3 +1,4 @@
 pub mod Searches
 pub mod Laid
 pub mod Nulls
+pub mod Keyed

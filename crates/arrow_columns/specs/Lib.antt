@@ -1,3 +1,4 @@
 pub mod Named
 pub mod Strings
 pub mod Optional
+pub mod Dictionary

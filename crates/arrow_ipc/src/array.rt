@@ -9,4 +9,6 @@ pub use arrow_buffers::{
     FixedSizeBinaryArray, NullArray, PrimitiveArray, TextRows, Utf8Array, Utf8ViewArray,
     VariableArray, ViewType,
 };
-pub use arrow_columns::{byte_strings, optional_numbers, optional_texts, texts};
+pub use arrow_columns::{
+    byte_strings, dictionary_of_texts, optional_numbers, optional_texts, texts,
+};

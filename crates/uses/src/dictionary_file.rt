@@ -1,5 +1,5 @@
 //! A file with a column of a dictionary's values.
-use arrow_ipc::array::{Array, DictionaryArray, DictionaryKeys, PrimitiveArray, texts};
+use arrow_ipc::array::{Array, dictionary_of_texts};
 use arrow_ipc::datatypes::{ArrowDataType, ArrowSchema, Field, IntegerType};
 use arrow_ipc::io::MemorySink;
 use arrow_ipc::io::ipc::IpcError;
@@ -13,23 +13,20 @@ fn dictionary_type(alloc: Global) -> Result<ArrowDataType, AllocError> {
     Ok(ArrowDataType::Dictionary(IntegerType::Int32, values, false))
 }
 
-/// A batch of one column: a key for each row, and the texts that the keys say.
-fn colours(alloc: Global, keys: &[i32]) -> Result<RecordBatch, IpcError> {
-    let values = texts::<i32>(alloc, &["red", "green", "blue"])?;
-    let rows = DictionaryKeys::Int32(PrimitiveArray::from_slice(alloc, keys)?);
-    let dtype = dictionary_type(alloc)?;
-    let column = DictionaryArray::try_new(alloc, dtype, rows, Array::Utf8(values))?;
+/// A batch of one column: a key for each row, and the distinct names that the keys say.
+fn colours(alloc: Global, names: &[&str]) -> Result<RecordBatch, IpcError> {
+    let column = dictionary_of_texts(alloc, names)?;
     let name = String::from_str(alloc, "colour")?;
     let field = Field::new(alloc, name, dictionary_type(alloc)?, false);
     let schema = ArrowSchema::from_fields(alloc, vec![in alloc; field]?)?;
     let schema = Rc::new(alloc, schema)?;
     let columns = vec![in alloc; Array::Dictionary(column)]?;
-    Ok(RecordBatch::try_new(keys.len(), schema, columns)?)
+    Ok(RecordBatch::try_new(names.len(), schema, columns)?)
 }
 
 /// A file of one batch of colours, in memory.
-pub(crate) fn file_of_colours(alloc: Global, keys: &[i32]) -> Result<MemorySink, IpcError> {
-    let batch = colours(alloc, keys)?;
+pub(crate) fn file_of_colours(alloc: Global, names: &[&str]) -> Result<MemorySink, IpcError> {
+    let batch = colours(alloc, names)?;
     let sink = MemorySink::new(alloc, None, Vec::new(alloc));
     let schema = batch.schema().clone()?;
     let mut writer = FileWriter::try_new(alloc, sink, schema, None, WriteOptions::default())?;

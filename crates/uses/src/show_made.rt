@@ -17,7 +17,10 @@ fn bytes_in(alloc: Global, sink: &MemorySink) -> Result<Vec<u8>, AllocError> {
 }
 
 fn show_colours(rt: &HostRuntime, alloc: Global) -> Result<(), IpcError> {
-    let file = bytes_in(alloc, &file_of_colours(alloc, &[0, 2, 0, 1])?)?;
+    let file = bytes_in(
+        alloc,
+        &file_of_colours(alloc, &["red", "blue", "red", "green"])?,
+    )?;
     let mut source = MemorySource::new(file, Vec::new(alloc), Vec::new(alloc));
     for height in &heights(alloc, &mut source, None)? {
         let _ = println!(rt; "a file with a dictionary and a batch of {height} rows");
