@@ -31,7 +31,7 @@ use Rattle.ipc_append.specs.declared.encode.EncodedChunk.{EncodedChunk}
 use Rattle.ipc_append.specs.declared.stream.WholeStream.{WholeStream}
 use Rattle.ipc_append.proofs.BatchMeaning.{IsOfFile, MeansSoFar, all_mean}
 use Rattle.ipc_append.proofs.PutSteps.{stays_behind}
-use Rattle.ipc_append.proofs.StreamKinds.{kinds_through}
+use Rattle.same_fields.proofs.OneKind.{kinds_through}
 
 -- ── what is held at the start ──
 

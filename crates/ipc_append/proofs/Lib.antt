@@ -1,5 +1,4 @@
 pub mod Handed
-pub mod BareKinds
 pub mod StreamKinds
 pub mod StreamRefusals
 pub mod WholeSteps

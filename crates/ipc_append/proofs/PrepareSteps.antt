@@ -26,7 +26,7 @@ use Rattle.ipc_append.specs.Encoded.{EncodesAll}
 use Rattle.ipc_append.specs.Targets.{DoesNotTake, HaveSameFields, HoldsDictionaries, IsMetadata, LacksDictionaries, ReadsDictionaries, Takes}
 use Rattle.ipc_append.specs.declared.encode.EncodedChunk.{EncodedChunk}
 use Rattle.ipc_append.specs.declared.stream.WholeStream.{WholeStream}
-use Rattle.ipc_append.proofs.BareKinds.{fields_with_bare}
+use Rattle.same_fields.proofs.BareKinds.{fields_with_bare}
 use Rattle.ipc_append.proofs.Handed.{handed}
 
 -- ── fields ──

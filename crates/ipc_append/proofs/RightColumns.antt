@@ -16,7 +16,7 @@ use Rattle.laws_sent.proofs.SayableFields.{fields_representable}
 use Rattle.ipc_append.specs.Columns.{are_of, is_of}
 use Rattle.ipc_append.specs.Targets.{Takes}
 use Rattle.ipc_append.specs.declared.stream.WholeStream.{WholeStream}
-use Rattle.ipc_append.proofs.StreamKinds.{kinds_through}
+use Rattle.same_fields.proofs.OneKind.{kinds_through}
 
 one_of : (fs : Fields) (before : List Batch) (b : Batch) (behind : List Batch) → are_of fs (before ++ b ∷ behind) ≡ true → is_of fs b ≡ true
 one_of fs [] b behind h = (and_parts (is_of fs b) (are_of fs behind) h).0

@@ -30,7 +30,7 @@ use Rattle.ipc_streams.proofs.StreamLaws.{nexts_are_the_stream}
 use Rattle.ipc_streams.proofs.TakenCalls.{cause_since}
 use Rattle.ipc_append.specs.Wholes.{AllOf, EachGiven, FailsBehind, GivesEach, GivesMore, IsWhole, NextGiven, RefusesStream, StopsBehind, all_columns, batch_found, reader_of, stops_here, stops_later}
 use Rattle.ipc_append.specs.Columns.{are_of}
-use Rattle.ipc_append.proofs.BareKinds.{fields_with_bare}
+use Rattle.same_fields.proofs.BareKinds.{fields_with_bare}
 use Rattle.ipc_append.proofs.StreamKinds.{batches_of}
 use Rattle.ipc_append.proofs.StreamRefusals.{start_refuses, stream_stops}
 

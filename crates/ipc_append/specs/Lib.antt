@@ -1,6 +1,5 @@
 pub mod Below
 pub mod Columns
-pub mod Bare
 pub mod Wholes
 pub mod Targets
 pub mod Encoded

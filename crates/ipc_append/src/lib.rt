@@ -2,7 +2,6 @@
 #![tactic(auto)]
 
 mod append;
-mod bare;
 mod checks;
 mod encode;
 mod ends;

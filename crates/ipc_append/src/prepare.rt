@@ -5,13 +5,13 @@ ghost use Rattle.ipc_append.specs.Targets.{DoesNotTake, ReadsDictionaries, Takes
 ghost use Rattle.ipc_streams.specs.Below.{IsNatural, IsReadable};
 ghost use Rattle.ipc_io.specs.Outside.{IsSize, SourceKept};
 
-use crate::bare::have_same_fields;
 use crate::encode::{EncodedChunk, encode_batches};
 use crate::stream::WholeStream;
 use arrow_spec::IpcError;
 use ipc_file_writer::{DictionaryTracker, WriteOptions};
 use ipc_io::Source;
 use ipc_streams::{FileMetadata, StreamMetadata, read_file_dictionaries, read_file_metadata};
+use same_fields::have_same_fields;
 use std::alloc::Global;
 
 /// What a file says, and the messages that are to stand behind its own.

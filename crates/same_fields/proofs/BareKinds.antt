@@ -16,7 +16,7 @@ use Rattle.arrow_types.specs.declared.data_type.Field.{Field}
 use Rattle.ipc_fields.specs.IpcFields.{Ids, fields_with, ids, kind_with, no_fields}
 use Rattle.arrow_types.specs.Leaves.{is_leaf}
 use Rattle.arrow_spec.proofs.SameIds.{ids_self, ids_true}
-use Rattle.ipc_append.specs.Bare.{bare_child, bare_entry}
+use Rattle.same_fields.specs.Bare.{bare_child, bare_entry}
 
 -- ── fields ──
 

@@ -5,7 +5,7 @@ ghost use Rattle.arrow_spec.specs.Kinds.{bare, bare_kind, have_same_kinds};
 ghost use Rattle.arrow_types.specs.KindOf.{child_of, extension_kind_of, kind_of, union_kind_of};
 ghost use Rattle.arrow_types.specs.Schemas.{entry_of, fields_in};
 ghost use Rattle.arrow_types.specs.Leaves.{is_leaf};
-ghost use Rattle.ipc_append.specs.Bare.{AreOfOneKind, bare_child, bare_entry};
+ghost use Rattle.same_fields.specs.Bare.{AreOfOneKind, bare_child, bare_entry};
 
 use arrow_spec::IntegerType;
 use arrow_types::{
@@ -144,7 +144,7 @@ fn is_same_entry(a: Option<(&String, &Field)>, b: Option<(&String, &Field)>) -> 
 }
 
 /// Whether two schemas have the same fields, in order.
-pub(crate) fn have_same_fields(a: &ArrowSchema, b: &ArrowSchema) -> bool
+pub fn have_same_fields(a: &ArrowSchema, b: &ArrowSchema) -> bool
     ensures same { IsTrue result ↔ (bare (fields_in a.now) ≡ bare (fields_in b.now)) }
     ensures kinds { result ≡ true → have_same_kinds (fields_in a.now) (fields_in b.now) ≡ true }
 {

@@ -1,8 +1,8 @@
 use Rattle.std.proofs.Common.{◌≡◌, true}
 use Rattle.arrow_spec.specs.Kinds.{is_same_kind}
 use Rattle.arrow_types.specs.KindOf.{child_of}
-use Rattle.ipc_append.proofs.StreamKinds.{children_same}
-use Rattle.ipc_append.proofs.bare.is_same_entry.Goals as goal
+use Rattle.same_fields.proofs.OneKind.{children_same}
+use Rattle.same_fields.proofs.bare.is_same_entry.Goals as goal
 
 pub returns-in-Some-b-clause-kinds : goal.returns-in-Some-b-clause-kinds
 returns-in-Some-b-clause-kinds c = λ h.

@@ -2,10 +2,10 @@ use borrow.Author.Count.{below_more, below_none}
 use Rattle.std.proofs.Common.{◌≡◌, ◌∙◌, ap, arith, refl, sym, subst, true≢false, length, slice_get, ◌≤◌, ℕ}
 use Rattle.std.specs.Option.{option_map}
 use Rattle.arrow_types.specs.Schemas.{entry_of}
-use Rattle.ipc_append.specs.Bare.{AreOfOneKind, bare_entry}
-use Rattle.ipc_append.proofs.BareKinds.{entries_at, entries_count, entries_more, entries_whole}
-use Rattle.ipc_append.proofs.StreamKinds.{all_of_one_kind}
-use Rattle.ipc_append.proofs.bare.have_same_fields.Goals as goal
+use Rattle.same_fields.specs.Bare.{AreOfOneKind, bare_entry}
+use Rattle.same_fields.proofs.BareKinds.{entries_at, entries_count, entries_more, entries_whole}
+use Rattle.same_fields.proofs.OneKind.{all_of_one_kind}
+use Rattle.same_fields.proofs.bare.have_same_fields.Goals as goal
 
 pub returns-then-len-clause-same : goal.returns-then-len-clause-same
 returns-then-len-clause-same c = (λ h. absurd (true≢false (sym h)), λ h. absurd (c.if-len.true (c.len.ensures.count ∙ entries_count c.args.a.now c.args.b.now h ∙ sym c.len-2.ensures.count)))

@@ -7,9 +7,9 @@ use Rattle.arrow_types.specs.Child.{fields_from}
 use Rattle.arrow_types.proofs.Sameness.{fields_from_same, same_at}
 use Rattle.arrow_types.specs.declared.data_type.UnionType.{out-UnionType}
 use Rattle.arrow_types.specs.Leaves.{is_leaf}
-use Rattle.ipc_append.specs.Bare.{bare_child}
-use Rattle.ipc_append.proofs.BareKinds.{bare_field, kind_of_Struct, leaves_same, other_fields, other_mode, unions_same}
-use Rattle.ipc_append.proofs.bare.+bare.Goals as goal
+use Rattle.same_fields.specs.Bare.{bare_child}
+use Rattle.same_fields.proofs.BareKinds.{bare_field, kind_of_Struct, leaves_same, other_fields, other_mode, unions_same}
+use Rattle.same_fields.proofs.bare.+bare.Goals as goal
 
 pub are_same_fields-returns-then-not-is_same_field : goal.are_same_fields-returns-then-not-is_same_field
 are_same_fields-returns-then-not-is_same_field t c = (

@@ -1,0 +1,2 @@
+pub mod BareKinds
+pub mod OneKind
