@@ -1,0 +1,4 @@
+mod CellTexts
+mod RowTexts
+mod KindSteps
+pub mod OutputParts

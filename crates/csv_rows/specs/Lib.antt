@@ -1,0 +1,4 @@
+pub mod Values
+pub mod Writers
+pub mod Shown
+pub mod Output
