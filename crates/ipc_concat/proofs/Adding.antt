@@ -1,0 +1,235 @@
+-- The next batch of a file, read and then written, or refused.
+use Rattle.std.proofs.Common.{◌≡◌, ◌∙◌, ◌⊎◌, sym, refl, ap, inl, inr, ℕ, suc, ◌+◌, ◌<◌, ◌≤◌, List, [], ◌∷◌, ◌++◌, length, slice_get, Bool, true, false, Option, Some, None, Result, Ok, Err, subst, arith, add-one, append_assoc}
+use Rattle.std.specs.Prelude.{IfErr, IfOk, IfSome}
+use Rattle.std.specs.Io.KnownBytes.{Appends, Keeps}
+use Rattle.std.specs.Rc.{rc_value}
+use Rattle.std.proofs.KnownBytes.{Appends-kept}
+use Rattle.std.proofs.lemmas.List.{length-append, length-map}
+use Rattle.arrow_spec.specs.declared.error.IpcError.{IpcError}
+use Rattle.arrow_spec.specs.declared.error.IpcError.TheVariants as errors
+use Rattle.arrow_spec.specs.Files.{FileBlock, TableBatch, «all», file_reading, to_read, what_is_left}
+use Rattle.arrow_spec.specs.Readings.{Refuses, refusals}
+use Rattle.arrow_spec.specs.Kinds.{have_same_kinds}
+use Rattle.arrow_types.specs.Schemas.{Keyed, fields_in}
+use Rattle.arrow_arrays.specs.Batches.{Batch}
+use Rattle.arrow_arrays.specs.Parts.{fault_each, forest}
+use Rattle.ipc_io.specs.Outside.{Rose}
+use Rattle.ipc_bodies.specs.Encodings.{text_of}
+use Rattle.ipc_bodies.specs.Puts.{Moved, PutsPart}
+use Rattle.laws_sent.proofs.Right.{kinds_of_schema}
+use Rattle.same_fields.proofs.OneKind.{kinds_through}
+use Rattle.ipc_reader.specs.Below.{FileCause, FileMetadata, HasFields, MayProject, asked, file_block, meta_view, schema_shown, table_of}
+use Rattle.ipc_reader.specs.Kept.{GivesBy, HeldParts, KeepsFile, KeptAfter, ReadUnderKept, is_refused}
+use Rattle.ipc_reader.specs.Reads.{NextBatch}
+use Rattle.ipc_reader.specs.declared.cursor.FileCursor.{FileCursor}
+use Rattle.ipc_reader.specs.declared.kept.KeptDictionaries.{KeptDictionaries}
+use Rattle.ipc_reader.specs.declared.kept.KeptDictionaries.TheVariants.{Held, NotRead}
+use Rattle.ipc_reader.proofs.Below.{GivenAt, natural_at}
+use Rattle.ipc_stream_writer.specs.Below.{cells_of, chunk_text, columns_of, counted}
+use Rattle.ipc_stream_writer.specs.Calls.{WriteFailed, Writes}
+use Rattle.ipc_transcode.proofs.NextBatches.{block_there}
+use Rattle.ipc_transcode.proofs.Nexts.{with_batch}
+use Rattle.ipc_concat.specs.Concat.{CauseOf}
+use Rattle.ipc_concat.specs.Files.{AddsNext, BlocksRead, HasReadBlocks, Holds, IsGoing, IsPut, IsReaderOf, NextAdded, NextTooLarge, Start, StopsFile, StopsNext, part_of, schema_of, with_batches}
+use Rattle.ipc_concat.specs.declared.stream.JoinedStream.{JoinedStream}
+use Rattle.ipc_concat.proofs.Blocks.{call_stops, next_read, part_read}
+use Rattle.ipc_concat.proofs.Walks.{IsLargeFor, suits}
+use Rattle.ipc_concat.proofs.Writing.{NotWritten, head_at, held_on, not_written, of_put, part_behind, write_cause}
+
+-- ── a reader ──
+
+-- why metadata or a batch is not read
+pub read_cause : (e : IpcError) (faults faults' : ℕ) (writes : Type 0) → FileCause e faults faults' → CauseOf (Rose faults faults') writes e
+read_cause errors.ReadFault faults faults' writes h = h
+read_cause errors.WriteFault faults faults' writes h = absurd h
+read_cause errors.State faults faults' writes h = h
+read_cause (errors.Projection index) faults faults' writes h = h
+read_cause (errors.DictionaryReplaced id) faults faults' writes h = h
+read_cause errors.NotRepresentable faults faults' writes h = h
+read_cause errors.Memory faults faults' writes h = tt
+read_cause errors.TooLarge faults faults' writes h = tt
+read_cause errors.SchemaMismatch faults faults' writes h = tt
+read_cause errors.TooDeep faults faults' writes h = tt
+read_cause (errors.OutOfSpec kind) faults faults' writes h = tt
+read_cause (errors.Unsupported feature) faults faults' writes h = tt
+read_cause (errors.TooMany counted) faults faults' writes h = tt
+
+pub read_fails : {X : Type 0} (r : Result X IpcError) (e : IpcError) (faults faults' : ℕ) (writes : Type 0) → r ≡ Err e → FileCause e faults faults' → IfErr r (λ e. CauseOf (Rose faults faults') writes e)
+read_fails r e faults faults' writes is h = subst (λ z. IfErr z (λ e. CauseOf (Rose faults faults') writes e)) (sym is) (read_cause e faults faults' writes h)
+
+-- all columns are read
+pub may_all : (c : FileCursor) → c.projection ≡ None → MayProject (rc_value c.metadata.schema) None c.projection
+may_all c none = subst (MayProject (rc_value c.metadata.schema) None) (sym none) tt
+
+-- dictionaries that were read or not were not refused
+not_refused : (b : List ℕ) (m : FileMetadata) (kept : KeptDictionaries) (block : ℕ) (xs : List TableBatch) → BlocksRead b m kept block xs → is_refused kept ≡ false
+not_refused b m kept block xs (BlocksRead.none_yet none not_read) = ap is_refused not_read
+not_refused b m kept block xs (BlocksRead.some_read held is cells dictionaries read some) = ap is_refused is
+
+-- a file has as many blocks as are given
+pub blocks_as : (c : FileCursor) → length (meta_view c.metadata).blocks ≡ length c.metadata.blocks.items
+blocks_as c = length-map c.metadata.blocks.items file_block
+
+-- what stands there
+pub is_put : (x : Start) (b : List ℕ) (c : FileCursor) (st : JoinedStream) (now : Option (List ℕ)) (before xs : List TableBatch) → HasReadBlocks b c xs → (h : Holds x st now (before ++ xs)) → IsPut x b c.metadata before xs h.bytes
+is_put x b c st now before xs read h = record {
+  read = part_read b c xs read;
+  not_ended = h.written.not_ended;
+  stream = h.written.means ∙ ap Some (head_at x h.pairs st.writer (before ++ xs) h.head);
+}
+
+-- at the same place
+same_place : (b : List ℕ) (c c' : FileCursor) (xs : List TableBatch) → c'.metadata ≡ c.metadata → c'.projection ≡ c.projection → c'.left ≡ c.left → c'.block ≡ c.block → c'.dictionaries ≡ c.dictionaries → HasReadBlocks b c xs → HasReadBlocks b c' xs
+same_place b c c' xs metadata projection left block kept h = record {
+  opened = rw metadata h.opened;
+  read = rw metadata h.read;
+  projection = projection ∙ h.projection;
+  left = left ∙ h.left;
+  blocks = rw (metadata, kept, block) h.blocks;
+  count = h.count ∙ sym block;
+  within = rw (metadata, block) h.within;
+}
+
+module _ {S : Type 0} (content_of : S → Option (List ℕ)) (faults_of fetched_of : S → ℕ) (references_of : S → List ℕ) (s s' : S) (c c' : FileCursor) (st : JoinedStream) (now : Option (List ℕ)) where
+  abbrev Next : Option (Result Batch IpcError) → Type 0
+  Next r = NextBatch content_of faults_of fetched_of references_of s s' c c' r
+
+  -- what is said of a call where the source's bytes are told
+  abbrev pub Told : (Start → List ℕ → List TableBatch → List TableBatch → Type 0) → Type 0
+  Told P = IfSome (content_of s) (λ b. (x : Start) (before xs : List TableBatch) → x.encoding ≡ st.writer.encoding → HasReadBlocks b c xs → Holds x st now (before ++ xs) → P x b before xs)
+
+  tell : (P : Start → List ℕ → List TableBatch → List TableBatch → Type 0) → ((b : List ℕ) → content_of s ≡ Some b → (x : Start) (before xs : List TableBatch) → x.encoding ≡ st.writer.encoding → HasReadBlocks b c xs → Holds x st now (before ++ xs) → P x b before xs) → Told P
+  tell P h = by (content_of s) refl
+    where
+      by : (o : Option (List ℕ)) → content_of s ≡ o → IfSome o (λ b. (x : Start) (before xs : List TableBatch) → x.encoding ≡ st.writer.encoding → HasReadBlocks b c xs → Holds x st now (before ++ xs) → P x b before xs)
+      by None is = tt
+      by (Some b) is = h b is
+
+  -- ── none is left, or it is refused ──
+
+  pub next_none : (wants wants' : ℕ) → Next None → Told (λ x b before xs. NextAdded (Ok tt) x b c c' st before now wants wants')
+  next_none wants wants' n = tell (λ x b before xs. NextAdded (Ok tt) x b c c' st before now wants wants') λ b told x before xs enc read h. record {
+    xs = xs;
+    read = same_place b c c' xs n.metadata n.projection n.left n.block (n.dictionaries None (may_all c read.projection)) read;
+    holds = h;
+    further = inr (subst (λ (m : FileMetadata). length (meta_view m).blocks ≤ c'.block) (sym n.metadata) (last b xs read n.ended));
+  }
+    where
+      last : (b : List ℕ) (xs : List TableBatch) → HasReadBlocks b c xs → (length c.metadata.blocks.items ≤ c.block) ⊎ (is_refused c.dictionaries ≡ true) → length (meta_view c.metadata).blocks ≤ c'.block
+      last b xs read (inl at_end) = omega (arith, at_end, n.block, blocks_as c)
+      last b xs read (inr never) = let clash : false ≡ true = sym (not_refused b c.metadata c.dictionaries c.block xs read.blocks) ∙ never in cc
+
+  -- there is a block
+  at_block : c.block < length c.metadata.blocks.items → (block : FileBlock) × (slice_get (meta_view c.metadata).blocks c.block ≡ Some block)
+  at_block less = block_there (meta_view c.metadata).blocks c.block (let same = blocks_as c in omega (arith, less, same))
+
+  pub next_refused : (e : IpcError) (r : Result (Unit {0}) IpcError) (st' : JoinedStream) (wants wants' : ℕ) → r ≡ Err e → Next (Some (Err e)) → Told (λ x b before xs. NextAdded r x b c c' st' before now wants wants')
+  next_refused e r st' wants wants' is_err n = tell (λ x b before xs. NextAdded r x b c c' st' before now wants wants') λ b told x before xs enc read h.
+      let there = at_block n.ended.0 in
+      let y = natural_at c.metadata.blocks.items c.block there.0 read.read.natural.blocks there.1 in
+      let gives : GivesBy c.dictionaries (asked None c.left) b c.metadata y.given (Err e) = subst (λ o. IfSome o (λ z. GivesBy c.dictionaries (asked None c.left) z c.metadata y.given (Err e))) told (n.gives None y.given (may_all c read.projection) y.at) in
+      let here : GivesBy c.dictionaries «all» b c.metadata y.given (Err e) = subst (λ l. GivesBy c.dictionaries (asked None l) b c.metadata y.given (Err e)) read.left gives in
+      let stop = call_stops b c.metadata read.opened e read.read.natural c.block there.0 y.given there.1 y.is c.dictionaries xs read.blocks here in
+      let why : StopsNext e b c.metadata before xs h.bytes = inl (stop.0, subst (λ k. Refuses e (refusals (file_reading to_read b «all» (Some (suc k))))) (sym read.count) stop.1) in
+      subst (λ z. NextAdded z x b c c' st' before now wants wants') (sym is_err) (StopsFile.behind_put {xs = xs} {bytes = h.bytes} (is_put x b c st now before xs read h) h.added why)
+
+  -- ── it was read ──
+
+  left_on : (l : Option ℕ) (n : ℕ) → l ≡ None → what_is_left l n ≡ None
+  left_on l n none = rw none refl
+
+  read_on : (y : Batch) → Next (Some (Ok y)) → (b : List ℕ) → content_of s ≡ Some b → (xs : List TableBatch) → HasReadBlocks b c xs → HasReadBlocks b c' (xs ++ table_of y ∷ [])
+  read_on y n b told xs read =
+      let there = at_block n.ended.0 in
+      let may = may_all c read.projection in
+      let under : ReadUnderKept (Some b) (meta_view c.metadata) «all» there.0 c'.dictionaries y = subst (λ l. ReadUnderKept (Some b) (meta_view c.metadata) (asked None l) there.0 c'.dictionaries y) read.left (subst (λ o. ReadUnderKept o (meta_view c.metadata) (asked None c.left) there.0 c'.dictionaries y) told (n.read None there.0 may there.1)) in
+      let first : c.dictionaries ≡ NotRead → KeepsFile (Some b) (meta_view c.metadata) c'.dictionaries = λ not_read. subst (λ o. KeepsFile o (meta_view c.metadata) c'.dictionaries) told (n.first not_read) in
+      let keeps : (h : HeldParts) → c.dictionaries ≡ Held h → c'.dictionaries ≡ Held h = λ h kept. subst (λ (k : KeptDictionaries). KeptAfter {X = Batch} (content_of s) c.metadata None k c'.dictionaries (Ok y)) kept (n.dictionaries None may) in
+      let blocks = next_read b c.metadata read.opened c.block there.0 y there.1 c.dictionaries c'.dictionaries xs read.blocks under first keeps in
+      record {
+        opened = rw n.metadata read.opened;
+        read = rw n.metadata read.read;
+        projection = n.projection ∙ read.projection;
+        left = n.left ∙ left_on c.left y.height read.left;
+        blocks = rw (n.metadata, n.block) blocks;
+        count = length-append xs (table_of y ∷ []) ∙ ap (λ k. k + 1) read.count ∙ sym n.block;
+        within = rw n.metadata (let same = blocks_as c in omega (arith, n.ended.0, n.block, same));
+      }
+
+  -- its columns are of the kinds of the stream's fields
+  pub kinds_on : (y : Batch) → Next (Some (Ok y)) → IsReaderOf st.writer.schema c → have_same_kinds (fields_in st.writer.schema) (columns_of (forest y.arrays)) ≡ true
+  kinds_on y n reader =
+      let has : HasFields y (schema_shown (rc_value c.metadata.schema) c.projection) = n.schema None (may_all c reader.projection) in
+      let own : HasFields y (schema_of c) = subst (λ p. HasFields y (schema_shown (rc_value c.metadata.schema) p)) reader.projection has in
+      kinds_through (fields_in st.writer.schema) (fields_in (schema_of c)) (columns_of (forest y.arrays)) reader.fields.kinds (kinds_of_schema (schema_of c) y.arrays own.kinds)
+
+  module _ (y : Batch) (st' : JoinedStream) (m : Moved) (n : Next (Some (Ok y))) (reader : IsReaderOf st.writer.schema c) (going : IsGoing st) (sound : fault_each (forest y.arrays) ≡ None) (old : m.old ≡ now) where
+    -- and written
+    pub next_written : Writes (text_of st.writer.encoding) m (Ok tt) st.writer st'.writer y None → st'.batches ≡ counted (st.batches + 1) → st'.rows ≡ counted (st.rows + y.height) → (wants wants' : ℕ)
+        → Told (λ x b before xs. NextAdded (Ok tt) x b c c' st' before m.new wants wants')
+    next_written w batches rows wants wants' = tell (λ x b before xs. NextAdded (Ok tt) x b c c' st' before m.new wants wants') λ b told x before xs enc read h. record {
+      xs = xs ++ table_of y ∷ [];
+      read = read_on y n b told xs read;
+      holds = subst (Holds x st' m.new) (append_assoc before xs (table_of y ∷ [])) (held_on x st st' now (before ++ xs) y m (sym enc) old h w batches rows);
+      further = inl (n.block ∙ add-one c.block);
+    }
+
+    -- a put failed
+    put_failed : (e : IpcError) → WriteFailed (text_of st.writer.encoding) m e st.writer st'.writer y None → (b : List ℕ) → content_of s ≡ Some b → (x : Start) (before xs : List TableBatch) → x.encoding ≡ st.writer.encoding → HasReadBlocks b c xs → Holds x st now (before ++ xs)
+        → StopsFile e x b c.metadata before m.new m.wants m.wants_now
+    put_failed e f b told x before xs enc read h =
+        let more = chunk_text f.sends.sending.sent y in
+        let kinds = kinds_on y n reader in
+        let on = with_batch h.pairs st.writer y f.sends.sending h.bytes (before ++ xs) f.sends.is_found f.sends.may kinds h.written in
+        let next = read_on y n b told xs read in
+        let put : PutsPart m e (text_of x.encoding more) = subst (λ k. PutsPart m e (text_of k more)) (sym enc) f.sends.failed.put in
+        let added : Appends x.before m.old (text_of x.encoding h.bytes) = subst (λ o. Appends x.before o (text_of x.encoding h.bytes)) (sym old) h.added in
+        StopsFile.in_next {xs = xs ++ table_of y ∷ []} {bytes = h.bytes ++ more} (record {
+          read = subst (λ (k : FileMetadata). file_reading to_read b «all» (Some (length (xs ++ table_of y ∷ []))) ≡ Ok (part_of k (xs ++ table_of y ∷ []))) n.metadata (part_read b c' (xs ++ table_of y ∷ []) next);
+          not_ended = on.going;
+          stream = on.means ∙ ap Some (head_at x h.pairs st.writer ((before ++ xs) ++ cells_of y ∷ []) h.head ∙ ap (with_batches x.head) (append_assoc before xs (table_of y ∷ [])));
+        }) (of_put e m (text_of x.encoding more) put) (part_behind x.encoding x.before e m h.bytes more added put)
+
+    -- nothing was put
+    none_put : (e : IpcError) → (e ≡ errors.Memory) ⊎ ((e ≡ errors.TooLarge) × IsLargeFor st.writer y) → Keeps m.old m.new → (b : List ℕ) → content_of s ≡ Some b → (x : Start) (before xs : List TableBatch) → x.encoding ≡ st.writer.encoding → HasReadBlocks b c xs → Holds x st now (before ++ xs)
+        → StopsFile e x b c.metadata before m.new m.wants m.wants_now
+    none_put e why kept b told x before xs enc read h =
+        StopsFile.behind_put {xs = xs} {bytes = h.bytes} (is_put x b c st now before xs read h) (Appends-kept x.before now m.new (text_of x.encoding h.bytes) h.added (subst (λ o. Keeps o m.new) old kept)) (by why)
+      where
+        by : (e ≡ errors.Memory) ⊎ ((e ≡ errors.TooLarge) × IsLargeFor st.writer y) → StopsNext e b c.metadata before xs h.bytes
+        by (inl memory) = inl (rw memory tt, rw memory tt)
+        by (inr large) = inr (
+          large.0,
+          record {
+            next = table_of y;
+            read = subst (λ k. file_reading to_read b «all» (Some k) ≡ Ok (part_of c.metadata (xs ++ table_of y ∷ []))) (length-append xs (table_of y ∷ []) ∙ add-one (length xs))
+                (subst (λ (k : FileMetadata). file_reading to_read b «all» (Some (length (xs ++ table_of y ∷ []))) ≡ Ok (part_of k (xs ++ table_of y ∷ []))) n.metadata (part_read b c' (xs ++ table_of y ∷ []) (read_on y n b told xs read)));
+            pairs = h.pairs;
+            writer = st.writer;
+            options = going.options;
+            written = h.written;
+            batch = y;
+            cells = refl;
+            sending = large.1.sending;
+            found = large.1.found;
+            large = large.1.large;
+          },
+        )
+
+    -- or not
+    pub next_not_written : (e : IpcError) → Writes (text_of st.writer.encoding) m (Err e) st.writer st'.writer y None → Told (λ x b before xs. NextAdded (Err e) x b c c' st' before m.new m.wants m.wants_now)
+    next_not_written e w = by (not_written st.writer.schema st.writer.encoding st.writer st'.writer m e y going (kinds_on y n reader) sound w)
+      where
+        by : NotWritten (text_of st.writer.encoding) m e st.writer st'.writer y → Told (λ x b before xs. NextAdded (Err e) x b c c' st' before m.new m.wants m.wants_now)
+        by (NotWritten.before_put why kept) = tell (λ x b before xs. NextAdded (Err e) x b c c' st' before m.new m.wants m.wants_now) (none_put e why kept)
+        by (NotWritten.in_put failed) = tell (λ x b before xs. NextAdded (Err e) x b c c' st' before m.new m.wants m.wants_now) (put_failed e failed)
+
+    pub next_done : (r : Result (Unit {0}) IpcError) → Writes (text_of st.writer.encoding) m r st.writer st'.writer y None → IfOk r (λ u. st'.batches ≡ counted (st.batches + 1)) → IfOk r (λ u. st'.rows ≡ counted (st.rows + y.height))
+        → Told (λ x b before xs. NextAdded r x b c c' st' before m.new m.wants m.wants_now)
+    next_done (Ok u) w batches rows = next_written w batches rows m.wants m.wants_now
+    next_done (Err e) w batches rows = next_not_written e w
+
+    -- why, whatever the file is
+    pub next_cause : (r : Result (Unit {0}) IpcError) (reads : Type 0) → Writes (text_of st.writer.encoding) m r st.writer st'.writer y None → IfErr r (λ e. CauseOf reads (Rose m.faults m.faults_now) e)
+    next_cause (Ok u) reads w = tt
+    next_cause (Err e) reads w = write_cause reads (text_of st.writer.encoding) m e st.writer st'.writer y (not_written st.writer.schema st.writer.encoding st.writer st'.writer m e y going (kinds_on y n reader) sound w)

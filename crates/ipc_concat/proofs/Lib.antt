@@ -1,0 +1,16 @@
+pub mod Joining
+pub mod Keeping
+pub mod Refusing
+pub mod Walks
+pub mod Fields
+pub mod Blocks
+pub mod Writing
+pub mod Adding
+pub mod Beginning
+pub mod Files
+pub mod Ending
+pub mod Opened
+pub mod Joins
+pub mod AllFiles
+pub mod OpenCalls
+pub mod FileCalls

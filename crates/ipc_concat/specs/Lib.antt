@@ -1,0 +1,6 @@
+pub mod Tables
+pub mod Opening
+pub mod Stopping
+pub mod Concat
+pub mod Files
+pub mod Begins

@@ -1,0 +1,9 @@
+pub mod FileFlights
+pub mod Handed
+pub mod Wholes
+pub mod Firsts
+pub mod FirstsRead
+pub mod Fields
+pub mod Steps
+pub mod ItemRuns
+pub mod CallFlights
