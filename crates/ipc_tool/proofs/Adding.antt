@@ -1,4 +1,4 @@
--- What a refused run adds to its output, by what opening, reading, transcoding and the line feed's put added.
+-- What a refused stream adds to its output, by what transcoding and the line feed's put added, and why it is refused.
 use Rattle.std.proofs.Common.{◌≡◌, ℕ, ◌≤◌, arith, Bool, true, false, List, [], ◌∷◌, ◌++◌, ◌⊎◌, inl, inr, Option, None, Some, Result, Ok, Err, IfErr, IfSome, IsErrAnd, MatchOption, option_map, refl, sym, subst}
 use Rattle.arrow_spec.specs.declared.error.IpcError.{IpcError}
 use Rattle.arrow_spec.specs.declared.error.IpcError.TheVariants as errors
@@ -15,40 +15,18 @@ use Rattle.ipc_transcode.specs.declared.conversion.Summary.{Summary}
 use Rattle.ipc_bodies.specs.declared.encoding.Encoding.TheVariants.{Bytes, HexText}
 use Rattle.ipc_transcode.proofs.Below.{told}
 use Rattle.std.proofs.KnownBytes.{Keeps-refl}
-use Rattle.ipc_tool.specs.Refusal.{shelf_refusal}
-use Rattle.ipc_tool.specs.StreamPuts.{AddsStreamPart, shown_as}
+use Rattle.ipc_tool.specs.Commands.Stream.{AddsStreamPart, shown_as, stream_job, table_asked}
 use Rattle.laws_transcode.specs.Files.{IsFrontOf, IsStreamOf}
 use Rattle.ipc_bodies.specs.Encodings.{text_of}
-use Rattle.ipc_transcode.specs.Transcode.{AddsStream, AddsPiece, AddsPart, Transcodes}
-use Rattle.ipc_tool.specs.Run.{AddsBefore}
+use Rattle.ipc_transcode.specs.Transcode.{AddsStream, AddsPiece, AddsPart, TranscodeCause, Transcodes}
+use Rattle.ipc_tool.specs.FileTasks.{IsStatusOf, PutCause}
+use Rattle.ipc_tool.specs.Refusal.{error_status}
+use Rattle.ipc_words.specs.Requests.{Stream}
 
 -- what `?` makes of an error
 pub IfErr-at : {T E : Type 0} → (r : Result T E) (P : E → Type 0) (e : E) → IsErrAnd r (λ f. f ≡ e) → P e → IfErr r P
 IfErr-at (Ok x) P e h p = tt
 IfErr-at (Err f) P e h p = subst P (sym h) p
-
--- the input's text stands for b
-pub of_input : (P : List ℕ → Type 0) (K : Type 0) (rest : Option (List ℕ)) (b : List ℕ) → IfSome rest (λ text. bytes_of_hex text ≡ Some b) → P b → IfSome (option_map bytes_of_hex rest) (λ bytes. MatchOption bytes K P)
-of_input P K None b h p = tt
-of_input P K (Some text) b h p = subst (λ v. MatchOption v K P) (sym h) p
-
--- what was opened stands under the name, where that is told
-pub of_shelf : (P : List ℕ → Type 0) (K : Type 0) (name : List ℕ) (held : Option Held) (content : Option (List ℕ)) → IsHeld held name content → IfSome content P → IfSome (option_map (λ h. h name) held) (λ bytes. MatchOption bytes K P)
-of_shelf P K name None content h p = tt
-of_shelf P K name (Some held) (Some b) h p = subst (λ v. MatchOption v K P) (sym h.1) p
-of_shelf P K name (Some held) None h p = cc
-
--- nothing was added where nothing was opened
-pub not_opened : (e : ShelfError) (wants wants' : ℕ) (b : List ℕ) (r : Request) (raw : Bool) (w : Option (List ℕ)) → AddsBefore (shelf_refusal e) wants wants' b r raw w w
-not_opened shelf.Failed wants wants' b r raw w = inl (Keeps-refl w)
-not_opened shelf.Memory wants wants' b r raw w = inl (inl (Keeps-refl w))
-not_opened shelf.Unknown wants wants' b r raw w = Keeps-refl w
-
--- of any bytes that are told
-pub of_any : (P : List ℕ → Type 0) (K : Type 0) (told : Option (Option (List ℕ))) → K → ((b : List ℕ) → P b) → IfSome told (λ bytes. MatchOption bytes K P)
-of_any P K None k p = tt
-of_any P K (Some None) k p = k
-of_any P K (Some (Some b)) k p = p b
 
 -- a part of a stream's text is a part of that text and a line feed
 with_line_feed : (b : List ℕ) (r : Request) (old new : Option (List ℕ)) → AddsPiece b r (text_of HexText) (text_of HexText) old new → AddsPiece b r (shown_as false) (text_of HexText) old new
@@ -103,3 +81,25 @@ after_stream put.Memory faults faults' before wants wants' b r old mid new later
 pub line_feed_refused : (e : PutError) (faults faults' before wants wants' : ℕ) (s : Summary) (content : Option (List ℕ)) (r : Request) (old mid new : Option (List ℕ)) → before ≤ wants → PutHasCause faults faults' wants wants' (Err e) → IfSome content (λ b. Transcodes s b r (text_of HexText) old mid) → Puts mid new (Err e) (10 ∷ [])
     → IfSome content (λ b. AddsStreamPart (put_error e) before wants' b r false old new)
 line_feed_refused e faults faults' before wants wants' s content r old mid new later c whole p = told content _ _ (λ b _ t. after_stream e faults faults' before wants wants' b r old mid new later c t.stream p) whole
+
+-- ── why ──
+
+pub stream_cause : (s : Stream) (e : IpcError) (content : Option (List ℕ)) (reads reads' writes writes' : ℕ) → TranscodeCause e content (table_asked s) reads reads' writes writes' → PutCause (stream_job s) e content reads reads' writes writes'
+stream_cause s errors.SchemaMismatch content reads reads' writes writes' c = absurd c
+stream_cause s (errors.DictionaryReplaced id) content reads reads' writes writes' c = absurd c
+stream_cause s errors.NotRepresentable content reads reads' writes writes' c = absurd c
+stream_cause s errors.State content reads reads' writes writes' c = absurd c
+stream_cause s errors.ReadFault content reads reads' writes writes' c = c
+stream_cause s errors.WriteFault content reads reads' writes writes' c = c
+stream_cause s errors.Memory content reads reads' writes writes' c = c
+stream_cause s e content reads reads' writes writes' c = c
+
+pub stream_status : (s : Stream) (e : IpcError) (content : Option (List ℕ)) (reads reads' writes writes' : ℕ) → TranscodeCause e content (table_asked s) reads reads' writes writes' → IsStatusOf (stream_job s) (error_status e)
+stream_status s errors.SchemaMismatch content reads reads' writes writes' c = absurd c
+stream_status s (errors.DictionaryReplaced id) content reads reads' writes writes' c = absurd c
+stream_status s errors.NotRepresentable content reads reads' writes writes' c = absurd c
+stream_status s errors.State content reads reads' writes writes' c = absurd c
+stream_status s errors.ReadFault content reads reads' writes writes' c = inr (omega arith)
+stream_status s errors.WriteFault content reads reads' writes writes' c = inr (omega arith)
+stream_status s errors.Memory content reads reads' writes writes' c = inr (omega arith)
+stream_status s e content reads reads' writes writes' c = inl (omega arith)

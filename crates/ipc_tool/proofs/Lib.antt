@@ -1,10 +1,11 @@
 pub mod AppendRefusals
 pub mod AppendSteps
 pub mod Adding
-pub mod Completing
 pub mod Decoding
 pub mod Digits
+pub mod FileTasks
+pub mod FileTexts
 pub mod Front
 pub mod Noting
-pub mod FileTexts
+pub mod Tasks
 pub mod Words

@@ -4,7 +4,7 @@ use Rattle.ipc_io.specs.Outside.{AppendsPrefix, PutsFront, PutsHaveCause, Stands
 use Rattle.ipc_io.proofs.Known.{AppendsPrefix-front}
 use Rattle.ipc_tool.specs.declared.refusal.Refusal.{Refusal}
 use Rattle.ipc_tool.specs.Refusal.{line_of}
-use Rattle.ipc_tool.specs.Run.{IsNoted}
+use Rattle.ipc_tool.specs.Notes.{IsNoted}
 use Rattle.ipc_transcode.proofs.Refusing.{stood}
 
 pub neither_rose : (f f' w w' : ℕ) → Stands f f' → Stands w w' → Rose f f' ⊎ Rose w w' → ⊥

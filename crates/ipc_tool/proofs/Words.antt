@@ -1,43 +1,36 @@
--- What words ask for.
-use Rattle.std.proofs.Common.{◌≡◌, ◌⊎◌, ℕ, List, Option, Some, None, IsSome, IsNone, MatchOption, option_map, is_some, inl, inr, ap, refl, subst, ◌∙◌}
-use Rattle.ipc_tool.specs.Asked.{Command}
-use Rattle.ipc_words.specs.Requests.{Request, request_of as asked_of}
-use Rattle.arrow_spec.specs.declared.error.IpcError.TheVariants.{Memory}
+-- Answers to words.
+use Rattle.std.proofs.Common.{◌≡◌, ◌≤◌, ℕ, List, Option, Some, None, Ok, Err, IsErrAnd, IsSomeAnd, Result, inl, inr, ap, arith, refl, subst, sym}
+use Rattle.std.specs.Prelude.{is_some}
+use Rattle.ipc_words.specs.Requests.{Request, request_of}
 use Rattle.ipc_words.specs.declared.words_error.WordsError.{WordsError}
 use Rattle.ipc_words.specs.declared.words_error.WordsError.TheVariants as words_error
+use Rattle.ipc_tool.specs.Commands.{task_of}
+use Rattle.ipc_tool.specs.Outside.{Outside}
 use Rattle.ipc_tool.specs.Refusal.{number_of, words_refusal}
-use Rattle.ipc_tool.specs.Request.{WordsCause, command_in, command_of}
+use Rattle.ipc_tool.specs.Runs.{Answers, WordsCause}
+use Rattle.ipc_tool.specs.Tasks.{Does}
 use Rattle.ipc_tool.specs.declared.refusal.Refusal.{Refusal}
-use Rattle.ipc_tool.specs.declared.refusal.Refusal.TheVariants.{Ipc}
+use Rattle.ipc_tool.specs.declared.refusal.Refusal.TheVariants.{Ipc, Words, NotHex, InputTooLong, NoName}
+use Rattle.ipc_tool.proofs.FileTasks.{few}
 
-no_value : {A : Type 0} (o : Option A) → IsNone o → o ≡ None
-no_value None h = refl
-no_value (Some x) h = cc
+-- the greatest status
+pub at_most_17 : (e : Refusal) → number_of e ≤ 17
+at_most_17 (Ipc e) = let low = few e in omega (arith, low)
+at_most_17 Words = omega arith
+at_most_17 e = omega arith
 
--- of no request
-no_command : (words : List (List ℕ)) → asked_of words ≡ None → command_of words ≡ None
-unfolding command_of
-no_command words h = ap (option_map command_in) h
+why : (words : List (List ℕ)) (e : WordsError) → (e ≡ words_error.NoRequest → request_of words ≡ None) → WordsCause (words_refusal e) words
+why words words_error.NoRequest h = inl (refl, ap is_some (h refl))
+why words words_error.Memory h = inr refl
 
-pub no_command_asked : (words : List (List ℕ)) → IsNone (asked_of words) → IsSome (command_of words) → ⊥
-no_command_asked words h some =
-    let none : command_of words ≡ None = no_command words (no_value (asked_of words) h) in
-    cc
-
--- of a request
-pub is_command : (words : List (List ℕ)) (r : Request) → asked_of words ≡ Some r → command_of words ≡ Some (command_in r)
-unfolding command_of
-is_command words r h = ap (option_map command_in) h
+at_error : (r : Result (Unit {0}) Refusal) (P : Refusal → Type 0) (e : Refusal) → IsErrAnd r (λ f. f ≡ e) → P e → IsErrAnd r P
+at_error (Ok x) P e h p = absurd h
+at_error (Err f) P e h p = subst P (sym h) p
 
 -- words that were not read
-pub words_refused : (words : List (List ℕ)) (e : WordsError) → (e ≡ words_error.NoRequest → asked_of words ≡ None) → (words_refusal e ≡ Ipc Memory) ⊎ ((command_of words ≡ None) × WordsCause (words_refusal e) words)
-words_refused words words_error.NoRequest h = inr (no_command words (h refl), inl (refl, ap is_some (h refl)))
-words_refused words words_error.Memory h = inl refl
+pub words_refused : (words : List (List ℕ)) (r : Result (Unit {0}) Refusal) (e : WordsError) (old : Outside) → IsErrAnd r (λ f. f ≡ words_refusal e) → (e ≡ words_error.NoRequest → request_of words ≡ None) → Answers words r old old
+words_refused words r e old is h = inl (record { cause = at_error r (λ x. WordsCause x words) (words_refusal e) is (why words e h); same = refl })
 
--- the status of words that are no request
-pub refused_words : (words : List (List ℕ)) (e : Refusal) (P : Command → Type 0) (n : ℕ) → n ≡ number_of e → MatchOption (command_of words) (WordsCause e words) P → IsNone (asked_of words) → (n ≡ 14) ⊎ (n ≡ 13)
-refused_words words e P n is h none = of_cause (subst (λ o. MatchOption o (WordsCause e words) P) (no_command words (no_value (asked_of words) none)) h)
-  where
-    of_cause : WordsCause e words → (n ≡ 14) ⊎ (n ≡ 13)
-    of_cause (inl w) = inl (is ∙ ap number_of w.0)
-    of_cause (inr w) = inr (is ∙ ap number_of w)
+-- words that are a request
+pub words_answered : (words : List (List ℕ)) (r : Request) (answer : Result (Unit {0}) Refusal) (old new : Outside) → request_of words ≡ Some r → Does (task_of r) answer old new → Answers words answer old new
+words_answered words r answer old new asked d = inr (subst (λ o. IsSomeAnd o (λ q. Does (task_of q) answer old new)) (sym asked) d)

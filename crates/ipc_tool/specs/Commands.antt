@@ -1,13 +1,20 @@
--- The commands that are read.
-use Rattle.std.specs.Prelude.{option_map}
-use Rattle.ipc_tool.specs.Asked.{Command as Asked, of_append, of_stream, of_text}
-use Rattle.ipc_words.specs.Views.{text}
-use Rattle.ipc_tool.specs.Request.{stream_asked, text_asked}
-use Rattle.ipc_tool.specs.declared.request.Command.{Command}
-use Rattle.ipc_tool.specs.declared.request.Command.TheVariants as command
+-- What each request is held to.
+pub mod Append
+pub mod Csv
+pub mod Rows
+pub mod Schema
+pub mod Stream
+use Rattle.ipc_words.specs.Requests.{Request, append, csv, rows, schema, stream}
+use Rattle.ipc_tool.specs.Commands.Append.{append_task}
+use Rattle.ipc_tool.specs.Commands.Csv.{csv_task}
+use Rattle.ipc_tool.specs.Commands.Rows.{rows_task}
+use Rattle.ipc_tool.specs.Commands.Schema.{schema_task}
+use Rattle.ipc_tool.specs.Commands.Stream.{stream_task}
+use Rattle.ipc_tool.specs.Tasks.{Task}
 
--- what each asks for
-abbrev pub asked_command : Command → Asked
-asked_command (command.Stream options name) = of_stream (stream_asked options (option_map text name))
-asked_command (command.Text what name) = of_text (text_asked what (option_map text name))
-asked_command (command.Append target) = of_append (text target)
+abbrev pub task_of : Request → Task
+task_of (stream s) = stream_task s
+task_of (schema name) = schema_task name
+task_of (rows name) = rows_task name
+task_of (append target) = append_task target
+task_of (csv s) = csv_task s

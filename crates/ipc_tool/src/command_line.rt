@@ -2,17 +2,17 @@
 ghost use Rattle.std.specs.Prelude.{◌≡◌, ◌⊎◌, ◌≤◌, IfOk, IfErr, ℕ, map, string_bytes};
 ghost use Rattle.arrow_spec.specs.declared.error.IpcError.TheVariants.{Memory};
 ghost use Rattle.ipc_words.specs.Views.{texts};
-ghost use Rattle.ipc_tool.specs.CommandLine.{IsAnswer, IsNotedAs, IsShown, IsStatus, Ran, noted_of};
-ghost use Rattle.ipc_tool.specs.Run.{outside_of};
+ghost use Rattle.ipc_tool.specs.CommandLine.{IsAnswer, IsShown, IsStatus};
+ghost use Rattle.ipc_tool.specs.Notes.{IsNotedAs, noted_of};
+ghost use Rattle.ipc_tool.specs.Outside.{outside_of};
 ghost use Rattle.ipc_tool.specs.declared.refusal.Refusal.TheVariants.{Ipc, Words};
 
-use crate::adapters::{InputFeed, OutputSink};
-use crate::folder::FolderShelf;
 use crate::note::note_refusal;
 use crate::program::run;
 use crate::refusal::Refusal;
 use arrow_spec::IpcError;
 use ipc_disk::PlaceShelf;
+use ipc_system::{FolderShelf, InputFeed, OutputSink};
 use ipc_transcode::{Feed, Sink};
 use ipc_words::help_text;
 use std::alloc::{AllocError, Global};
@@ -52,24 +52,6 @@ fn show<W: Sink, N: Sink>(text: &str, output: &mut W, notes: &mut N) -> u8
     }
 }
 
-// A run, with all that is said of it in one fact.
-fn run_words<H: PlaceShelf, I: Feed, W: Sink, N: Sink>(
-    alloc: Global,
-    words: &[&str],
-    shelf: &mut H,
-    input: &mut I,
-    output: &mut W,
-    notes: &mut N,
-) -> u8
-    ensures { Ran result (texts words.now)
-        (outside_of H.held H.faults I.rest I.faults W.written W.faults W.wants shelf.old input.old output.old)
-        (outside_of H.held H.faults I.rest I.faults W.written W.faults W.wants shelf.new input.new output.new)
-        (noted_of N.written N.faults N.wants notes.old)
-        (noted_of N.written N.faults N.wants notes.new) }
-{
-    run(alloc, words, shelf, input, output, notes)
-}
-
 /// Answers what the words ask for: puts the text of help or of the version, where that is asked for, and else runs. Then the status is that of `run`.
 pub fn answer<H: PlaceShelf, I: Feed, W: Sink, N: Sink>(
     alloc: Global,
@@ -91,7 +73,7 @@ pub fn answer<H: PlaceShelf, I: Feed, W: Sink, N: Sink>(
     };
     match help_text(alloc, &asked) {
         Ok(Some(text)) => show(&text, output, notes),
-        Ok(None) => run_words(alloc, &asked, shelf, input, output, notes),
+        Ok(None) => run(alloc, &asked, shelf, input, output, notes),
         Err(error) => refuse(Refusal::from(error), notes),
     }
 }

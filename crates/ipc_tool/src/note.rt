@@ -2,7 +2,7 @@
 ghost use Rattle.std.specs.Prelude.{◌≡◌};
 ghost use Rattle.ipc_io.specs.Outside.{PutsFront, PutsHaveCause};
 ghost use Rattle.ipc_tool.specs.Refusal.{front_of, line_of};
-ghost use Rattle.ipc_tool.specs.Run.{IsNoted};
+ghost use Rattle.ipc_tool.specs.Notes.{IsNoted};
 
 use crate::refusal::Refusal;
 use arrow_spec::IpcError;

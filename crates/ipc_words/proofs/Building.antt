@@ -1,5 +1,5 @@
 -- Commands that are built step by step.
-use Rattle.std.proofs.Common.{◌≡◌, ◌∙◌, ◌||◌, ℕ, true, false, List, Some, ap, ap₂, Result, Ok, Err, IfOk}
+use Rattle.std.proofs.Common.{◌≡◌, ◌∙◌, ◌||◌, ℕ, true, false, List, ◌∷◌, Some, ap, ap₂, reverse, Result, Ok, Err, IfOk}
 use Rattle.clap.specs.Walk.{Rule}
 use Rattle.clap.specs.Simple.{App, Shape, app_of_fields, on_top, with_rule, with_subcommand}
 use Rattle.std.specs.Borrow.{Bor}
@@ -8,7 +8,8 @@ use Rattle.clap.specs.declared.builder.arg.Arg.{Arg}
 use Rattle.clap.specs.declared.builder.command.Command.{Command}
 use Rattle.clap.specs.declared.builder.command.Command.TheOpen.{Command-F}
 use Rattle.clap.specs.declared.builder.command.Command.TheViews.{out-Command}
-use Rattle.ipc_words.specs.Commands.{IsArg, Reads, leaf}
+use Rattle.ipc_words.specs.Commands.{HasCommands, IsArg, IsCommand, Reads, leaf, with_commands}
+use Rattle.ipc_words.specs.Requests.{Entry, command_line, commands, shape_of}
 
 -- an argument more
 pub with_arg : (old new : Command) (a : Arg) (app : App) (r : Rule) → Reads app old → IsArg r a → AddsArg old a new → Reads (with_rule app r) new
@@ -17,10 +18,6 @@ with_arg old new a app r h i s = record {
   own = s.globals ∙ ap₂ (λ x y. x || y) h.own i.own;
 }
 
-pub with_last_arg : {E : Type 0} (old : Command) (result : Result Command E) (a : Arg) (app : App) (r : Rule) → Reads app old → IsArg r a → IfOk result (λ new. AddsArg old a new) → IfOk result (Reads (with_rule app r))
-with_last_arg old (Ok new) a app r h i s = with_arg old new a app r h i s
-with_last_arg old (Err e) a app r h i s = tt
-
 -- a command more
 pub with_command : (old sub new : Command) (app : App) (shape : Shape) → Reads app old → Reads (leaf shape) sub → AddsSubcommand old sub new → Reads (with_subcommand app shape) new
 with_command old sub new app shape h i s = record {
@@ -28,13 +25,29 @@ with_command old sub new app shape h i s = record {
   own = s.globals ∙ ap₂ (λ x y. x || y) h.own i.own;
 }
 
-pub with_last_command : {E : Type 0} (old sub : Command) (result : Result Command E) (app : App) (shape : Shape) → Reads app old → Reads (leaf shape) sub → IfOk result (λ new. AddsSubcommand old sub new) → IfOk result (Reads (with_subcommand app shape))
-with_last_command old sub (Ok new) app shape h i s = with_command old sub new app shape h i s
-with_last_command old sub (Err e) app shape h i s = tt
+-- the last argument of a command
+pub with_last_arg : {E : Type 0} (old : Command) (result : Result Command E) (a : Arg) (app : App) (r : Rule) → Reads app old → IsArg r a → IfOk result (λ new. AddsArg old a new) → IfOk result (Reads (with_rule app r))
+with_last_arg old (Ok new) a app r h i s = with_arg old new a app r h i s
+with_last_arg old (Err e) a app r h i s = tt
+
+-- a program with a command more
+pub with_last_command : {E : Type 0} (old sub : Command) (result : Result Command E) (es : List Entry) (e : Entry) → HasCommands es old → IsCommand e sub → IfOk result (λ new. AddsSubcommand old sub new) → IfOk result (HasCommands (e ∷ es))
+with_last_command old sub (Ok new) es e h i s = record { reads = with_command old sub new (with_commands es) (shape_of e) h.reads i s }
+with_last_command old sub (Err x) es e h i s = tt
+
+-- a program with all commands
+pub with_all : {E : Type 0} (result : Result Command E) → IfOk result (HasCommands (reverse commands)) → IfOk result (Reads command_line)
+unfolding command_line commands
+with_all (Ok new) h = h.reads
+with_all (Err x) h = tt
 
 -- a text of help
 pub with_about : (old new : Command) (text : Bor (List ℕ)) (app : App) → Reads app old → out-Command new ≡ record (out-Command old) { about = Some text } → Reads app new
 with_about old new text app h e = record { reads = ap app_of_fields e ∙ h.reads; own = ap (λ (f : Command-F Command). f.has_globals) e ∙ h.own }
+
+-- a text behind help
+pub with_after_help : (old new : Command) (text : Bor (List ℕ)) (app : App) → Reads app old → out-Command new ≡ record (out-Command old) { after_help = Some text } → Reads app new
+with_after_help old new text app h e = record { reads = ap app_of_fields e ∙ h.reads; own = ap (λ (f : Command-F Command). f.has_globals) e ∙ h.own }
 
 -- a version
 pub with_version : (old new : Command) (text : Bor (List ℕ)) (app : App) → Reads app old → out-Command new ≡ record (out-Command old) { version = Some text } → Reads (on_top (λ (s : Shape). record s { has_version = true }) app) new

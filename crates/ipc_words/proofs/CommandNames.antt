@@ -1,5 +1,5 @@
 -- What a command asks for, by its name.
-use Rattle.std.proofs.Common.{◌≡◌, ◌∙◌, List, true, false, Option, Some, None, Result, Ok, Err, IfOk, IfErr, codes, ap, refl}
+use Rattle.std.proofs.Common.{◌≡◌, ◌∙◌, Bool, true, false, List, [], ◌∷◌, Option, Some, None, Result, Ok, Err, IfOk, IfErr, ap, find, option_and_then, refl}
 use Rattle.std.specs.Str.{bytes_eq}
 use Rattle.std.proofs.lemmas.Slice.Eq.{bytes_eq-Decides}
 use Rattle.clap.specs.Walk.{Row, Text}
@@ -7,27 +7,28 @@ use Rattle.ipc_words.specs.Views.{request_view}
 use Rattle.ipc_words.specs.declared.requests.Request.{Request as Given}
 use Rattle.ipc_words.specs.declared.words_error.WordsError.{WordsError}
 use Rattle.ipc_words.specs.declared.words_error.WordsError.TheVariants.{NoRequest}
-use Rattle.ipc_words.specs.Requests.{Request, append_in, asked_by, rows_in, schema_in, stream_in}
+use Rattle.ipc_words.specs.Requests.{Entry, Request, asked_by, commands}
 
-pub at_stream : (name : Text) (found : List Row) → bytes_eq name (codes "stream") ≡ true → asked_by name found ≡ stream_in found
-unfolding asked_by
-at_stream name found h = ap (λ w. asked_by w found) ((bytes_eq-Decides name (codes "stream")).0 h)
+-- a name is that of none of these
+abbrev pub IsUnknown : Text → List Entry → Type 0
+IsUnknown name [] = Unit
+IsUnknown name (e ∷ es) = (name ≡ e.name → ⊥) × IsUnknown name es
 
-pub at_schema : (name : Text) (found : List Row) → bytes_eq name (codes "schema") ≡ true → asked_by name found ≡ schema_in found
-unfolding asked_by
-at_schema name found h = ap (λ w. asked_by w found) ((bytes_eq-Decides name (codes "schema")).0 h)
+differs : (name word : Text) → (name ≡ word → ⊥) → bytes_eq name word ≡ false
+differs name word h = by_test (bytes_eq name word) refl
+  where
+    by_test : (b : Bool) → bytes_eq name word ≡ b → bytes_eq name word ≡ false
+    by_test true e = absurd (h ((bytes_eq-Decides name word).0 e))
+    by_test false e = e
 
-pub at_rows : (name : Text) (found : List Row) → bytes_eq name (codes "rows") ≡ true → asked_by name found ≡ rows_in found
-unfolding asked_by
-at_rows name found h = ap (λ w. asked_by w found) ((bytes_eq-Decides name (codes "rows")).0 h)
+no_entry : (name : Text) (es : List Entry) → IsUnknown name es → find (λ (e : Entry). bytes_eq name e.name) es ≡ None
+no_entry name [] h = refl
+no_entry name (e ∷ es) h = rw (differs name e.name h.0) (no_entry name es h.1)
 
-pub at_append : (name : Text) (found : List Row) → bytes_eq name (codes "append") ≡ true → asked_by name found ≡ append_in found
+-- a name of no command asks for nothing
+pub unknown : (name : Text) (found : List Row) → IsUnknown name commands → asked_by name found ≡ None
 unfolding asked_by
-at_append name found h = ap (λ w. asked_by w found) ((bytes_eq-Decides name (codes "append")).0 h)
-
-pub at_none : (name : Text) (found : List Row) → bytes_eq name (codes "stream") ≡ false → bytes_eq name (codes "schema") ≡ false → bytes_eq name (codes "rows") ≡ false → bytes_eq name (codes "append") ≡ false → asked_by name found ≡ None
-unfolding asked_by
-at_none name found e0 e1 e2 e3 = rw (e0, e1, e2, e3) refl
+unknown name found h = ap (λ o. option_and_then (λ (e : Entry). e.asks found) o) (no_entry name commands h)
 
 -- what is asked under another name of it
 pub asked_at : (o p : Option Request) (r : Result Given WordsError) → o ≡ p → IfOk r (λ x. p ≡ Some (request_view x)) → IfOk r (λ x. o ≡ Some (request_view x))

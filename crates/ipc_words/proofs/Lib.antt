@@ -5,4 +5,5 @@ mod ErrorSteps
 mod HelpLemmas
 pub mod NumberSteps
 mod Parsing
+mod WorkedCsv
 mod WorkedWords

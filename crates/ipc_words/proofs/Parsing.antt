@@ -13,17 +13,16 @@ use Rattle.clap.specs.declared.parser.matches.ArgMatches.{ArgMatches}
 use Rattle.clap.specs.declared.parser.matches.ArgMatches.TheViews.{out-SubCommand}
 use Rattle.clap.specs.declared.parser.matches.SubCommand.{SubCommand}
 use Rattle.clap.proofs.OnLiterals.{clap_on_literals}
-use Rattle.ipc_words.specs.CommandLine.{command_line, stream_shape, schema_shape, rows_shape, append_shape}
 use Rattle.ipc_words.specs.Help.{asks_for_help, is_help, shows_help}
 use Rattle.ipc_words.proofs.HelpLemmas.{Pure, fault_pure}
-use Rattle.ipc_words.specs.Requests.{Request, asked, request_of, unless_fault}
+use Rattle.ipc_words.specs.Requests.{Request, asked, command_line, commands, request_of, unless_fault}
 
 line_is_simple : is_simple command_line ≡ true
-unfolding clap_on_literals command_line stream_shape schema_shape rows_shape append_shape
+unfolding clap_on_literals command_line commands
 line_is_simple = refl
 
 line_is_free : is_simple_and_free command_line ≡ true
-unfolding clap_on_literals command_line stream_shape schema_shape rows_shape append_shape
+unfolding clap_on_literals command_line commands
 line_is_free = refl
 
 -- a parse that passed

@@ -3,11 +3,10 @@ use Rattle.std.proofs.Common.{◌≡◌, ℕ, List, [], ◌∷◌, true, false, 
 use Rattle.clap.specs.Faults.{fault_of, is_simple_and_free}
 use Rattle.clap.specs.declared.error.kind.ErrorKind.TheVariants as kind
 use Rattle.clap.proofs.OnLiterals.{clap_on_literals}
-use Rattle.ipc_words.specs.CommandLine.{command_line, stream_shape, schema_shape, rows_shape, append_shape}
-use Rattle.ipc_words.specs.Requests.{append, asked_by, request_of, rows, schema, stream}
+use Rattle.ipc_words.specs.Requests.{append, asked_by, command_line, commands, request_of, rows, schema, stream}
 
 unfoldable pub line : List ℕ
-unfolding command_line stream_shape schema_shape rows_shape append_shape request_of asked_by
+unfolding command_line commands request_of asked_by
 line = []
 
 simple : is_simple_and_free command_line ≡ true

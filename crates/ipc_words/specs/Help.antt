@@ -5,7 +5,7 @@ use Rattle.clap.specs.Faults.{fault_of}
 use Rattle.clap.specs.Kinds.{Kinds}
 use Rattle.clap.specs.declared.error.kind.ErrorKind.{ErrorKind}
 use Rattle.clap.specs.declared.error.kind.ErrorKind.TheVariants as kind
-use Rattle.ipc_words.specs.CommandLine.{command_line}
+use Rattle.ipc_words.specs.Requests.{command_line}
 
 abbrev pub is_help : ErrorKind → Bool
 is_help kind.DisplayHelp = true

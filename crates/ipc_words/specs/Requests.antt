@@ -1,12 +1,12 @@
 -- What words ask for.
-use Rattle.std.specs.Prelude.{ℕ, List, [], ◌∷◌, Bool, false, Option, Some, None, codes, if◌then◌else◌, option_map, option_and_then}
+use Rattle.std.specs.Prelude.{ℕ, List, [], ◌∷◌, Bool, false, Option, Some, None, codes, find, if◌then◌else◌, map, option_map, option_and_then}
 use Rattle.std.specs.Str.{bytes_eq}
 use Rattle.std.specs.Option.{option_map_or}
-use Rattle.clap.specs.Walk.{Row, Text, first_of}
-use Rattle.clap.specs.Simple.{subcommand_of}
+use Rattle.clap.specs.Walk.{Row, Rule, Text, first_of}
+use Rattle.clap.specs.Simple.{App, Shape, new_shape, subcommand_of}
 use Rattle.clap.specs.Faults.{fault_of}
 use Rattle.clap.specs.Kinds.{Kinds}
-use Rattle.ipc_words.specs.CommandLine.{command_line}
+use Rattle.ipc_words.specs.CommandLine as line
 use Rattle.ipc_words.specs.Numbers.{decimal_of, numbers_of}
 
 -- stream [--columns LIST] [--limit N] [--raw] [NAME]
@@ -20,6 +20,15 @@ pub record Stream : Type 0 where
   -- the input where there is none
   pub name : Option Text
 
+-- csv [--columns LIST] [--limit N] [NAME]
+pub record Csv : Type 0 where
+  -- all of them where there is none
+  pub columns : Option (List ℕ)
+  -- all rows where there is none
+  pub limit : Option ℕ
+  -- the input where there is none
+  pub name : Option Text
+
 -- a request
 pub data Request : Type 0 where
   stream : Stream → Request
@@ -29,6 +38,7 @@ pub data Request : Type 0 where
   rows : Option Text → Request
   -- the name of the file that the input's stream is appended to
   append : Text → Request
+  csv : Csv → Request
 
 -- ── what the options and places of a command say, by the rows that `clap` found ──
 
@@ -60,34 +70,82 @@ unless_input text = if bytes_eq text (45 ∷ []) then None else Some text
 abbrev pub name_in : List Row → Option Text
 name_in found = option_and_then unless_input (first_of (codes "NAME") found)
 
+-- TARGET, where `-` is a name like any other
+abbrev pub target_in : List Row → Option Text
+target_in found = first_of (codes "TARGET") found
+
 -- ── the commands ──
 
-abbrev pub stream_in : List Row → Option Request
-stream_in found = option_and_then (λ columns. option_map (λ limit. stream (record {
-  columns = columns;
-  limit = limit;
-  raw = raw_in found;
-  name = name_in found;
-})) (limit_in found)) (columns_in found)
+-- a command: its name, its options and its words by place, and what they ask for
+pub record Entry : Type 0 where
+  pub name : Text
+  pub rules : List Rule
+  pub asks : List Row → Option Request
 
-abbrev pub schema_in : List Row → Option Request
-schema_in found = Some (schema (name_in found))
+abbrev pub stream_entry : Entry
+stream_entry = record {
+  name = codes "stream";
+  rules = line.columns ∷ line.limit ∷ line.raw ∷ line.name ∷ [];
+  asks = λ found. option_and_then (λ columns. option_map (λ limit. stream (record {
+    columns = columns;
+    limit = limit;
+    raw = raw_in found;
+    name = name_in found;
+  })) (limit_in found)) (columns_in found);
+}
 
-abbrev pub rows_in : List Row → Option Request
-rows_in found = Some (rows (name_in found))
+abbrev pub schema_entry : Entry
+schema_entry = record {
+  name = codes "schema";
+  rules = line.name ∷ [];
+  asks = λ found. Some (schema (name_in found));
+}
 
--- TARGET, which may be `-` like any other name
-abbrev pub append_in : List Row → Option Request
-append_in found = option_map append (first_of (codes "TARGET") found)
+abbrev pub rows_entry : Entry
+rows_entry = record {
+  name = codes "rows";
+  rules = line.name ∷ [];
+  asks = λ found. Some (rows (name_in found));
+}
+
+abbrev pub append_entry : Entry
+append_entry = record {
+  name = codes "append";
+  rules = line.target ∷ [];
+  asks = λ found. option_map append (target_in found);
+}
+
+abbrev pub csv_entry : Entry
+csv_entry = record {
+  name = codes "csv";
+  rules = line.columns ∷ line.limit ∷ line.name ∷ [];
+  asks = λ found. option_and_then (λ columns. option_map (λ limit. csv (record {
+    columns = columns;
+    limit = limit;
+    name = name_in found;
+  })) (limit_in found)) (columns_in found);
+}
+
+-- all commands, in the order in which help lists them
+unfoldable pub commands : List Entry
+commands =
+    stream_entry ∷
+    schema_entry ∷
+    rows_entry ∷
+    append_entry ∷
+    csv_entry ∷
+    []
+
+-- a command as `clap` reads it
+abbrev pub shape_of : Entry → Shape
+shape_of e = record (new_shape e.name) { rules = e.rules }
+
+unfoldable pub command_line : App
+command_line = line.program (map shape_of commands)
 
 -- what a command asks for, by its name and what `clap` found of its own words
 unfoldable pub asked_by : Text → List Row → Option Request
-asked_by name found =
-    if bytes_eq name (codes "stream") then stream_in found
-    else if bytes_eq name (codes "schema") then schema_in found
-    else if bytes_eq name (codes "rows") then rows_in found
-    else if bytes_eq name (codes "append") then append_in found
-    else None
+asked_by name found = option_and_then (λ (e : Entry). e.asks found) (find (λ (e : Entry). bytes_eq name e.name) commands)
 
 abbrev pub asked : Option (Text × List Row) → Option Request
 asked command = option_and_then (λ p. asked_by p.0 p.1) command

@@ -3,7 +3,8 @@ use Rattle.std.specs.Prelude.{ℕ, List, Vec, map, option_map}
 use Rattle.std.specs.declared.alloc.Global.{Global}
 use Rattle.std.specs.Borrow.{Bor}
 use Rattle.clap.specs.Walk.{Text}
-use Rattle.ipc_words.specs.Requests.{Request, Stream, append, rows, schema, stream}
+use Rattle.ipc_words.specs.Requests.{Csv, Request, Stream, append, csv, rows, schema, stream}
+use Rattle.ipc_words.specs.declared.requests.Csv.{Csv as GivenCsv}
 use Rattle.ipc_words.specs.declared.requests.Stream.{Stream as GivenStream}
 use Rattle.ipc_words.specs.declared.requests.Request.{Request as Given}
 use Rattle.ipc_words.specs.declared.requests.Request.TheVariants as given
@@ -20,8 +21,12 @@ numbers v = v.items
 abbrev pub stream_view : GivenStream → Stream
 stream_view s = record { columns = option_map numbers s.columns; limit = s.limit; raw = s.raw; name = option_map text s.name }
 
+abbrev pub csv_view : GivenCsv → Csv
+csv_view c = record { columns = option_map numbers c.columns; limit = c.limit; name = option_map text c.name }
+
 abbrev pub request_view : Given → Request
 request_view (given.Stream s) = stream (stream_view s)
 request_view (given.Schema name) = schema (option_map text name)
 request_view (given.Rows name) = rows (option_map text name)
 request_view (given.Append target) = append (text target)
+request_view (given.Csv c) = csv (csv_view c)

@@ -1,8 +1,8 @@
 //! What `clap` found of a command's own words.
-ghost use Rattle.std.specs.Prelude.{◌≡◌, IfOk, IfErr, Some, None, codes, option_map};
+ghost use Rattle.std.specs.Prelude.{◌≡◌, IfOk, IfErr, Some, None, option_map};
 ghost use Rattle.clap.specs.Walk.{first_of, rows_of};
 ghost use Rattle.clap.specs.Words.{found_of};
-ghost use Rattle.ipc_words.specs.Requests.{columns_in, is_on, limit_in, name_in};
+ghost use Rattle.ipc_words.specs.Requests.{columns_in, is_on, limit_in, name_in, target_in};
 ghost use Rattle.ipc_words.specs.Views.{numbers, text};
 ghost use Rattle.ipc_words.specs.declared.words_error.WordsError.TheVariants.{NoRequest};
 
@@ -60,10 +60,14 @@ pub(crate) fn read_limit(found: &ArgMatches<'_>) -> Result<Option<usize>, WordsE
 }
 
 /// TARGET
-pub(crate) fn read_target<'a>(found: &ArgMatches<'a>) -> Option<&'a str>
-    ensures { option_map text result ≡ first_of (codes "TARGET") (rows_of (found_of found.now)) }
+pub(crate) fn read_target<'a>(found: &ArgMatches<'a>) -> Result<&'a str, WordsError>
+    ensures asked { IfOk result (λ r. target_in (rows_of (found_of found.now)) ≡ Some (text r)) }
+    ensures refused { IfErr result (λ e. e ≡ NoRequest → target_in (rows_of (found_of found.now)) ≡ None) }
 {
-    text_in(found, "TARGET")
+    match text_in(found, "TARGET") {
+        Some(target) => Ok(target),
+        None => Err(WordsError::NoRequest),
+    }
 }
 
 /// [NAME], where `-` stands for the input.

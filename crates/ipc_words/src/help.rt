@@ -4,10 +4,35 @@ ghost use Rattle.clap.specs.Words.{kind_of};
 ghost use Rattle.ipc_words.specs.Help.{asks_for_help, is_help};
 ghost use Rattle.ipc_words.specs.Views.{texts};
 
-use crate::command_line::program;
+use crate::commands::program;
 use clap::Error;
 use clap::error::ErrorKind;
 use std::alloc::{AllocError, Global};
+
+/// What stands behind the commands: how a file gets in, and the statuses.
+pub(crate) fn statuses() -> &'static str {
+    "\
+A file is given by its NAME, or on standard input as hex text: xxd -p FILE | vokdrim stream
+
+The status is 0 where all was written. Each other one has a line on standard error, as: refused 17 NoName
+   1  OutOfSpec, by its kind     the bytes are not as the format says
+   2  Unsupported, by its name   a feature that is not supported
+   3  TooDeep                    fields that are nested too deep
+   4  TooMany                    too many fields, pairs or dictionaries
+   5  Projection                 a number of LIST is no column, or stands in it twice
+   6  TooLarge                   what is written would pass a limit of the format
+   7  SchemaMismatch             fields that are not the same
+   8  DictionaryReplaced         other values under the id of a dictionary
+   9  NotRepresentable           a key or a type that the format does not carry
+  10  State                      a call out of turn
+  11  ReadFault                  reading failed, or opening
+  12  WriteFault                 writing failed
+  13  Memory                     want of memory
+  14  Words                      the words are no request
+  15  NotHex                     the input is no hex text
+  16  InputTooLong               the input has more than 134,217,728 bytes
+  17  NoName                     nothing stands under the name"
+}
 
 fn shows_text(kind: ErrorKind) -> bool
     ensures { result ≡ is_help kind }

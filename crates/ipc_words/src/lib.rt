@@ -1,7 +1,8 @@
 //! The words of the command line: what they ask for, read with `clap`, and the texts of help and of the version.
 #![tactic(auto)]
 
-mod command_line;
+mod arguments;
+mod commands;
 mod found;
 mod help;
 mod numbers;
@@ -10,6 +11,6 @@ mod words;
 mod words_error;
 
 pub use help::help_text;
-pub use requests::{Request, Stream};
+pub use requests::{Csv, Request, Stream};
 pub use words::read_words;
 pub use words_error::WordsError;

@@ -13,6 +13,17 @@ pub struct Stream<'a> {
     pub name: Option<&'a str>,
 }
 
+/// csv [--columns LIST] [--limit N] [NAME]
+#[derive(Debug, Drop, PartialEq, Eq)]
+pub struct Csv<'a> {
+    /// The columns, or all of them.
+    pub columns: Option<Vec<usize>>,
+    /// The greatest number of rows, or all of them.
+    pub limit: Option<usize>,
+    /// The name of the file, or the input.
+    pub name: Option<&'a str>,
+}
+
 /// What words ask for.
 #[derive(Debug, Drop, PartialEq, Eq)]
 pub enum Request<'a> {
@@ -24,4 +35,6 @@ pub enum Request<'a> {
     Rows(Option<&'a str>),
     /// The batches of the stream that the input has as hex text, at the end of the file of this name.
     Append(&'a str),
+    /// The rows of a file as CSV.
+    Csv(Csv<'a>),
 }

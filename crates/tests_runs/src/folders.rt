@@ -51,3 +51,13 @@ fn a_place_of_a_folder_changes_its_file(rt: HostRuntime) -> Result<(), Fail> {
     assert!(rt; shelf.open_place(path).err() == Some(ShelfError::Unknown));
     Ok(())
 }
+
+#[test]
+fn a_folder_opens_regular_files_alone(rt: HostRuntime) -> Result<(), Fail> {
+    let mut shelf = FolderShelf::new(&rt);
+    for name in [".", "/dev/null"] {
+        assert!(rt; shelf.open_file(name).err() == Some(ShelfError::Failed));
+        assert!(rt; shelf.open_place(name).err() == Some(ShelfError::Failed));
+    }
+    Ok(())
+}

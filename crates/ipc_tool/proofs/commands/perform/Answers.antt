@@ -1,0 +1,12 @@
+use Rattle.std.proofs.Common.{subst, sym}
+use Rattle.ipc_words.specs.Views.{request_view}
+use Rattle.ipc_tool.specs.Commands.{task_of}
+use Rattle.ipc_tool.specs.Outside.{outside_of}
+use Rattle.ipc_tool.specs.Tasks.{Does}
+use Rattle.ipc_tool.proofs.commands.perform.Goals as goal
+
+pub returns-in-Append-clause-does : goal.returns-in-Append-clause-does
+returns-in-Append-clause-does g c =
+    let old = outside_of g.H.Shelf.held g.H.Shelf.faults g.I.Feed.rest g.I.Feed.faults g.W.Sink.written g.W.Sink.faults g.W.Sink.wants c.args.shelf.now c.args.input.now c.args.output.now in
+    let new = outside_of g.H.Shelf.held g.H.Shelf.faults g.I.Feed.rest g.I.Feed.faults g.W.Sink.written g.W.Sink.faults g.W.Sink.wants c.append_input.new.shelf c.append_input.new.input c.append_input.new.output in
+    subst (λ request. Does (task_of (request_view request)) c.append_input.result old new) (sym c.in-Append.is) c.append_input.ensures.does

@@ -1,0 +1,45 @@
+//! The commands, each in a file of its own.
+ghost use Rattle.std.specs.Prelude.{◌≡◌, [], IsFalse};
+ghost use Rattle.ipc_words.specs.Views.{request_view};
+ghost use Rattle.ipc_tool.specs.Commands.{task_of};
+ghost use Rattle.ipc_tool.specs.Outside.{outside_of};
+ghost use Rattle.ipc_tool.specs.Tasks.{Does};
+
+mod append;
+mod csv;
+mod rows;
+mod schema;
+mod stream;
+
+use crate::file_job::of_file;
+use crate::refusal::Refusal;
+use append::append_input;
+use ipc_disk::PlaceShelf;
+use ipc_transcode::{Feed, Sink};
+use ipc_words::Request;
+use rows::RowCount;
+use schema::SchemaText;
+use std::alloc::Global;
+
+/// What a request asks for.
+pub(crate) fn perform<H: PlaceShelf, I: Feed, W: Sink>(
+    alloc: Global,
+    request: &Request<'_>,
+    shelf: &mut H,
+    input: &mut I,
+    output: &mut W,
+) -> Result<(), Refusal>
+    ensures does { Does (task_of (request_view request.now)) result
+        (outside_of H.held H.faults I.rest I.faults W.written W.faults W.wants shelf.old input.old output.old)
+        (outside_of H.held H.faults I.rest I.faults W.written W.faults W.wants shelf.new input.new output.new) }
+    ensures unread { IsFalse (task_of (request_view request.now)).reads → input.new ≡ input.old }
+    ensures unopened { (task_of (request_view request.now)).opens ≡ [] → shelf.new ≡ shelf.old }
+{
+    match request {
+        Request::Stream(stream) => of_file(alloc, shelf, input, output, stream, stream.name),
+        Request::Schema(name) => of_file(alloc, shelf, input, output, &SchemaText, *name),
+        Request::Rows(name) => of_file(alloc, shelf, input, output, &RowCount, *name),
+        Request::Append(target) => append_input(alloc, shelf, input, output, *target),
+        Request::Csv(csv) => of_file(alloc, shelf, input, output, csv, csv.name),
+    }
+}

@@ -1,7 +1,0 @@
-use Rattle.ipc_words.specs.CommandLine.{stream_shape}
-use Rattle.ipc_words.proofs.Building.{with_about, begun, with_last_arg, with_arg}
-use Rattle.ipc_words.proofs.command_line.stream_command.Goals as goal
-
-pub returns : goal.returns
-unfolding stream_shape
-returns c = with_last_arg _ _ _ _ _ (with_arg _ _ _ _ _ (with_arg _ _ _ _ _ (with_arg _ _ _ _ _ (with_about _ _ _ _ (begun _ _ c.new.ensures.app c.new.ensures.local) c.about.ensures) c.columns_option.ensures c.in_ok-arg.ensures) c.limit_option.ensures c.in_ok-arg-2.ensures) c.raw_flag.ensures c.in_ok-arg-3.ensures) c.name_word.ensures c.arg-4.ensures
