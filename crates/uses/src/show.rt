@@ -1,7 +1,8 @@
-//! Eight uses of `arrow_ipc`. An Arrow file comes on standard input: the first column of its first record batch and the rows of each batch are printed, a batch of numbers is written, by itself, as a stream, which is read again, and as a file, to which another is appended, and the file is sent as a stream.
+//! Nine uses of `arrow_ipc`. An Arrow file comes on standard input: the first column of its first record batch, the rows of each batch and those that come through a flight are printed, a batch of numbers is written, by itself, as a stream, which is read again, and as a file, to which another is appended, and the file is sent as a stream.
 use crate::append_batch::file_with;
 use crate::each_batch::heights;
 use crate::file_to_stream::stream_of;
+use crate::flight::rows_handed;
 use crate::read_column::{first_batch, first_column};
 use crate::read_stream::first_height;
 use crate::write_batch::message_of;
@@ -67,6 +68,8 @@ fn show_batches(rt: &HostRuntime, source: &mut MemorySource) -> Result<(), IpcEr
     for height in &heights(rt.alloc(), source, None)? {
         let _ = println!(rt; "a batch of {height} rows");
     }
+    let rows = rows_handed(rt.alloc(), source)?;
+    let _ = println!(rt; "a flight of {rows} rows");
     Ok(())
 }
 

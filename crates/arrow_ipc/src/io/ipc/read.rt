@@ -2,6 +2,7 @@
 
 pub use arrow_spec::{Block, FieldNode, IpcBuffer, MetadataVersion};
 pub use ipc_append::{StreamMetadata, StreamReader, StreamState, read_stream_metadata};
+pub use ipc_flight::{FlightConsumer, FlightStreamProducer, FlightstreamConsumer};
 pub use ipc_io::Refused;
 pub use ipc_transcode::{
     BatchHeader, Body, Dictionaries, FileCursor, FileMetadata, FileReader, Footer, Message,
