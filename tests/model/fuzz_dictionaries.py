@@ -159,11 +159,11 @@ def no_rows(kind):
 # ── cases ──
 
 
-def random_kinds(r, count, unions, order, shares):
+def random_kinds(r, count, unions, order, shares, levels=2):
     """Kinds of columns, and those of the values of their dictionaries by the ids. No view stands in big-endian order, where it is refused."""
     kinds, taken = [], {}
     for _ in range(count):
-        kind = random_kind(r, 2, unions, order == "little")
+        kind = random_kind(r, levels, unions, order == "little")
         kinds.append(with_dictionaries(r, kind, taken, shares))
     return kinds, taken
 
@@ -171,7 +171,7 @@ def random_kinds(r, count, unions, order, shares):
 def case(r, asked):
     order, version = fuzz_nested.random_order(r)
     count = max(fuzz_nested.asked_columns(asked) or [0]) + 1 + r.choice([0, 1, 2])
-    kinds, taken = random_kinds(r, count, asked.unions, order, getattr(asked, "shares", True))
+    kinds, taken = random_kinds(r, count, asked.unions, order, getattr(asked, "shares", True), getattr(asked, "levels", 2))
     heading, messages = random_heading(r, kinds, order, version), random_messages(r, taken)
 
     def sent_dictionaries(chosen):

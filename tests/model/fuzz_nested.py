@@ -85,7 +85,7 @@ def random_order(r):
 def case(r, asked):
     order, version = random_order(r)
     count = max(asked_columns(asked) or [0]) + 1 + r.choice([0, 0, 1, 2])
-    kinds = [random_kind(r, 3, asked.unions, order == "little") for _ in range(count)]
+    kinds = [random_kind(r, getattr(asked, "levels", 3), asked.unions, order == "little") for _ in range(count)]
     heading = random_heading(r, kinds, order, version)
     return made(r, asked, kinds, heading, [], [], lambda chosen: [])
 

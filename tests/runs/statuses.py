@@ -4,6 +4,7 @@ Each run has its words, its standard input, the files of the folder that it runs
 run of status 4 has a schema whose structs share their children, that of 6 one with a long name besides, and needs 3 GiB of
 memory; that of 13 is held to 40 MiB.
 """
+import os
 import resource
 import struct
 import subprocess
@@ -73,6 +74,7 @@ class Run:
 
     def holds(self, program):
         with tempfile.TemporaryDirectory() as folder:
+            os.mkfifo(Path(folder) / "pipe")
             if self.file is not None:
                 (Path(folder) / "file.arrow").write_bytes(self.file)
             out = open("/dev/full", "wb") if self.full else subprocess.PIPE
@@ -107,7 +109,9 @@ def runs():
     yield Run(4, ["schema", "file.arrow"], refused(4, "TooMany"), file=file_of(in_structs(leaf("a"), 16)))
     yield Run(5, ["stream", "--columns", "1,1", "file.arrow"], refused(5, "Projection"), file=three)
     yield Run(6, ["stream", "file.arrow"], refused(6, "TooLarge"), file=file_of(in_structs(leaf("n" * 70000), 15)))
-    yield Run(11, ["stream", "."], refused(11, "ReadFault"))
+    for name in (".", "pipe", "/dev/null", "/dev/stdin"):
+        yield Run(11, ["stream", name], refused(11, "ReadFault"))
+        yield Run(11, ["append", name], refused(11, "ReadFault"), given=stream)
     yield Run(12, ["stream", "file.arrow"], refused(12, "WriteFault"), file=three, full=True)
     begun = arrow.stream_parts(INTEGERS, [])[0].hex().encode()
     yield Run(13, ["stream", "file.arrow"], refused(13, "Memory"), file=one_column(64 * MIB // 8), output=begun, memory=40 * MIB)
