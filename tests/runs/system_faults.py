@@ -53,14 +53,16 @@ class Runs:
 
 
 def calls_of(trace):
-    """The calls behind the program's start, each name with how often it came before its start and in all."""
-    names = [found.group(1) for line in trace.splitlines() if (found := CALL.match(line))]
-    return [(name, 1 + names[:at].count(name)) for at, name in enumerate(names) if name not in NOT_FAILED]
+    """The calls from the first that is of the target or of a standard stream on, each by its name and how many of this name it is."""
+    lines = [line for line in trace.splitlines() if CALL.match(line) and "execve(" not in line]
+    names = [CALL.match(line).group(1) for line in lines]
+    first = next(at for at, line in enumerate(lines) if f'"{TARGET}"' in line or re.search(r"\b(read|write)v?\([012],", line))
+    return [(names[at], 1 + names[:at].count(names[at])) for at in range(first, len(names)) if names[at] not in NOT_FAILED]
 
 
 def kept_below():
-    """Where the last block of the target ends."""
-    return len(b"".join(THREE.file[:-1]))
+    """Where the last block of the target ends, before the end mark and the footer."""
+    return len(b"".join(THREE.file[:-2]))
 
 
 def is_cut(found):
