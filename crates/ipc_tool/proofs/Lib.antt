@@ -6,6 +6,7 @@ pub mod Digits
 pub mod FileTasks
 pub mod FileTexts
 pub mod Front
+pub mod GenSteps
 pub mod Noting
 pub mod Tasks
 pub mod Words

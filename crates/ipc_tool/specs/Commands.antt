@@ -1,12 +1,14 @@
 -- What each request is held to.
 pub mod Append
 pub mod Csv
+pub mod Gen
 pub mod Rows
 pub mod Schema
 pub mod Stream
-use Rattle.ipc_words.specs.Requests.{Request, append, csv, rows, schema, stream}
+use Rattle.ipc_words.specs.Requests.{Request, append, csv, gen, rows, schema, stream}
 use Rattle.ipc_tool.specs.Commands.Append.{append_task}
 use Rattle.ipc_tool.specs.Commands.Csv.{csv_task}
+use Rattle.ipc_tool.specs.Commands.Gen.{generated_task}
 use Rattle.ipc_tool.specs.Commands.Rows.{rows_task}
 use Rattle.ipc_tool.specs.Commands.Schema.{schema_task}
 use Rattle.ipc_tool.specs.Commands.Stream.{stream_task}
@@ -17,4 +19,5 @@ task_of (stream s) = stream_task s
 task_of (schema name) = schema_task name
 task_of (rows name) = rows_task name
 task_of (append target) = append_task target
+task_of (gen seed) = generated_task seed
 task_of (csv s) = csv_task s

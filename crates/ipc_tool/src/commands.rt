@@ -7,6 +7,7 @@ ghost use Rattle.ipc_tool.specs.Tasks.{Does};
 
 mod append;
 mod csv;
+mod generate;
 mod rows;
 mod schema;
 mod stream;
@@ -14,6 +15,7 @@ mod stream;
 use crate::file_job::of_file;
 use crate::refusal::Refusal;
 use append::append_input;
+use generate::put_generated_line;
 use ipc_disk::PlaceShelf;
 use ipc_transcode::{Feed, Sink};
 use ipc_words::Request;
@@ -40,6 +42,7 @@ pub(crate) fn perform<H: PlaceShelf, I: Feed, W: Sink>(
         Request::Schema(name) => of_file(alloc, shelf, input, output, &SchemaText, *name),
         Request::Rows(name) => of_file(alloc, shelf, input, output, &RowCount, *name),
         Request::Append(target) => append_input(alloc, shelf, input, output, *target),
+        Request::Gen(seed) => put_generated_line(alloc, shelf, input, output, *seed),
         Request::Csv(csv) => of_file(alloc, shelf, input, output, csv, csv.name),
     }
 }

@@ -6,4 +6,5 @@ mod HelpLemmas
 pub mod NumberSteps
 mod Parsing
 mod WorkedCsv
+mod WorkedGen
 mod WorkedWords

@@ -35,6 +35,9 @@ name = word (codes "NAME")
 abbrev pub target : Rule
 target = needed_word (codes "TARGET")
 
+abbrev pub number : Rule
+number = needed_word (codes "N")
+
 -- the program without its commands: one has to stand first; `--help` and `--version` are known, the command `help` is not
 abbrev pub bare : Shape
 bare = record (new_shape (codes "vokdrim")) {

@@ -38,6 +38,8 @@ pub data Request : Type 0 where
   rows : Option Text → Request
   -- the name of the file that the input's stream is appended to
   append : Text → Request
+  -- the number that the rows begin with
+  gen : ℕ → Request
   csv : Csv → Request
 
 -- ── what the options and places of a command say, by the rows that `clap` found ──
@@ -73,6 +75,10 @@ name_in found = option_and_then unless_input (first_of (codes "NAME") found)
 -- TARGET, where `-` is a name like any other
 abbrev pub target_in : List Row → Option Text
 target_in found = first_of (codes "TARGET") found
+
+-- N
+abbrev pub number_in : List Row → Option ℕ
+number_in found = option_and_then decimal_of (first_of (codes "N") found)
 
 -- ── the commands ──
 
@@ -115,6 +121,13 @@ append_entry = record {
   asks = λ found. option_map append (target_in found);
 }
 
+abbrev pub gen_entry : Entry
+gen_entry = record {
+  name = codes "gen";
+  rules = line.number ∷ [];
+  asks = λ found. option_map gen (number_in found);
+}
+
 abbrev pub csv_entry : Entry
 csv_entry = record {
   name = codes "csv";
@@ -133,6 +146,7 @@ commands =
     schema_entry ∷
     rows_entry ∷
     append_entry ∷
+    gen_entry ∷
     csv_entry ∷
     []
 

@@ -3,7 +3,7 @@ use Rattle.std.specs.Prelude.{ℕ, List, Vec, map, option_map}
 use Rattle.std.specs.declared.alloc.Global.{Global}
 use Rattle.std.specs.Borrow.{Bor}
 use Rattle.clap.specs.Walk.{Text}
-use Rattle.ipc_words.specs.Requests.{Csv, Request, Stream, append, csv, rows, schema, stream}
+use Rattle.ipc_words.specs.Requests.{Csv, Request, Stream, append, csv, gen, rows, schema, stream}
 use Rattle.ipc_words.specs.declared.requests.Csv.{Csv as GivenCsv}
 use Rattle.ipc_words.specs.declared.requests.Stream.{Stream as GivenStream}
 use Rattle.ipc_words.specs.declared.requests.Request.{Request as Given}
@@ -29,4 +29,5 @@ request_view (given.Stream s) = stream (stream_view s)
 request_view (given.Schema name) = schema (option_map text name)
 request_view (given.Rows name) = rows (option_map text name)
 request_view (given.Append target) = append (text target)
+request_view (given.Gen number) = gen number
 request_view (given.Csv c) = csv (csv_view c)

@@ -1,5 +1,5 @@
 //! The options of the commands and their words by place, as `clap` is told of them.
-ghost use Rattle.ipc_words.specs.CommandLine.{columns, limit, name, raw, target};
+ghost use Rattle.ipc_words.specs.CommandLine.{columns, limit, name, number, raw, target};
 ghost use Rattle.ipc_words.specs.Commands.{IsArg};
 
 use clap::{Arg, ArgAction};
@@ -49,4 +49,13 @@ pub(crate) fn target_word<'a>(alloc: Global, help: &'a str) -> Arg<'a>
     ensures { IsArg target result }
 {
     Arg::new(alloc, "TARGET").required(true).help(help)
+}
+
+/// N
+pub(crate) fn number_word<'a>(alloc: Global) -> Arg<'a>
+    ensures { IsArg number result }
+{
+    Arg::new(alloc, "N").required(true).help(
+        "The number that the rows are made from, from 0 to 18446744073709551615",
+    )
 }

@@ -3,12 +3,14 @@ ghost use Rattle.std.specs.Prelude.{◌≡◌, ◌∷◌, [], IfOk, IfErr, List,
 ghost use Rattle.clap.specs.Walk.{rows_of};
 ghost use Rattle.clap.specs.Words.{found_of};
 ghost use Rattle.ipc_words.specs.Commands.{HasCommands, IsCommand, Reads, asked_of};
-ghost use Rattle.ipc_words.specs.Requests.{Entry, append_entry, asked_by, command_line, csv_entry, rows_entry, schema_entry, stream_entry};
+ghost use Rattle.ipc_words.specs.Requests.{Entry, append_entry, asked_by, command_line, csv_entry, gen_entry, rows_entry, schema_entry, stream_entry};
 ghost use Rattle.ipc_words.specs.Views.{request_view};
 ghost use Rattle.ipc_words.specs.declared.words_error.WordsError.TheVariants.{NoRequest};
 
-use crate::arguments::{columns_option, limit_option, name_word, raw_flag, target_word};
-use crate::found::{is_flag_in, read_columns, read_limit, read_name, read_target};
+use crate::arguments::{
+    columns_option, limit_option, name_word, number_word, raw_flag, target_word,
+};
+use crate::found::{is_flag_in, read_columns, read_limit, read_name, read_number, read_target};
 use crate::help::statuses;
 use crate::requests::{Csv, Request, Stream};
 use crate::words_error::WordsError;
@@ -90,6 +92,22 @@ pub(crate) fn read_append<'a>(found: &ArgMatches<'a>) -> Result<Request<'a>, Wor
     Ok(Request::Append(read_target(found)?))
 }
 
+fn gen_command<'a>(alloc: Global) -> Result<Command<'a>, AllocError>
+    ensures { IfOk result (IsCommand gen_entry) }
+{
+    Command::new(alloc, "gen")
+        .about("Makes a file of 65,536 rows, reads it back as a stream, and prints their sizes")
+        .arg(number_word(alloc))
+}
+
+/// gen N
+pub(crate) fn read_gen<'a>(found: &ArgMatches<'a>) -> Result<Request<'a>, WordsError>
+    ensures asked { IfOk result (λ r. asked_of gen_entry found.now ≡ Some (request_view r)) }
+    ensures refused { IfErr result (λ e. e ≡ NoRequest → asked_of gen_entry found.now ≡ None) }
+{
+    Ok(Request::Gen(read_number(found)?))
+}
+
 fn csv_command<'a>(alloc: Global) -> Result<Command<'a>, AllocError>
     ensures { IfOk result (IsCommand csv_entry) }
 {
@@ -148,6 +166,7 @@ pub(crate) fn program<'a>(alloc: Global) -> Result<Command<'a>, AllocError>
     program = with_command(program, schema_command(alloc));
     program = with_command(program, rows_command(alloc));
     program = with_command(program, append_command(alloc));
+    program = with_command(program, gen_command(alloc));
     program = with_command(program, csv_command(alloc));
     program
 }
@@ -166,6 +185,7 @@ pub(crate) fn read_command<'a>(
         "schema" => Ok(read_schema(found)),
         "rows" => Ok(read_rows(found)),
         "append" => read_append(found),
+        "gen" => read_gen(found),
         "csv" => read_csv(alloc, found),
         _ => Err(WordsError::NoRequest),
     }

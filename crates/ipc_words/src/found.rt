@@ -2,7 +2,7 @@
 ghost use Rattle.std.specs.Prelude.{◌≡◌, IfOk, IfErr, Some, None, option_map};
 ghost use Rattle.clap.specs.Walk.{first_of, rows_of};
 ghost use Rattle.clap.specs.Words.{found_of};
-ghost use Rattle.ipc_words.specs.Requests.{columns_in, is_on, limit_in, name_in, target_in};
+ghost use Rattle.ipc_words.specs.Requests.{columns_in, is_on, limit_in, name_in, number_in, target_in};
 ghost use Rattle.ipc_words.specs.Views.{numbers, text};
 ghost use Rattle.ipc_words.specs.declared.words_error.WordsError.TheVariants.{NoRequest};
 
@@ -56,6 +56,20 @@ pub(crate) fn read_limit(found: &ArgMatches<'_>) -> Result<Option<usize>, WordsE
             None => Err(WordsError::NoRequest),
         },
         None => Ok(None),
+    }
+}
+
+/// N
+pub(crate) fn read_number(found: &ArgMatches<'_>) -> Result<u64, WordsError>
+    ensures asked { IfOk result (λ r. number_in (rows_of (found_of found.now)) ≡ Some r) }
+    ensures refused { IfErr result (λ e. e ≡ NoRequest → number_in (rows_of (found_of found.now)) ≡ None) }
+{
+    match text_in(found, "N") {
+        Some(text) => match read_decimal(text.as_bytes()) {
+            Some(number) => Ok(number),
+            None => Err(WordsError::NoRequest),
+        },
+        None => Err(WordsError::NoRequest),
     }
 }
 

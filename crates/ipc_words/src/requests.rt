@@ -35,6 +35,8 @@ pub enum Request<'a> {
     Rows(Option<&'a str>),
     /// The batches of the stream that the input has as hex text, at the end of the file of this name.
     Append(&'a str),
+    /// A file that is made from this number, as a stream that is read back.
+    Gen(u64),
     /// The rows of a file as CSV.
     Csv(Csv<'a>),
 }

@@ -10,3 +10,9 @@ returns-in-Append-clause-does g c =
     let old = outside_of g.H.Shelf.held g.H.Shelf.faults g.I.Feed.rest g.I.Feed.faults g.W.Sink.written g.W.Sink.faults g.W.Sink.wants c.args.shelf.now c.args.input.now c.args.output.now in
     let new = outside_of g.H.Shelf.held g.H.Shelf.faults g.I.Feed.rest g.I.Feed.faults g.W.Sink.written g.W.Sink.faults g.W.Sink.wants c.append_input.new.shelf c.append_input.new.input c.append_input.new.output in
     subst (λ request. Does (task_of (request_view request)) c.append_input.result old new) (sym c.in-Append.is) c.append_input.ensures.does
+
+pub returns-in-Gen-clause-does : goal.returns-in-Gen-clause-does
+returns-in-Gen-clause-does g c =
+    let old = outside_of g.H.Shelf.held g.H.Shelf.faults g.I.Feed.rest g.I.Feed.faults g.W.Sink.written g.W.Sink.faults g.W.Sink.wants c.args.shelf.now c.args.input.now c.args.output.now in
+    let new = outside_of g.H.Shelf.held g.H.Shelf.faults g.I.Feed.rest g.I.Feed.faults g.W.Sink.written g.W.Sink.faults g.W.Sink.wants c.put_generated_line.new.shelf c.put_generated_line.new.input c.put_generated_line.new.output in
+    subst (λ request. Does (task_of (request_view request)) c.put_generated_line.result old new) (sym c.in-Gen.is) c.put_generated_line.ensures.does

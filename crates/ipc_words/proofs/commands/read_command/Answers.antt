@@ -19,6 +19,10 @@ pub returns-in-append : goal.returns-in-append
 unfolding asked_by commands
 returns-in-append c = record { asked = rw c.in-append.is c.read_append.ensures.asked; refused = rw c.in-append.is c.read_append.ensures.refused }
 
+pub returns-in-gen : goal.returns-in-gen
+unfolding asked_by commands
+returns-in-gen c = record { asked = rw c.in-gen.is c.read_gen.ensures.asked; refused = rw c.in-gen.is c.read_gen.ensures.refused }
+
 pub returns-in-csv : goal.returns-in-csv
 unfolding asked_by commands
 returns-in-csv c = record { asked = rw c.in-csv.is c.read_csv.ensures.asked; refused = rw c.in-csv.is c.read_csv.ensures.refused }
