@@ -1,5 +1,5 @@
 -- The next batch of a file, read and then written, or refused.
-use Rattle.std.proofs.Common.{◌≡◌, ◌∙◌, ◌⊎◌, sym, refl, ap, inl, inr, ℕ, suc, ◌+◌, ◌<◌, ◌≤◌, List, [], ◌∷◌, ◌++◌, length, slice_get, Bool, true, false, Option, Some, None, Result, Ok, Err, subst, arith, add-one, append_assoc}
+use Rattle.std.proofs.Common.{◌≡◌, ◌∙◌, ◌⊎◌, sym, refl, ap, inl, inr, ℕ, suc, ◌+◌, ◌≤◌, List, [], ◌∷◌, ◌++◌, length, true, Option, Some, None, Result, Ok, Err, subst, add-one, append_assoc}
 use Rattle.std.specs.Prelude.{IfErr, IfOk, IfSome}
 use Rattle.std.specs.Io.KnownBytes.{Appends, Keeps}
 use Rattle.std.specs.Rc.{rc_value}
@@ -7,8 +7,7 @@ use Rattle.std.proofs.KnownBytes.{Appends-kept}
 use Rattle.std.proofs.lemmas.List.{length-append, length-map}
 use Rattle.arrow_spec.specs.declared.error.IpcError.{IpcError}
 use Rattle.arrow_spec.specs.declared.error.IpcError.TheVariants as errors
-use Rattle.arrow_spec.specs.Files.{FileBlock, TableBatch, «all», file_reading, to_read, what_is_left}
-use Rattle.arrow_spec.specs.Readings.{Refuses, refusals}
+use Rattle.arrow_spec.specs.Files.{TableBatch, «all», file_reading, to_read}
 use Rattle.arrow_spec.specs.Kinds.{have_same_kinds}
 use Rattle.arrow_types.specs.Schemas.{Keyed, fields_in}
 use Rattle.arrow_arrays.specs.Batches.{Batch}
@@ -16,25 +15,23 @@ use Rattle.arrow_arrays.specs.Parts.{fault_each, forest}
 use Rattle.ipc_io.specs.Outside.{Rose}
 use Rattle.ipc_bodies.specs.Encodings.{text_of}
 use Rattle.ipc_bodies.specs.Puts.{Moved, PutsPart}
-use Rattle.laws_sent.proofs.Right.{kinds_of_schema}
+use Rattle.laws_walk.proofs.Below.{kinds_of_schema}
 use Rattle.same_fields.proofs.OneKind.{kinds_through}
-use Rattle.ipc_reader.specs.Below.{FileCause, FileMetadata, HasFields, MayProject, asked, file_block, meta_view, schema_shown, table_of}
-use Rattle.ipc_reader.specs.Kept.{GivesBy, HeldParts, KeepsFile, KeptAfter, ReadUnderKept, is_refused}
+use Rattle.ipc_reader.specs.Below.{FileCause, FileMetadata, HasFields, file_block, meta_view, schema_shown, table_of}
 use Rattle.ipc_reader.specs.Reads.{NextBatch}
 use Rattle.ipc_reader.specs.declared.cursor.FileCursor.{FileCursor}
-use Rattle.ipc_reader.specs.declared.kept.KeptDictionaries.{KeptDictionaries}
-use Rattle.ipc_reader.specs.declared.kept.KeptDictionaries.TheVariants.{Held, NotRead}
-use Rattle.ipc_reader.proofs.Below.{GivenAt, natural_at}
 use Rattle.ipc_stream_writer.specs.Below.{cells_of, chunk_text, columns_of, counted}
 use Rattle.ipc_stream_writer.specs.Calls.{WriteFailed, Writes}
-use Rattle.ipc_transcode.proofs.NextBatches.{block_there}
-use Rattle.ipc_transcode.proofs.Nexts.{with_batch}
+use Rattle.laws_walk.specs.Places.{IsReadBy, Walked, place_of, walking}
+use Rattle.laws_walk.proofs.Cursors.{answered, next_none as none_walked, next_refused as walk_refused, read_on, reads_too}
+use Rattle.laws_walk.proofs.Fronts.{of_put, part_behind}
+use Rattle.laws_walk.proofs.Nexts.{with_batch}
 use Rattle.ipc_concat.specs.Concat.{CauseOf}
-use Rattle.ipc_concat.specs.Files.{AddsNext, BlocksRead, HasReadBlocks, Holds, IsGoing, IsPut, IsReaderOf, NextAdded, NextTooLarge, Start, StopsFile, StopsNext, part_of, schema_of, with_batches}
+use Rattle.ipc_concat.specs.Files.{AddsNext, HasReadBlocks, Holds, IsGoing, IsPut, IsReaderOf, NextAdded, NextTooLarge, Start, StopsFile, StopsNext, part_of, schema_of, whole_file, with_batches}
 use Rattle.ipc_concat.specs.declared.stream.JoinedStream.{JoinedStream}
-use Rattle.ipc_concat.proofs.Blocks.{call_stops, next_read, part_read}
+use Rattle.ipc_concat.proofs.Blocks.{call_stops, may_all, opened, part_read}
 use Rattle.ipc_concat.proofs.Walks.{IsLargeFor, suits}
-use Rattle.ipc_concat.proofs.Writing.{NotWritten, head_at, held_on, not_written, of_put, part_behind, write_cause}
+use Rattle.ipc_concat.proofs.Writing.{NotWritten, head_at, held_on, not_written, write_cause}
 
 -- ── a reader ──
 
@@ -57,15 +54,6 @@ read_cause (errors.TooMany counted) faults faults' writes h = tt
 pub read_fails : {X : Type 0} (r : Result X IpcError) (e : IpcError) (faults faults' : ℕ) (writes : Type 0) → r ≡ Err e → FileCause e faults faults' → IfErr r (λ e. CauseOf (Rose faults faults') writes e)
 read_fails r e faults faults' writes is h = subst (λ z. IfErr z (λ e. CauseOf (Rose faults faults') writes e)) (sym is) (read_cause e faults faults' writes h)
 
--- all columns are read
-pub may_all : (c : FileCursor) → c.projection ≡ None → MayProject (rc_value c.metadata.schema) None c.projection
-may_all c none = subst (MayProject (rc_value c.metadata.schema) None) (sym none) tt
-
--- dictionaries that were read or not were not refused
-not_refused : (b : List ℕ) (m : FileMetadata) (kept : KeptDictionaries) (block : ℕ) (xs : List TableBatch) → BlocksRead b m kept block xs → is_refused kept ≡ false
-not_refused b m kept block xs (BlocksRead.none_yet none not_read) = ap is_refused not_read
-not_refused b m kept block xs (BlocksRead.some_read held is cells dictionaries read some) = ap is_refused is
-
 -- a file has as many blocks as are given
 pub blocks_as : (c : FileCursor) → length (meta_view c.metadata).blocks ≡ length c.metadata.blocks.items
 blocks_as c = length-map c.metadata.blocks.items file_block
@@ -78,16 +66,11 @@ is_put x b c st now before xs read h = record {
   stream = h.written.means ∙ ap Some (head_at x h.pairs st.writer (before ++ xs) h.head);
 }
 
--- at the same place
-same_place : (b : List ℕ) (c c' : FileCursor) (xs : List TableBatch) → c'.metadata ≡ c.metadata → c'.projection ≡ c.projection → c'.left ≡ c.left → c'.block ≡ c.block → c'.dictionaries ≡ c.dictionaries → HasReadBlocks b c xs → HasReadBlocks b c' xs
-same_place b c c' xs metadata projection left block kept h = record {
-  opened = rw metadata h.opened;
-  read = rw metadata h.read;
-  projection = projection ∙ h.projection;
-  left = left ∙ h.left;
-  blocks = rw (metadata, kept, block) h.blocks;
-  count = h.count ∙ sym block;
-  within = rw (metadata, block) h.within;
+-- of the same file
+pub reads_same : (b : List ℕ) (c c' : FileCursor) (xs : List TableBatch) → c'.metadata ≡ c.metadata → c'.projection ≡ c.projection → IsReadBy c (whole_file b c.metadata) → Walked to_read (walking (whole_file b c.metadata)) (place_of c') xs → HasReadBlocks b c' xs
+reads_same b c c' xs metadata projection by walked = record {
+  by = subst (λ m. IsReadBy c' (whole_file b m)) (sym metadata) (reads_too c c' (whole_file b c.metadata) metadata projection by);
+  walked = subst (λ m. Walked to_read (walking (whole_file b m)) (place_of c') xs) (sym metadata) walked;
 }
 
 module _ {S : Type 0} (content_of : S → Option (List ℕ)) (faults_of fetched_of : S → ℕ) (references_of : S → List ℕ) (s s' : S) (c c' : FileCursor) (st : JoinedStream) (now : Option (List ℕ)) where
@@ -108,53 +91,21 @@ module _ {S : Type 0} (content_of : S → Option (List ℕ)) (faults_of fetched_
   -- ── none is left, or it is refused ──
 
   pub next_none : (wants wants' : ℕ) → Next None → Told (λ x b before xs. NextAdded (Ok tt) x b c c' st before now wants wants')
-  next_none wants wants' n = tell (λ x b before xs. NextAdded (Ok tt) x b c c' st before now wants wants') λ b told x before xs enc read h. record {
-    xs = xs;
-    read = same_place b c c' xs n.metadata n.projection n.left n.block (n.dictionaries None (may_all c read.projection)) read;
-    holds = h;
-    further = inr (subst (λ (m : FileMetadata). length (meta_view m).blocks ≤ c'.block) (sym n.metadata) (last b xs read n.ended));
-  }
-    where
-      last : (b : List ℕ) (xs : List TableBatch) → HasReadBlocks b c xs → (length c.metadata.blocks.items ≤ c.block) ⊎ (is_refused c.dictionaries ≡ true) → length (meta_view c.metadata).blocks ≤ c'.block
-      last b xs read (inl at_end) = omega (arith, at_end, n.block, blocks_as c)
-      last b xs read (inr never) = let clash : false ≡ true = sym (not_refused b c.metadata c.dictionaries c.block xs read.blocks) ∙ never in cc
-
-  -- there is a block
-  at_block : c.block < length c.metadata.blocks.items → (block : FileBlock) × (slice_get (meta_view c.metadata).blocks c.block ≡ Some block)
-  at_block less = block_there (meta_view c.metadata).blocks c.block (let same = blocks_as c in omega (arith, less, same))
+  next_none wants wants' n = tell (λ x b before xs. NextAdded (Ok tt) x b c c' st before now wants wants') λ b told x before xs enc read h.
+      let both = none_walked content_of faults_of fetched_of references_of s s' c c' (whole_file b c.metadata) read.by to_read xs n read.walked in
+      record { xs = xs; read = reads_same b c c' xs n.metadata n.projection read.by both.0; holds = h; further = inr (subst (λ (m : FileMetadata). length (meta_view m).blocks ≤ c'.block) (sym n.metadata) both.1) }
 
   pub next_refused : (e : IpcError) (r : Result (Unit {0}) IpcError) (st' : JoinedStream) (wants wants' : ℕ) → r ≡ Err e → Next (Some (Err e)) → Told (λ x b before xs. NextAdded r x b c c' st' before now wants wants')
   next_refused e r st' wants wants' is_err n = tell (λ x b before xs. NextAdded r x b c c' st' before now wants wants') λ b told x before xs enc read h.
-      let there = at_block n.ended.0 in
-      let y = natural_at c.metadata.blocks.items c.block there.0 read.read.natural.blocks there.1 in
-      let gives : GivesBy c.dictionaries (asked None c.left) b c.metadata y.given (Err e) = subst (λ o. IfSome o (λ z. GivesBy c.dictionaries (asked None c.left) z c.metadata y.given (Err e))) told (n.gives None y.given (may_all c read.projection) y.at) in
-      let here : GivesBy c.dictionaries «all» b c.metadata y.given (Err e) = subst (λ l. GivesBy c.dictionaries (asked None l) b c.metadata y.given (Err e)) read.left gives in
-      let stop = call_stops b c.metadata read.opened e read.read.natural c.block there.0 y.given there.1 y.is c.dictionaries xs read.blocks here in
-      let why : StopsNext e b c.metadata before xs h.bytes = inl (stop.0, subst (λ k. Refuses e (refusals (file_reading to_read b «all» (Some (suc k))))) (sym read.count) stop.1) in
-      subst (λ z. NextAdded z x b c c' st' before now wants wants') (sym is_err) (StopsFile.behind_put {xs = xs} {bytes = h.bytes} (is_put x b c st now before xs read h) h.added why)
+      let stop = call_stops b c xs read e (walk_refused content_of faults_of fetched_of references_of s s' c c' (whole_file b c.metadata) read.by told to_read (opened b c xs read) e xs n read.walked) in
+      subst (λ z. NextAdded z x b c c' st' before now wants wants') (sym is_err) (StopsFile.behind_put {xs = xs} {bytes = h.bytes} (is_put x b c st now before xs read h) h.added (inl stop))
 
   -- ── it was read ──
 
-  left_on : (l : Option ℕ) (n : ℕ) → l ≡ None → what_is_left l n ≡ None
-  left_on l n none = rw none refl
-
-  read_on : (y : Batch) → Next (Some (Ok y)) → (b : List ℕ) → content_of s ≡ Some b → (xs : List TableBatch) → HasReadBlocks b c xs → HasReadBlocks b c' (xs ++ table_of y ∷ [])
-  read_on y n b told xs read =
-      let there = at_block n.ended.0 in
-      let may = may_all c read.projection in
-      let under : ReadUnderKept (Some b) (meta_view c.metadata) «all» there.0 c'.dictionaries y = subst (λ l. ReadUnderKept (Some b) (meta_view c.metadata) (asked None l) there.0 c'.dictionaries y) read.left (subst (λ o. ReadUnderKept o (meta_view c.metadata) (asked None c.left) there.0 c'.dictionaries y) told (n.read None there.0 may there.1)) in
-      let first : c.dictionaries ≡ NotRead → KeepsFile (Some b) (meta_view c.metadata) c'.dictionaries = λ not_read. subst (λ o. KeepsFile o (meta_view c.metadata) c'.dictionaries) told (n.first not_read) in
-      let keeps : (h : HeldParts) → c.dictionaries ≡ Held h → c'.dictionaries ≡ Held h = λ h kept. subst (λ (k : KeptDictionaries). KeptAfter {X = Batch} (content_of s) c.metadata None k c'.dictionaries (Ok y)) kept (n.dictionaries None may) in
-      let blocks = next_read b c.metadata read.opened c.block there.0 y there.1 c.dictionaries c'.dictionaries xs read.blocks under first keeps in
-      record {
-        opened = rw n.metadata read.opened;
-        read = rw n.metadata read.read;
-        projection = n.projection ∙ read.projection;
-        left = n.left ∙ left_on c.left y.height read.left;
-        blocks = rw (n.metadata, n.block) blocks;
-        count = length-append xs (table_of y ∷ []) ∙ ap (λ k. k + 1) read.count ∙ sym n.block;
-        within = rw n.metadata (let same = blocks_as c in omega (arith, n.ended.0, n.block, same));
-      }
+  read_more : (y : Batch) → Next (Some (Ok y)) → (b : List ℕ) → content_of s ≡ Some b → (xs : List TableBatch) → HasReadBlocks b c xs → HasReadBlocks b c' (xs ++ table_of y ∷ [])
+  read_more y n b told xs read =
+      let answer = answered content_of faults_of fetched_of references_of s s' c c' (whole_file b c.metadata) read.by told y n in
+      reads_same b c c' (xs ++ table_of y ∷ []) n.metadata n.projection read.by (read_on (whole_file b c.metadata) c c' y read.by answer xs read.walked)
 
   -- its columns are of the kinds of the stream's fields
   pub kinds_on : (y : Batch) → Next (Some (Ok y)) → IsReaderOf st.writer.schema c → have_same_kinds (fields_in st.writer.schema) (columns_of (forest y.arrays)) ≡ true
@@ -169,7 +120,7 @@ module _ {S : Type 0} (content_of : S → Option (List ℕ)) (faults_of fetched_
         → Told (λ x b before xs. NextAdded (Ok tt) x b c c' st' before m.new wants wants')
     next_written w batches rows wants wants' = tell (λ x b before xs. NextAdded (Ok tt) x b c c' st' before m.new wants wants') λ b told x before xs enc read h. record {
       xs = xs ++ table_of y ∷ [];
-      read = read_on y n b told xs read;
+      read = read_more y n b told xs read;
       holds = subst (Holds x st' m.new) (append_assoc before xs (table_of y ∷ [])) (held_on x st st' now (before ++ xs) y m (sym enc) old h w batches rows);
       further = inl (n.block ∙ add-one c.block);
     }
@@ -181,7 +132,7 @@ module _ {S : Type 0} (content_of : S → Option (List ℕ)) (faults_of fetched_
         let more = chunk_text f.sends.sending.sent y in
         let kinds = kinds_on y n reader in
         let on = with_batch h.pairs st.writer y f.sends.sending h.bytes (before ++ xs) f.sends.is_found f.sends.may kinds h.written in
-        let next = read_on y n b told xs read in
+        let next = read_more y n b told xs read in
         let put : PutsPart m e (text_of x.encoding more) = subst (λ k. PutsPart m e (text_of k more)) (sym enc) f.sends.failed.put in
         let added : Appends x.before m.old (text_of x.encoding h.bytes) = subst (λ o. Appends x.before o (text_of x.encoding h.bytes)) (sym old) h.added in
         StopsFile.in_next {xs = xs ++ table_of y ∷ []} {bytes = h.bytes ++ more} (record {
@@ -203,7 +154,7 @@ module _ {S : Type 0} (content_of : S → Option (List ℕ)) (faults_of fetched_
           record {
             next = table_of y;
             read = subst (λ k. file_reading to_read b «all» (Some k) ≡ Ok (part_of c.metadata (xs ++ table_of y ∷ []))) (length-append xs (table_of y ∷ []) ∙ add-one (length xs))
-                (subst (λ (k : FileMetadata). file_reading to_read b «all» (Some (length (xs ++ table_of y ∷ []))) ≡ Ok (part_of k (xs ++ table_of y ∷ []))) n.metadata (part_read b c' (xs ++ table_of y ∷ []) (read_on y n b told xs read)));
+                (subst (λ (k : FileMetadata). file_reading to_read b «all» (Some (length (xs ++ table_of y ∷ []))) ≡ Ok (part_of k (xs ++ table_of y ∷ []))) n.metadata (part_read b c' (xs ++ table_of y ∷ []) (read_more y n b told xs read)));
             pairs = h.pairs;
             writer = st.writer;
             options = going.options;

@@ -18,11 +18,8 @@ use Rattle.ipc_bodies.specs.Encodings.{text_of}
 use Rattle.ipc_bodies.specs.Puts.{Moved, PutsPart}
 use Rattle.ipc_bodies.specs.declared.encoding.Encoding.{Encoding}
 use Rattle.ipc_write_laws.proofs.Messages.{messages_front_means}
-use Rattle.laws_sent.specs.Below.{IsNumbered, plain_fields}
-use Rattle.laws_sent.specs.SchemaLaws.{AreStarted}
-use Rattle.laws_sent.specs.SentFields.{AreSentFields}
-use Rattle.laws_sent.proofs.SentFields.{are_sent_fields}
-use Rattle.laws_sent.proofs.Starts.{begun_sent, why_refused}
+use Rattle.laws_walk.specs.Below.{AreSentFields, AreStarted, IsNumbered, plain_fields}
+use Rattle.laws_walk.proofs.Below.{are_sent_fields, begun_sent, why_refused}
 use Rattle.laws_transcode.specs.Files.{IsSentFile}
 use Rattle.laws_reading.specs.Reads.{IsOpened}
 use Rattle.ipc_reader.specs.Below.{FileMetadata, FileSays, file_custom, meta_view, schema_shown}
@@ -32,32 +29,23 @@ use Rattle.ipc_stream_writer.specs.Calls.{HasBegun, LeavesAll, StartCause, Start
 use Rattle.ipc_stream_writer.specs.Written.{IsWritten, table_with}
 use Rattle.ipc_stream_writer.specs.declared.stream.StreamCore.{StreamCore}
 use Rattle.ipc_stream_writer.proofs.Below.{schema_is_put}
-use Rattle.ipc_transcode.specs.Sends.{IsNewWriter, IsWriter, Sending, schema_of_reader}
-use Rattle.ipc_transcode.proofs.Begins.{begun}
-use Rattle.ipc_transcode.proofs.Fronts.{same_table}
-use Rattle.ipc_transcode.proofs.NextBatches.{fields_by}
-use Rattle.ipc_transcode.proofs.Readers.{reader_of}
-use Rattle.ipc_transcode.proofs.StartCauses.{schema_refused_as, started_by, writer_begun}
-use Rattle.ipc_transcode.proofs.Writes.{says}
+use Rattle.laws_walk.specs.Places.{Sending, place_of, schema_of_reader, walking}
+use Rattle.laws_walk.specs.Sends.{IsNewWriter, IsWriter}
+use Rattle.laws_walk.proofs.Begins.{among_refuses, begun}
+use Rattle.laws_walk.proofs.Fronts.{of_put, part_of_put, same_table, says}
+use Rattle.laws_walk.proofs.Requests.{fields_by, unbegun}
+use Rattle.laws_walk.proofs.StartCauses.{schema_refused_as, started_by, writer_begun}
 use Rattle.ipc_concat.specs.Begins.{Begins, NotBegun, start_of}
 use Rattle.ipc_concat.specs.Concat.{CauseOf}
-use Rattle.ipc_concat.specs.Files.{BlocksRead, Holds, IsPut, IsUnread, head_of, part_of, schema_of}
+use Rattle.ipc_concat.specs.Files.{Holds, IsPut, IsUnread, head_of, part_of, schema_of}
 use Rattle.ipc_concat.specs.Opening.{RefusesStart}
 use Rattle.ipc_concat.specs.declared.stream.JoinedStream.{JoinedStream}
-use Rattle.ipc_concat.proofs.Adding.{may_all}
-use Rattle.ipc_concat.proofs.Blocks.{part_read}
-use Rattle.ipc_concat.proofs.Writing.{of_put, part_of_put, put_cause}
+use Rattle.ipc_concat.proofs.Blocks.{may_all, none_of, part_read}
+use Rattle.ipc_concat.proofs.Writing.{put_cause}
 
--- a refusal that is told by name is one of a place's
-among_refuses : (e : IpcError) (es : List IpcError) → IsAmong es e → Refuses e es
-among_refuses errors.ReadFault es m = tt
-among_refuses errors.WriteFault es m = tt
-among_refuses errors.Memory es m = tt
-among_refuses e es m = m
-
-none_of : {A : Type 0} (xs : List A) → 0 ≡ length xs → xs ≡ []
-none_of [] h = refl
-none_of (x ∷ xs) h = absurd (omega (arith, h))
+none_there : {A : Type 0} (xs : List A) → 0 ≡ length xs → xs ≡ []
+none_there [] h = refl
+none_there (x ∷ xs) h = absurd (omega (arith, h))
 
 -- a reader of all columns has the file's schema
 shown : (c : FileCursor) → c.projection ≡ None → schema_of_reader c ≡ schema_of c
@@ -77,16 +65,19 @@ module _ (b : List ℕ) (c : FileCursor) (encoding : Encoding) (w w' : StreamCor
   -- it was begun
   pub has_begun : (s : JoinedStream) → s.writer ≡ w' → s.batches ≡ 0 → s.rows ≡ 0 → IsWriter (schema_of_reader c) encoding w' → HasBegun (text_of w.encoding) m w w' (schema_of_reader c) None → Begins (Ok s) b c encoding m.old m.new m.wants m.wants_now
   has_begun s is batches rows writer h =
-      let both = begun Whole c w w' m (record { metadata = refl; columns = may_all c unread.projection; right = refl; says = file; read = unread.read; block = unread.block; dictionaries = unread.dictionaries; left = unread.left }) new refl h in
-      let so_far = both.1.so_far in
-      let none : both.1.sent ≡ [] = none_of both.1.sent both.1.batches_are in
-      let of = says Whole c w' m.new both.1.bytes both.1.sent writer (fields_by Whole c w' both.0 writer) so_far in (
-        opened_as both.0.file,
+      let may = may_all c unread.projection in
+      let start = begun (walking Whole) (schema_of_reader c) (place_of c) w w' m (unbegun c Whole (record { metadata = refl; columns = may; right = refl; says = file; read = unread.read; block = unread.block; dictionaries = unread.dictionaries; left = unread.left })) new refl h in
+      let open_file : IsOpened b «all» (meta_view c.metadata) (file_custom c.metadata) = record { read = file.read; pairs = file.pairs; columns = refl; readable = start.readable } in
+      let so_far = start.sent.so_far in
+      let none : start.sent.sent ≡ [] = none_there start.sent.sent start.sent.batches_are in
+      let fields = fields_by Whole c w' encoding (record { metadata = refl; columns = may; file = open_file; read = unread.read }) writer in
+      let of = says (walking Whole) (schema_of_reader c) (place_of c) w' m.new start.sent.bytes start.sent.sent writer fields so_far in (
+        open_file,
         record {
           pairs = so_far.pairs;
-          bytes = both.1.bytes;
-          written = rw is (subst (λ bs. IsWritten so_far.pairs w' both.1.bytes bs) none so_far.written);
-          head = ap (λ (v : StreamCore). table_with so_far.pairs v []) is ∙ same_table Whole so_far.pairs w' [] of;
+          bytes = start.sent.bytes;
+          written = rw is (subst (λ bs. IsWritten so_far.pairs w' start.sent.bytes bs) none so_far.written);
+          head = ap (λ (v : StreamCore). table_with so_far.pairs v []) is ∙ same_table (walking Whole) so_far.pairs w' [] of;
           added = so_far.added;
           batches = batches;
           rows = rows;
@@ -114,7 +105,7 @@ module _ (b : List ℕ) (c : FileCursor) (encoding : Encoding) (w w' : StreamCor
       }
     where
       no_blocks : IsOpened b «all» (meta_view c.metadata) (file_custom c.metadata) → file_reading to_read b «all» (Some 0) ≡ Ok (part_of c.metadata [])
-      no_blocks o = part_read b c [] (record { opened = o; read = unread.read; projection = unread.projection; left = unread.left; blocks = BlocksRead.none_yet unread.block unread.dictionaries; count = sym unread.block; within = omega (arith, unread.block) })
+      no_blocks o = part_read b c [] (none_of b c None unread o)
 
   abbrev Failed : IpcError → List Keyed → Type 0
   Failed e s = (StartCause e w s None × LeavesAll m w w') ⊎ StartFailed (text_of w.encoding) m e w w' s None
@@ -147,7 +138,7 @@ memory_begins r e b c encoding old wants wants' is memory = subst (λ z. Begins 
 
 -- a writer that has begun
 pub writer_so : (c : FileCursor) (encoding : Encoding) (w w' : StreamCore) (m : Moved) → IsUnread None c → IsNewWriter c.metadata encoding w → plain_fields (fields_in (schema_of_reader c)) ≡ fields_in (schema_of_reader c) → HasBegun (text_of w.encoding) m w w' (schema_of_reader c) None → IsWriter (schema_of_reader c) encoding w'
-writer_so c encoding w w' m unread new plain h = writer_begun c encoding w w' m (reader_of c.metadata c None refl (may_all c unread.projection) refl unread.read) new plain h
+writer_so c encoding w w' m unread new plain h = writer_begun c.metadata None (schema_of_reader c) encoding w w' m unread.read refl (shown c unread.projection) new plain h
 
 -- which goes on
 pub going_so : (s : List Keyed) (encoding : Encoding) (w : StreamCore) → IsWriter s encoding w → IsWriter w.schema w.encoding w

@@ -14,8 +14,8 @@ use Rattle.ipc_stream_writer.specs.Below.{counted, is_started}
 use Rattle.ipc_stream_writer.specs.Calls.{Finishes, HasFinished}
 use Rattle.ipc_stream_writer.specs.declared.stream.StreamCore.{StreamCore}
 use Rattle.ipc_transcode.specs.declared.conversion.Summary.{Summary}
-use Rattle.ipc_transcode.proofs.Fronts.{Appends-text}
-use Rattle.ipc_transcode.proofs.Nexts.{with_end}
+use Rattle.laws_walk.proofs.Fronts.{Appends-text, of_put, part_behind}
+use Rattle.laws_walk.proofs.Nexts.{with_end}
 use Rattle.ipc_concat.specs.Begins.{Joins}
 use Rattle.ipc_concat.specs.Concat.{AddsPart, AreJoined, CauseOf, Concatenates}
 use Rattle.ipc_concat.specs.Files.{AddsFiles, AreOf, Holds, IsGoing, Start, with_batches}
@@ -23,7 +23,7 @@ use Rattle.ipc_concat.specs.Opening.{AreOpen}
 use Rattle.ipc_concat.specs.Tables.{AreTables, MeanTables, batches_in, joined}
 use Rattle.ipc_concat.specs.declared.stream.JoinedStream.{JoinedStream}
 use Rattle.ipc_concat.proofs.Joining.{all_as}
-use Rattle.ipc_concat.proofs.Writing.{head_at, head_stays, of_put, part_behind, put_cause}
+use Rattle.ipc_concat.proofs.Writing.{head_at, head_stays, put_cause}
 
 -- ── the tables of all files ──
 

@@ -14,9 +14,10 @@ use Rattle.ipc_io.specs.Outside.{Rose}
 use Rattle.ipc_bodies.specs.Encodings.{text_of}
 use Rattle.ipc_reader.specs.Below.{FileMetadata, file_block, meta_view}
 use Rattle.ipc_reader.specs.declared.cursor.FileCursor.{FileCursor}
-use Rattle.ipc_transcode.proofs.Writes.{split_at, take_next}
+use Rattle.laws_walk.proofs.Places.{split_at, take_next}
 use Rattle.ipc_stream_writer.specs.Written.{IsWritten}
-use Rattle.ipc_concat.specs.Concat.{AddsPart, SourceCause, IsOfPut}
+use Rattle.laws_walk.proofs.Fronts.{put_before}
+use Rattle.ipc_concat.specs.Concat.{AddsPart, SourceCause}
 use Rattle.ipc_concat.specs.Files.{AddsFile, AddsFiles, AreOf, AreUnread, BeginTables, BeginsWith, FileAdded, FilesAdded, HasFieldsOf, HasHead, HasReadBlocks, Holds, IsPut, IsReaderOf, IsStartOf, IsUnread, NextAdded, NextTooLarge, Start, StopsFile, StopsNext, part_of, schema_of, with_batches}
 use Rattle.ipc_concat.specs.Opening.{AreOpen}
 use Rattle.ipc_concat.specs.Stopping.{IsFront, StopsBehind}
@@ -30,21 +31,16 @@ use Rattle.ipc_concat.proofs.Joining.{all_and, all_as, are_tables_and, batches_a
 
 -- ── wants ──
 
-of_put_before : (e : IpcError) (wants mid wants' : ℕ) → wants ≤ mid → IsOfPut e mid wants' → IsOfPut e wants wants'
-of_put_before errors.WriteFault wants mid wants' less h = tt
-of_put_before errors.Memory wants mid wants' less h = omega (arith, less, h)
-of_put_before e wants mid wants' less h = absurd h
-
 pub stops_before : (e : IpcError) (x : Start) (b : List ℕ) (m : FileMetadata) (before : List TableBatch) (now : Option (List ℕ)) (wants mid wants' : ℕ) → wants ≤ mid → StopsFile e x b m before now mid wants' → StopsFile e x b m before now wants wants'
 stops_before e x b m before now wants mid wants' less (StopsFile.behind_put put added why) = StopsFile.behind_put put added why
-stops_before e x b m before now wants mid wants' less (StopsFile.in_next put failed added) = StopsFile.in_next put (of_put_before e wants mid wants' less failed) added
+stops_before e x b m before now wants mid wants' less (StopsFile.in_next put failed added) = StopsFile.in_next put (put_before e wants mid wants' less failed) added
 
 pub part_before : (e : IpcError) (bs : List (List ℕ)) (text : List ℕ → List ℕ) (old new : Option (List ℕ)) (wants mid wants' : ℕ) → wants ≤ mid → AddsPart e bs text old new mid wants' → AddsPart e bs text old new wants wants'
 part_before e bs text old new wants mid wants' less (AddsPart.in_metadata s kept) = AddsPart.in_metadata s kept
 part_before e bs text old new wants mid wants' less (AddsPart.in_schema opened s kept) = AddsPart.in_schema opened s kept
 part_before e bs text old new wants mid wants' less (AddsPart.in_file opened front added why) = AddsPart.in_file opened front added why
 part_before e bs text old new wants mid wants' less (AddsPart.at_end memory going joined added) = AddsPart.at_end memory going joined added
-part_before e bs text old new wants mid wants' less (AddsPart.in_put opened failed piece) = AddsPart.in_put opened (of_put_before e wants mid wants' less failed) piece
+part_before e bs text old new wants mid wants' less (AddsPart.in_put opened failed piece) = AddsPart.in_put opened (put_before e wants mid wants' less failed) piece
 
 -- ── all batches of a file ──
 
@@ -92,7 +88,7 @@ module _ (c : FileCursor) (st : JoinedStream) (now : Option (List ℕ)) where
         by (Some b) so_far next = λ x before asked read h.
             let r = so_far x before asked read h in
             let a = next x before r.xs (asked ∙ sym enc) r.read r.holds in
-            record { xs = a.xs; read = a.read; holds = a.holds; further = on (length (meta_view c2.metadata).blocks) (ap (λ (m : FileMetadata). length (meta_view m).blocks) metadata) r.further a.further (subst (λ (m : FileMetadata). c'.block ≤ length (meta_view m).blocks) (sym metadata) r.read.within) }
+            record { xs = a.xs; read = a.read; holds = a.holds; further = on (length (meta_view c2.metadata).blocks) (ap (λ (m : FileMetadata). length (meta_view m).blocks) metadata) r.further a.further (subst (λ (m : FileMetadata). c'.block ≤ length (meta_view m).blocks) (sym metadata) r.read.walked.within) }
 
     pub file_stopped : (r : Result (Unit {0}) IpcError) (e : IpcError) (before_wants : ℕ) → r ≡ Err e → before_wants ≤ wants → c'.metadata ≡ c.metadata → (st3 : JoinedStream) → NextOf after c' st' now' (Err e) c2 st2 now2 wants wants'
         → IfSome content (λ b. (x : Start) (before : List TableBatch) → x.encoding ≡ st.writer.encoding → HasReadBlocks b c [] → Holds x st now before → FileAdded r x b c st3 before now2 before_wants wants')

@@ -4,14 +4,12 @@ use Rattle.std.specs.Prelude.{⊤, if◌then◌else◌, nat_le, not, ◌&&◌, i
 use Rattle.arrow_spec.specs.declared.error.IpcError.{IpcError}
 use Rattle.arrow_spec.specs.declared.error.IpcError.TheVariants as errors
 use Rattle.arrow_spec.specs.declared.error.Feature.TheVariants as features
-use Rattle.arrow_spec.specs.Kinds.{have_same_kinds, numbered, uses_in}
-use Rattle.arrow_spec.specs.Schema.{uses_agree}
-use Rattle.arrow_spec.proofs.NumberedFields.{uses_numbered}
+use Rattle.arrow_spec.specs.Kinds.{have_same_kinds}
 use Rattle.arrow_types.specs.Schemas.{Keyed, fields_in}
 use Rattle.arrow_arrays.specs.Batches.{Batch}
 use Rattle.arrow_arrays.specs.Heads.{indexed}
 use Rattle.arrow_arrays.specs.Parts.{Forest, Parts, also, fault_each, forest, leaf, nested, none, rows_in}
-use Rattle.ipc_fields.specs.IpcFields.{Ids, fields_with, ids_of}
+use Rattle.ipc_fields.specs.IpcFields.{Ids, ids_of}
 use Rattle.ipc_fields.specs.Uses.{first_id, first_ids, other_ids}
 use Rattle.ipc_dictionaries.specs.NewDictionaries.{array_sent, dictionary_sent, has_several, holding, parts_sent, scoped, then_by}
 use Rattle.ipc_reader.specs.Below.{Plans, WriteOptions}
@@ -20,10 +18,8 @@ use Rattle.ipc_stream_writer.specs.Calls.{SuitsStream, found_before}
 use Rattle.ipc_stream_writer.specs.declared.stream.StreamCore.{StreamCore}
 use Rattle.ipc_stream_writer.proofs.Below.{batch_refused}
 use Rattle.ipc_bodies.specs.declared.encoding.Encoding.{Encoding}
-use Rattle.laws_sent.proofs.Right.{columns_right}
-use Rattle.laws_sent.proofs.SayableFields.{numberable}
-use Rattle.laws_sent.proofs.Unreplaced.{none_replaced}
-use Rattle.ipc_transcode.specs.Sends.{IsWriter, send_options}
+use Rattle.laws_walk.specs.Sends.{IsWriter}
+use Rattle.laws_walk.proofs.WriteCauses.{faultless, unreplaced}
 
 -- ── what is sent before it ──
 
@@ -97,21 +93,12 @@ module _ (s : List Keyed) (encoded : Encoding) (w : StreamCore) (writer : IsWrit
   below : Ids
   below = ids_of w.fields.items
 
-  numbers : fields_with (fields_in s) below ≡ numbered (fields_in s) 0
-  unfolding below
-  numbers = writer.ids.ids (numberable (fields_in s) writer.representable)
-
-  -- it has no fault
-  faultless : columns_fault (columns_of (forest y.arrays)) below ≡ None
-  unfolding below
-  faultless = columns_right (fields_in s) below (forest y.arrays) kinds writer.ids.shaped (ap (λ fs. uses_agree [] (uses_in fs)) numbers ∙ uses_numbered (fields_in s)) writer.representable
-
   pub suits : SuitsStream w y None
   suits = record { types = ap (λ t. have_same_kinds (fields_in t) (columns_of (forest y.arrays))) writer.schema ∙ kinds; own = tt }
 
   walked : (e : IpcError) → found_before w y ≡ Err e → arrays_sent (options_of w.tracker) (forest y.arrays) below (begun w.tracker) ≡ Err e
   unfolding below
-  walked e h = subst (λ f. unless_fault f (arrays_sent (options_of w.tracker) (forest y.arrays) below (begun w.tracker)) ≡ Err e) faultless h
+  walked e h = subst (λ f. unless_fault f (arrays_sent (options_of w.tracker) (forest y.arrays) below (begun w.tracker)) ≡ Err e) (faultless s encoded w writer y kinds sound) h
 
   -- what is sent before it is found
   finds : (e : IpcError) → found_before w y ≡ Err e → ⊥
@@ -119,12 +106,11 @@ module _ (s : List Keyed) (encoded : Encoding) (w : StreamCore) (writer : IsWrit
   finds e h = by e refl (arrays_refused (options_of w.tracker) (forest y.arrays) below (begun w.tracker) e (walked e h))
     where
       none_several : (columns_fault (columns_of (forest y.arrays)) below ≡ Some errors.NotRepresentable) ⊎ (w.tracker.deltas ≡ false) → ⊥
-      none_several (inl fault) = let clash : None ≡ Some errors.NotRepresentable = sym faultless ∙ fault in cc
+      none_several (inl fault) = let clash : None ≡ Some errors.NotRepresentable = sym (faultless s encoded w writer y kinds sound) ∙ fault in cc
       none_several (inr without) = let clash : true ≡ false = sym (ap (λ (o : Options). o.deltas) writer.tracker) ∙ without in cc
 
       by : (f : IpcError) → e ≡ f → IsOfDictionary f → ⊥
-      by (errors.DictionaryReplaced id) is k =
-          none_replaced (options_of w.tracker) (fields_in s) below (forest y.arrays) (begun w.tracker) id (ap (λ (o : Options). o.cannot_replace) writer.tracker) numbers kinds sound (λ q. refl) (walked e h ∙ ap (λ x. Err x) is)
+      by (errors.DictionaryReplaced id) is k = unreplaced s encoded w writer y kinds sound id (inr (inl (h ∙ ap (λ x. Err x) is)))
       by errors.NotRepresentable is k = none_several (batch_refused errors.NotRepresentable w.options w.tracker y below (inr (inl (h ∙ ap (λ x. Err x) is))))
       by f is k = k
 

@@ -11,19 +11,17 @@ use Rattle.arrow_spec.specs.Kinds.{have_same_kinds}
 use Rattle.arrow_types.specs.Schemas.{Keyed, fields_in}
 use Rattle.arrow_arrays.specs.Batches.{Batch}
 use Rattle.arrow_arrays.specs.Parts.{fault_each, forest}
-use Rattle.ipc_io.specs.Outside.{AppendsPrefix, Rose}
-use Rattle.ipc_io.proofs.Known.{AppendsPrefix-after}
+use Rattle.ipc_io.specs.Outside.{Rose}
 use Rattle.ipc_bodies.specs.Encodings.{text_of}
 use Rattle.ipc_bodies.specs.Puts.{Moved, NoneFalls, PutsPart}
 use Rattle.ipc_bodies.specs.declared.encoding.Encoding.{Encoding}
-use Rattle.ipc_bodies.proofs.Encoded.{text_of-append}
 use Rattle.ipc_stream_writer.specs.Below.{StreamPairs, cells_of, chunk_text, columns_of, counted, is_started}
 use Rattle.ipc_stream_writer.specs.Calls.{HasWritten, LeavesAll, Stays, WriteCause, WriteFailed, Writes}
 use Rattle.ipc_stream_writer.specs.Written.{table_with}
 use Rattle.ipc_stream_writer.specs.declared.stream.StreamCore.{StreamCore}
-use Rattle.ipc_transcode.specs.Sends.{IsWriter}
-use Rattle.ipc_transcode.proofs.Fronts.{Appends-text}
-use Rattle.ipc_concat.specs.Concat.{CauseOf, IsOfPut}
+use Rattle.laws_walk.specs.Sends.{IsWriter}
+use Rattle.laws_walk.proofs.Fronts.{Appends-text}
+use Rattle.ipc_concat.specs.Concat.{CauseOf}
 use Rattle.ipc_concat.specs.Files.{Holds, IsGoing, Start, with_batches}
 use Rattle.ipc_concat.specs.declared.stream.JoinedStream.{JoinedStream}
 use Rattle.ipc_concat.proofs.Walks.{IsLargeFor, stops, suits}
@@ -102,23 +100,6 @@ pub write_cause : (reads : Type 0) (encode : List ℕ → List ℕ) (m : Moved) 
 write_cause reads encode m e w w' y (NotWritten.before_put (inl memory) kept) = subst (CauseOf reads (Rose m.faults m.faults_now)) (sym memory) tt
 write_cause reads encode m e w w' y (NotWritten.before_put (inr large) kept) = subst (CauseOf reads (Rose m.faults m.faults_now)) (sym large.0) tt
 write_cause reads encode m e w w' y (NotWritten.in_put failed) = put_cause reads e m _ failed.sends.failed.put
-
--- ── a part that was put ──
-
-pub of_put : (e : IpcError) (m : Moved) (bs : List ℕ) → PutsPart m e bs → IsOfPut e m.wants m.wants_now
-of_put errors.WriteFault m bs p = tt
-of_put errors.Memory m bs p = p.2
-of_put e m bs p = absurd p
-
-pub part_of_put : (e : IpcError) (m : Moved) (bs : List ℕ) → PutsPart m e bs → AppendsPrefix m.old m.new bs
-part_of_put errors.WriteFault m bs p = p.0
-part_of_put errors.Memory m bs p = p.0
-part_of_put e m bs p = absurd p
-
--- behind what stands there
-pub part_behind : (encoding : Encoding) (before : Option (List ℕ)) (e : IpcError) (m : Moved) (bytes more : List ℕ) → Appends before m.old (text_of encoding bytes) → PutsPart m e (text_of encoding more) → AppendsPrefix before m.new (text_of encoding (bytes ++ more))
-part_behind encoding before e m bytes more added put =
-    subst (AppendsPrefix before m.new) (sym (text_of-append encoding bytes more)) (AppendsPrefix-after before m.old m.new (text_of encoding bytes) (text_of encoding more) added (part_of_put e m (text_of encoding more) put))
 
 -- ── what is kept ──
 

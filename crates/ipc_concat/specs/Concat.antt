@@ -7,6 +7,7 @@ use Rattle.arrow_spec.specs.Files.{ArrowTable, TableBatch}
 use Rattle.arrow_spec.specs.Streams.{closed, stream_table, unended}
 use Rattle.ipc_io.specs.Outside.{AppendsPrefix, Rose, SourceKept, Stands}
 use Rattle.ipc_stream_writer.specs.Below.{counted}
+pub use Rattle.laws_walk.specs.Sends.{IsOfPut}
 use Rattle.ipc_transcode.specs.declared.conversion.Summary.{Summary}
 use Rattle.ipc_concat.specs.Tables.{MeanTables, joined}
 use Rattle.ipc_concat.specs.Opening.{AreOpen, StopsOpening, StopsStart}
@@ -38,12 +39,6 @@ pub record AddsPiece (bs : List (List ℕ)) (text : List ℕ → List ℕ) (old 
   pub bytes : List ℕ
   pub piece : (closed bytes × AreJoined bs bytes) ⊎ IsFront bs bytes
   pub added : AppendsPrefix old new (text bytes)
-
--- a put failed, or wanted memory, which a sink counts
-abbrev pub IsOfPut : IpcError → ℕ → ℕ → Type 0
-IsOfPut errors.WriteFault wants wants' = ⊤
-IsOfPut errors.Memory wants wants' = Rose wants wants'
-IsOfPut e wants wants' = ⊥
 
 -- What a refusal added, and why: nothing, before all metadata was read and the schema was put; behind that a front, which stops at what is refused;
 -- where its end mark wanted memory the stream without it; and where a put failed, or wanted memory, a part of a stream. A device's fault and want of memory come anywhere.

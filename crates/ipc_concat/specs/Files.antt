@@ -1,13 +1,12 @@
 -- Several files, read one after another, and their batches written to one stream: what is known in between.
-use Rattle.std.specs.Prelude.{◌≡◌, ◌⊎◌, ◌<◌, ◌≤◌, ℕ, ℤ, suc, List, [], ◌∷◌, ◌++◌, length, take, sum_by, true, ⊤, Option, None, Some, Result, Ok, Err, IfSome}
+use Rattle.std.specs.Prelude.{◌≡◌, ◌⊎◌, ◌≤◌, ℕ, suc, List, [], ◌∷◌, ◌++◌, length, sum_by, true, ⊤, Option, None, Some, Result, Ok, Err, IfSome}
 use Rattle.std.specs.List.{AllByRecursion}
 use Rattle.std.specs.Io.KnownBytes.{Appends, Keeps}
 use Rattle.std.specs.Rc.{rc_value}
 use Rattle.arrow_spec.specs.declared.error.IpcError.{IpcError}
 use Rattle.arrow_spec.specs.declared.error.IpcError.TheVariants.{TooLarge}
-use Rattle.arrow_spec.specs.Arrays.{Dictionaries}
 use Rattle.arrow_spec.specs.Features.{chosen_floats}
-use Rattle.arrow_spec.specs.Files.{ArrowTable, Meta, TableBatch, «all», batches_of, dictionaries_of, file_reading, to_read}
+use Rattle.arrow_spec.specs.Files.{ArrowTable, TableBatch, «all», file_reading, to_read}
 use Rattle.arrow_spec.specs.Kinds.{bare, have_same_kinds}
 use Rattle.arrow_spec.specs.Meaning.{file_table}
 use Rattle.arrow_spec.specs.Readings.{Refuses, refusals}
@@ -17,19 +16,17 @@ use Rattle.arrow_arrays.specs.Batches.{Batch}
 use Rattle.ipc_io.specs.Outside.{AppendsPrefix, IsSize}
 use Rattle.ipc_bodies.specs.Encodings.{text_of}
 use Rattle.ipc_bodies.specs.declared.encoding.Encoding.{Encoding}
-use Rattle.laws_sent.specs.Below.{HoldsCells}
-use Rattle.laws_transcode.specs.Files.{asked_of, table_asked}
-use Rattle.laws_reading.specs.Reads.{IsOpened}
-use Rattle.ipc_reader.specs.Below.{FileMetadata, FileSays, WasRead, file_custom, held_in, meta_view}
-use Rattle.ipc_reader.specs.Kept.{HeldParts}
+use Rattle.ipc_bodies.specs.declared.encoding.Encoding.TheVariants.{Bytes}
+use Rattle.laws_transcode.specs.Files.{table_asked}
+use Rattle.ipc_reader.specs.Below.{FileMetadata, FileSays, WasRead, file_custom, meta_view}
 use Rattle.ipc_reader.specs.declared.cursor.FileCursor.{FileCursor}
-use Rattle.ipc_reader.specs.declared.kept.KeptDictionaries.{KeptDictionaries}
-use Rattle.ipc_reader.specs.declared.kept.KeptDictionaries.TheVariants.{Held, NotRead}
+use Rattle.ipc_reader.specs.declared.kept.KeptDictionaries.TheVariants.{NotRead}
 use Rattle.ipc_stream_writer.specs.Below.{RefusesChunk, Sending, StreamPairs, cells_of, counted}
 use Rattle.ipc_stream_writer.specs.Calls.{found_before}
 use Rattle.ipc_stream_writer.specs.Written.{IsWritten, table_with}
 use Rattle.ipc_stream_writer.specs.declared.stream.StreamCore.{StreamCore}
-use Rattle.ipc_transcode.specs.Sends.{IsWriter, send_options}
+use Rattle.laws_walk.specs.Places.{IsReadBy, Sending as SentFile, Walked, place_of, walking}
+use Rattle.laws_walk.specs.Sends.{IsWriter, send_options}
 use Rattle.ipc_concat.specs.Concat.{AddsPart, IsOfPut}
 use Rattle.ipc_concat.specs.Opening.{AreOpen, StopsOpening, StopsStart}
 use Rattle.ipc_concat.specs.Tables.{AreTables, batches_in}
@@ -128,22 +125,14 @@ IsGoing s = IsWriter s.writer.schema s.writer.encoding s.writer
 
 -- ── a file ──
 
--- Before the first block nothing is read of the dictionaries; behind it they were, and so many blocks.
-pub data BlocksRead (b : List ℕ) (m : FileMetadata) (kept : KeptDictionaries) (block : ℕ) : List TableBatch → Type 0 where
-  none_yet : block ≡ 0 → kept ≡ NotRead → BlocksRead b m kept block []
-  some_read : {d : Dictionaries} {xs : List TableBatch} → (held : HeldParts) → kept ≡ Held held → HoldsCells d (held_in held)
-      → dictionaries_of b (meta_view m) [] (meta_view m).dictionaries ≡ Ok d
-      → batches_of to_read b (asked_of b (meta_view m) «all» d) true (take block (meta_view m).blocks) None ≡ Ok xs → 0 < block → BlocksRead b m kept block xs
+-- a file, of which all columns and rows are read
+abbrev pub whole_file : List ℕ → FileMetadata → SentFile
+whole_file b m = record { bytes = b; file = m; request = «all»; encoding = Bytes; start = None }
 
 -- the batches of a file's first blocks were read
 pub record HasReadBlocks (b : List ℕ) (c : FileCursor) (xs : List TableBatch) : Type 0 where
-  pub opened : IsOpened b «all» (meta_view c.metadata) (file_custom c.metadata)
-  pub read : WasRead c.metadata
-  pub projection : c.projection ≡ None
-  pub left : c.left ≡ None
-  pub blocks : BlocksRead b c.metadata c.dictionaries c.block xs
-  pub count : length xs ≡ c.block
-  pub within : c.block ≤ length (meta_view c.metadata).blocks
+  pub by : IsReadBy c (whole_file b c.metadata)
+  pub walked : Walked to_read (walking (whole_file b c.metadata)) (place_of c) xs
 
 -- the table of a file's first batches
 abbrev pub part_of : FileMetadata → List TableBatch → ArrowTable

@@ -10,7 +10,7 @@ use Rattle.ipc_stream_writer.specs.Below.{RefusesChunk, Sending, StreamPairs, ce
 use Rattle.ipc_stream_writer.specs.Calls.{found_before}
 use Rattle.ipc_stream_writer.specs.Written.{IsWritten}
 use Rattle.ipc_stream_writer.specs.declared.stream.StreamCore.{StreamCore}
-use Rattle.ipc_transcode.specs.Sends.{send_options}
+use Rattle.laws_walk.specs.Sends.{send_options}
 use Rattle.ipc_concat.specs.Tables.{AreTables, HaveFieldsOf, and_batch, joined_to}
 
 -- An unended stream, with nothing behind its messages: it means the tables of some files and the first batches of the next one.

@@ -1,16 +1,17 @@
 -- Batches that are read and printed one after another.
-use Rattle.std.proofs.Common.{◌≡◌, ◌∙◌, sym, refl, ap, subst, inl, inr, ◌⊎◌, ℕ, ◌+◌, ◌≤◌, List, [], ◌∷◌, ◌++◌, length, Option, Some, None, Result, Ok, Err, arith}
+use Rattle.std.proofs.Common.{◌≡◌, ◌∙◌, sym, ap, subst, inl, inr, ◌⊎◌, ℕ, ◌+◌, ◌≤◌, List, [], ◌∷◌, ◌++◌, length, Option, Some, None, Result, Ok, Err, arith}
 use Rattle.std.specs.Prelude.{IfSome, sum_by}
 use Rattle.std.proofs.lemmas.List.{length-append}
 use Rattle.std.proofs.lemmas.List.Sums.{sum_by_push}
 use Rattle.arrow_spec.specs.declared.error.IpcError.{IpcError}
 use Rattle.arrow_spec.specs.Files.{TableBatch}
 use Rattle.ipc_reader.specs.declared.cursor.FileCursor.{FileCursor}
-use Rattle.ipc_transcode.specs.Sends.{Sending, meta_in}
+use Rattle.laws_walk.specs.Places.{Sending, meta_in}
+use Rattle.laws_walk.proofs.Cursors.{blocks_as}
 use Rattle.ipc_transcode.specs.declared.conversion.Summary.{Summary}
-use Rattle.ipc_csv.specs.Printing.{IsPrintedBy, PrintedRows, PrintedSoFar, PrintsAll, PrintsNext, PrintsOne}
+use Rattle.ipc_csv.specs.Printing.{IsPrintedBy, PrintedRows, PrintsAll, PrintsNext, PrintsOne}
 use Rattle.csv_rows.specs.declared.output.TextOut.{TextOut}
-use Rattle.ipc_csv.proofs.Nexts.{Told, blocks_as, reads_too}
+use Rattle.ipc_csv.proofs.Nexts.{Told, printed_too}
 
 module _ (c : FileCursor) (o : TextOut) (now : Option (List ℕ)) where
   -- what is said of a file whose first batch is still to be read
@@ -50,7 +51,7 @@ module _ (c : FileCursor) (o : TextOut) (now : Option (List ℕ)) where
         by None next some = tt
         by (Some b) next some = λ x told is start.
             let r = some x told is start in
-            with x r.0 r.1 (next x r.0.table told (reads_too c c' x metadata projection is) r.0.so_far)
+            with x r.0 r.1 (next x r.0.table told (printed_too c c' x metadata projection is) r.0.so_far)
 
     pub no_more : NextOf (Ok None) → PrintedSome content c2 o2 now2 batches rows (calls + 1)
     no_more n = by content (next_as (Ok None) n) s
@@ -59,7 +60,7 @@ module _ (c : FileCursor) (o : TextOut) (now : Option (List ℕ)) where
         by None next some = tt
         by (Some b) next some = λ x told is start.
             let r = some x told is start in
-            let here = next x r.0.table told (reads_too c c' x metadata projection is) r.0.so_far in
+            let here = next x r.0.table told (printed_too c c' x metadata projection is) r.0.so_far in
             (record { table = r.0.table; so_far = here.0; batches_are = r.0.batches_are; rows_are = r.0.rows_are }, inr here.1)
 
     pub refused : (e : IpcError) (result : Result Summary IpcError) → result ≡ Err e → NextOf (Err e) → FromStart content (λ x. PrintsAll result x c2 o2 now2)
@@ -69,11 +70,11 @@ module _ (c : FileCursor) (o : TextOut) (now : Option (List ℕ)) where
         by None next some = tt
         by (Some b) next some = λ x told is start.
             let r = some x told is start in
-            subst (λ w. PrintsAll w x c2 o2 now2) (sym is_err) (next x r.0.table told (reads_too c c' x metadata projection is) r.0.so_far)
+            subst (λ w. PrintsAll w x c2 o2 now2) (sym is_err) (next x r.0.table told (printed_too c c' x metadata projection is) r.0.so_far)
 
   pub all_printed : (content : Option (List ℕ)) (c' : FileCursor) (o' : TextOut) (now' : Option (List ℕ)) (s : Summary) (calls : ℕ) → length c.metadata.blocks.items ≤ calls → PrintedSome content c' o' now' s.batches s.rows calls → FromStart content (λ x. PrintsAll (Ok s) x c' o' now')
   all_printed None c' o' now' s calls h some = tt
   all_printed (Some b) c' o' now' s calls h some = λ x told is start.
       let r = some x told is start in
-      let same : length (meta_in x).blocks ≡ length c.metadata.blocks.items = blocks_as x c is in
+      let same : length (meta_in x).blocks ≡ length c.metadata.blocks.items = blocks_as x c is.by in
       (r.0, elim r.1 [ inl early ↦ omega (arith, early, h, same) | inr late ↦ late ])

@@ -1,33 +1,33 @@
 -- A file whose metadata, whose columns or whose kinds are refused, and a file that is printed.
-use Rattle.std.proofs.Common.{◌≡◌, ◌∙◌, sym, refl, ap, subst, inl, inr, ◌⊎◌, ℕ, suc, List, [], ◌∷◌, length, Bool, true, false, Option, Some, None, Result, Ok, Err, arith}
-use Rattle.std.specs.Prelude.{IfErr, IfOk, IfSome, IsSome, nat_lt, not, ◌&&◌}
+use Rattle.std.proofs.Common.{◌≡◌, ◌∙◌, sym, refl, ap, subst, inl, inr, ◌⊎◌, ℕ, List, [], ◌∷◌, length, true, false, Option, Some, None, Result, Ok, Err, arith}
+use Rattle.std.specs.Prelude.{IfErr, IfOk, IfSome, IsSome, nat_lt}
 use Rattle.std.specs.Rc.{rc_value}
 use Rattle.arrow_spec.specs.declared.error.IpcError.{IpcError}
 use Rattle.arrow_spec.specs.declared.error.IpcError.TheVariants as errors
 use Rattle.arrow_spec.specs.declared.error.Feature.TheVariants as features
-use Rattle.arrow_spec.specs.Columns.{stands_in}
 use Rattle.arrow_spec.specs.Features.{chosen_floats}
-use Rattle.arrow_spec.specs.Files.{ArrowTable, Meta, Request, columns_right, custom_of, fields_as_asked, file_reading, meta_of, to_send, wrong_columns}
+use Rattle.arrow_spec.specs.Files.{ArrowTable, Meta, Request, columns_right, custom_of, fields_as_asked, file_reading, meta_of, to_send}
 use Rattle.arrow_spec.specs.Kinds.{Metadata, width}
 use Rattle.arrow_spec.specs.Meaning.{file_table}
-use Rattle.arrow_spec.specs.Readings.{◌>>=◌, IsAmong, Reading, Refuses, bind, free_of, refusals, unless}
+use Rattle.arrow_spec.specs.Readings.{IsAmong, Reading, Refuses, bind, free_of, refusals}
 use Rattle.arrow_spec.proofs.Projection.{ok-place, on}
 use Rattle.arrow_types.specs.Schemas.{Keyed, fields_in}
 use Rattle.csv_texts.specs.Texts.{are_nested, printable, printed}
 use Rattle.csv_texts.proofs.Text.{text_of_read}
 use Rattle.ipc_bodies.specs.declared.encoding.Encoding.TheVariants.{Bytes}
-use Rattle.ipc_files.specs.Below.{Answers, IsRefusal}
+use Rattle.ipc_files.specs.Below.{IsRefusal}
 use Rattle.ipc_io.specs.Outside.{Rose, Stands}
-use Rattle.ipc_reader.specs.Below.{FileCause, FileMetadata, FileSays, FooterFetched, MayProject, ProjectionInfo, WasRead, file_custom, meta_view, schema_shown}
+use Rattle.ipc_reader.specs.Below.{FileCause, FileMetadata, FileSays, FooterFetched, MayProject, ProjectionInfo, WasRead, file_custom, meta_view}
 use Rattle.ipc_reader.proofs.Below.{file_width}
 use Rattle.ipc_reader.specs.declared.cursor.FileCursor.{FileCursor}
 use Rattle.ipc_reader.specs.declared.kept.KeptDictionaries.TheVariants.{NotRead}
 use Rattle.laws_transcode.proofs.Readings.{columns_refused as columns_refuse, custom_refused, meta_refused, on_err}
-use Rattle.ipc_transcode.specs.Fetching.{FetchesSome, FileFetched}
-use Rattle.ipc_transcode.specs.Sends.{Sending, fields_in_request, meta_in, schema_of_reader}
+use Rattle.laws_walk.specs.Fetching.{FetchesSome, FileFetched}
+use Rattle.laws_walk.specs.Places.{Sending, fields_in_request, schema_of_reader, walking}
+use Rattle.laws_walk.proofs.Causes.{wrong_is}
+use Rattle.laws_walk.proofs.FetchedFiles.{file_by_blocks}
 use Rattle.ipc_transcode.specs.declared.conversion.Summary.{Summary}
-use Rattle.ipc_transcode.proofs.FetchedFiles.{file_by_blocks}
-use Rattle.ipc_csv.specs.Printing.{CallCause, FileRefused, IsPrintedBy, IsUnprinted, NotSelected, PrintsFile, Selected}
+use Rattle.ipc_csv.specs.Printing.{CallCause, FileRefused, IsUnprinted, NotSelected, PrintsFile, Selected}
 use Rattle.ipc_csv.specs.Prints.{AddsPart, PrintCause, Prints}
 use Rattle.ipc_csv.proofs.Forms.{nested_is}
 use Rattle.ipc_csv.proofs.Refusals.{NotOfSink, not_of_sink, refused_before}
@@ -104,23 +104,7 @@ pub metadata_refused : (result : Result Summary IpcError) (e : IpcError) (conten
 metadata_refused result e None r o faults faults' is cause h = tt
 metadata_refused result e (Some b) r o faults faults' is cause h = subst (λ z. PrintsFile z b r o o) (sym is) (refused_before e b r o (not_of_sink e faults faults' cause) (metadata_stops b r e faults faults' cause h))
 
--- ── the columns ──
-
--- only a number that is asked for is refused
-wrong_step : (t : Bool) (c : ℕ) (r : Reading (Unit {0})) (e : IpcError) → (unless t (errors.Projection c) >>= λ right. r) ≡ Err (e ∷ []) → (r ≡ Err (e ∷ [])) ⊎ (e ≡ errors.Projection c)
-unfolding bind
-wrong_step true c r e h = inl h
-wrong_step false c r e h = inr cc
-
-wrong_index : (count : ℕ) (earlier cs : List ℕ) (e : IpcError) → wrong_columns count earlier cs ≡ Err (e ∷ []) → (i : ℕ) × (e ≡ errors.Projection i)
-wrong_index count earlier [] e h = cc
-wrong_index count earlier (c ∷ cs) e h = elim (wrong_step (nat_lt c count && not (stands_in earlier c)) c (wrong_columns count (c ∷ earlier) cs) e h) [ inl k ↦ wrong_index count (c ∷ earlier) cs e k | inr k ↦ (c, k) ]
-
-wrong_is : (columns : Option (List ℕ)) (count : ℕ) (e : IpcError) → columns_right columns count ≡ Err (e ∷ []) → (i : ℕ) × (e ≡ errors.Projection i)
-wrong_is None count e h = cc
-wrong_is (Some cs) count e h = wrong_index count [] cs e h
-
--- ── the kinds ──
+-- ── the columns and their kinds ──
 
 not_of_sink_refusal : (e : IpcError) → IsRefusal e → NotOfSink e
 not_of_sink_refusal errors.WriteFault h = h
@@ -205,11 +189,13 @@ unprinted b file r c old reader flat says =
     let x = printing b file r old in
     record {
       by = record {
-        metadata = reader.metadata;
-        columns = reader.selected.may;
-        file = record { read = says.read; pairs = says.pairs; columns = reader.selected.right; readable = reader.selected.readable };
+        by = record {
+          metadata = reader.metadata;
+          columns = reader.selected.may;
+          file = record { read = says.read; pairs = says.pairs; columns = reader.selected.right; readable = reader.selected.readable };
+          read = reader.read;
+        };
         flat = sym (nested_is x c reader.metadata reader.selected.may) ∙ flat;
-        read = reader.read;
       };
       block = reader.block;
       dictionaries = reader.dictionaries;
@@ -224,11 +210,11 @@ file_printed (Some b) after file r c old new result same reader flat says h =
     here (printing b file r old) refl refl (unprinted b file r c old reader flat says)
 
 pub file_fetched : (content after : Option (List ℕ)) (file : FileMetadata) (r : Request) (c : FileCursor) (old : Option (List ℕ)) (f mid f' : ℕ) → after ≡ content → Reader file r c → are_nested (fields_in (schema_of_reader c)) ≡ false
-    → IfSome content (λ b. FileSays b (meta_view file) (file_custom file)) → FooterFetched content f mid → OfFile after c old (λ b x. FetchesSome x mid f') → FileFetched content r f f'
+    → IfSome content (λ b. FileSays b (meta_view file) (file_custom file)) → FooterFetched content f mid → OfFile after c old (λ b x. FetchesSome (walking x) mid f') → FileFetched content r f f'
 file_fetched None after file r c old f mid f' same reader flat says footer h = tt
 file_fetched (Some b) after file r c old f mid f' same reader flat says footer h =
-    let here : OfFile (Some b) c old (λ b x. FetchesSome x mid f') = subst (λ z. OfFile z c old (λ b x. FetchesSome x mid f')) same h in
-    file_by_blocks (Some b) (printing b file r old) f mid f' refl says footer (here (printing b file r old) refl refl (unprinted b file r c old reader flat says))
+    let here : OfFile (Some b) c old (λ b x. FetchesSome (walking x) mid f') = subst (λ z. OfFile z c old (λ b x. FetchesSome (walking x) mid f')) same h in
+    file_by_blocks (printing b file r old) f mid f' says footer (here (printing b file r old) refl refl (unprinted b file r c old reader flat says))
 
 -- ── what is said of it ──
 

@@ -1,11 +1,9 @@
 -- The columns of a batch are printed as the fields of its file are.
-use Rattle.std.proofs.Common.{◌≡◌, ◌∙◌, sym, refl, ap, subst, ℕ, zero, suc, List, [], ◌∷◌, ◌++◌, map, Option}
-use Rattle.std.specs.Prelude.{slice_get}
+use Rattle.std.proofs.Common.{◌≡◌, ◌∙◌, sym, refl, ap, subst, ℕ, zero, suc, List, [], ◌∷◌, ◌++◌, map}
 use Rattle.std.specs.Rc.{rc_value}
 use Rattle.csv.specs.Writing.{default_writer, row_text}
-use Rattle.arrow_spec.specs.Arrays.{cell_or_null}
 use Rattle.arrow_spec.specs.Kinds.{Kind, Fields, bare, dictionary, extension, none, field}
-use Rattle.arrow_spec.specs.Files.{TableBatch, fields_as_asked}
+use Rattle.arrow_spec.specs.Files.{TableBatch}
 use Rattle.arrow_types.specs.Schemas.{Keyed, fields_in}
 use Rattle.arrow_arrays.specs.Batches.{Batch}
 use Rattle.arrow_arrays.specs.Parts.{Parts, cells_in, kind_in}
@@ -17,14 +15,13 @@ use Rattle.ipc_files.specs.Below.{kinds_of, table_of}
 use Rattle.ipc_read_laws.specs.PlainKinds.{plain_fields, plain_kind}
 use Rattle.ipc_reader.specs.Below.{FileMetadata, HasFields, MayProject}
 use Rattle.ipc_reader.specs.declared.cursor.FileCursor.{FileCursor}
-use Rattle.laws_transcode.specs.Files.{AreAsked, table_asked}
+use Rattle.laws_transcode.specs.Files.{AreAsked}
 use Rattle.laws_sent.proofs.SentFields.{sent_plain}
-use Rattle.ipc_transcode.specs.Sends.{Sending, fields_in_request, meta_in, schema_of_reader}
-use Rattle.ipc_transcode.proofs.Fronts.{table_sent}
-use Rattle.ipc_transcode.proofs.NextBatches.{asked_by}
-use Rattle.ipc_reader.specs.Below.{file_custom, schema_shown}
+use Rattle.laws_walk.specs.Places.{Sending, fields_in_request, schema_of_reader, table_sent, walking}
+use Rattle.laws_walk.proofs.Requests.{shown_by}
+use Rattle.ipc_reader.specs.Below.{schema_shown}
 use Rattle.csv_rows.specs.Output.{header_of, rows_of}
-use Rattle.ipc_csv.specs.Printing.{IsPrintedBy, text_so_far}
+use Rattle.ipc_csv.specs.Printing.{text_so_far}
 
 -- ── without ids ──
 
@@ -51,7 +48,7 @@ plain_forms (field name nullable metadata k others) = rw (plain_scale k, plain_d
 pub reader_forms : (x : Sending) (c : FileCursor) → c.metadata ≡ x.file → MayProject (rc_value x.file.schema) x.request.columns c.projection → print_forms (fields_in (schema_of_reader c)) ≡ print_forms (fields_in_request x)
 reader_forms x c metadata columns =
     let s = schema_of_reader c in
-    let shown : AreAsked (rc_value x.file.schema) x.request.columns s = subst (λ (g : FileMetadata). AreAsked (rc_value x.file.schema) x.request.columns (schema_shown (rc_value g.schema) c.projection)) (sym metadata) (asked_by (rc_value x.file.schema) x.request.columns c.projection columns) in
+    let shown : AreAsked (rc_value x.file.schema) x.request.columns s = subst (λ (g : FileMetadata). AreAsked (rc_value x.file.schema) x.request.columns (schema_shown (rc_value g.schema) c.projection)) (sym metadata) (shown_by (rc_value x.file.schema) x.request.columns c.projection columns) in
     sym (plain_forms (fields_in s)) ∙ ap print_forms (sent_plain x.file x.request.columns s shown) ∙ plain_forms (fields_in_request x)
 
 -- ── the header ──
@@ -105,7 +102,7 @@ batch_is x c y metadata columns has =
 
 -- ── the table ──
 
-pub table_is : (x : Sending) (bs : List TableBatch) → table_text (table_sent x bs) ≡ text_so_far x bs
+pub table_is : (x : Sending) (bs : List TableBatch) → table_text (table_sent (walking x) bs) ≡ text_so_far x bs
 unfolding table_text
 table_is x bs =
     let fs = fields_in_request x in

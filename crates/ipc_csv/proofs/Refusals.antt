@@ -1,18 +1,16 @@
 -- What a refused call leaves, and why it is refused.
-use Rattle.std.proofs.Common.{◌≡◌, ◌∙◌, sym, refl, ap, subst, inl, inr, ◌⊎◌, ℕ, suc, List, ◌∷◌, [], length, Option, Some, None, Result, Ok, Err, arith}
+use Rattle.std.proofs.Common.{◌≡◌, sym, subst, inl, inr, ℕ, List, length, Option, Some, None, Ok, arith}
 use Rattle.std.proofs.lemmas.List.{take_all}
-use Rattle.std.specs.Io.KnownBytes.{Appends, Keeps}
+use Rattle.std.specs.Io.KnownBytes.{Appends}
 use Rattle.std.proofs.KnownBytes.{Keeps-refl}
 use Rattle.arrow_spec.specs.declared.error.IpcError.{IpcError}
 use Rattle.arrow_spec.specs.declared.error.IpcError.TheVariants as errors
-use Rattle.arrow_spec.specs.Files.{ArrowTable, Request, TableBatch}
+use Rattle.arrow_spec.specs.Files.{Request, TableBatch}
 use Rattle.arrow_spec.specs.Readings.{Refuses, refusals}
 use Rattle.csv_texts.specs.Texts.{printed, table_text}
-use Rattle.ipc_io.specs.Outside.{AppendsPrefix, Rose}
+use Rattle.ipc_io.specs.Outside.{AppendsPrefix}
 use Rattle.ipc_reader.specs.Below.{FileCause}
-use Rattle.ipc_transcode.specs.Sends.{Sending, meta_in}
-use Rattle.ipc_transcode.proofs.Fronts.{table_sent}
-use Rattle.ipc_reader.specs.declared.cursor.FileCursor.{FileCursor}
+use Rattle.laws_walk.specs.Places.{Sending, table_sent, walking}
 use Rattle.csv_rows.specs.Output.{PutCause}
 use Rattle.ipc_csv.specs.Printing.{CallCause, FileRefused, text_so_far}
 use Rattle.ipc_csv.specs.Prints.{AddsPart, AddsRows, AddsRowsInPart, StopsBehind}
@@ -37,8 +35,8 @@ pub refused_before : (e : IpcError) (b : List ℕ) (r : Request) (o : Option (Li
 refused_before e b r o h refused = record { refused = refused; part = none_put e b r o h }
 
 -- the batches before stand there
-abbrev pub rows_stand : (x : Sending) (bs : List TableBatch) (now : Option (List ℕ)) → printed x.bytes x.request (Some (length bs)) ≡ Ok (table_sent x bs) → Appends x.start now (text_so_far x bs) → AddsRows x.bytes x.request x.start now
-rows_stand x bs now means added = record { table = table_sent x bs; means = means; added = subst (Appends x.start now) (sym (table_is x bs)) added }
+abbrev pub rows_stand : (x : Sending) (bs : List TableBatch) (now : Option (List ℕ)) → printed x.bytes x.request (Some (length bs)) ≡ Ok (table_sent (walking x) bs) → Appends x.start now (text_so_far x bs) → AddsRows x.bytes x.request x.start now
+rows_stand x bs now means added = record { table = table_sent (walking x) bs; means = means; added = subst (Appends x.start now) (sym (table_is x bs)) added }
 
 -- all of a text is a part of it
 whole_part : (old new : Option (List ℕ)) (text : List ℕ) → Appends old new text → AppendsPrefix old new text
@@ -53,8 +51,8 @@ behind_rows errors.Memory b r old new h refused rows stops = record { refused = 
 behind_rows e b r old new h refused rows stops = record { refused = refused; part = inr (rows, stops) }
 
 -- a part of a text stands there
-pub text_stands : (x : Sending) (bs : List TableBatch) (now : Option (List ℕ)) → printed x.bytes x.request (Some (length bs)) ≡ Ok (table_sent x bs) → AppendsPrefix x.start now (text_so_far x bs) → AddsRowsInPart x.bytes x.request x.start now
-text_stands x bs now means added = record { table = table_sent x bs; means = means; added = subst (AppendsPrefix x.start now) (sym (table_is x bs)) added }
+pub text_stands : (x : Sending) (bs : List TableBatch) (now : Option (List ℕ)) → printed x.bytes x.request (Some (length bs)) ≡ Ok (table_sent (walking x) bs) → AppendsPrefix x.start now (text_so_far x bs) → AddsRowsInPart x.bytes x.request x.start now
+text_stands x bs now means added = record { table = table_sent (walking x) bs; means = means; added = subst (AppendsPrefix x.start now) (sym (table_is x bs)) added }
 
 pub not_put : (e : IpcError) (b : List ℕ) (r : Request) (old new : Option (List ℕ)) (faults faults' : ℕ) → PutCause e faults faults' → AddsRowsInPart b r old new → FileRefused e b r old new
 not_put errors.WriteFault b r old new faults faults' h part = record { refused = tt; part = part }

@@ -1,23 +1,19 @@
 -- What reading a file's record batches one after another, and printing each, comes to.
-use Rattle.std.specs.Prelude.{◌≡◌, ℕ, suc, ◌<◌, ◌≤◌, List, [], ◌∷◌, ◌++◌, length, take, true, false, Option, None, Some, Result, Ok, Err, sum_by, ⊤}
+use Rattle.std.specs.Prelude.{◌≡◌, ℕ, ◌≤◌, List, [], ◌∷◌, ◌++◌, length, false, Option, None, Some, Result, Ok, Err, sum_by, ⊤}
 use Rattle.std.specs.Rc.{rc_value}
 use Rattle.arrow_spec.specs.declared.error.IpcError.{IpcError}
 use Rattle.arrow_spec.specs.declared.error.IpcError.TheVariants as errors
-use Rattle.arrow_spec.specs.Arrays.{Dictionaries}
 use Rattle.arrow_spec.specs.Features.{chosen_floats}
-use Rattle.arrow_spec.specs.Files.{Request, TableBatch, batches_of, columns_right, to_read}
+use Rattle.arrow_spec.specs.Files.{Request, TableBatch, columns_right, to_read}
 use Rattle.arrow_spec.specs.Kinds.{width}
 use Rattle.arrow_spec.specs.Readings.{Refuses, refusals}
 use Rattle.csv_texts.specs.Texts.{batches_text, header_text, are_nested, printed}
-use Rattle.ipc_files.specs.Below.{HoldsCells, IsRefusal}
+use Rattle.ipc_files.specs.Below.{IsRefusal}
 use Rattle.ipc_io.specs.Outside.{Rose}
-use Rattle.ipc_reader.specs.Below.{FileMetadata, MayProject, ProjectionInfo, WasRead, file_custom, held_in, meta_view}
-use Rattle.ipc_reader.specs.Kept.{HeldParts}
+use Rattle.ipc_reader.specs.Below.{FileMetadata, MayProject, ProjectionInfo, meta_view}
 use Rattle.ipc_reader.specs.declared.cursor.FileCursor.{FileCursor}
-use Rattle.ipc_reader.specs.declared.kept.KeptDictionaries.TheVariants.{Held, NotRead}
-use Rattle.laws_reading.specs.Reads.{IsOpened}
-use Rattle.laws_transcode.specs.Files.{HasRead, left_of}
-use Rattle.ipc_transcode.specs.Sends.{Sending, asked_in, fields_in_request, meta_in}
+use Rattle.ipc_reader.specs.declared.kept.KeptDictionaries.TheVariants.{NotRead}
+use Rattle.laws_walk.specs.Places.{IsReadBy, Sending, Walked, fields_in_request, meta_in, place_of, walking}
 use Rattle.ipc_transcode.specs.declared.conversion.Summary.{Summary}
 use Rattle.csv_rows.specs.Output.{HasPut}
 use Rattle.ipc_csv.specs.Prints.{AddsPart, Prints}
@@ -27,24 +23,8 @@ use Rattle.csv_rows.specs.declared.output.TextOut.{TextOut}
 
 -- a reader reads a file of which nothing is nested
 pub record IsPrintedBy (c : FileCursor) (x : Sending) : Type 0 where
-  pub metadata : c.metadata ≡ x.file
-  pub columns : MayProject (rc_value x.file.schema) x.request.columns c.projection
-  pub file : IsOpened x.bytes x.request (meta_in x) (file_custom x.file)
+  pub by : IsReadBy c x
   pub flat : are_nested (fields_in_request x) ≡ false
-  pub read : WasRead x.file
-
--- the dictionaries of the file were read, and the reader holds them
-pub record DictionariesRead (x : Sending) (c : FileCursor) (d : Dictionaries) : Type 0 where
-  pub held : HeldParts
-  pub kept : c.dictionaries ≡ Held held
-  pub cells : HoldsCells d (held_in held)
-  pub has : HasRead x.bytes (meta_in x) d
-
--- Before the first block nothing is read of the dictionaries; behind it the blocks so far were read under them.
-pub data BatchesRead (x : Sending) (c : FileCursor) : List TableBatch → Type 0 where
-  none_yet : c.block ≡ 0 → c.dictionaries ≡ NotRead → BatchesRead x c []
-  some_read : {d : Dictionaries} {bs : List TableBatch} → DictionariesRead x c d
-      → batches_of to_read x.bytes (asked_in x d) true (take c.block (meta_in x).blocks) x.request.limit ≡ Ok bs → 0 < c.block → BatchesRead x c bs
 
 -- the text of the batches so far, behind the header
 abbrev pub text_so_far : Sending → List TableBatch → List ℕ
@@ -53,10 +33,8 @@ text_so_far x bs = header_text (fields_in_request x) ++ batches_text (fields_in_
 -- the batches so far were read, and their text was put
 pub record PrintedSoFar (x : Sending) (c : FileCursor) (o : TextOut) (now : Option (List ℕ)) (bs : List TableBatch) : Type 0 where
   pub text : HasPut x.start now o (text_so_far x bs)
-  pub batches : BatchesRead x c bs
+  pub walked : Walked to_read (walking x) (place_of c) bs
   pub count : length bs ≡ c.block
-  pub within : c.block ≤ length (meta_in x).blocks
-  pub left : c.left ≡ left_of x.request.limit bs
 
 -- what a refusal says of the bytes of a file, and what was added then
 pub record FileRefused (e : IpcError) (b : List ℕ) (r : Request) (old new : Option (List ℕ)) : Type 0 where

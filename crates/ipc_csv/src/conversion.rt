@@ -6,7 +6,7 @@ ghost use Rattle.csv_texts.specs.Texts.{printable};
 ghost use Rattle.ipc_io.specs.Outside.{SinkKept, SourceKept, Stands};
 ghost use Rattle.laws_sent.specs.Below.{columns_of};
 ghost use Rattle.ipc_reader.specs.Below.{asked, numbers_in};
-ghost use Rattle.ipc_transcode.specs.Fetching.{FileFetched};
+ghost use Rattle.laws_walk.specs.Fetching.{FileFetched};
 ghost use Rattle.ipc_files.specs.FileViews.{IsReadable};
 ghost use Rattle.ipc_csv.specs.Printing.{CallCause, NotSelected, PrintsFile, Selected};
 ghost use Rattle.ipc_csv.specs.Prints.{AddsPart, PrintCause, Prints};

@@ -4,8 +4,8 @@ ghost use Rattle.std.specs.Rc.{rc_value};
 ghost use Rattle.arrow_spec.specs.Files.{TableBatch};
 ghost use Rattle.csv_rows.specs.Writers.{text_of};
 ghost use Rattle.ipc_io.specs.Outside.{IsSize, SinkKept, SourceKept};
-ghost use Rattle.ipc_transcode.specs.Fetching.{FetchesSome, FetchesTo};
-ghost use Rattle.ipc_transcode.specs.Sends.{Sending};
+ghost use Rattle.laws_walk.specs.Fetching.{FetchesSome, FetchesTo};
+ghost use Rattle.laws_walk.specs.Places.{Sending, walking};
 ghost use Rattle.csv_rows.specs.Output.{IsReady};
 ghost use Rattle.ipc_csv.specs.Printing.{CallCause, IsPrintedBy, IsUnprinted, PrintedRows, PrintedSoFar, PrintsAll, PrintsFile, PrintsNext};
 
@@ -40,7 +40,7 @@ fn print_next<S: Source, W: Sink>(
     ensures projection { reader.new.projection ≡ reader.old.projection }
     ensures few { IfOk result (λ o. IfSome o (λ rows. rows < 2 ^ 64)) }
     ensures cause { IfErr result (λ e. CallCause e (S.faults source.old) (S.faults source.new) (W.faults sink.old) (W.faults sink.new)) }
-    ensures fetched { IfSome (S.content source.old) (λ b. (x : Sending) (bs : List TableBatch) → x.bytes ≡ b → IsPrintedBy reader.old x → PrintedSoFar x reader.old out.old (W.written sink.old) bs → FetchesTo x reader.old.block reader.new.block (S.fetched source.old) (S.fetched source.new)) }
+    ensures fetched { IfSome (S.content source.old) (λ b. (x : Sending) (bs : List TableBatch) → x.bytes ≡ b → IsPrintedBy reader.old x → PrintedSoFar x reader.old out.old (W.written sink.old) bs → FetchesTo (walking x) reader.old.block reader.new.block (S.fetched source.old) (S.fetched source.new)) }
     ensures kept { SourceKept S.content S.faults S.references source.old source.new }
     ensures longest { W.longest sink.new ≤ max (W.longest sink.old) 65536 }
     ensures sink { SinkKept W.faults W.wants W.references sink.old sink.new }
@@ -70,7 +70,7 @@ fn print_batches<S: Source, W: Sink>(
     ensures metadata { reader.new.metadata ≡ reader.old.metadata }
     ensures projection { reader.new.projection ≡ reader.old.projection }
     ensures cause { IfErr result (λ e. CallCause e (S.faults source.old) (S.faults source.new) (W.faults sink.old) (W.faults sink.new)) }
-    ensures fetched { IfSome (S.content source.old) (λ b. (x : Sending) → x.bytes ≡ b → IsPrintedBy reader.old x → PrintedRows x reader.old out.old (W.written sink.old) 0 0 → FetchesTo x reader.old.block reader.new.block (S.fetched source.old) (S.fetched source.new)) }
+    ensures fetched { IfSome (S.content source.old) (λ b. (x : Sending) → x.bytes ≡ b → IsPrintedBy reader.old x → PrintedRows x reader.old out.old (W.written sink.old) 0 0 → FetchesTo (walking x) reader.old.block reader.new.block (S.fetched source.old) (S.fetched source.new)) }
     ensures kept { SourceKept S.content S.faults S.references source.old source.new }
     ensures longest { W.longest sink.new ≤ max (W.longest sink.old) 65536 }
     ensures sink { SinkKept W.faults W.wants W.references sink.old sink.new }
@@ -99,7 +99,7 @@ pub(crate) fn print_table<S: Source, W: Sink>(
     requires whole { IsSize (S.content source.old) reader.old.metadata.size }
     ensures prints { IfSome (S.content source.old) (λ b. (x : Sending) → x.bytes ≡ b → x.start ≡ W.written sink.old → IsUnprinted reader.old x → PrintsFile result b x.request (W.written sink.old) (W.written sink.new)) }
     ensures cause { IfErr result (λ e. CallCause e (S.faults source.old) (S.faults source.new) (W.faults sink.old) (W.faults sink.new)) }
-    ensures fetched { IfSome (S.content source.old) (λ b. (x : Sending) → x.bytes ≡ b → x.start ≡ W.written sink.old → IsUnprinted reader.old x → FetchesSome x (S.fetched source.old) (S.fetched source.new)) }
+    ensures fetched { IfSome (S.content source.old) (λ b. (x : Sending) → x.bytes ≡ b → x.start ≡ W.written sink.old → IsUnprinted reader.old x → FetchesSome (walking x) (S.fetched source.old) (S.fetched source.new)) }
     ensures kept { SourceKept S.content S.faults S.references source.old source.new }
     ensures longest { W.longest sink.new ≤ max (W.longest sink.old) 65536 }
     ensures sink { SinkKept W.faults W.wants W.references sink.old sink.new }

@@ -13,9 +13,10 @@ use Rattle.ipc_bodies.specs.declared.encoding.Encoding.{Encoding}
 use Rattle.ipc_reader.specs.Below.{FileCause, FileSays, file_custom, meta_view, FileMetadata}
 use Rattle.laws_transcode.proofs.Readings.{columns_refused}
 use Rattle.ipc_transcode.specs.declared.conversion.Summary.{Summary}
-use Rattle.ipc_transcode.specs.Sends.{FileRefused, SendCause, SendsFile}
+use Rattle.laws_walk.specs.Sends.{IsOfSink, SendCause}
+use Rattle.ipc_transcode.specs.Sends.{FileRefused, SendsFile}
+use Rattle.laws_walk.proofs.Causes.{never_of_sink, wrong_is}
 use Rattle.ipc_transcode.proofs.Fronts.{none_put}
-use Rattle.ipc_transcode.proofs.NextBatches.{never_of_sink}
 
 -- what is read is refused
 pub file_refused : (result : Result Summary IpcError) (e : IpcError) (content : Option (List ℕ)) (r : Request) (encoding : Encoding) (o : Option (List ℕ)) (faults faults' wants wants' : ℕ) → result ≡ Err e → FileCause e faults faults'
@@ -24,20 +25,6 @@ file_refused result e None r encoding o faults faults' wants wants' is cause h =
 file_refused result e (Some b) r encoding o faults faults' wants wants' is cause h =
     let refused : FileRefused e b r encoding o o wants wants' = record { refused = h r; part = none_put e b r (text_of encoding) o o wants wants' (never_of_sink e faults faults' cause) (Keeps-refl o) } in
     subst (λ z. SendsFile z b r encoding o o wants wants') (sym is) refused
-
--- only a number that is asked for is refused
-wrong_step : (t : Bool) (c : ℕ) (r : Reading (Unit {0})) (e : IpcError) → (unless t (errors.Projection c) >>= λ right. r) ≡ Err (e ∷ []) → (r ≡ Err (e ∷ [])) ⊎ (e ≡ errors.Projection c)
-unfolding bind
-wrong_step true c r e h = inl h
-wrong_step false c r e h = inr cc
-
-wrong_index : (count : ℕ) (earlier cs : List ℕ) (e : IpcError) → wrong_columns count earlier cs ≡ Err (e ∷ []) → (i : ℕ) × (e ≡ errors.Projection i)
-wrong_index count earlier [] e h = cc
-wrong_index count earlier (c ∷ cs) e h = elim (wrong_step (nat_lt c count && not (stands_in earlier c)) c (wrong_columns count (c ∷ earlier) cs) e h) [ inl k ↦ wrong_index count (c ∷ earlier) cs e k | inr k ↦ (c, k) ]
-
-wrong_is : (columns : Option (List ℕ)) (count : ℕ) (e : IpcError) → columns_right columns count ≡ Err (e ∷ []) → (i : ℕ) × (e ≡ errors.Projection i)
-wrong_is None count e h = cc
-wrong_is (Some cs) count e h = wrong_index count [] cs e h
 
 -- columns that are none, or want of memory
 pub columns_not_right : (result : Result Summary IpcError) (e : IpcError) (content : Option (List ℕ)) (file : FileMetadata) (r : Request) (count : ℕ) (encoding : Encoding) (o : Option (List ℕ)) (wants wants' : ℕ) → result ≡ Err e → count ≡ width (meta_view file).schema.fields

@@ -10,8 +10,9 @@ use Rattle.ipc_stream_writer.specs.Below.{columns_of}
 use Rattle.ipc_reader.specs.Below.{WasRead, meta_view, HasFields, MayProject, FileMetadata}
 use Rattle.ipc_reader.specs.Reads.{NextBatch}
 use Rattle.ipc_reader.specs.declared.cursor.FileCursor.{FileCursor}
-use Rattle.laws_sent.proofs.Right.{kinds_of_schema}
-use Rattle.ipc_transcode.specs.Sends.{IsReader, schema_of_reader}
+use Rattle.laws_walk.proofs.Below.{kinds_of_schema}
+use Rattle.laws_walk.specs.Places.{schema_of_reader}
+use Rattle.ipc_transcode.specs.Sends.{IsReader}
 
 pub reader_of : (file : FileMetadata) (c : FileCursor) (columns : Option (List ℕ)) → c.metadata ≡ file → MayProject (rc_value file.schema) columns c.projection → columns_right columns (width (meta_view file).schema.fields) ≡ Ok tt → WasRead file → IsReader c
 reader_of file c columns same projects right read = record {

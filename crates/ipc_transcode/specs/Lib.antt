@@ -1,4 +1,3 @@
 pub mod Below
 pub mod Transcode
 pub mod Sends
-pub mod Fetching

@@ -2,8 +2,8 @@
 ghost use Rattle.std.specs.Prelude.{◌≡◌, ◌≤◌, true, IfOk, IfErr, IfSome, IsSome};
 ghost use Rattle.arrow_spec.specs.Meaning.{file_table};
 ghost use Rattle.ipc_io.specs.Outside.{Stands, SourceKept, SinkKept};
-ghost use Rattle.laws_sent.specs.Below.{columns_of};
-ghost use Rattle.ipc_transcode.specs.Fetching.{FileFetched};
+ghost use Rattle.laws_walk.specs.Below.{columns_of};
+ghost use Rattle.laws_walk.specs.Fetching.{FileFetched};
 ghost use Rattle.ipc_reader.specs.Below.{asked};
 ghost use Rattle.ipc_bodies.specs.Encodings.{text_of};
 ghost use Rattle.ipc_transcode.specs.Transcode.{Transcodes, AddsPart, TranscodeCause, IsSmallRefusal};

@@ -7,11 +7,13 @@ ghost use Rattle.arrow_spec.specs.Kinds.{width};
 ghost use Rattle.ipc_fields.specs.IpcFields.{metadata_of};
 ghost use Rattle.ipc_io.specs.Outside.{IsSize, SinkKept, SourceKept};
 ghost use Rattle.ipc_bodies.specs.Encodings.{text_of};
-ghost use Rattle.laws_sent.specs.Below.{columns_of};
+ghost use Rattle.laws_walk.specs.Below.{columns_of};
 ghost use Rattle.ipc_reader.specs.Below.{WasRead, file_custom, meta_view, asked, numbers_in};
 ghost use Rattle.ipc_stream_writer.specs.Calls.{IsFresh};
-ghost use Rattle.ipc_transcode.specs.Fetching.{FetchesSome, FetchesTo, FileFetched};
-ghost use Rattle.ipc_transcode.specs.Sends.{BeginsStream, IsNewWriter, IsReadBy, IsReader, IsUnsent, IsWriter, SendCause, Sending, SendsAll, SendsFile, SendsNext, SentRows, SentSoFar, schema_of_reader, send_options};
+ghost use Rattle.laws_walk.specs.Fetching.{FetchesSome, FetchesTo, FileFetched};
+ghost use Rattle.laws_walk.specs.Places.{IsUnread, Sending, schema_of_reader, walking};
+ghost use Rattle.laws_walk.specs.Sends.{IsNewWriter, IsWriter, SendCause, send_options};
+ghost use Rattle.ipc_transcode.specs.Sends.{BeginsStream, FileRows, FileSoFar, IsReader, IsSentBy, SendsAll, SendsFile, SendsNext};
 
 use crate::conversion::Summary;
 use arrow_spec::IpcError;
@@ -20,7 +22,7 @@ use ipc_fields::copy_if_any;
 use ipc_io::{Sink, Source};
 use ipc_reader::{FileCursor, FileMetadata, read_file_metadata};
 use ipc_stream_writer::{StreamCore, WriteOptions};
-use laws_sent::types_have_no_ids;
+use laws_walk::types_have_no_ids;
 use std::alloc::Global;
 
 /// How the stream is written: what goes on of a dictionary is sent as a delta.
@@ -58,7 +60,7 @@ fn begin_stream<W: Sink>(
 ) -> Result<StreamCore, IpcError>
     requires reader { IsReader reader.now }
     requires few { length (file_custom reader.now.metadata) ≤ 1048576 }
-    ensures begins { (x : Sending) → x.encoding ≡ encoding → x.start ≡ W.written sink.old → IsUnsent reader.now x → BeginsStream result x reader.now (W.written sink.new) (W.wants sink.old) (W.wants sink.new) }
+    ensures begins { (x : Sending) → x.encoding ≡ encoding → x.start ≡ W.written sink.old → IsUnread reader.now x → BeginsStream result x reader.now (W.written sink.new) (W.wants sink.old) (W.wants sink.new) }
     ensures writer { IfOk result (λ w. IsWriter (schema_of_reader reader.now) encoding w) }
     ensures cause { IfErr result (λ e. (reads reads' : ℕ) → SendCause e reads reads' (W.faults sink.old) (W.faults sink.new)) }
     ensures sink { SinkKept W.faults W.wants W.references sink.old sink.new }
@@ -88,13 +90,13 @@ fn send_next<S: Source, W: Sink>(
     requires whole { IsSize (S.content source.old) reader.old.metadata.size }
     requires reader { IsReader reader.old }
     requires writer { IsWriter (schema_of_reader reader.old) writer.old.encoding writer.old }
-    ensures sends { IfSome (S.content source.old) (λ b. (x : Sending) (bytes : List ℕ) (bs : List TableBatch) → x.bytes ≡ b → x.encoding ≡ writer.old.encoding → IsReadBy reader.old x → SentSoFar x reader.old writer.old (W.written sink.old) bytes bs → SendsNext result x reader.new writer.new (W.written sink.new) bytes bs (W.wants sink.old) (W.wants sink.new)) }
+    ensures sends { IfSome (S.content source.old) (λ b. (x : Sending) (bytes : List ℕ) (bs : List TableBatch) → x.bytes ≡ b → x.encoding ≡ writer.old.encoding → IsSentBy reader.old x → FileSoFar x reader.old writer.old (W.written sink.old) bytes bs → SendsNext result x reader.new writer.new (W.written sink.new) bytes bs (W.wants sink.old) (W.wants sink.new)) }
     ensures writer { IfOk result (λ _. IsWriter (schema_of_reader reader.new) writer.old.encoding writer.new) }
     ensures metadata { reader.new.metadata ≡ reader.old.metadata }
     ensures projection { reader.new.projection ≡ reader.old.projection }
     ensures few { IfOk result (λ o. IfSome o (λ rows. rows < 2 ^ 64)) }
     ensures cause { IfErr result (λ e. SendCause e (S.faults source.old) (S.faults source.new) (W.faults sink.old) (W.faults sink.new)) }
-    ensures fetched { IfSome (S.content source.old) (λ b. (x : Sending) (bytes : List ℕ) (bs : List TableBatch) → x.bytes ≡ b → IsReadBy reader.old x → SentSoFar x reader.old writer.old (W.written sink.old) bytes bs → FetchesTo x reader.old.block reader.new.block (S.fetched source.old) (S.fetched source.new)) }
+    ensures fetched { IfSome (S.content source.old) (λ b. (x : Sending) (bytes : List ℕ) (bs : List TableBatch) → x.bytes ≡ b → IsSentBy reader.old x → FileSoFar x reader.old writer.old (W.written sink.old) bytes bs → FetchesTo (walking x) reader.old.block reader.new.block (S.fetched source.old) (S.fetched source.new)) }
     ensures kept { SourceKept S.content S.faults S.references source.old source.new }
     ensures sink { SinkKept W.faults W.wants W.references sink.old sink.new }
 {
@@ -120,13 +122,13 @@ fn send_batches<S: Source, W: Sink>(
     requires whole { IsSize (S.content source.old) reader.old.metadata.size }
     requires reader { IsReader reader.old }
     requires writer { IsWriter (schema_of_reader reader.old) writer.old.encoding writer.old }
-    ensures sends { IfSome (S.content source.old) (λ b. (x : Sending) → x.bytes ≡ b → x.encoding ≡ writer.old.encoding → IsReadBy reader.old x → SentRows x reader.old writer.old (W.written sink.old) 0 0 → SendsAll result x reader.new writer.new (W.written sink.new) (W.wants sink.old) (W.wants sink.new)) }
+    ensures sends { IfSome (S.content source.old) (λ b. (x : Sending) → x.bytes ≡ b → x.encoding ≡ writer.old.encoding → IsSentBy reader.old x → FileRows x reader.old writer.old (W.written sink.old) 0 0 → SendsAll result x reader.new writer.new (W.written sink.new) (W.wants sink.old) (W.wants sink.new)) }
     ensures writer { IfOk result (λ _. IsWriter (schema_of_reader reader.new) writer.old.encoding writer.new) }
     ensures metadata { reader.new.metadata ≡ reader.old.metadata }
     ensures projection { reader.new.projection ≡ reader.old.projection }
     ensures few { length reader.old.metadata.blocks.items < 2 ^ 63 }
     ensures cause { IfErr result (λ e. SendCause e (S.faults source.old) (S.faults source.new) (W.faults sink.old) (W.faults sink.new)) }
-    ensures fetched { IfSome (S.content source.old) (λ b. (x : Sending) → x.bytes ≡ b → x.encoding ≡ writer.old.encoding → IsReadBy reader.old x → SentRows x reader.old writer.old (W.written sink.old) 0 0 → FetchesTo x reader.old.block reader.new.block (S.fetched source.old) (S.fetched source.new)) }
+    ensures fetched { IfSome (S.content source.old) (λ b. (x : Sending) → x.bytes ≡ b → x.encoding ≡ writer.old.encoding → IsSentBy reader.old x → FileRows x reader.old writer.old (W.written sink.old) 0 0 → FetchesTo (walking x) reader.old.block reader.new.block (S.fetched source.old) (S.fetched source.new)) }
     ensures kept { SourceKept S.content S.faults S.references source.old source.new }
     ensures sink { SinkKept W.faults W.wants W.references sink.old sink.new }
 {
@@ -155,9 +157,9 @@ fn send_stream<S: Source, W: Sink>(
     requires whole { IsSize (S.content source.old) reader.old.metadata.size }
     requires reader { IsReader reader.old }
     requires few { length (file_custom reader.old.metadata) ≤ 1048576 }
-    ensures sends { IfSome (S.content source.old) (λ b. (x : Sending) → x.bytes ≡ b → x.encoding ≡ encoding → x.start ≡ W.written sink.old → IsUnsent reader.old x → SendsFile result b x.request encoding (W.written sink.old) (W.written sink.new) (W.wants sink.old) (W.wants sink.new)) }
+    ensures sends { IfSome (S.content source.old) (λ b. (x : Sending) → x.bytes ≡ b → x.encoding ≡ encoding → x.start ≡ W.written sink.old → IsUnread reader.old x → SendsFile result b x.request encoding (W.written sink.old) (W.written sink.new) (W.wants sink.old) (W.wants sink.new)) }
     ensures cause { IfErr result (λ e. SendCause e (S.faults source.old) (S.faults source.new) (W.faults sink.old) (W.faults sink.new)) }
-    ensures fetched { IfSome (S.content source.old) (λ b. (x : Sending) → x.bytes ≡ b → x.encoding ≡ encoding → x.start ≡ W.written sink.old → IsUnsent reader.old x → FetchesSome x (S.fetched source.old) (S.fetched source.new)) }
+    ensures fetched { IfSome (S.content source.old) (λ b. (x : Sending) → x.bytes ≡ b → x.encoding ≡ encoding → x.start ≡ W.written sink.old → IsUnread reader.old x → FetchesSome (walking x) (S.fetched source.old) (S.fetched source.new)) }
     ensures kept { SourceKept S.content S.faults S.references source.old source.new }
     ensures sink { SinkKept W.faults W.wants W.references sink.old sink.new }
 {

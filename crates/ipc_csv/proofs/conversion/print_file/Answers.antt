@@ -1,11 +1,11 @@
-use Rattle.std.proofs.Common.{◌≡◌, ◌∙◌, List, Ok, Err, IfErr, true, false, refl, sym, ap, subst}
+use Rattle.std.proofs.Common.{◌≡◌, ◌∙◌, List, Err, IfErr, true, false, sym, ap, subst}
 use Rattle.arrow_types.specs.Schemas.{Keyed, fields_in}
 use Rattle.laws_sent.specs.Below.{columns_of}
 use Rattle.csv_texts.specs.Texts.{are_nested}
 use Rattle.ipc_reader.proofs.Below.{is_err}
 use Rattle.ipc_reader.specs.Below.{asked}
-use Rattle.ipc_transcode.specs.Sends.{schema_of_reader}
-use Rattle.ipc_transcode.proofs.FetchedFiles.{file_by_footer}
+use Rattle.laws_walk.specs.Places.{schema_of_reader}
+use Rattle.laws_walk.proofs.FetchedFiles.{file_by_footer}
 use Rattle.ipc_csv.specs.Printing.{CallCause, Selected}
 use Rattle.ipc_csv.proofs.Asked.{Reader, columns_cause, columns_refused, file_fetched, file_printed, metadata_refused, nested_refused}
 use Rattle.ipc_csv.proofs.Refusals.{read_cause}

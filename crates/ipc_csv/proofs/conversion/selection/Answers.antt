@@ -1,4 +1,4 @@
-use Rattle.std.proofs.Common.{◌≡◌, ◌∙◌, Ok, Err, IfErr, length, refl, sym, ap, subst}
+use Rattle.std.proofs.Common.{◌≡◌, Ok, Err, IfErr, length, refl, sym, subst}
 use Rattle.std.specs.Rc.{rc_value}
 use Rattle.arrow_spec.specs.Files.{columns_right}
 use Rattle.laws_sent.specs.Below.{columns_of}

@@ -1,10 +1,9 @@
-use Rattle.std.proofs.Common.{◌≡◌, ◌∙◌, List, ℕ, Ok, Err, IfErr, [], refl, sym, ap, subst}
-use Rattle.std.specs.Rc.{rc_value}
+use Rattle.std.proofs.Common.{◌≡◌, ◌∙◌, List, Err, IfErr, refl, sym, ap, subst}
 use Rattle.arrow_types.specs.Schemas.{Keyed}
 use Rattle.arrow_spec.specs.declared.error.IpcError.TheVariants.{Memory}
 use Rattle.ipc_io.specs.Outside.{AppendsPrefix}
 use Rattle.ipc_reader.proofs.Below.{is_err}
-use Rattle.ipc_transcode.specs.Sends.{schema_of_reader}
+use Rattle.laws_walk.specs.Places.{schema_of_reader}
 use Rattle.csv_rows.specs.Output.{HasPut, header_of}
 use Rattle.ipc_csv.specs.Printing.{CallCause}
 use Rattle.ipc_csv.proofs.Refusals.{put_cause}

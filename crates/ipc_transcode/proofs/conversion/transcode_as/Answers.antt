@@ -1,4 +1,4 @@
-use Rattle.laws_sent.specs.Below.{columns_of}
+use Rattle.laws_walk.specs.Below.{columns_of}
 use Rattle.ipc_reader.specs.Below.{asked}
 use Rattle.ipc_transcode.proofs.Asking.{cause_of, part_of, whole_of}
 use Rattle.ipc_transcode.proofs.Refusing.{complete_by_cause}

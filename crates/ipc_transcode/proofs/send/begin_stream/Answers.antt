@@ -3,18 +3,19 @@ use Rattle.arrow_types.specs.Schemas.{fields_in}
 use Rattle.ipc_bodies.specs.Encodings.{text_of}
 use Rattle.ipc_bodies.specs.Puts.{moved}
 use Rattle.ipc_reader.proofs.Below.{is_err}
-use Rattle.laws_sent.specs.Below.{plain_fields}
+use Rattle.laws_walk.specs.Below.{plain_fields}
 use Rattle.ipc_stream_writer.specs.Calls.{Starts}
-use Rattle.ipc_transcode.specs.Sends.{IsNewWriter}
-use Rattle.ipc_transcode.proofs.Begins.{begins, begun, new_of}
-use Rattle.ipc_transcode.proofs.StartCauses.{start_cause, writer_begun}
+use Rattle.laws_walk.specs.Sends.{IsNewWriter}
+use Rattle.ipc_transcode.proofs.Starting.{begins, begun, start_cause, writer_begun}
+use Rattle.laws_walk.proofs.Begins.{new_of}
+use Rattle.laws_walk.specs.Places.{walking}
 use Rattle.ipc_transcode.proofs.send.begin_stream.Goals as goal
 
 pub returns-in_err-start-clause-begins : goal.returns-in_err-start-clause-begins
 returns-in_err-start-clause-begins g c = λ x encoding start is.
     let m = moved (g.W.Sink.written c.args.sink.now) (g.W.Sink.written c.start.new.sink) (g.W.Sink.faults c.args.sink.now) (g.W.Sink.faults c.start.new.sink) (g.W.Sink.wants c.args.sink.now) (g.W.Sink.wants c.start.new.sink) in
     let e : c.from_residual-in_err-start.result ≡ Err c.in_err-start.field-0.0 = is_err _ _ _ c.from_residual-in_err-start.ensures.0 c.from_residual-in_err-start.ensures.1 (λ f h. h) in
-    begins x c.args.reader.now c.in_ok-writer.writer c.start.new.self m is (new_of x c.metadata.result.now c.args.encoding c.in_ok-writer.writer (c.metadata.ensures ∙ is.metadata) encoding c.in_ok-writer.ensures.new) (sym start) c.from_residual-in_err-start.result c.in_err-start.field-0.0 e
+    begins x c.args.reader.now c.in_ok-writer.writer c.start.new.self m is (new_of (walking x) c.metadata.result.now c.args.encoding c.in_ok-writer.writer (c.metadata.ensures ∙ is.metadata) encoding c.in_ok-writer.ensures.new) (sym start) c.from_residual-in_err-start.result c.in_err-start.field-0.0 e
     (subst (λ s. Starts (text_of c.in_ok-writer.writer.encoding) m (Err c.in_err-start.field-0.0) c.in_ok-writer.writer c.start.new.self s None) (c.deref-2.ensures ∙ c.schema-2.ensures) c.in_err-start.ensures.starts)
 
 pub returns-in_err-start-clause-cause : goal.returns-in_err-start-clause-cause
@@ -27,7 +28,7 @@ returns-in_err-start-clause-cause g c =
 pub returns-clause-begins : goal.returns-clause-begins
 returns-clause-begins g c = λ x encoding start is.
     let m = moved (g.W.Sink.written c.args.sink.now) (g.W.Sink.written c.start.new.sink) (g.W.Sink.faults c.args.sink.now) (g.W.Sink.faults c.start.new.sink) (g.W.Sink.wants c.args.sink.now) (g.W.Sink.wants c.start.new.sink) in
-    begun x c.args.reader.now c.in_ok-writer.writer c.start.new.self m is (new_of x c.metadata.result.now c.args.encoding c.in_ok-writer.writer (c.metadata.ensures ∙ is.metadata) encoding c.in_ok-writer.ensures.new) (sym start)
+    begun x c.args.reader.now c.in_ok-writer.writer c.start.new.self m is (new_of (walking x) c.metadata.result.now c.args.encoding c.in_ok-writer.writer (c.metadata.ensures ∙ is.metadata) encoding c.in_ok-writer.ensures.new) (sym start)
     (subst (λ s. Starts (text_of c.in_ok-writer.writer.encoding) m (Ok tt) c.in_ok-writer.writer c.start.new.self s None) (c.deref-2.ensures ∙ c.schema-2.ensures) c.in_ok-start.ensures.starts)
 
 pub returns-clause-writer : goal.returns-clause-writer

@@ -1,7 +1,8 @@
 use Rattle.std.proofs.Common.{◌<◌, IfSome, ◌≡◌, ℕ, Option, Ok, Err, ◌+◌, ◌^◌, ◌∙◌, sym, ap, subst, arith}
 use Rattle.ipc_io.proofs.Kept.{sink_kept_on, source_kept_on}
 use Rattle.ipc_reader.proofs.Below.{is_err}
-use Rattle.ipc_transcode.specs.Sends.{IsWriter, schema_of_reader}
+use Rattle.laws_walk.specs.Places.{schema_of_reader}
+use Rattle.laws_walk.specs.Sends.{IsWriter}
 use Rattle.ipc_transcode.specs.declared.conversion.Summary.{Summary}
 use Rattle.ipc_transcode.proofs.AllBatches.{NextOf, SentSome, no_more, one_more, refused}
 use Rattle.ipc_transcode.proofs.FetchedCalls.{more_fetched}
@@ -19,7 +20,7 @@ pub loop-preserved : goal.loop-preserved
 loop-preserved g c = record {
   sends = elim c.match-branch-2.branch [
     | in-Some w ↦ subst (λ (s : Summary). SentSome c.args.writer.now.encoding c.args.reader.now c.args.writer.now (g.W.Sink.written c.args.sink.now) (g.S.Source.content c.args.source.now) c.send_next.new.reader c.send_next.new.writer (g.W.Sink.written c.send_next.new.sink) s.batches s.rows (c.loop.counter + 1)) (sym w.summary-is)
-        (one_more _ _ _ _ (g.S.Source.content c.args.source.now) (g.S.Source.content c.loop.source) c.loop.reader c.send_next.new.reader c.loop.writer c.send_next.new.writer _ _ c.loop.summary.batches c.loop.summary.rows c.loop.counter (g.W.Sink.wants c.loop.sink) (g.W.Sink.wants c.send_next.new.sink) c.loop.invariant.kept.content c.loop.invariant.writer.encoding c.loop.invariant.metadata c.loop.invariant.projection c.loop.invariant.sends w.in-Some.rows (subst (λ o. NextOf c.args.writer.now.encoding c.args.reader.now c.args.writer.now (g.W.Sink.written c.args.sink.now) (g.S.Source.content c.loop.source) c.loop.reader c.loop.writer (g.W.Sink.written c.loop.sink) (Ok o) c.send_next.new.reader c.send_next.new.writer (g.W.Sink.written c.send_next.new.sink) (g.W.Sink.wants c.loop.sink) (g.W.Sink.wants c.send_next.new.sink)) w.in-Some.is c.in_ok-rows.ensures.sends))
+        (one_more _ _ _ _ (g.S.Source.content c.args.source.now) (g.S.Source.content c.loop.source) c.loop.reader c.send_next.new.reader c.loop.writer c.send_next.new.writer _ _ c.loop.summary.batches c.loop.summary.rows c.loop.counter (g.W.Sink.wants c.loop.sink) (g.W.Sink.wants c.send_next.new.sink) c.loop.invariant.kept.content c.loop.invariant.writer.encoding c.loop.invariant.metadata c.loop.invariant.projection c.loop.invariant.sends w.in-Some.rows c.send_next.ensures.metadata c.send_next.ensures.projection (subst (λ o. NextOf c.args.writer.now.encoding c.args.reader.now c.args.writer.now (g.W.Sink.written c.args.sink.now) (g.S.Source.content c.loop.source) c.loop.reader c.loop.writer (g.W.Sink.written c.loop.sink) (Ok o) c.send_next.new.reader c.send_next.new.writer (g.W.Sink.written c.send_next.new.sink) (g.W.Sink.wants c.loop.sink) (g.W.Sink.wants c.send_next.new.sink)) w.in-Some.is c.in_ok-rows.ensures.sends))
     | in_default w ↦ subst (λ (s : Summary). SentSome c.args.writer.now.encoding c.args.reader.now c.args.writer.now (g.W.Sink.written c.args.sink.now) (g.S.Source.content c.args.source.now) c.send_next.new.reader c.send_next.new.writer (g.W.Sink.written c.send_next.new.sink) s.batches s.rows (c.loop.counter + 1)) (sym w.summary-is)
         (no_more _ _ _ _ (g.S.Source.content c.args.source.now) (g.S.Source.content c.loop.source) c.loop.reader c.send_next.new.reader c.loop.writer c.send_next.new.writer _ _ c.loop.summary.batches c.loop.summary.rows c.loop.counter (g.W.Sink.wants c.loop.sink) (g.W.Sink.wants c.send_next.new.sink) c.loop.invariant.kept.content c.loop.invariant.writer.encoding c.loop.invariant.metadata c.loop.invariant.projection c.loop.invariant.sends (subst (λ o. NextOf c.args.writer.now.encoding c.args.reader.now c.args.writer.now (g.W.Sink.written c.args.sink.now) (g.S.Source.content c.loop.source) c.loop.reader c.loop.writer (g.W.Sink.written c.loop.sink) (Ok o) c.send_next.new.reader c.send_next.new.writer (g.W.Sink.written c.send_next.new.sink) (g.W.Sink.wants c.loop.sink) (g.W.Sink.wants c.send_next.new.sink)) w.in_default.is c.in_ok-rows.ensures.sends))
   ];

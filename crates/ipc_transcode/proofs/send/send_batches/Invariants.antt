@@ -1,6 +1,7 @@
 use Rattle.std.proofs.Common.{◌≡◌, ◌*◌, ◌^◌, ◌≤◌}
 use Rattle.ipc_io.specs.Outside.{SinkKept, SourceKept}
-use Rattle.ipc_transcode.specs.Sends.{IsWriter, schema_of_reader}
+use Rattle.laws_walk.specs.Places.{schema_of_reader}
+use Rattle.laws_walk.specs.Sends.{IsWriter}
 use Rattle.ipc_transcode.proofs.AllBatches.{SentSome}
 use Rattle.ipc_transcode.proofs.FetchedCalls.{FetchedSome}
 use Rattle.ipc_transcode.proofs.send.send_batches.Given as goal

@@ -1,12 +1,12 @@
 use Rattle.std.proofs.Common.{◌≡◌, Ok, Err, length, refl, sym, subst}
-use Rattle.laws_sent.specs.Below.{columns_of}
+use Rattle.laws_walk.specs.Below.{columns_of}
 use Rattle.ipc_reader.specs.Below.{asked, MayProject}
 use Rattle.ipc_reader.proofs.Below.{is_err, file_width, right_of_file}
 use Rattle.arrow_spec.specs.Files.{columns_right}
 use Rattle.std.specs.Rc.{rc_value}
 use Rattle.ipc_transcode.proofs.Asks.{columns_not_right, numbers_cause, wrong_as}
 use Rattle.ipc_transcode.proofs.FetchedCalls.{file_fetched}
-use Rattle.ipc_transcode.proofs.FetchedFiles.{file_by_footer}
+use Rattle.laws_walk.proofs.FetchedFiles.{file_by_footer}
 use Rattle.ipc_transcode.proofs.Readers.{reader_of}
 use Rattle.ipc_transcode.proofs.Streams.{file_sent}
 use Rattle.ipc_transcode.proofs.send.send_file.Goals as goal

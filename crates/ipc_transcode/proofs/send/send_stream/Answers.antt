@@ -1,7 +1,7 @@
 use Rattle.std.proofs.Common.{◌≡◌, ◌≤◌, Err, refl, arith}
 use Rattle.ipc_bodies.specs.Puts.{moved}
 use Rattle.ipc_reader.proofs.Below.{is_err}
-use Rattle.ipc_transcode.proofs.Streams.{batches_refused, end_refused, stream_sent}
+use Rattle.ipc_transcode.proofs.Streams.{batches_refused, begin_refused, end_refused, stream_sent}
 use Rattle.ipc_transcode.proofs.FetchedCalls.{stream_fetched}
 use Rattle.ipc_transcode.proofs.send.send_stream.Goals as goal
 
@@ -35,3 +35,8 @@ returns-in_err-finish-clause-fetched g c = stream_fetched (g.S.Source.content c.
 
 pub returns-clause-fetched : goal.returns-clause-fetched
 returns-clause-fetched g c = stream_fetched (g.S.Source.content c.args.source.now) c.args.reader.now c.in_ok-writer.writer c.args.encoding (g.W.Sink.written c.args.sink.now) (g.W.Sink.written c.begin_stream.new.sink) c.send_batches.new.reader.block (g.S.Source.fetched c.args.source.now) (g.S.Source.fetched c.send_batches.new.source) c.in_ok-writer.ensures.writer.encoding c.in_ok-writer.ensures.begins c.send_batches.ensures.fetched
+
+pub returns-in_err-writer-clause-sends : goal.returns-in_err-writer-clause-sends
+returns-in_err-writer-clause-sends g c =
+    let e : c.from_residual.result ≡ Err c.in_err-writer.field-0.0 = is_err _ _ _ c.from_residual.ensures.0 c.from_residual.ensures.1 (λ f h. h) in
+    begin_refused (g.S.Source.content c.args.source.now) c.args.reader.now c.args.encoding (g.W.Sink.written c.args.sink.now) c.from_residual.result c.in_err-writer.field-0.0 (g.W.Sink.written c.begin_stream.new.sink) (g.W.Sink.wants c.args.sink.now) (g.W.Sink.wants c.begin_stream.new.sink) e c.in_err-writer.ensures.begins

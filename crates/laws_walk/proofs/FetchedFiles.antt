@@ -1,35 +1,29 @@
 -- How many bytes are fetched of a file that means a table.
-use Rattle.std.proofs.Common.{◌≡◌, ℕ, zero, suc, ◌+◌, ◌-◌, ◌≤◌, List, [], ◌∷◌, ◌++◌, length, take, Option, Some, None, Ok, Err, refl, sym, ◌∙◌, ap, arith, subst, true, false, Bool}
+use Rattle.std.proofs.Common.{◌≡◌, ◌∙◌, sym, refl, ap, subst, ℕ, zero, suc, ◌+◌, ◌-◌, ◌≤◌, List, [], ◌∷◌, ◌++◌, length, Option, Some, None, Ok, Err, true, false, Bool, arith}
 use Rattle.std.specs.Prelude.{IsSome, option_map}
 use Rattle.std.proofs.lemmas.List.Sums.{sum_by-append, sum_by-cons}
 use Rattle.arrow_spec.specs.Readings.{Reading, meaning, free_of}
-use Rattle.arrow_spec.specs.Features.{chosen_floats}
-use Rattle.arrow_spec.specs.Kinds.{width}
-use Rattle.arrow_spec.specs.Files.{ArrowTable, FileBlock, Meta, Request, TableBatch, batch_of, batches_of, columns_right, custom_of, dictionaries_of, dictionaries_read, dictionaries_sent, file_reading, footer_of, meta_of, to_read, what_is_left}
 use Rattle.arrow_spec.specs.Arrays.{Dictionaries}
+use Rattle.arrow_spec.specs.Features.{chosen_floats}
+use Rattle.arrow_spec.specs.Files.{ArrowTable, FileBlock, Meta, Request, TableBatch, batch_of, batches_of, columns_right, custom_of, dictionaries_of, dictionaries_read, dictionaries_sent, file_reading, footer_of, meta_of, to_read, what_is_left}
+use Rattle.arrow_spec.specs.Kinds.{width}
 use Rattle.arrow_spec.specs.Meaning.{file_table}
 use Rattle.arrow_spec.specs.Needed.{Range, all_need, lengths, or_nothing}
-use Rattle.arrow_spec.proofs.Projection.{nothing, went}
+use Rattle.arrow_spec.proofs.Projection.{nothing, on, went}
 use Rattle.arrow_spec.proofs.ReadPairs.{same_read}
+use Rattle.ipc_reader.specs.Below.{FileSays, FooterFetched, block_cost, dictionaries_cost, dictionary_cost, file_custom}
+use Rattle.ipc_reader.proofs.Below.{answer_or, batch_parts, block_fetched}
 use Rattle.laws_files.specs.Fetched.{batch_fetched, batches_fetched, dictionary_fetched, fetched as ranges_fetched}
 use Rattle.laws_files.proofs.NeededParts.{batches_depend, dictionaries_depend, meta-footer, parts_are}
 use Rattle.laws_transcode.specs.Files.{HasRead, asked_of}
-use Rattle.ipc_reader.specs.Below.{FooterFetched, block_cost, dictionaries_cost, dictionary_cost, FileSays, file_custom}
-use Rattle.ipc_reader.proofs.Below.{answer_or, block_fetched, batch_parts}
-use Rattle.ipc_transcode.specs.Fetching.{FetchesSome, FileFetched, blocks_cost, cost_up_to}
-use Rattle.ipc_transcode.specs.Sends.{Sending, asked_in, meta_in}
+use Rattle.laws_walk.specs.Fetching.{FetchesSome, FileFetched, cost_up_to}
+use Rattle.laws_walk.specs.Places.{Sending, asked_in, meta_in, walking}
+use Rattle.laws_walk.specs.Walks.{blocks_walked, left_read, walk_cost, within}
+use Rattle.laws_walk.proofs.Places.{reads_all}
+use Rattle.laws_walk.proofs.Walks.{blocks_same, cost_less}
 
--- ── blocks ──
-
--- some blocks cost no more than all
-cost_less : (b : List ℕ) (meta : Meta) (r : Request) (blocks : List FileBlock) (i : ℕ) (xs : List TableBatch) (left : Option ℕ) → blocks_cost b meta r (take i blocks) xs left ≤ blocks_cost b meta r blocks xs left
-cost_less b meta r [] zero xs left = omega arith
-cost_less b meta r [] (suc i) xs left = omega arith
-cost_less b meta r (y ∷ ys) zero xs left = omega arith
-cost_less b meta r (y ∷ ys) (suc i) [] left = omega arith
-cost_less b meta r (y ∷ ys) (suc i) (z ∷ zs) left = omega (arith, cost_less b meta r ys i zs (what_is_left left z.rows))
-
-batches_cost : (b : List ℕ) (meta : Meta) (r : Request) (d : Dictionaries) (is_first : Bool) (blocks : List FileBlock) (left : Option ℕ) (parts : List Range) (xs : List TableBatch) → batches_fetched b meta r blocks left ≡ Ok parts → batches_of to_read b (asked_of b meta r d) is_first blocks left ≡ Ok xs → lengths parts ≡ blocks_cost b meta r blocks xs left
+batches_cost : (b : List ℕ) (meta : Meta) (r : Request) (d : Dictionaries) (is_first : Bool) (blocks : List FileBlock) (left : Option ℕ) (parts : List Range) (xs : List TableBatch) → batches_fetched b meta r blocks left ≡ Ok parts → batches_of to_read b (asked_of b meta r d) is_first blocks left ≡ Ok xs
+    → lengths parts ≡ walk_cost b meta (within r) d blocks left
 unfolding batches_fetched batches_of
 batches_cost b meta r d is_first [] left parts xs h k = ap (λ (r : Reading (List Range)). lengths (or_nothing (meaning r))) (sym h)
 batches_cost b meta r d is_first (block ∷ blocks) left parts xs h k =
@@ -38,7 +32,6 @@ batches_cost b meta r d is_first (block ∷ blocks) left parts xs h k =
     let read = went (batch_of to_read b (asked_of b meta r d) block left) _ xs k in
     let flag = went (dictionaries_sent is_first to_read (asked_of b meta r d)) _ xs read.rest in
     let behind = went (batches_of to_read b (asked_of b meta r d) false blocks (what_is_left left read.got.rows)) _ xs flag.rest in
-    let all : read.got ∷ behind.got ≡ xs = cc (behind.rest) in
     let p = batch_parts b (asked_of b meta r d) block left read.got read.first in
     let same = block_fetched b meta r block left p.message p.rows p.is p.count in
     let rows : first.got.1 ≡ read.got.rows = ap (λ w. (answer_or first.got w).1) (sym first.first ∙ same.is) ∙ sym p.height in
@@ -46,8 +39,10 @@ batches_cost b meta r d is_first (block ∷ blocks) left parts xs h k =
     let rest = batches_cost b meta r d false blocks (what_is_left left read.got.rows) others.got behind.got here behind.first in
     let cost : block_cost b meta r block left ≡ lengths first.got.0 = ap (λ r. lengths (or_nothing (option_map (λ x. x.0) (meaning r)))) first.first in
     let whole : lengths parts ≡ lengths (first.got.0 ++ others.got) = ap (λ (r : Reading (List Range)). lengths (or_nothing (meaning r))) (sym others.rest) in
-    let sum : blocks_cost b meta r (block ∷ blocks) xs left ≡ block_cost b meta r block left + blocks_cost b meta r blocks behind.got (what_is_left left read.got.rows) = ap (λ ys. blocks_cost b meta r (block ∷ blocks) ys left) (sym all) in
-    omega (arith, cost, rest, whole, sum_by-append (λ (y : Range). y.length) first.got.0 others.got, sum)
+    let gives : (within r).batch to_read b (asked_of b meta r d) block left ≡ Ok (Some read.got) = on _ _ read.got read.first in
+    let next : walk_cost b meta (within r) d (block ∷ blocks) left ≡ block_cost b meta r block left + walk_cost b meta (within r) d blocks (what_is_left left read.got.rows)
+    = ap (λ z. block_cost b meta r block left + walk_cost b meta (within r) d blocks (left_read left z)) gives in
+    omega (arith, cost, rest, whole, sum_by-append (λ (y : Range). y.length) first.got.0 others.got, next)
 
 -- what dictionaries cost together
 dictionaries_total : (b : List ℕ) (meta : Meta) (blocks : List FileBlock) (parts : List Range) → all_need (λ block. dictionary_fetched b meta block) blocks ≡ Ok parts → lengths parts ≡ dictionaries_cost b meta blocks
@@ -70,7 +65,7 @@ record FileParts (b : List ℕ) (r : Request) : Type 0 where
   is : footer_of b ≡ Ok footer
   held : dictionaries_of b meta [] (dictionaries_read meta.blocks meta.dictionaries) ≡ Ok dictionaries
   read : batches_of to_read b (asked_of b meta r dictionaries) true meta.blocks r.limit ≡ Ok batches
-  total : lengths (ranges_fetched b r) ≡ 10 + length footer + (dictionaries_cost b meta (dictionaries_read meta.blocks meta.dictionaries) + blocks_cost b meta r meta.blocks batches r.limit)
+  total : lengths (ranges_fetched b r) ≡ 10 + length footer + (dictionaries_cost b meta (dictionaries_read meta.blocks meta.dictionaries) + walk_cost b meta (within r) dictionaries meta.blocks r.limit)
 
 -- the lengths of two ranges before others
 in_parts : (x y : Range) (zs : List Range) → lengths (x ∷ y ∷ zs) ≡ x.length + y.length + lengths zs
@@ -127,30 +122,26 @@ file_by_footer (Some b) r f f' h = λ some.
     omega (arith, h p.footer p.is, p.total)
 
 -- what is fetched up to a block of a file is among what all of it costs
-cost_within : (b : List ℕ) (meta : Meta) (r : Request) (xs : List TableBatch) (n : ℕ) → n ≤ length meta.blocks → cost_up_to b meta r xs n ≤ dictionaries_cost b meta (dictionaries_read meta.blocks meta.dictionaries) + blocks_cost b meta r meta.blocks xs r.limit
-cost_within b meta r xs zero within = omega arith
-cost_within b meta r xs (suc n) within =
-    let some : dictionaries_read meta.blocks meta.dictionaries ≡ meta.dictionaries = are_read meta.blocks meta.dictionaries n within in
+cost_within : (b : List ℕ) (meta : Meta) (r : Request) (d : Dictionaries) (n : ℕ) → n ≤ length meta.blocks → cost_up_to b meta (within r) d n ≤ dictionaries_cost b meta (dictionaries_read meta.blocks meta.dictionaries) + walk_cost b meta (within r) d meta.blocks r.limit
+cost_within b meta r d zero within = omega arith
+cost_within b meta r d (suc n) less =
+    let some : dictionaries_read meta.blocks meta.dictionaries ≡ meta.dictionaries = reads_all meta.blocks meta.dictionaries (omega (arith, less)) in
     let cost : dictionaries_cost b meta (dictionaries_read meta.blocks meta.dictionaries) ≡ dictionaries_cost b meta meta.dictionaries = ap (dictionaries_cost b meta) some in
-    omega (arith, cost, cost_less b meta r meta.blocks (suc n) xs r.limit)
-  where
-    are_read : (blocks dictionaries : List FileBlock) (n : ℕ) → suc n ≤ length blocks → dictionaries_read blocks dictionaries ≡ dictionaries
-    are_read [] dictionaries n h = absurd (omega (arith, h))
-    are_read (block ∷ blocks) dictionaries n h = refl
+    omega (arith, cost, cost_less b meta (within r) d meta.blocks (suc n) r.limit)
 
-pub file_by_blocks : (content : Option (List ℕ)) (x : Sending) (f mid f' : ℕ) → content ≡ Some x.bytes → FileSays x.bytes (meta_in x) (file_custom x.file) → FooterFetched content f mid → FetchesSome x mid f' → FileFetched content x.request f f'
-file_by_blocks content x f mid f' is says footer some = subst (λ (o : Option (List ℕ)). FileFetched o x.request f f') (sym is) (λ (means : IsSome (file_table x.bytes x.request)). by (table_parts x.bytes x.request means))
+pub file_by_blocks : (x : Sending) (f mid f' : ℕ) → FileSays x.bytes (meta_in x) (file_custom x.file) → FooterFetched (Some x.bytes) f mid → FetchesSome (walking x) mid f' → FileFetched (Some x.bytes) x.request f f'
+file_by_blocks x f mid f' says footer some = λ (means : IsSome (file_table x.bytes x.request)). by (table_parts x.bytes x.request means)
   where
     by : FileParts x.bytes x.request → f' ≤ f + lengths (ranges_fetched x.bytes x.request)
     by p =
-        let front : FooterFetched (Some x.bytes) f mid = subst (λ o. FooterFetched o f mid) is footer in
         let same : p.meta ≡ meta_in x = same_read p.meta (meta_in x) (sym p.says ∙ says.read) in
         let held : dictionaries_of x.bytes (meta_in x) [] (dictionaries_read (meta_in x).blocks (meta_in x).dictionaries) ≡ Ok p.dictionaries = subst (λ (m : Meta). dictionaries_of x.bytes m [] (dictionaries_read m.blocks m.dictionaries) ≡ Ok p.dictionaries) same p.held in
         let has : HasRead x.bytes (meta_in x) p.dictionaries = record { read = held } in
         let read : batches_of to_read x.bytes (asked_in x p.dictionaries) true (meta_in x).blocks x.request.limit ≡ Ok p.batches
         = subst (λ (m : Meta). batches_of to_read x.bytes (asked_of x.bytes m x.request p.dictionaries) true m.blocks x.request.limit ≡ Ok p.batches) same p.read in
-        let total : lengths (ranges_fetched x.bytes x.request) ≡ 10 + length p.footer + (dictionaries_cost x.bytes (meta_in x) (dictionaries_read (meta_in x).blocks (meta_in x).dictionaries) + blocks_cost x.bytes (meta_in x) x.request (meta_in x).blocks p.batches x.request.limit)
-        = subst (λ (m : Meta). lengths (ranges_fetched x.bytes x.request) ≡ 10 + length p.footer + (dictionaries_cost x.bytes m (dictionaries_read m.blocks m.dictionaries) + blocks_cost x.bytes m x.request m.blocks p.batches x.request.limit)) same p.total in
-        let blocks : f' + cost_up_to x.bytes (meta_in x) x.request p.batches 0 ≤ mid + cost_up_to x.bytes (meta_in x) x.request p.batches some.to = some.blocks p.dictionaries p.batches has read in
-        let none : cost_up_to x.bytes (meta_in x) x.request p.batches 0 ≡ 0 = refl in
-        omega (arith, front p.footer p.is, blocks, none, total, cost_within x.bytes (meta_in x) x.request p.batches some.to some.within)
+        let total : lengths (ranges_fetched x.bytes x.request) ≡ 10 + length p.footer + (dictionaries_cost x.bytes (meta_in x) (dictionaries_read (meta_in x).blocks (meta_in x).dictionaries) + walk_cost x.bytes (meta_in x) (within x.request) p.dictionaries (meta_in x).blocks x.request.limit)
+        = subst (λ (m : Meta). lengths (ranges_fetched x.bytes x.request) ≡ 10 + length p.footer + (dictionaries_cost x.bytes m (dictionaries_read m.blocks m.dictionaries) + walk_cost x.bytes m (within x.request) p.dictionaries m.blocks x.request.limit)) same p.total in
+        let walked : blocks_walked to_read x.bytes (within x.request) (asked_in x p.dictionaries) true (meta_in x).blocks x.request.limit ≡ Ok p.batches = blocks_same to_read x.bytes x.request (asked_in x p.dictionaries) true (meta_in x).blocks x.request.limit ∙ read in
+        let blocks : f' + cost_up_to x.bytes (meta_in x) (within x.request) p.dictionaries 0 ≤ mid + cost_up_to x.bytes (meta_in x) (within x.request) p.dictionaries some.to = some.blocks p.dictionaries p.batches has walked in
+        let none : cost_up_to x.bytes (meta_in x) (within x.request) p.dictionaries 0 ≡ 0 = refl in
+        omega (arith, footer p.footer p.is, blocks, none, total, cost_within x.bytes (meta_in x) x.request p.dictionaries some.to some.within)

@@ -1,6 +1,5 @@
 -- Why a batch that was read of a file is not written, whatever the file is.
-use Rattle.std.proofs.Common.{◌≡◌, inl, inr, ℕ, ℤ, List, [], ◌∷◌, ◌⊎◌, true, false, Option, Some, None, Result, Ok, Err, refl, sym, ap, ◌∙◌, subst}
-use Rattle.std.specs.Prelude.{IfErr}
+use Rattle.std.proofs.Common.{◌≡◌, inl, inr, ℕ, ℤ, List, [], ◌∷◌, ◌⊎◌, true, false, Some, None, Err, refl, sym, ap, ◌∙◌, subst}
 use Rattle.arrow_spec.specs.declared.error.IpcError.{IpcError}
 use Rattle.arrow_spec.specs.declared.error.IpcError.TheVariants as errors
 use Rattle.arrow_spec.specs.Kinds.{have_same_kinds, numbered, uses_in}
@@ -14,8 +13,6 @@ use Rattle.ipc_bodies.specs.Encodings.{text_of}
 use Rattle.ipc_bodies.specs.Puts.{Moved, PutsPart}
 use Rattle.ipc_bodies.specs.declared.encoding.Encoding.{Encoding}
 use Rattle.ipc_stream_writer.specs.Below.{begun, columns_fault, columns_of, unless_fault, Options, ToSend, arrays_sent, options_of, RefusesChunk, Stops, RefusesOne, is_started}
-use Rattle.ipc_reader.specs.Reads.{NextBatch}
-use Rattle.ipc_reader.specs.declared.cursor.FileCursor.{FileCursor}
 use Rattle.ipc_reader.specs.Below.{WriteOptions}
 use Rattle.ipc_stream_writer.proofs.Below.{IsOfChunk, batch_refused}
 use Rattle.ipc_stream_writer.specs.Calls.{LeavesAll, WriteCause, WriteFailed, found_before}
@@ -23,8 +20,7 @@ use Rattle.ipc_stream_writer.specs.declared.stream.StreamCore.{StreamCore}
 use Rattle.laws_sent.proofs.Right.{columns_right}
 use Rattle.laws_sent.proofs.Unreplaced.{none_replaced}
 use Rattle.laws_sent.proofs.SayableFields.{numberable}
-use Rattle.ipc_transcode.specs.Sends.{IsReader, IsWriter, SendCause, schema_of_reader}
-use Rattle.ipc_transcode.proofs.Readers.{next_kinds}
+use Rattle.laws_walk.specs.Sends.{IsWriter, SendCause}
 
 -- ── a put ──
 
@@ -61,12 +57,12 @@ module _ (s : List Keyed) (encoded : Encoding) (w : StreamCore) (writer : IsWrit
   numbers = writer.ids.ids (numberable (fields_in s) writer.representable)
 
   -- they have no fault
-  faultless : columns_fault (columns_of (forest y.arrays)) below ≡ None
+  pub faultless : columns_fault (columns_of (forest y.arrays)) (ids_of w.fields.items) ≡ None
   unfolding below
   faultless = columns_right (fields_in s) below (forest y.arrays) kinds writer.ids.shaped (ap (λ fs. uses_agree [] (uses_in fs)) numbers ∙ uses_numbered (fields_in s)) writer.representable
 
   -- and no values that are fixed already
-  unreplaced : (id : ℤ) → Stops (errors.DictionaryReplaced id) (found_before w y) (λ sent. RefusesChunk (errors.DictionaryReplaced id) w.options sent y) → ⊥
+  pub unreplaced : (id : ℤ) → Stops (errors.DictionaryReplaced id) (found_before w y) (λ sent. RefusesChunk (errors.DictionaryReplaced id) w.options sent y) → ⊥
   unfolding below
   unreplaced id (inl memory) = cc
   unreplaced id (inr (inl refused)) =
@@ -86,18 +82,8 @@ module _ (s : List Keyed) (encoded : Encoding) (w : StreamCore) (writer : IsWrit
   suits : have_same_kinds (fields_in w.schema) (columns_of (forest y.arrays)) ≡ true
   suits = ap (λ t. have_same_kinds (fields_in t) (columns_of (forest y.arrays))) writer.schema ∙ kinds
 
-  not_written : (e : IpcError) (w' : StreamCore) (m : Moved) (reads reads' : ℕ) → (WriteCause e w y None × LeavesAll m w w') ⊎ WriteFailed (text_of w.encoding) m e w w' y None → SendCause e reads reads' m.faults m.faults_now
+  pub not_written : (e : IpcError) (w' : StreamCore) (m : Moved) (reads reads' : ℕ) → (WriteCause e w y None × LeavesAll m w w') ⊎ WriteFailed (text_of w.encoding) m e w w' y None → SendCause e reads reads' m.faults m.faults_now
   not_written e w' m reads reads' (inr failed) = put_cause e m _ reads reads' failed.sends.failed.put
   not_written e w' m reads reads' (inl (inl never, leaves)) = let clash : false ≡ true = sym never.1 ∙ ap is_started writer.state in cc
   not_written e w' m reads reads' (inl (inr (started, inl mismatch), leaves)) = absurd (mismatch.1 (record { types = suits; own = tt }))
   not_written e w' m reads reads' (inl (inr (started, inr why), leaves)) = stops_cause e reads reads' m.faults m.faults_now why.1
-
--- ── a file's batch ──
-
--- why the next batch of a reader is not written
-pub write_cause : {S : Type 0} (content_of : S → Option (List ℕ)) (faults_of fetched_of : S → ℕ) (references_of : S → List ℕ) (s s' : S) (c c' : FileCursor) (y : Batch) (r : Result (Option ℕ) IpcError) (e : IpcError) (w w' : StreamCore) (m : Moved) (reads reads' : ℕ)
-    → r ≡ Err e → IsReader c → IsWriter (schema_of_reader c) w.encoding w → NextBatch content_of faults_of fetched_of references_of s s' c c' (Some (Ok y)) → fault_each (forest y.arrays) ≡ None
-    → (WriteCause e w y None × LeavesAll m w w') ⊎ WriteFailed (text_of w.encoding) m e w w' y None → IfErr r (λ x. SendCause x reads reads' m.faults m.faults_now)
-write_cause content_of faults_of fetched_of references_of s s' c c' y r e w w' m reads reads' is reader writer n sound h =
-    subst (λ z. IfErr z (λ x. SendCause x reads reads' m.faults m.faults_now)) (sym is)
-    (not_written (schema_of_reader c) w.encoding w writer y (next_kinds content_of faults_of fetched_of references_of s s' c c' y reader n) sound e w' m reads reads' h)

@@ -15,7 +15,7 @@ use Rattle.laws_sent.specs.Below.{Held}
 use Rattle.ipc_reader.proofs.Below.{short_is_sent, short_then_sent}
 use Rattle.laws_sent.specs.Parts.{PartTree}
 use Rattle.laws_sent.specs.DictionaryLaws.{AreFileColumns, FileDictionariesAreSent, SendsNoMore, SendsValues, sent_message}
-use Rattle.ipc_transcode.specs.Sends.{send_options}
+use Rattle.laws_walk.specs.Sends.{send_options}
 
 -- ── limits ──
 

@@ -1,0 +1,6 @@
+pub mod Below
+pub mod Walks
+pub mod Places
+pub mod Fetching
+pub mod Sends
+pub mod Laws
