@@ -1,27 +1,26 @@
 -- A file that a stream was appended to means its table with the stream's batches behind its own.
-use Rattle.std.proofs.Common.{◌≡◌, ◌∙◌, ℕ, ℤ, List, [], ◌∷◌, ◌++◌, map, true, Option, None, Some, Ok, IfSome, refl, sym, ap, subst, append_assoc}
-use Rattle.std.specs.List.{AllByRecursion, flat_map, list_all}
+use Rattle.std.proofs.Common.{◌≡◌, ◌∙◌, ℕ, ℤ, List, [], ◌∷◌, ◌++◌, map, true, Option, None, Some, IfSome, refl, sym, ap, subst, append_assoc}
+use Rattle.std.specs.List.{AllByRecursion, flat_map}
 use Rattle.std.specs.Option.{option_map}
 use Rattle.std.specs.Rc.{rc_value}
 use Rattle.std.proofs.lemmas.Bool.{and_parts}
-use Rattle.arrow_spec.specs.Arrays.{Dictionaries, found}
-use Rattle.arrow_spec.specs.Files.{ArrowTable, TableBatch, «all», dictionaries_of}
+use Rattle.arrow_spec.specs.Arrays.{found}
+use Rattle.arrow_spec.specs.Files.{ArrowTable, TableBatch, «all»}
 use Rattle.arrow_spec.specs.Kinds.{Fields, have_same_kinds}
 use Rattle.arrow_spec.specs.Meaning.{file_table}
-use Rattle.arrow_spec.specs.Regular.{regular}
 use Rattle.arrow_spec.proofs.ReadPairs.{same_read}
 use Rattle.arrow_types.specs.Schemas.{fields_in}
 use Rattle.arrow_arrays.specs.Batches.{Batch}
 use Rattle.arrow_arrays.specs.Heads.{joined}
 use Rattle.arrow_arrays.specs.Parts.{Forest, cells_each, forest}
 use Rattle.ipc_append.specs.Appends.{HoldsFile, MeansBefore}
-use Rattle.ipc_file_writer.specs.Below.{columns_of, held_by, DictionaryTracker, cells_held}
+use Rattle.ipc_file_writer.specs.Below.{SchemaIsSaid, columns_of, held_by, DictionaryTracker, cells_held}
 use Rattle.ipc_disk.specs.Tails.{cut_and_padded}
 use Rattle.ipc_fields.specs.IpcFields.{metadata_of}
 use Rattle.ipc_file_writer.specs.Calls.{Stays}
-use Rattle.ipc_file_writer.specs.Written.{IsFile, cells_by, own_fields, table_by}
+use Rattle.ipc_file_writer.specs.Written.{cells_by, own_fields, table_by}
 use Rattle.ipc_file_writer.specs.declared.file.FileCore.{FileCore}
-use Rattle.ipc_streams.specs.Below.{meta_view, FileMetadata, table_of, held_in, HoldsCells, WriteOptions}
+use Rattle.ipc_streams.specs.Below.{FileMetadata, table_of, WriteOptions}
 use Rattle.laws_files.specs.Files.{followed_by}
 use Rattle.ipc_append.specs.Appended.{IsPrepared, IsWritten}
 use Rattle.ipc_append.specs.Columns.{are_of, is_of}
@@ -56,11 +55,11 @@ all_of_file fs gs c (b ∷ bs) is same h =
 -- ── the table ──
 
 -- what is not changed by batches is the same
-same_table : (c d : FileCore) (t : ArrowTable) (bs : List TableBatch) → Stays c d → table_by c t.batches ≡ t → table_by d (t.batches ++ bs) ≡ followed_by t bs
+pub same_table : (c d : FileCore) (t : ArrowTable) (bs : List TableBatch) → Stays c d → table_by c t.batches ≡ t → table_by d (t.batches ++ bs) ≡ followed_by t bs
 same_table c d t bs stays is = rw (stays.schema, stays.ipc_schema, stays.pairs) (ap (λ (x : ArrowTable). followed_by x bs) is)
 
-still_regular : (c d : FileCore) → Stays c d → regular (own_fields c) (metadata_of c.pairs.schema) ≡ true → regular (own_fields d) (metadata_of d.pairs.schema) ≡ true
-still_regular c d stays h = rw (stays.schema, stays.ipc_schema, stays.pairs) h
+pub still_said : (c d : FileCore) → Stays c d → SchemaIsSaid (own_fields c) (metadata_of c.pairs.schema) → SchemaIsSaid (own_fields d) (metadata_of d.pairs.schema)
+still_said c d stays h = rw (stays.schema, stays.ipc_schema, stays.pairs) h
 
 module _ (old new : Option (List ℕ)) (asked : WriteOptions) (s : WholeStream) (m : FileMetadata) (chunks : List EncodedChunk) (p : IsPrepared old asked s m chunks) (w : IsWritten old new asked m chunks) where
   means_at : (b : List ℕ) (t : ArrowTable) → old ≡ Some b → MeansBefore b m w.place t → file_table (cut_and_padded w.place b ++ (flat_map chunk_bytes chunks ++ w.ending)) «all» ≡ Some (followed_by t (map table_of s.batches.items))
@@ -75,7 +74,7 @@ module _ (old new : Option (List ℕ)) (asked : WriteOptions) (s : WholeStream) 
       let columns = all_of_file (fields_in (rc_value m.schema)) (fields_in (rc_value s.metadata.schema)) c s.batches.items (ap (λ z. fields_in (rc_value z)) (sym w.continued.continues.schema)) p.takes.kinds s.kinds in
       let meant = all_mean asked _ p.held p.behind s.batches.items chunks c w.last x t.batches w.given p.encoded (sym w.continued.continues.ids) held.fixed columns begun in
       ap (λ y. file_table y «all») (sym (append_assoc x (flat_map chunk_bytes chunks) w.ending))
-      ∙ w.means (still_regular c w.last stays go.is_regular) meant.known (x ++ flat_map chunk_bytes chunks) (t.batches ++ map table_of s.batches.items) meant.file
+      ∙ w.means.said (still_said c w.last stays go.said) meant.known (x ++ flat_map chunk_bytes chunks) (t.batches ++ map table_of s.batches.items) meant.file
       ∙ ap (λ y. Some y) (same_table c w.last t (map table_of s.batches.items) stays go.table)
 
   pub appended_means : (b : List ℕ) (t : ArrowTable) → old ≡ Some b → MeansBefore b m w.place t → IfSome new (λ y. file_table y «all» ≡ Some (followed_by t (map table_of s.batches.items)))

@@ -32,7 +32,7 @@ put_on_disk None mid new end end' bytes s p is = tt
 put_on_disk (Some b) None new end end' bytes s p is = absurd p
 put_on_disk (Some b) (Some x) new end end' bytes s p is = is ∙ ap (λ y. Some y) (p ∙ ap (λ y. y ++ bytes) (take_all end b (omega (arith, s))))
 
-front_of : (b x added : List ℕ) (end' : ℕ) → take end' x ≡ b ++ added → take (length b) x ≡ b
+pub front_of : (b x added : List ℕ) (end' : ℕ) → take end' x ≡ b ++ added → take (length b) x ≡ b
 front_of b x added end' p =
     let n : length b + length added ≡ length (take end' x) = sym (length-append b added) ∙ ap length (sym p) in
     let less : length b ≤ end' = omega (arith, n, length-take end' x) in

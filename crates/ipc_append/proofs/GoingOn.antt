@@ -3,7 +3,6 @@ use Rattle.std.proofs.Common.{◌≡◌, ℕ, ◌-◌, ◌^◌, ◌<◌, ◌≤�
 use Rattle.std.specs.Prelude.{All, FitsSigned, IfOk, if◌then◌else◌}
 use Rattle.std.specs.List.{AllByRecursion}
 use Rattle.std.specs.Option.{option_map}
-use Rattle.std.specs.Rc.{rc_value}
 use Rattle.std.proofs.lemmas.List.{length-map, length-take-le}
 use Rattle.std.proofs.lemmas.List.Elements.{All-head, All-tail}
 use Rattle.arrow_spec.specs.declared.message.Block.{Block}
@@ -12,38 +11,34 @@ use Rattle.arrow_spec.specs.Counts.{magnitude}
 use Rattle.arrow_spec.specs.Features.{chosen_floats}
 use Rattle.arrow_spec.specs.Files.{ArrowTable, FileBlock, Meta, dictionaries_of}
 use Rattle.arrow_spec.specs.Flat.{Order, big, little}
-use Rattle.arrow_spec.specs.Kinds.{Fields, Metadata, bare, uses_in}
+use Rattle.arrow_spec.specs.Kinds.{Fields, Metadata, bare}
 use Rattle.arrow_spec.specs.Layout.{up_to, zeros}
-use Rattle.arrow_spec.specs.Regular.{regular}
-use Rattle.arrow_spec.specs.WrittenSchemas.{AreIds, IdsMayBeWritten, SchemaMayBeWritten}
+use Rattle.arrow_spec.specs.WrittenSchemas.{IdsMayBeWritten, SchemaMayBeWritten}
 use Rattle.arrow_spec.specs.WrittenSchemas as said
 use Rattle.arrow_spec.proofs.Lengths.{length-gap}
-use Rattle.arrow_spec.proofs.ReadPairs.{is_true, same_read, through}
-use Rattle.arrow_types.specs.Schemas.{fields_in}
+use Rattle.arrow_spec.proofs.ReadPairs.{same_read}
 use Rattle.arrow_arrays.specs.Heads.{joined}
 use Rattle.arrow_arrays.specs.Parts.{Forest, cells_each}
 use Rattle.laws_files.specs.FileLaws.{BlockFits}
 use Rattle.ipc_disk.specs.Tails.{cut_and_padded}
-use Rattle.ipc_fields.specs.IpcFields.{fields_with, metadata_of}
+use Rattle.ipc_fields.specs.IpcFields.{metadata_of}
 use Rattle.ipc_streams.specs.Below.{file_custom, meta_view, FileMetadata, held_in, IsNatural, file_block, WriteOptions}
 use Rattle.ipc_io.specs.Outside.{IsSize}
-use Rattle.ipc_file_writer.specs.Below.{serialized, cells_held}
+use Rattle.ipc_file_writer.specs.Below.{cells_held}
 use Rattle.laws_files.specs.Files.{BatchBefore, DictionaryBefore, FrontMeans, MayBeCut, cut_at, read_meta, table_of}
 use Rattle.laws_files.proofs.CutFiles.{cut_means}
 use Rattle.laws_files.proofs.Tables.{front_same}
+use Rattle.laws_sent.proofs.SayableFields.{fields_own}
 use Rattle.ipc_file_writer.specs.Blocks.{file_blocks}
-use Rattle.ipc_file_writer.specs.Calls.{ending_of, file_ids}
-use Rattle.ipc_file_writer.specs.Ends.{file_ending}
 use Rattle.ipc_file_writer.specs.Written.{cells_by, file_fields, front_by, own_fields}
 use Rattle.ipc_file_writer.specs.declared.pairs.FilePairs.{FilePairs}
 use Rattle.ipc_file_writer.proofs.Meaning.{same_front}
+use Rattle.ipc_file_writer.proofs.Said.{may_without}
 use Rattle.ipc_file_writer.specs.declared.file.FileCore.{FileCore}
 use Rattle.ipc_append.specs.Appends.{BatchIsShort, Continues, GoesOnWith, IsAppending, IsContinued, MeansBefore, ValuesAreShort}
 use Rattle.ipc_append.specs.Places.{HaveWidths}
 use Rattle.ipc_append.proofs.Cutting.{may_cut}
 use Rattle.ipc_append.proofs.Places.{EndsBefore, has_end}
-use Rattle.ipc_append.proofs.RegularSchemas.{may_regular}
-use Rattle.ipc_append.proofs.ReadSchemas.{ids_within, may_without, said_same}
 
 -- ── blocks ──
 
@@ -90,13 +85,6 @@ meta_in m order = record {
 meta_little : (m : FileMetadata) → m.ipc_schema.is_little_endian ≡ true → meta_view m ≡ read_meta (meta_view m).schema.fields (meta_view m).schema.metadata (meta_view m).blocks (meta_view m).dictionaries
 meta_little m h = ap (λ (is : Bool). meta_in m (if is then little else big)) h
 
--- what may be ended has ids of 64 bits
-ids_said : (c : FileCore) (bytes : List ℕ) → ending_of c ≡ Ok bytes → AreIds (uses_in (fields_with (fields_in (rc_value c.schema)) (file_ids c)))
-unfolding file_ending serialized
-ids_said c bytes text =
-    through _ _ bytes text λ node node_is h1. through _ _ node node_is λ own own_is h2. through _ _ node h2 λ said said_is h3.
-    ids_within (fields_with (fields_in (rc_value c.schema)) (file_ids c)) (is_true _ _ said said_is)
-
 -- a table by its parts
 table_same : (t : ArrowTable) (fs : Fields) (pairs custom : Metadata) → pairs ≡ t.metadata → custom ≡ t.custom → bare fs ≡ t.fields → table_of fs pairs custom t.batches ≡ t
 table_same t fs pairs custom h k l = rw (h, k, l) refl
@@ -139,27 +127,30 @@ goes_on b t asked m place c h size wide_dictionaries wide_records w =
     let same : law.held ≡ h.held.0 = same_read law.held h.held.0 (sym law.read ∙ ap (λ (y : Meta). dictionaries_of b y [] ds) (sym little_is) ∙ h.held.1) in
     let known : (id : ℤ) → found law.held id ≡ cells_by c id = λ id. ap (λ d. found d id) same ∙ h.held.2 id ∙ cells_same (held_in c.tracker.dictionaries id) in
     let own = own_read asked m place c now in
-    let read : file_fields c ≡ fs = ap said.own_fields own ∙ said_same fs 64 w.read.may.fit in
+    let read : file_fields c ≡ fs = ap said.own_fields own ∙ fields_own 64 fs w.read.may.fit in
     let own_ds : ds ≡ file_blocks c.blocks.dictionaries = ap file_blocks (sym now.dictionaries) in
     let own_rs : rs ≡ file_blocks c.blocks.records = ap file_blocks (sym now.records) in
     let front : cut_at b place gap ds rs ≡ front_by c x = same_front x x ds (file_blocks c.blocks.dictionaries) rs (file_blocks c.blocks.records) refl own_ds own_rs in
     let means : FrontMeans fs (front_by c x) (cells_by c) t.batches
     = subst (λ f. FrontMeans fs f (cells_by c) t.batches) front (front_same fs (cut_at b place gap ds rs) (λ id. found law.held id) (cells_by c) t.batches known law.means) in
-    let ids : IdsMayBeWritten fs = record { within = subst (λ gs. AreIds (uses_in gs)) own (ids_said c h.bytes h.may_end); agree = w.read.readable.agree } in
+    let ids : IdsMayBeWritten (file_fields c) = subst IdsMayBeWritten (sym read) w.read.ids in
     let custom : file_custom m ≡ t.custom = same_read (file_custom m) t.custom (sym w.says.pairs ∙ law.own) in
     record {
       file = record {
         end = now.end ∙ cut_long b place inside;
         means = subst (λ gs. FrontMeans gs (front_by c x) (cells_by c) t.batches) (sym read) means;
         schema = subst (λ gs. SchemaMayBeWritten gs []) (sym read) (may_without fs pairs w.read.may);
-        ids = subst IdsMayBeWritten (sym read) ids;
+        ids = ids;
         floats = subst (λ gs. chosen_floats None gs 0 ≡ []) (sym read) may.kinds;
         dictionaries_fit = subst (AllByRecursion BlockFits) own_ds (fit_all place m.dictionaries.items near end.dictionaries wide_dictionaries end.dictionaries_end);
         records_fit = subst (AllByRecursion BlockFits) own_rs (fit_all place m.blocks.items near end.records wide_records end.records_end);
       };
       table = table_same t (file_fields c) (metadata_of c.pairs.schema) (metadata_of c.pairs.footer) (ap (λ (p : FilePairs). metadata_of p.schema) now.pairs ∙ sym law.metadata)
           (ap (λ (p : FilePairs). metadata_of p.footer) now.pairs ∙ custom) (ap bare read ∙ sym law.fields);
-      is_regular = subst (λ gs. regular gs (metadata_of c.pairs.schema) ≡ true) (sym own) (subst (λ (p : FilePairs). regular fs (metadata_of p.schema) ≡ true) (sym now.pairs) (may_regular fs pairs w.read.may));
+      said = record {
+        schema = subst (λ gs. SchemaMayBeWritten gs (metadata_of c.pairs.schema)) (sym read) (subst (λ (p : FilePairs). SchemaMayBeWritten fs (metadata_of p.schema)) (sym now.pairs) w.read.may);
+        ids = ids;
+      };
     }
 
 pub all_go_on : {W E : Type 0} (r : Result W E) (content_of : W → Option (List ℕ)) (end_of : W → ℕ) (core_of : W → FileCore) (old middle : Option (List ℕ)) (asked : WriteOptions) (m : FileMetadata) (place : ℕ) (c : FileCore)

@@ -13,6 +13,5 @@ pub mod Refused
 pub mod Places
 pub mod Cutting
 pub mod Appending
-pub mod ReadSchemas
-pub mod RegularSchemas
 pub mod GoingOn
+pub mod EndingSteps

@@ -1,5 +1,5 @@
 -- Messages that were encoded are put, one batch after another, and the file is ended behind them.
-use Rattle.std.proofs.Common.{◌≡◌, ◌∙◌, ◌⊎◌, inl, inr, ℕ, suc, ◌+◌, ◌<◌, ◌≤◌, List, [], ◌∷◌, ◌++◌, length, take, drop, get_or, Bool, true, false, Option, Some, None, Result, Ok, Err, refl, sym, ap, subst, arith, add-one, append-nil, true≢false}
+use Rattle.std.proofs.Common.{◌≡◌, ◌∙◌, ◌⊎◌, inl, inr, ℕ, suc, ◌+◌, ◌<◌, ◌≤◌, List, [], ◌∷◌, ◌++◌, length, take, drop, get_or, true, false, Option, Some, None, Result, Ok, Err, refl, sym, ap, subst, arith, add-one, append-nil, true≢false}
 use Rattle.std.specs.List.{flat_map}
 use Rattle.std.specs.Result.{IsErrAnd}
 use Rattle.std.specs.Rc.{rc_value}
@@ -12,8 +12,7 @@ use Rattle.arrow_spec.specs.declared.error.IpcError.{IpcError}
 use Rattle.arrow_spec.specs.declared.error.IpcError.TheVariants as errors
 use Rattle.arrow_spec.specs.Flat.{little}
 use Rattle.arrow_spec.specs.Layout.{Node}
-use Rattle.arrow_spec.specs.Readings.{IsAmong, Reading, bind, ◌>>=◌, refusals, unless}
-use Rattle.arrow_spec.proofs.Projection.{on}
+use Rattle.arrow_spec.specs.Readings.{IsAmong, Reading, refusals}
 use Rattle.arrow_spec.proofs.ReadPairs.{through}
 use Rattle.arrow_types.specs.Schemas.{fields_in}
 use Rattle.laws_sent.specs.Below.{Moved, NoneFalls, PutsPart, moved}
@@ -23,6 +22,7 @@ use Rattle.ipc_fields.specs.declared.ipc_field.IpcSchema.{IpcSchema}
 use Rattle.ipc_file_writer.specs.Begun.{MayEnd}
 use Rattle.ipc_file_writer.specs.Calls.{FinishCause, Finishes, Stays, ending_of, file_ids, file_schema}
 use Rattle.ipc_file_writer.specs.Ends.{file_ending}
+use Rattle.ipc_file_writer.proofs.Causes as limited
 use Rattle.ipc_file_writer.specs.Given.{GivenCause, HasGiven, RefusesGiven, WritesGiven}
 use Rattle.ipc_file_writer.specs.declared.file.FileCore.{FileCore}
 use Rattle.ipc_file_writer.specs.declared.pairs.FilePairs.{FilePairs}
@@ -41,10 +41,10 @@ pub started_behind : (c d : FileCore) (xs : List EncodedChunk) → AreGiven c d 
 started_behind c d [] none_given h = h
 started_behind c d (x ∷ xs) (one_given {d = w} first others) h = started_behind w d xs others (ap is_started first.given.puts.held.state ∙ first.given.started)
 
-same_stays : (c : FileCore) → Stays c c
+pub same_stays : (c : FileCore) → Stays c c
 same_stays c = record { options = refl; schema = refl; ipc_schema = refl; pairs = refl; tracker = refl }
 
-stays_more : (c d e : FileCore) → Stays c d → Stays d e → Stays c e
+pub stays_more : (c d e : FileCore) → Stays c d → Stays d e → Stays c e
 stays_more c d e h k = record { options = k.options ∙ h.options; schema = k.schema ∙ h.schema; ipc_schema = k.ipc_schema ∙ h.ipc_schema; pairs = k.pairs ∙ h.pairs; tracker = k.tracker ∙ h.tracker }
 
 pub stays_behind : (c d : FileCore) (xs : List EncodedChunk) → AreGiven c d xs → Stays c d
@@ -148,14 +148,6 @@ all_put m old new i cs h t = record {
 
 -- ── the end ──
 
-two_large : (t q : Bool) (x : List ℕ) (e : IpcError) → IsAmong (refusals (unless t errors.TooLarge >>= λ _. unless q errors.TooLarge >>= λ _. Ok x)) e → e ≡ errors.TooLarge
-unfolding bind
-two_large true true x e h = absurd h
-two_large true false x e (inl h) = sym h
-two_large true false x e (inr h) = absurd h
-two_large false q x e (inl h) = sym h
-two_large false q x e (inr h) = absurd h
-
 abbrev schema_of : FileCore → Reading Node
 schema_of c = serialized little (fields_in (file_schema c)) (file_ids c) (metadata_of c.pairs.schema)
 
@@ -165,7 +157,7 @@ unfolding file_ending
 end_too_large c d bytes e st h k = through (schema_of c) _ bytes h λ s s_is _.
     let same : schema_of d ≡ Ok s = ap (λ x. serialized little (fields_in (rc_value x)) (file_ids d) (metadata_of d.pairs.schema)) st.schema ∙ ap (λ (x : IpcSchema). serialized little (fields_in (file_schema c)) (ids_of x.fields.items) (metadata_of d.pairs.schema)) st.ipc_schema
     ∙ ap (λ (x : FilePairs). serialized little (fields_in (file_schema c)) (file_ids c) (metadata_of x.schema)) st.pairs ∙ s_is in
-    two_large _ _ _ e (subst (λ r. IsAmong (refusals r) e) (on (schema_of d) _ s same) k)
+    limited.end_too_large d.options (fields_in (file_schema d)) (file_ids d) d.pairs d.blocks s e same k
 
 finish_cause : (e : IpcError) (c : FileCore) (f g : ℕ) → is_started c.state ≡ true → (IsAmong (refusals (ending_of c)) e → e ≡ errors.TooLarge) → FinishCause e c → PutCause e f g
 finish_cause e c f g s k (inl h) = absurd (true≢false (sym s ∙ h.1))

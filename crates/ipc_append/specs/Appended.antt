@@ -122,7 +122,7 @@ pub record IsWritten (old new : Option (List ℕ)) (asked : WriteOptions) (m : F
   pub given : AreGiven core last chunks
   pub ending : List ℕ
   pub ends : ending_of last ≡ Ok ending
-  -- where its schema is regular, whatever stands before its end means a table then
+  -- where its schema may be said, whatever stands before its end means a table then
   pub means : EndsFile last ending
   pub content : IfSome old (λ b. new ≡ Some (cut_and_padded place b ++ (flat_map chunk_bytes chunks ++ ending)))
 

@@ -1,5 +1,5 @@
 -- A file that is cut behind its last block and goes on there. (Arrow Columnar Format, "IPC File Format".)
-use Rattle.std.specs.Prelude.{◌≡◌, ◌⊎◌, ◌≤◌, ℕ, List, [], length, nat_le, true, false, Option, None, Some, Ok, IfSome, option_map}
+use Rattle.std.specs.Prelude.{◌≡◌, ◌⊎◌, ◌≤◌, ℕ, List, [], length, nat_le, false, Option, None, Some, Ok, IfSome, option_map}
 use Rattle.std.specs.List.{AllByRecursion}
 use Rattle.arrow_spec.specs.declared.error.Counted.TheVariants.{Pairs}
 use Rattle.arrow_spec.specs.declared.error.Feature.TheVariants.{BigEndianAppend, Compression}
@@ -12,7 +12,6 @@ use Rattle.arrow_spec.specs.Layout.{up_to}
 use Rattle.arrow_spec.specs.Meaning.{file_table}
 use Rattle.arrow_spec.specs.Messages.{BatchHeader, DictionaryBatch, Message, batch_at, dictionary_at}
 use Rattle.arrow_spec.specs.Readings.{◌>>=◌, IsAmong, Reading, Refuses, free_of, is_absent, refusals, unless}
-use Rattle.arrow_spec.specs.Regular.{regular}
 use Rattle.ipc_fields.specs.IpcFields.{ids_of, metadata_of}
 use Rattle.ipc_file_writer.specs.Calls.{ending_of, file_ids}
 use Rattle.ipc_file_writer.specs.Written.{IsFile, cells_by, own_fields, table_by}
@@ -21,7 +20,7 @@ use Rattle.ipc_streams.specs.Below.{HoldsUses, FileCause, FileSays, WasRead, fil
 use Rattle.ipc_disk.specs.Disks.{below}
 use Rattle.ipc_disk.specs.Tails.{cut_and_padded}
 use Rattle.ipc_io.specs.Outside.{Rose}
-use Rattle.ipc_file_writer.specs.Below.{Started}
+use Rattle.ipc_file_writer.specs.Below.{SchemaIsSaid, Started}
 use Rattle.ipc_append.specs.Places.{last_end}
 
 -- Where a file is cut: it is little-endian, and neither compression nor a column that no array is of is asked for; its blocks are as above; its footer has no more pairs than any, and it goes on below 2^63.
@@ -102,11 +101,11 @@ pub record MeansBefore (b : List ℕ) (m : FileMetadata) (place : ℕ) (t : Arro
   pub dictionaries : AllByRecursion (ValuesAreShort b place) (meta_view m).dictionaries
   pub records : AllByRecursion (BatchIsShort b place) (meta_view m).blocks
 
--- a writer of a file of so many bytes goes on with a table: by its blocks they mean the table's batches, the table has its fields and pairs, and its schema is regular
+-- a writer of a file of so many bytes goes on with a table: by its blocks they mean the table's batches, the table has its fields and pairs, and its schema may be said
 pub record GoesOnWith (c : FileCore) (x : List ℕ) (t : ArrowTable) : Type 0 where
   pub file : IsFile (cells_by c) c x t.batches
   pub table : table_by c t.batches ≡ t
-  pub is_regular : regular (own_fields c) (metadata_of c.pairs.schema) ≡ true
+  pub said : SchemaIsSaid (own_fields c) (metadata_of c.pairs.schema)
 
 -- ── appended ──
 

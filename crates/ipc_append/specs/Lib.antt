@@ -7,3 +7,4 @@ pub mod Puts
 pub mod Appended
 pub mod Places
 pub mod Appends
+pub mod Endings

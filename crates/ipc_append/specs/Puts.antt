@@ -70,7 +70,7 @@ pub record IsEnded (m : Moved) (old : FileCore) (cs : List EncodedChunk) : Type 
   pub given : AreGiven old last cs
   pub ending : List ℕ
   pub ends : ending_of last ≡ Ok ending
-  -- where the file's schema is regular, whatever it means is a table then
+  -- where the file's schema may be said, whatever it means is a table then
   pub means : written.EndsFile last ending
   pub appended : Appends m.old m.new (flat_map chunk_bytes cs ++ ending)
   pub counts : NoneFalls m

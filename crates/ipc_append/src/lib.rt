@@ -4,6 +4,7 @@
 mod append;
 mod checks;
 mod encode;
+mod ending;
 mod ends;
 mod prepare;
 mod put;
@@ -12,6 +13,7 @@ mod stream_append;
 mod whole;
 
 pub use append::try_from_file;
+pub use ending::finish_on_disk;
 pub use ipc_file_writer::{
     BegunFile, BodyBuffer, BodyPlan, Compression, EncodedData, FileCore, FileWriter, Record,
     WriteOptions, encode_record_batch, encode_values, message_to_bytes, pad_to_64, plan_batch,

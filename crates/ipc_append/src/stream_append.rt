@@ -1,14 +1,13 @@
 //! A stream's record batches, appended to a file on a disk.
 ghost use Rattle.std.specs.Prelude.{◌≡◌, ◌≤◌, IfErr, IfOk, MatchResult, Ok, length, true};
-ghost use Rattle.arrow_spec.specs.declared.error.IpcError.TheVariants.{WriteFault};
 ghost use Rattle.ipc_append.specs.Appended.{EndsDisk, IsAppended, IsNotAppended, IsWritten, RefusalSays, StopsOnDisk, WritesNot};
 ghost use Rattle.ipc_file_writer.specs.Begun.{MayEnd};
 ghost use Rattle.ipc_streams.specs.Below.{IsReadable};
-ghost use Rattle.ipc_disk.specs.Disks.{below};
-ghost use Rattle.ipc_io.specs.Outside.{IsSize, Rose};
+ghost use Rattle.ipc_io.specs.Outside.{IsSize};
 ghost use Rattle.ipc_file_writer.specs.Below.{is_started};
 
 use crate::encode::EncodedChunk;
+use crate::ending::cut_behind;
 use crate::prepare::{Prepared, prepare};
 use crate::put::write_file;
 use crate::stream::WholeStream;
@@ -18,24 +17,6 @@ use ipc_disk::{Disk, DiskTail};
 use ipc_file_writer::{FileWriter, WriteOptions};
 use ipc_io::Refused;
 use std::alloc::Global;
-
-/// Cuts a disk off at the end of its tail.
-fn cut_behind<D: Disk>(tail: DiskTail<D>) -> Result<D, Refused<D>>
-    ensures content { IfOk result (λ d. D.content d ≡ below tail.end (D.content tail.disk)) }
-    ensures kept { IfErr result (λ e. D.content e.object ≡ D.content tail.disk) }
-    ensures error { IfErr result (λ e. e.error ≡ WriteFault) }
-    ensures faults { MatchResult result (λ d. D.faults tail.disk ≤ D.faults d) (λ e. D.faults tail.disk ≤ D.faults e.object) }
-    ensures rose { IfErr result (λ e. Rose (D.faults tail.disk) (D.faults e.object)) }
-    ensures same_references { MatchResult result (λ d. D.references d ≡ D.references tail.disk) (λ e. D.references e.object ≡ D.references tail.disk) }
-{
-    match tail.cut_off() {
-        Ok(disk) => Ok(disk),
-        Err(refused) => Err(Refused {
-            error: refused.error,
-            object: refused.disk,
-        }),
-    }
-}
 
 /// Writes messages behind what a disk has, and ends the file there.
 fn end_file<D: Disk>(

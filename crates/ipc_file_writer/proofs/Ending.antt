@@ -1,7 +1,7 @@
 -- What stands before a file's first message and behind its last.
 use Rattle.std.proofs.Common.{◌≡◌, ◌⊎◌, inl, inr, ℕ, ◌+◌, ◌<◌, ◌≤◌, List, [], ◌++◌, Bool, true, false, length, min, Ok, Err, refl, sym, ap, ◌∙◌, subst, arith, length-append}
 use Rattle.std.specs.Prelude.{nat_le}
-use Rattle.std.proofs.lemmas.Bool.{le-leb, lt-leb}
+use Rattle.std.proofs.lemmas.Bool.{le-leb, leb-true, lt-leb}
 use Rattle.arrow_spec.specs.declared.error.IpcError.{IpcError}
 use Rattle.arrow_spec.specs.declared.error.IpcError.TheVariants as errors
 use Rattle.arrow_spec.specs.Flat.{little}
@@ -13,6 +13,7 @@ use Rattle.arrow_spec.specs.Readings.{IsAmong, Reading, Refuses, bind, refusals,
 use Rattle.arrow_spec.specs.Regular.{representable}
 use Rattle.arrow_spec.specs.Sent.{schema_node}
 use Rattle.arrow_spec.proofs.NextMessages.{length-layout}
+use Rattle.arrow_spec.proofs.ReadPairs.{is_true, same_read, through}
 use Rattle.arrow_types.specs.Schemas.{Keyed, fields_in}
 use Rattle.ipc_fields.specs.IpcFields.{Ids, fields_with, ids_of, metadata_of}
 use Rattle.ipc_fields.specs.declared.ipc_field.IpcField.{IpcField}
@@ -167,3 +168,11 @@ footer_given options fs below pairs blocks n v text s b h f t =
     ending_steps options fs below pairs blocks
     ∙ passed (serialized little fs below (metadata_of pairs.schema)) (is_small options fs below pairs blocks) (is_near fs below pairs blocks) end n s (small_test options fs below pairs blocks v b h) test
     ∙ ap Ok (sym (t ∙ ap file_end b))
+
+-- it ends below 2^63
+pub end_near : (options : WriteOptions) (fs : Fields) (below : Ids) (pairs : FilePairs) (blocks : FileBlocks) (text : List ℕ) → file_ending options fs below pairs blocks ≡ Ok text → blocks.end + length text ≤ 9223372036854775807
+unfolding file_ending
+end_near options fs below pairs blocks text h =
+    through _ _ text h λ schema schema_is h1. through _ _ text h1 λ small small_is h2. through _ _ text h2 λ placed placed_is h3.
+    let end = file_end (layout (file_footer fs below pairs blocks)) in
+    subst (λ x. blocks.end + length x ≤ 9223372036854775807) (same_read _ text h3) (leb-true (blocks.end + length end) 9223372036854775807 (is_true _ errors.TooLarge placed placed_is))

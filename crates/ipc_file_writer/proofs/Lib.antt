@@ -1,11 +1,13 @@
 pub mod Below
 pub mod BatchSteps
 pub mod BlockBytes
+pub mod Causes
 pub mod Calling
 pub mod Ending
 pub mod FooterNodes
 pub mod Growing
 pub mod PlacedBlocks
+pub mod Said
 pub mod GivenSteps
 pub mod Meaning
 pub mod GivenMeaning

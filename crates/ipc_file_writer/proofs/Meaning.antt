@@ -14,7 +14,6 @@ use Rattle.arrow_spec.specs.Framing.{message_bytes}
 use Rattle.arrow_spec.specs.Kinds.{Fields, Metadata, have_same_kinds}
 use Rattle.arrow_spec.specs.Layout.{layout, size}
 use Rattle.arrow_spec.specs.Meaning.{file_table}
-use Rattle.arrow_spec.specs.Regular.{regular}
 use Rattle.arrow_spec.specs.Sent.{SentMessage, schema_message}
 use Rattle.arrow_spec.specs.WrittenSchemas.{Ascend, FieldsFit}
 use Rattle.arrow_spec.specs.WrittenSchemas as schemas
@@ -28,7 +27,7 @@ use Rattle.ipc_messages.specs.Below.{Moved, begun, columns_fault, columns_of, un
 use Rattle.laws_files.specs.Below.{bytes_of}
 use Rattle.ipc_messages.proofs.Below.{same_message}
 use Rattle.ipc_messages.specs.Messages.{Sizes, chunk_text, sent_sizes, sizes_of}
-use Rattle.ipc_messages.specs.Schemas.{StartMayBeWritten, stream_text}
+use Rattle.ipc_messages.specs.Schemas.{SchemaIsSaid, StartMayBeWritten, stream_text}
 use Rattle.laws_writers.specs.Heard.{cells_held}
 use Rattle.laws_writers.specs.Chunks.{chunk_of}
 use Rattle.laws_writers.specs.Written.{cells_of, said_fields}
@@ -40,14 +39,14 @@ use Rattle.laws_files.specs.Files as files
 use Rattle.laws_files.specs.WrittenLaws.{EndedFrontMeansItsTable}
 use Rattle.laws_files.proofs.Tables.{front_same, only_begun_means}
 use Rattle.laws_writers.proofs.FileChunks.{chunk_goes}
-use Rattle.laws_writers.proofs.Pairs.{regular_without, schema_may_with}
 use Rattle.ipc_file_writer.specs.declared.file.FileCore.{FileCore}
 use Rattle.ipc_file_writer.specs.Blocks.{are_placed, behind, behind_all, block_at, blocks_at, chunk_sizes, file_blocks, is_placed}
 use Rattle.ipc_file_writer.specs.Calls.{HasSent, ending_of, file_ids, file_schema}
 use Rattle.ipc_file_writer.specs.Ends.{file_ending, file_footer, file_start, no_pairs}
-use Rattle.ipc_file_writer.specs.Written.{EndsFile, HasNothing, IsFile, cells_by, file_fields, front_by, own_fields}
+use Rattle.ipc_file_writer.specs.Written.{EndsFile, MeansItsTable, HasNothing, IsFile, cells_by, file_fields, front_by, own_fields}
 use Rattle.ipc_file_writer.proofs.Growing.{behind_values}
 use Rattle.ipc_file_writer.proofs.PlacedBlocks.{blocks_more}
+use Rattle.ipc_file_writer.proofs.Said.{said_regular}
 
 -- bytes and blocks that are the same
 abbrev begun_of : List ℕ → List FileBlock → List FileBlock → Begun
@@ -66,13 +65,13 @@ started options fs below bytes message h e f =
     sym e ∙ ap (λ x. file_front ++ x) (f ∙ append-nil one)
 
 pub begun_file : (options : WriteOptions) (c : FileCore) (bytes : List ℕ) → file_start options (fields_in (rc_value c.schema)) (ids_of c.ipc_schema.fields.items) ≡ Ok bytes → StartMayBeWritten (own_fields c) no_pairs → HasNothing c → c.blocks.end ≡ length bytes
-    → (pairs : Metadata) → regular (own_fields c) pairs ≡ true → IsFile (cells_by c) c bytes []
+    → SchemaIsSaid (own_fields c) [] → IsFile (cells_by c) c bytes []
 unfolding file_start
-begun_file options c bytes text may nothing end pairs reg =
+begun_file options c bytes text may nothing end said =
     through _ _ bytes text λ message message_is rest.
     let fs = fields_in (rc_value c.schema) in
     let below = ids_of c.ipc_schema.fields.items in
-    let put = schema_is_put options fs below no_pairs (held_by c.tracker) message message_is (may.said (regular_without (own_fields c) pairs reg)) may.message nothing.held in
+    let put = schema_is_put options fs below no_pairs (held_by c.tracker) message message_is said may.message nothing.held in
     let is : bytes ≡ files.file_start (file_fields c) = started options fs below bytes message message_is (same_read _ bytes rest) put.1 in
     let ds : file_blocks c.blocks.dictionaries ≡ [] = ap (map file_block) nothing.dictionaries in
     let rs : file_blocks c.blocks.records ≡ [] = ap (map file_block) nothing.records in
@@ -163,9 +162,9 @@ sent_file m old new b h types kept x bs w =
 same_footer : (fs : Fields) (pairs custom : Metadata) (ds rs : List FileBlock) (levels : ℕ) → FieldsFit levels (schemas.own_fields fs) → footer_node (schemas.own_fields fs) pairs custom ds rs ≡ footer_node fs pairs custom ds rs
 same_footer fs pairs custom ds rs levels fit = rw (nodes_own fs levels fit) refl
 
-pub ended_file : EndedFrontMeansItsTable → (c : FileCore) (bytes : List ℕ) → ending_of c ≡ Ok bytes → Ascend [] (metadata_of c.pairs.schema) → Ascend [] (metadata_of c.pairs.footer) → length (metadata_of c.pairs.footer) ≤ 1048576 → EndsFile c bytes
+ended_table : EndedFrontMeansItsTable → (c : FileCore) (bytes : List ℕ) → ending_of c ≡ Ok bytes → Ascend [] (metadata_of c.pairs.footer) → length (metadata_of c.pairs.footer) ≤ 1048576 → SchemaIsSaid (own_fields c) (metadata_of c.pairs.schema) → MeansItsTable c bytes
 unfolding file_ending
-ended_file law c bytes text up own_up few reg k x bs w =
+ended_table law c bytes text own_up few said k x bs w =
     through _ _ bytes text λ schema schema_is h1. through _ _ bytes h1 λ small small_is h2. through _ _ bytes h2 λ placed placed_is h3.
     let fs = own_fields c in
     let own = metadata_of c.pairs.schema in
@@ -174,7 +173,7 @@ ended_file law c bytes text up own_up few reg k x bs w =
     let same : footer_of (file_fields c) own custom (front_by c x) ≡ footer = same_footer fs own custom (file_blocks c.blocks.dictionaries) (file_blocks c.blocks.records) 64 w.schema.fit in
     let short : size footer ≤ min c.options.metadata_limit 2147483647 = leb-true (size footer) (min c.options.metadata_limit 2147483647) (is_true _ TooLarge small small_is) in
     let may : MayBeEnded (file_fields c) own custom (front_by c x) = record {
-      schema = schema_may_with fs [] own w.schema reg up;
+      schema = said.schema;
       ids = w.ids;
       own = record { ascend = own_up; few = few };
       readable = w.floats;
@@ -184,3 +183,9 @@ ended_file law c bytes text up own_up few reg k x bs w =
     } in
     let e : x ++ bytes ≡ ended (file_fields c) own custom (front_by c x) = ap (λ z. x ++ z) (sym (same_read _ bytes h3)) ∙ ap (λ n. x ++ file_end (layout n)) (sym same) in
     ap (λ z. file_table z «all») e ∙ law (file_fields c) own custom (front_by c x) k bs w.means may
+
+pub ended_file : EndedFrontMeansItsTable → (c : FileCore) (bytes : List ℕ) → ending_of c ≡ Ok bytes → Ascend [] (metadata_of c.pairs.schema) → Ascend [] (metadata_of c.pairs.footer) → length (metadata_of c.pairs.footer) ≤ 1048576 → EndsFile c bytes
+ended_file law c bytes text up own_up few = record {
+  said = λ said. ended_table law c bytes text own_up few said;
+  written = λ reg k x bs w. ended_table law c bytes text own_up few (said_regular (own_fields c) [] (metadata_of c.pairs.schema) w.schema w.ids reg up) k x bs w;
+}

@@ -1,5 +1,5 @@
 -- What the calls of a writer of a file do to it, and what they put. (Arrow Columnar Format, "IPC File Format".)
-use Rattle.std.specs.Prelude.{◌≡◌, ◌⊎◌, ◌++◌, ◌∷◌, ℤ, List, [], Bool, true, false, not, ◌&&◌, ◌||◌, Option, Some, None, Result, Ok, Err, ℕ, String, length}
+use Rattle.std.specs.Prelude.{◌≡◌, ◌⊎◌, ◌+◌, ◌++◌, ◌∷◌, ℤ, List, [], Bool, true, false, not, ◌&&◌, ◌||◌, Option, Some, None, Result, Ok, Err, ℕ, String, length}
 use Rattle.std.specs.BTreeMap.{BTreeMap}
 use Rattle.std.specs.Rc.{rc_value}
 use Rattle.std.specs.Io.KnownBytes.{Appends}
@@ -21,7 +21,7 @@ use Rattle.ipc_messages.specs.Batches.{Suits}
 use Rattle.ipc_messages.specs.Fields.{AreIdsFor}
 use Rattle.ipc_messages.specs.Messages.{chunk_text}
 use Rattle.ipc_messages.specs.Puts.{Grew, Untouched}
-use Rattle.ipc_messages.specs.Schemas.{IsRefusedAs}
+use Rattle.ipc_messages.specs.Schemas.{IsRefusedAs, SchemaIsSaid}
 use Rattle.ipc_messages.specs.States.{is_new, is_started}
 use Rattle.laws_writers.specs.Written.{cells_of}
 use Rattle.ipc_file_writer.specs.Written.{EndsFile, HasNothing, IsFile, cells_by, own_fields}
@@ -120,7 +120,8 @@ pub record HasBegun (m : Moved) (old new : FileCore) : Type 0 where
   pub tracker : new.tracker ≡ old.tracker
   pub written : new.has_written ≡ old.has_written
   pub stays : Stays old new
-  -- where nothing was written before, and the schema is regular, with whatever pairs, the bytes mean no batches
+  -- where nothing was written before, and the schema may be said, with whatever pairs, the bytes mean no batches; it may where it is regular
+  pub said : HasNothing old → (pairs : Metadata) → SchemaIsSaid (own_fields old) pairs → IsFile (cells_by new) new bytes []
   pub means : HasNothing old → (pairs : Metadata) → regular (own_fields old) pairs ≡ true → IsFile (cells_by new) new bytes []
 
 -- why none was: it was before, or memory was wanted, or the schema is refused
@@ -225,8 +226,14 @@ pub record HasFinished (m : Moved) (old new : FileCore) : Type 0 where
   pub text : ending_of old ≡ Ok bytes
   pub appended : Appends m.old m.new bytes
   pub counts : NoneFalls m
-  pub same : HasNoMore old new
-  -- where the schema is regular, the bytes end a file that means the table of the batches
+  pub tracker : new.tracker ≡ old.tracker
+  pub dictionaries : new.blocks.dictionaries ≡ old.blocks.dictionaries
+  pub records : new.blocks.records ≡ old.blocks.records
+  -- how many bytes the file has
+  pub end : new.blocks.end ≡ old.blocks.end + length bytes
+  pub written : new.has_written ≡ old.has_written
+  pub stays : Stays old new
+  -- where the schema may be said, the bytes end a file that means the table of the batches
   pub means : EndsFile old bytes
 
 -- why none was: it is not begun, or is ended, or a put has failed; or memory was wanted, or the footer or its place is refused

@@ -12,6 +12,7 @@ use Rattle.arrow_types.specs.Schemas.{fields_in}
 use Rattle.laws_files.specs.FileLaws.{BlockFits}
 use Rattle.ipc_fields.specs.IpcFields.{fields_with, ids_of, metadata_of}
 use Rattle.ipc_messages.specs.Below.{held_by}
+use Rattle.ipc_messages.specs.Schemas.{SchemaIsSaid}
 use Rattle.laws_files.specs.Below.{Known}
 use Rattle.laws_writers.specs.Heard.{cells_held}
 use Rattle.laws_writers.specs.Written.{said_fields}
@@ -55,7 +56,11 @@ pub record IsFile (k : Known) (c : FileCore) (x : List ℕ) (bs : List TableBatc
   pub dictionaries_fit : AllByRecursion BlockFits (file_blocks c.blocks.dictionaries)
   pub records_fit : AllByRecursion BlockFits (file_blocks c.blocks.records)
 
--- Behind whatever the file means, some bytes end it, where its schema is regular: it means the table of its batches.
-abbrev pub EndsFile : FileCore → List ℕ → Type 0
-EndsFile c bytes = regular (own_fields c) (metadata_of c.pairs.schema) ≡ true → (k : Known) (x : List ℕ) (bs : List TableBatch) → IsFile k c x bs
-    → file_table (x ++ bytes) «all» ≡ Some (table_by c bs)
+-- Behind whatever the file means, some bytes end it: it means the table of its batches.
+abbrev pub MeansItsTable : FileCore → List ℕ → Type 0
+MeansItsTable c bytes = (k : Known) (x : List ℕ) (bs : List TableBatch) → IsFile k c x bs → file_table (x ++ bytes) «all» ≡ Some (table_by c bs)
+
+-- They do where its schema may be said, which it may where it is regular.
+pub record EndsFile (c : FileCore) (bytes : List ℕ) : Type 0 where
+  pub said : SchemaIsSaid (own_fields c) (metadata_of c.pairs.schema) → MeansItsTable c bytes
+  pub written : regular (own_fields c) (metadata_of c.pairs.schema) ≡ true → MeansItsTable c bytes

@@ -90,6 +90,13 @@ impl FileCore {
         })
     }
 
+    /// How many bytes the file has: those that it had where it goes on, and those that were put by calls that were Ok.
+    pub fn byte_count(&self) -> u64
+        ensures { result ≡ self.now.blocks.end }
+    {
+        self.blocks.end
+    }
+
     /// Gives the schema pairs of its own, which count for a later `finish`. They stand in the footer alone.
     pub fn set_custom_schema_metadata(&mut self, pairs: Metadata)
         ensures pairs { self.new.pairs ≡ record { schema = Some pairs; footer = self.old.pairs.footer } }
@@ -289,6 +296,7 @@ impl FileCore {
         let ending = self.ending()?;
         match put_whole(sink, ending.as_slice()) {
             Ok(()) => {
+                self.blocks.end += ending.len() as u64;
                 self.state = WriterState::Finished;
                 Ok(())
             }

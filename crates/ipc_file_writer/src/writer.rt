@@ -112,6 +112,13 @@ impl<W: Sink> FileWriter<W> {
         self.core.set_footer_metadata(pairs)
     }
 
+    /// How many bytes the file has, as [`FileCore::byte_count`] says.
+    pub fn byte_count(&self) -> u64
+        ensures { result ≡ self.now.core.blocks.end }
+    {
+        self.core.byte_count()
+    }
+
     /// Begins the file, as [`FileCore::start`] does.
     ///
     /// # Errors

@@ -1,18 +1,17 @@
 -- A file of generated batches as it is written: what a writer refuses of them, and what it holds behind them.
-use Rattle.std.proofs.Common.{◌≡◌, ◌⊎◌, ◌≤◌, ℕ, zero, suc, inl, inr, List, [], ◌∷◌, ◌++◌, Bool, true, false, Option, None, Some, Result, Ok, Err, refl, sym, ap, ◌∙◌, subst, arith, ◌+◌, length, nat_le, min}
-use Rattle.std.specs.Prelude.{ℤ, pos, ⊤, IfErr, IfOk, IsErrAnd, IsSome, OnOk}
+use Rattle.std.proofs.Common.{◌≡◌, ℕ, inl, inr, List, [], ◌∷◌, ◌++◌, Bool, true, false, Option, None, Some, Result, Ok, Err, refl, sym, ap, ◌∙◌, subst, arith, ◌+◌, length, nat_le, min}
+use Rattle.std.specs.Prelude.{ℤ, pos, IfErr, IfOk, IsErrAnd, OnOk}
 use Rattle.std.specs.Io.KnownBytes.{Appends}
 use Rattle.std.specs.Rc.{rc_value}
 use Rattle.std.specs.declared.alloc.Global.{Global}
 use Rattle.std.specs.declared.vec.Vec.{Vec}
-use Rattle.arrow_spec.specs.declared.error.Feature.TheVariants.{Compression}
 use Rattle.arrow_spec.specs.declared.error.IpcError.{IpcError}
-use Rattle.arrow_spec.specs.declared.error.IpcError.TheVariants.{Memory, TooLarge, Unsupported, WriteFault}
-use Rattle.arrow_spec.specs.Files.{ArrowTable, TableBatch, «all»}
-use Rattle.arrow_spec.specs.Kinds.{Fields, have_same_kinds}
+use Rattle.arrow_spec.specs.declared.error.IpcError.TheVariants.{Memory, WriteFault}
+use Rattle.arrow_spec.specs.Files.{TableBatch, «all»}
+use Rattle.arrow_spec.specs.Kinds.{have_same_kinds}
 use Rattle.arrow_spec.specs.Layout.{layout, size, table_head}
 use Rattle.arrow_spec.specs.Meaning.{file_table}
-use Rattle.arrow_spec.specs.Readings.{bind, unless, IsAmong, refusals}
+use Rattle.arrow_spec.specs.Readings.{bind, IsAmong, refusals}
 use Rattle.arrow_spec.specs.Regular.{regular}
 use Rattle.arrow_spec.specs.Sent.{schema_message}
 use Rattle.arrow_types.specs.Schemas.{Keyed, fields_in}
@@ -20,10 +19,10 @@ use Rattle.arrow_arrays.specs.Batches.{Batch}
 use Rattle.arrow_arrays.specs.CellCode.{content_eq}
 use Rattle.arrow_arrays.specs.Columns.{columns_of}
 use Rattle.arrow_arrays.specs.Parts.{Forest, forest, none, also}
-use Rattle.ipc_fields.specs.IpcFields.{Ids, fields_with, ids_of, metadata_of}
+use Rattle.ipc_fields.specs.IpcFields.{fields_with, ids_of, metadata_of}
 use Rattle.schema_writer.specs.Serialized.{serialized, written}
-use Rattle.ipc_messages.specs.Below.{Moved, Options, PutsPart, Sending, ToSend, WriteOptions, columns_sent, held_by}
-use Rattle.ipc_messages.specs.Chunks.{RefusesChunk, Stops, found}
+use Rattle.ipc_messages.specs.Below.{Moved, PutsPart, Sending, WriteOptions, columns_sent, held_by}
+use Rattle.ipc_messages.specs.Chunks.{found}
 use Rattle.ipc_messages.specs.Messages.{chunk_text}
 use Rattle.ipc_messages.specs.Schemas.{IsRefusedAs, stream_text}
 use Rattle.ipc_messages.specs.States.{is_new, is_started}
@@ -34,10 +33,10 @@ use Rattle.ipc_file_writer.specs.Ends.{file_ending, file_footer, file_start}
 use Rattle.ipc_file_writer.specs.Written.{HasNothing, cells_by, own_fields, table_by}
 use Rattle.ipc_file_writer.specs.declared.blocks.FileBlocks.{FileBlocks}
 use Rattle.ipc_file_writer.specs.declared.file.FileCore.{FileCore}
-use Rattle.ipc_file_writer.specs.declared.pairs.FilePairs.{FilePairs}
 use Rattle.ipc_generate.specs.Arrays.{arrays_of, batch_of, dictionary_values, generated_schema, keys_array, lists_array, numbers_array, table_batch, texts_array}
 use Rattle.ipc_generate.specs.Table.{batch_count, first_batches, generated_fields, generated_table, table_with}
 use Rattle.ipc_generate.specs.Written.{HasWritten, HoldsNoOther, IsReady, IsSmall, generate_options, generated_ids}
+use Rattle.ipc_file_writer.proofs.Causes.{limits_too_large, more_limit, stops_limit}
 use Rattle.ipc_generate.proofs.Ids.{numbered_ids}
 
 -- ── what is sent before a batch ──
@@ -74,46 +73,6 @@ sent_well c states r =
 
 -- ── what is refused ──
 
-no_way : {A B : Type 0} → (⊥ ⊎ (A × ⊥)) ⊎ (B × ⊥) → ⊥
-no_way (inl (inl x)) = x
-no_way (inl (inr p)) = p.1
-no_way (inr p) = p.1
-
-is_none : {A : Type 0} (o : Option A) → o ≡ None → IsSome o → ⊥
-is_none None e h = cc
-is_none (Some x) e h = cc
-
-values_small : (e : IpcError) (options : WriteOptions) (s : ToSend) (b : Batch) → options.compression ≡ None → RefusesChunk e options (s ∷ []) b → IsSmall e
-values_small TooLarge options s b u h = inr refl
-values_small Memory options s b u h = inl refl
-values_small (Unsupported Compression) options s b u (inl (inl x)) = absurd (is_none options.compression u x)
-values_small (Unsupported Compression) options s b u (inl (inr p)) = absurd p.1
-values_small (Unsupported Compression) options s b u (inr p) = absurd (is_none options.compression u p.1)
-values_small e options s b u h = absurd (no_way h)
-
-batch_small : (e : IpcError) (options : WriteOptions) (b : Batch) → options.compression ≡ None → RefusesChunk e options [] b → IsSmall e
-batch_small TooLarge options b u h = inr refl
-batch_small Memory options b u h = inl refl
-batch_small e options b u (inl x) = absurd x
-batch_small (Unsupported Compression) options b u (inr p) = absurd (is_none options.compression u p.1)
-batch_small e options b u (inr p) = absurd p.1
-
-chunk_small : (e : IpcError) (options : WriteOptions) (sent : List ToSend) (b : Batch) → options.compression ≡ None → RefusesChunk e options sent b → IsSmall e
-chunk_small e options [] b u h = batch_small e options b u h
-chunk_small e options (s ∷ ss) b u (inl (inl x)) = values_small e options s b u (inl (inl x))
-chunk_small e options (s ∷ ss) b u (inl (inr p)) = chunk_small e options ss b u (inl p.1)
-chunk_small e options (s ∷ ss) b u (inr p) = batch_small e options b u (inr (refl, p.1))
-
-more_small : (e : IpcError) (c : FileCore) (sent : List ToSend) (b : Batch) → c.options.compression ≡ None → RefusesMore e c sent b → IsSmall e
-more_small e c sent b u (inl h) = chunk_small e c.options sent b u h
-more_small e c sent b u (inr p) = inr p.0
-
--- a call stops only for these, where what it finds sends well
-stops_small : (e : IpcError) (step : Result Sending IpcError) (refused : List ToSend → Type 0) → SendsWell step → ((sent : List ToSend) → refused sent → IsSmall e) → Stops e step refused → IsSmall e
-stops_small e step refused w f (inl m) = inl m
-stops_small e step refused w f (inr (inl x)) = absurd (subst SendsWell x w)
-stops_small e step refused w f (inr (inr s)) = f s.0.sent s.2
-
 -- a put fails for want of memory alone, where the sink has no fault
 put_small : (m : Moved) (e : IpcError) (bytes : List ℕ) → m.faults_now ≡ 0 → PutsPart m e bytes → IsSmall e
 put_small m WriteFault bytes z h = absurd (omega (arith, h.2))
@@ -139,8 +98,8 @@ pub write_small : (m : Moved) (e : IpcError) (c new : FileCore) (states : List �
 write_small m e c new states r z (inl (inl p, left)) = absurd (cc (started c r, p.1))
 write_small m e c new states r z (inl (inr (s, inl p), left)) = absurd (p.1 (suits c states r))
 write_small m e c new states r z (inl (inr (s, inr p), left)) =
-    stops_small e (found_before c (batch_of states)) (λ sent. RefusesMore e c sent (batch_of states)) (sent_well c states r)
-    (λ sent h. more_small e c sent (batch_of states) (uncompressed c r) h) p.1
+    stops_limit e (found_before c (batch_of states)) (λ sent. RefusesMore e c sent (batch_of states)) (λ is. subst SendsWell is (sent_well c states r))
+    (λ sent h. more_limit e c sent (batch_of states) (uncompressed c r) h) p.1
 write_small m e c new states r z (inr f) = put_small m e _ z f.sends.failed.put
 
 -- a writer is ready for more behind a batch
@@ -217,20 +176,12 @@ begun_written m asked s c y k o n b =
 
 -- ── end ──
 
-limits_small : {A : Type 0} (a b : Bool) (x : A) (e : IpcError) → IsAmong (refusals (bind (unless a TooLarge) (λ small. bind (unless b TooLarge) (λ placed. Ok x)))) e → IsSmall e
-unfolding bind
-limits_small true true x e h = absurd h
-limits_small true false x e (inl p) = inr (sym p)
-limits_small true false x e (inr p) = absurd p
-limits_small false b x e (inl p) = inr (sym p)
-limits_small false b x e (inr p) = absurd p
-
 end_refused : (blocks : FileBlocks) (e : IpcError) → IsAmong (refusals (file_ending generate_options generated_fields generated_ids (record { schema = None; footer = None }) blocks)) e → IsSmall e
 unfolding bind file_ending serialized
 end_refused blocks e h =
     let footer = file_footer generated_fields generated_ids (record { schema = None; footer = None }) blocks in
-    limits_small {A = List ℕ} (nat_le (size footer) (min generate_options.metadata_limit 2147483647)) (nat_le (blocks.end + length (file_end (layout footer))) 9223372036854775807)
-    (file_end (layout footer)) e h
+    inr (limits_too_large {A = List ℕ} (nat_le (size footer) (min generate_options.metadata_limit 2147483647)) (nat_le (blocks.end + length (file_end (layout footer))) 9223372036854775807)
+    (file_end (layout footer)) e h)
 
 end_small : (e : IpcError) (c : FileCore) → IsReady c → IsRefusedAs e (ending_of c) → IsSmall e
 end_small e c r (inl m) = inl m
@@ -258,7 +209,7 @@ pub ended_table : (m : Moved) (c new : FileCore) (x y : List ℕ) → IsReady c 
 ended_table m c new x y r f o n bs h =
     let added : Appends (Some x) (Some y) f.bytes = subst (λ p. Appends (Some x) p f.bytes) n (subst (λ p. Appends p m.new f.bytes) o f.appended) in
     let good : regular (own_fields c) (metadata_of c.pairs.schema) ≡ true = ap (λ p. regular (own_fields c) (metadata_of p.schema)) r.pairs ∙ is_regular c r.schema r.ids in
-    ap (λ b. file_table b «all») added ∙ f.means good (cells_by c) x bs h ∙ ap Some (own_table c bs r)
+    ap (λ b. file_table b «all») added ∙ f.means.written good (cells_by c) x bs h ∙ ap Some (own_table c bs r)
 
 -- ── what calls answer ──
 

@@ -11,15 +11,16 @@ use Rattle.arrow_spec.specs.Messages.{Message, message_of, message_pairs, versio
 use Rattle.arrow_spec.specs.Readings.{Reading, bind, refusals}
 use Rattle.arrow_spec.specs.Schema.{Schema, schema_of}
 use Rattle.arrow_spec.specs.Streams.{stream_head}
+use Rattle.arrow_spec.specs.WrittenSchemas.{CustomMayBeWritten}
 use Rattle.arrow_spec.proofs.Projection.{on}
 use Rattle.arrow_spec.proofs.ReadSchemas.{read_may}
 use Rattle.arrow_types.specs.Schemas.{Keyed, fields_in}
 use Rattle.ipc_fields.specs.Causes.{Decodes, RefusesBytes}
-use Rattle.ipc_fields.specs.IpcFields.{have_shapes, ids_of, schema_view}
+use Rattle.ipc_fields.specs.IpcFields.{have_shapes, ids_of, metadata_of, schema_view}
 use Rattle.ipc_files.proofs.BlockMessages.{bind_ok, bind_twice}
 use Rattle.ipc_files.proofs.ReadColumns.{fields_column}
 use Rattle.schema_reader.specs.Messages.{version_at}
-use Rattle.ipc_streams.specs.Starts.{IsReadable, Start, head_in, head_view}
+use Rattle.ipc_streams.specs.Starts.{IsReadable, MayBeWritten, Start, head_in, head_view}
 use Rattle.ipc_streams.specs.declared.metadata.Beginning.{Beginning}
 use Rattle.ipc_streams.specs.declared.metadata.StreamMetadata.{StreamMetadata}
 use Rattle.ipc_streams.proofs.Handed.{bytes_first}
@@ -64,3 +65,9 @@ pub readable_read : (m : StreamMetadata) (k : List Keyed) (b : List ℕ) (t : Ta
 readable_read m k b t bytes is shapes read =
     let may = read_may b t (schema_view (k, m.ipc_schema, m.custom_schema_metadata)) bytes read in
     rw is (record { shapes = shapes; columns = fields_column 64 (schema_view (k, m.ipc_schema, m.custom_schema_metadata)).fields may.0.fit; agree = may.1.agree })
+
+-- and may be written
+pub written_read : (m : StreamMetadata) (k : List Keyed) (b : List ℕ) (t : Table) → AreBytes b → rc_value m.schema ≡ k → schema_of b t ≡ Ok (schema_view (k, m.ipc_schema, m.custom_schema_metadata)) → CustomMayBeWritten (metadata_of m.custom_metadata) → MayBeWritten m
+written_read m k b t bytes is read custom =
+    let may = read_may b t (schema_view (k, m.ipc_schema, m.custom_schema_metadata)) bytes read in
+    rw is (record { schema = may.0; ids = may.1; custom = custom })

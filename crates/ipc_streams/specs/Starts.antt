@@ -8,6 +8,7 @@ use Rattle.arrow_spec.specs.Messages.{version_of}
 use Rattle.arrow_spec.specs.Readings.{◌>>=◌, Reading, Refuses, refusals}
 use Rattle.arrow_spec.specs.Schema.{Schema, uses_agree}
 use Rattle.arrow_spec.specs.Streams.{body_in, first_message, next_message, stream_head}
+use Rattle.arrow_spec.specs.WrittenSchemas.{CustomMayBeWritten, IdsMayBeWritten, SchemaMayBeWritten}
 use Rattle.arrow_types.specs.Schemas.{fields_in}
 use Rattle.ipc_fields.specs.IpcFields.{have_shapes, ids_of, metadata_of, schema_view}
 use Rattle.ipc_files.specs.Below.{are_column_fields}
@@ -53,6 +54,12 @@ pub record IsReadable (m : StreamMetadata) : Type 0 where
   pub shapes : have_shapes (fields_in (rc_value m.schema)) (ids_of m.ipc_schema.fields.items) ≡ true
   pub columns : are_column_fields (stream_schema m).fields ≡ true
   pub agree : uses_agree [] (uses_in (stream_schema m).fields) ≡ Ok tt
+
+-- metadata that was read of bytes: its schema, the ids of its dictionaries and its message's pairs may be written too
+pub record MayBeWritten (m : StreamMetadata) : Type 0 where
+  pub schema : SchemaMayBeWritten (stream_schema m).fields (stream_schema m).metadata
+  pub ids : IdsMayBeWritten (stream_schema m).fields
+  pub custom : CustomMayBeWritten (metadata_of m.custom_metadata)
 
 -- under each id of a schema the parts are of the kind of its values
 abbrev pub HoldsValues : Schema → Held → Type 0

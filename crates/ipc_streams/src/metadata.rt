@@ -4,7 +4,7 @@ ghost use Rattle.std.specs.Rc.{rc_value};
 ghost use Rattle.ipc_fields.specs.Causes.{Decodes};
 ghost use Rattle.ipc_files.specs.FileViews.{FileCause};
 ghost use Rattle.ipc_streams.specs.Feeds.{FeedKept};
-ghost use Rattle.ipc_streams.specs.Starts.{GivesFirst, GivesStart, IsReadable, head_in, head_view, start_view};
+ghost use Rattle.ipc_streams.specs.Starts.{GivesFirst, GivesStart, IsReadable, MayBeWritten, head_in, head_view, start_view};
 
 use crate::body::read_body;
 use crate::frame::{Frame, read_frame};
@@ -61,6 +61,7 @@ struct Beginning {
 fn beginning_in(alloc: Global, bytes: &[u8]) -> Result<Beginning, IpcError>
     ensures gives { Decodes head_view result (head_in bytes.now) }
     ensures readable { IfOk result (λ x. IsReadable x.metadata) }
+    ensures may { IfOk result (λ x. MayBeWritten x.metadata) }
 {
     let message = read_message(bytes, Expected::Schema)?;
     let version = read_version(&message.table)?;
@@ -106,6 +107,7 @@ pub fn read_stream_metadata<F: Feed>(
 ) -> Result<StreamMetadata, IpcError>
     ensures gives { GivesStart (F.rest feed.old) (F.rest feed.new) result }
     ensures readable { IfOk result IsReadable }
+    ensures may { IfOk result MayBeWritten }
     ensures cause { IfErr result (λ e. FileCause e (F.faults feed.old) (F.faults feed.new)) }
     ensures kept { FeedKept F.faults F.references feed.old feed.new }
 {

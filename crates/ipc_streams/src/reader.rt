@@ -80,6 +80,13 @@ impl<F: Feed> StreamReader<F> {
     {
         self.cursor.is_finished
     }
+
+    /// The feed, behind what was read of it.
+    pub fn into_inner(self) -> F
+        ensures { result ≡ self.feed }
+    {
+        self.feed
+    }
 }
 
 /// The record batches in the columns asked for, in their order, each of them read or refused, and `Waiting` as often as the

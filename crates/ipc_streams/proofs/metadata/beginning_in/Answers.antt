@@ -5,7 +5,7 @@ use Rattle.ipc_fields.specs.Causes.{RefusesBytes}
 use Rattle.ipc_fields.specs.IpcFields.{metadata_of, schema_view}
 use Rattle.schema_reader.specs.Messages.{message_in, version_at}
 use Rattle.ipc_files.proofs.Errors.{is_err}
-use Rattle.ipc_streams.proofs.ReadHeads.{head_said, no_message, no_pairs, no_schema, no_version, readable_read}
+use Rattle.ipc_streams.proofs.ReadHeads.{head_said, no_message, no_pairs, no_schema, no_version, readable_read, written_read}
 use Rattle.ipc_streams.proofs.metadata.beginning_in.Goals as goal
 
 pub returns-in_err-message-clause-gives : goal.returns-in_err-message-clause-gives
@@ -46,3 +46,8 @@ pub returns-clause-readable : goal.returns-clause-readable
 returns-clause-readable c =
     let m = message_in c.in_ok-message.message in
     readable_read _ c.in_ok-schema.schema c.args.bytes.now m.header (λ i. (c.type_inv.bytes i).fits) c.in_ok-new.ensures.ok c.in_ok-schema.ensures.shapes (ap (λ b. schema_of b m.header) (sym c.in_ok-message.ensures.header) ∙ c.in_ok-schema.ensures.gives)
+
+pub returns-clause-may : goal.returns-clause-may
+returns-clause-may c =
+    let m = message_in c.in_ok-message.message in
+    written_read _ c.in_ok-schema.schema c.args.bytes.now m.header (λ i. (c.type_inv.bytes i).fits) c.in_ok-new.ensures.ok (ap (λ b. schema_of b m.header) (sym c.in_ok-message.ensures.header) ∙ c.in_ok-schema.ensures.gives) c.in_ok-custom_metadata.ensures.may

@@ -1,8 +1,9 @@
-use Rattle.std.proofs.Common.{◌≡◌, false, inl, refl, subst, sym, true, ◌∙◌}
+use Rattle.std.proofs.Common.{◌≡◌, arith, false, inl, refl, subst, sym, true, ◌∙◌}
 use Rattle.std.specs.Io.KnownBytes.{Appends}
 use Rattle.ipc_messages.specs.States.{is_started}
 use Rattle.ipc_messages.proofs.Putting.{untouched}
 use Rattle.ipc_file_writer.proofs.Calling.{end_stopped, leaves, not_ended}
+use Rattle.ipc_file_writer.proofs.Causes.{stands_below}
 use Rattle.ipc_file_writer.proofs.file.FileCore.finish.Goals as goal
 
 pub returns-then-not-is_started-clause-finishes : goal.returns-then-not-is_started-clause-finishes
@@ -23,12 +24,12 @@ returns-in-Ok-clause-finishes g c = record {
   text = c.in_ok-ending.ensures.gives;
   appended = subst (Appends _ _) c.as_slice.ensures.value c.in-Ok.ensures.puts.0;
   counts = c.in-Ok.ensures.puts.1;
-  same = record {
-    held = λ q. refl;
-    blocks = record { dictionaries = refl; records = refl; end = refl };
-    written = refl;
-    stays = record { options = refl; schema = refl; ipc_schema = refl; pairs = refl; tracker = refl };
-  };
+  tracker = refl;
+  dictionaries = refl;
+  records = refl;
+  end = omega (arith, c.len.ensures);
+  written = refl;
+  stays = record { options = refl; schema = refl; ipc_schema = refl; pairs = refl; tracker = refl };
   means = c.in_ok-ending.ensures.means;
 }
 
@@ -37,3 +38,9 @@ returns-clause-finishes g c =
     let n : is_started c.args.self.now.state ≡ true = sym c.is_started.ensures ∙ c.if-not-is_started.false in
     let k = c.stop_at.ensures in
     end_stopped c.stop_at.result c.in-Err.stop _ c.args.self.now c.stop_at.new.self c.in_ok-ending.ending.items c.as_slice.result.now k.error n c.in_ok-ending.ensures.gives c.as_slice.ensures.value c.in-Err.ensures.puts c.in-Err.ensures.whole k.state k.same
+
+pub invariant_of-self-clause-place : goal.invariant_of-self-clause-place
+invariant_of-self-clause-place g c =
+    let b = c.args.self.now in
+    let less = stands_below b.options _ _ b.pairs b.blocks c.in_ok-ending.ending.items c.in_ok-ending.ensures.gives in
+    omega (arith, less, c.len.ensures)

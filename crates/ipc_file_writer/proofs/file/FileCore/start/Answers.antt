@@ -2,8 +2,11 @@ use Rattle.std.proofs.Common.{◌≡◌, arith, false, inl, refl, subst, sym, tr
 use Rattle.std.specs.Io.KnownBytes.{Appends}
 use Rattle.ipc_messages.specs.States.{is_new}
 use Rattle.ipc_messages.proofs.Putting.{untouched}
+use Rattle.laws_writers.proofs.Pairs.{regular_without}
+use Rattle.ipc_file_writer.specs.Written.{own_fields}
 use Rattle.ipc_file_writer.proofs.Calling.{leaves, not_begun, start_stopped}
 use Rattle.ipc_file_writer.proofs.Meaning.{begun_file}
+use Rattle.ipc_file_writer.proofs.Said.{said_without}
 use Rattle.ipc_file_writer.proofs.file.FileCore.start.Goals as goal
 
 pub returns-then-not-is_new-clause-starts : goal.returns-then-not-is_new-clause-starts
@@ -30,8 +33,12 @@ returns-in-Ok-clause-starts g c = record {
   tracker = refl;
   written = refl;
   stays = record { options = refl; schema = refl; ipc_schema = refl; pairs = refl; tracker = refl };
+  said = λ nothing pairs said.
+      begun_file c.args.self.now.options _ c.in_ok-start.start.items c.in_ok-start.ensures.gives c.in_ok-start.ensures.may (record { held = nothing.held; dictionaries = nothing.dictionaries; records = nothing.records }) (omega (arith, c.len.ensures))
+      (said_without (own_fields c.args.self.now) pairs said);
   means = λ nothing pairs reg.
-      begun_file c.args.self.now.options _ c.in_ok-start.start.items c.in_ok-start.ensures.gives c.in_ok-start.ensures.may (record { held = nothing.held; dictionaries = nothing.dictionaries; records = nothing.records }) (omega (arith, c.len.ensures)) pairs reg;
+      begun_file c.args.self.now.options _ c.in_ok-start.start.items c.in_ok-start.ensures.gives c.in_ok-start.ensures.may (record { held = nothing.held; dictionaries = nothing.dictionaries; records = nothing.records }) (omega (arith, c.len.ensures))
+      (c.in_ok-start.ensures.may.said (regular_without (own_fields c.args.self.now) pairs reg));
 }
 
 pub returns-clause-starts : goal.returns-clause-starts
