@@ -1,0 +1,12 @@
+pub mod Passing
+pub mod Refusals
+pub mod Stepped
+pub mod TooMany
+pub mod Counted
+pub mod Many
+pub mod RegularSchemas
+pub mod ReadSchemas
+pub mod Schemas
+pub mod Writing
+pub mod Meaning
+pub mod Decoding

@@ -1,0 +1,4 @@
+pub mod Passes
+pub mod LogSchemas
+pub mod Written
+pub mod Decoded

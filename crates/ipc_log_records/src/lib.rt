@@ -1,0 +1,12 @@
+//! The records of a log of record batches: each is a closed stream of a schema, and of one batch or none, as it is written and as it is
+//! read (Arrow Columnar Format, "IPC Streaming Format").
+#![tactic(auto)]
+
+mod closed;
+mod decode;
+mod encode;
+mod memory;
+mod passes;
+
+pub use decode::{batch_in, record_in};
+pub use encode::{first_record, record_of};

@@ -1,0 +1,2 @@
+pub mod TableLogs
+pub mod Opened

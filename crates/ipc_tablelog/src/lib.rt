@@ -1,0 +1,7 @@
+//! A log of record batches on a disk that may crash: after a crash it has the batches that were acknowledged, and at most one more, whole.
+#![tactic(auto)]
+
+mod open;
+mod table_log;
+
+pub use table_log::TableLog;
