@@ -1,6 +1,9 @@
 pub mod AppendRefusals
 pub mod AppendSteps
 pub mod Adding
+pub mod CatNames
+pub mod CatPuts
+pub mod CatSteps
 pub mod Decoding
 pub mod Digits
 pub mod FileTasks

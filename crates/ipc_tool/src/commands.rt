@@ -6,6 +6,7 @@ ghost use Rattle.ipc_tool.specs.Outside.{outside_of};
 ghost use Rattle.ipc_tool.specs.Tasks.{Does};
 
 mod append;
+mod cat;
 mod csv;
 mod generate;
 mod rows;
@@ -15,6 +16,7 @@ mod stream;
 use crate::file_job::of_file;
 use crate::refusal::Refusal;
 use append::append_input;
+use cat::cat_files;
 use generate::put_generated_line;
 use ipc_disk::PlaceShelf;
 use ipc_transcode::{Feed, Sink};
@@ -43,6 +45,7 @@ pub(crate) fn perform<H: PlaceShelf, I: Feed, W: Sink>(
         Request::Rows(name) => of_file(alloc, shelf, input, output, &RowCount, *name),
         Request::Append(target) => append_input(alloc, shelf, input, output, *target),
         Request::Gen(seed) => put_generated_line(alloc, shelf, input, output, *seed),
+        Request::Cat(cat) => cat_files(alloc, shelf, input, output, cat),
         Request::Csv(csv) => of_file(alloc, shelf, input, output, csv, csv.name),
     }
 }

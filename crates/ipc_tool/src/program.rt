@@ -39,6 +39,7 @@ fn work<H: PlaceShelf, I: Feed, W: Sink>(
 /// `stream` adds to the output one stream that means what the file means: its bytes with `--raw`, and else their hex text and a line feed. With `--columns` it has the columns of these numbers, in this order, and with `--limit` at most so many rows in all.
 /// `schema` adds the text of the schema that the file's footer says, for columns of all types and in either byte order, as it is and in one put; `rows` adds the number of the file's rows, by its footer and the messages of its record batches, in decimal digits, and a line feed, likewise.
 /// `append TARGET` appends the batches of the stream that the input's hex text stands for to the file that stands on the shelf under TARGET, which is opened, and closed before the number of batches is added, in decimal digits, and a line feed.
+/// `cat NAME..` adds one stream of the files under the names, which are all opened before the first is read, and closed before the answer: the fields and pairs of the first, and the batches of all, in order; its bytes with `--raw`, and else their hex text and a line feed.
 /// Words that ask for help or the version are no request here.
 /// The status is 0 then, and else that of a refusal, of which one line is noted: `refused`, the status, the name. What the notes answer changes nothing.
 pub fn run<H: PlaceShelf, I: Feed, W: Sink, N: Sink>(

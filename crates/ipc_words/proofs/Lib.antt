@@ -5,6 +5,7 @@ mod ErrorSteps
 mod HelpLemmas
 pub mod NumberSteps
 mod Parsing
+mod WorkedCat
 mod WorkedCsv
 mod WorkedGen
 mod WorkedWords

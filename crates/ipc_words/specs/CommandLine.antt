@@ -2,7 +2,7 @@
 use Rattle.std.specs.Prelude.{List, Some, true, false, codes}
 use Rattle.clap.specs.Walk.{Rule, Text}
 use Rattle.clap.specs.Simple.{App, Shape, new_rule, new_shape}
-use Rattle.clap.specs.declared.builder.action.ArgAction.TheVariants.{SetTrue}
+use Rattle.clap.specs.declared.builder.action.ArgAction.TheVariants.{Append, SetTrue}
 
 -- `--name VALUE` or `--name=VALUE`
 abbrev pub option : Text → Rule
@@ -20,6 +20,10 @@ word name = new_rule name
 abbrev pub needed_word : Text → Rule
 needed_word name = record (new_rule name) { required = true }
 
+-- one or more words at a place
+abbrev pub needed_words : Text → Rule
+needed_words name = record (new_rule name) { required = true; action = Some Append }
+
 abbrev pub columns : Rule
 columns = option (codes "columns")
 
@@ -31,6 +35,9 @@ raw = flag (codes "raw")
 
 abbrev pub name : Rule
 name = word (codes "NAME")
+
+abbrev pub names : Rule
+names = needed_words (codes "NAME")
 
 abbrev pub target : Rule
 target = needed_word (codes "TARGET")

@@ -2,7 +2,7 @@
 use Rattle.std.specs.Prelude.{ℕ, List, [], ◌∷◌, Bool, false, Option, Some, None, codes, find, if◌then◌else◌, map, option_map, option_and_then}
 use Rattle.std.specs.Str.{bytes_eq}
 use Rattle.std.specs.Option.{option_map_or}
-use Rattle.clap.specs.Walk.{Row, Rule, Text, first_of}
+use Rattle.clap.specs.Walk.{Row, Rule, Text, all_of, first_of}
 use Rattle.clap.specs.Simple.{App, Shape, new_shape, subcommand_of}
 use Rattle.clap.specs.Faults.{fault_of}
 use Rattle.clap.specs.Kinds.{Kinds}
@@ -19,6 +19,13 @@ pub record Stream : Type 0 where
   pub raw : Bool
   -- the input where there is none
   pub name : Option Text
+
+-- cat [--raw] NAME..
+pub record Cat : Type 0 where
+  -- as bytes, else as hex text
+  pub raw : Bool
+  -- one or more
+  pub names : List Text
 
 -- csv [--columns LIST] [--limit N] [NAME]
 pub record Csv : Type 0 where
@@ -40,6 +47,7 @@ pub data Request : Type 0 where
   append : Text → Request
   -- the number that the rows begin with
   gen : ℕ → Request
+  cat : Cat → Request
   csv : Csv → Request
 
 -- ── what the options and places of a command say, by the rows that `clap` found ──
@@ -71,6 +79,14 @@ unless_input text = if bytes_eq text (45 ∷ []) then None else Some text
 -- [NAME]
 abbrev pub name_in : List Row → Option Text
 name_in found = option_and_then unless_input (first_of (codes "NAME") found)
+
+abbrev pub one_or_more : List Text → Option (List Text)
+one_or_more [] = None
+one_or_more (text ∷ others) = Some (text ∷ others)
+
+-- NAME.., where `-` is a name like any other
+abbrev pub names_in : List Row → Option (List Text)
+names_in found = option_and_then one_or_more (all_of (codes "NAME") found)
 
 -- TARGET, where `-` is a name like any other
 abbrev pub target_in : List Row → Option Text
@@ -128,6 +144,13 @@ gen_entry = record {
   asks = λ found. option_map gen (number_in found);
 }
 
+abbrev pub cat_entry : Entry
+cat_entry = record {
+  name = codes "cat";
+  rules = line.raw ∷ line.names ∷ [];
+  asks = λ found. option_map (λ names. cat (record { raw = raw_in found; names = names })) (names_in found);
+}
+
 abbrev pub csv_entry : Entry
 csv_entry = record {
   name = codes "csv";
@@ -147,6 +170,7 @@ commands =
     rows_entry ∷
     append_entry ∷
     gen_entry ∷
+    cat_entry ∷
     csv_entry ∷
     []
 

@@ -1,5 +1,5 @@
 //! The options of the commands and their words by place, as `clap` is told of them.
-ghost use Rattle.ipc_words.specs.CommandLine.{columns, limit, name, number, raw, target};
+ghost use Rattle.ipc_words.specs.CommandLine.{columns, limit, name, names, number, raw, target};
 ghost use Rattle.ipc_words.specs.Commands.{IsArg};
 
 use clap::{Arg, ArgAction};
@@ -42,6 +42,16 @@ pub(crate) fn name_word<'a>(alloc: Global) -> Arg<'a>
     Arg::new(alloc, "NAME").help(
         "The file; where it is absent or -, standard input is read, as hex text",
     )
+}
+
+/// NAME, once or more
+pub(crate) fn names_words<'a>(alloc: Global) -> Arg<'a>
+    ensures { IsArg names result }
+{
+    Arg::new(alloc, "NAME")
+        .required(true)
+        .action(ArgAction::Append)
+        .help("The files, one or more, in the order of their batches")
 }
 
 /// TARGET, with what it is told to be

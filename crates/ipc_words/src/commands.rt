@@ -3,16 +3,18 @@ ghost use Rattle.std.specs.Prelude.{◌≡◌, ◌∷◌, [], IfOk, IfErr, List,
 ghost use Rattle.clap.specs.Walk.{rows_of};
 ghost use Rattle.clap.specs.Words.{found_of};
 ghost use Rattle.ipc_words.specs.Commands.{HasCommands, IsCommand, Reads, asked_of};
-ghost use Rattle.ipc_words.specs.Requests.{Entry, append_entry, asked_by, command_line, csv_entry, gen_entry, rows_entry, schema_entry, stream_entry};
+ghost use Rattle.ipc_words.specs.Requests.{Entry, append_entry, asked_by, cat_entry, command_line, csv_entry, gen_entry, rows_entry, schema_entry, stream_entry};
 ghost use Rattle.ipc_words.specs.Views.{request_view};
 ghost use Rattle.ipc_words.specs.declared.words_error.WordsError.TheVariants.{NoRequest};
 
 use crate::arguments::{
-    columns_option, limit_option, name_word, number_word, raw_flag, target_word,
+    columns_option, limit_option, name_word, names_words, number_word, raw_flag, target_word,
 };
-use crate::found::{is_flag_in, read_columns, read_limit, read_name, read_number, read_target};
+use crate::found::{
+    is_flag_in, read_columns, read_limit, read_name, read_names, read_number, read_target,
+};
 use crate::help::statuses;
-use crate::requests::{Csv, Request, Stream};
+use crate::requests::{Cat, Csv, Request, Stream};
 use crate::words_error::WordsError;
 use clap::{ArgMatches, Command};
 use std::alloc::{AllocError, Global};
@@ -108,6 +110,27 @@ pub(crate) fn read_gen<'a>(found: &ArgMatches<'a>) -> Result<Request<'a>, WordsE
     Ok(Request::Gen(read_number(found)?))
 }
 
+fn cat_command<'a>(alloc: Global) -> Result<Command<'a>, AllocError>
+    ensures { IfOk result (IsCommand cat_entry) }
+{
+    Command::new(alloc, "cat")
+        .about("Writes files of one schema, one behind another, as one stream")
+        .arg(raw_flag(alloc))?
+        .arg(names_words(alloc))
+}
+
+/// cat [--raw] NAME..
+pub(crate) fn read_cat<'a>(alloc: Global, found: &ArgMatches<'a>) -> Result<Request<'a>, WordsError>
+    ensures asked { IfOk result (λ r. asked_of cat_entry found.now ≡ Some (request_view r)) }
+    ensures refused { IfErr result (λ e. e ≡ NoRequest → asked_of cat_entry found.now ≡ None) }
+{
+    let names = read_names(alloc, found)?;
+    Ok(Request::Cat(Cat {
+        raw: is_flag_in(found, "raw"),
+        names,
+    }))
+}
+
 fn csv_command<'a>(alloc: Global) -> Result<Command<'a>, AllocError>
     ensures { IfOk result (IsCommand csv_entry) }
 {
@@ -167,6 +190,7 @@ pub(crate) fn program<'a>(alloc: Global) -> Result<Command<'a>, AllocError>
     program = with_command(program, rows_command(alloc));
     program = with_command(program, append_command(alloc));
     program = with_command(program, gen_command(alloc));
+    program = with_command(program, cat_command(alloc));
     program = with_command(program, csv_command(alloc));
     program
 }
@@ -186,6 +210,7 @@ pub(crate) fn read_command<'a>(
         "rows" => Ok(read_rows(found)),
         "append" => read_append(found),
         "gen" => read_gen(found),
+        "cat" => read_cat(alloc, found),
         "csv" => read_csv(alloc, found),
         _ => Err(WordsError::NoRequest),
     }

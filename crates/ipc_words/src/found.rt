@@ -1,9 +1,9 @@
 //! What `clap` found of a command's own words.
-ghost use Rattle.std.specs.Prelude.{◌≡◌, IfOk, IfErr, Some, None, option_map};
-ghost use Rattle.clap.specs.Walk.{first_of, rows_of};
+ghost use Rattle.std.specs.Prelude.{◌≡◌, ◌<◌, IfOk, IfErr, Some, None, length, option_map};
+ghost use Rattle.clap.specs.Walk.{all_of, first_of, rows_of};
 ghost use Rattle.clap.specs.Words.{found_of};
-ghost use Rattle.ipc_words.specs.Requests.{columns_in, is_on, limit_in, name_in, number_in, target_in};
-ghost use Rattle.ipc_words.specs.Views.{numbers, text};
+ghost use Rattle.ipc_words.specs.Requests.{columns_in, is_on, limit_in, name_in, names_in, number_in, target_in};
+ghost use Rattle.ipc_words.specs.Views.{lent_texts, numbers, text, texts};
 ghost use Rattle.ipc_words.specs.declared.words_error.WordsError.TheVariants.{NoRequest};
 
 use crate::numbers::{read_decimal, read_numbers};
@@ -16,6 +16,13 @@ fn text_in<'a>(found: &ArgMatches<'a>, id: &str) -> Option<&'a str>
     ensures { option_map text result ≡ first_of id.now (rows_of (found_of found.now)) }
 {
     found.get_str(id)
+}
+
+// All values under an id.
+fn texts_in<'f, 'a>(found: &'f ArgMatches<'a>, id: &str) -> Option<&'f [&'a str]>
+    ensures { option_map lent_texts result ≡ all_of id.now (rows_of (found_of found.entry.now)) }
+{
+    found.get_strs(id)
 }
 
 /// Whether a flag was given.
@@ -90,4 +97,23 @@ pub(crate) fn read_name<'a>(found: &ArgMatches<'a>) -> Option<&'a str>
 {
     let name = text_in(found, "NAME")?;
     if name == "-" { None } else { Some(name) }
+}
+
+/// NAME..
+pub(crate) fn read_names<'a>(
+    alloc: Global,
+    found: &ArgMatches<'a>,
+) -> Result<Vec<&'a str>, WordsError>
+    ensures asked { IfOk result (λ r. names_in (rows_of (found_of found.now)) ≡ Some (texts r.items)) }
+    ensures some { IfOk result (λ r. 0 < length r.items) }
+    ensures refused { IfErr result (λ e. e ≡ NoRequest → names_in (rows_of (found_of found.now)) ≡ None) }
+{
+    match texts_in(found, "NAME") {
+        None | Some([]) => Err(WordsError::NoRequest),
+        Some(names) => {
+            let mut all = Vec::new(alloc);
+            all.extend_from_slice(names)?;
+            Ok(all)
+        }
+    }
 }

@@ -1,4 +1,5 @@
 //! What words may ask for.
+ghost use Rattle.std.specs.Prelude.{◌<◌, length};
 
 /// stream [--columns LIST] [--limit N] [--raw] [NAME]
 #[derive(Debug, Drop, PartialEq, Eq)]
@@ -11,6 +12,16 @@ pub struct Stream<'a> {
     pub raw: bool,
     /// The name of the file, or the input.
     pub name: Option<&'a str>,
+}
+
+/// cat [--raw] NAME..
+#[derive(Debug, Drop, PartialEq, Eq)]
+pub struct Cat<'a> {
+    /// Whether the stream is put as it is, and not as hex text.
+    pub raw: bool,
+    /// The names of the files, in order.
+    pub names: Vec<&'a str>,
+    ghost some: { 0 < length names.items },
 }
 
 /// csv [--columns LIST] [--limit N] [NAME]
@@ -37,6 +48,8 @@ pub enum Request<'a> {
     Append(&'a str),
     /// A file that is made from this number, as a stream that is read back.
     Gen(u64),
+    /// The files of several names as one stream.
+    Cat(Cat<'a>),
     /// The rows of a file as CSV.
     Csv(Csv<'a>),
 }

@@ -23,6 +23,10 @@ pub returns-in-gen : goal.returns-in-gen
 unfolding asked_by commands
 returns-in-gen c = record { asked = rw c.in-gen.is c.read_gen.ensures.asked; refused = rw c.in-gen.is c.read_gen.ensures.refused }
 
+pub returns-in-cat : goal.returns-in-cat
+unfolding asked_by commands
+returns-in-cat c = record { asked = rw c.in-cat.is c.read_cat.ensures.asked; refused = rw c.in-cat.is c.read_cat.ensures.refused }
+
 pub returns-in-csv : goal.returns-in-csv
 unfolding asked_by commands
 returns-in-csv c = record { asked = rw c.in-csv.is c.read_csv.ensures.asked; refused = rw c.in-csv.is c.read_csv.ensures.refused }
