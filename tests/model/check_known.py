@@ -124,7 +124,7 @@ assert read_file(b"".join(strings.file)).batches[0].columns[:6] == [
 
 # ── streams with pairs, and dictionaries in dictionaries, in the order of their blocks and out of it ──
 
-STREAMS = names_in("run_messages/data/readers.cases")
+STREAMS = names_in("run_cases/data/messages/readers.cases")
 
 
 def stream_of(*names):

@@ -1,4 +1,4 @@
-"""The bytes that the cases of crates/run_messages name, and whether the cases' files have these: `python3 message_parts.py FILE ..`.
+"""The bytes that the cases of crates/run_cases/data/messages name, and whether the cases' files have these: `python3 message_parts.py FILE ..`.
 Without a file it prints the lines `name NAME HEX` that a case begins with."""
 import struct
 import sys

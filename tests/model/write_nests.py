@@ -1,8 +1,8 @@
-"""Writes crates/run_values/data/nests.cases: an array of each layout, and each kind with children alone and over each other one, written and
+"""Writes crates/run_cases/data/values/nests.cases: an array of each layout, and each kind with children alone and over each other one, written and
 read back."""
 from pathlib import Path
 
-OUT = Path(__file__).parents[2] / "crates/run_values/data/nests.cases"
+OUT = Path(__file__).parents[2] / "crates/run_cases/data/values/nests.cases"
 VIEWS = "0c000000" + b"abcdefghijkl".hex() + "02000000c3a9" + 10 * "00" + 16 * "ff" + "0d000000" + b"abcd".hex() + "00000000" + "01000000"
 LEAVES = [
     ("numbers of one byte", "int8", "i8 1,-2,3,-128", True),

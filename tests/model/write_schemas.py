@@ -1,11 +1,11 @@
-"""Writes crates/run_values/data/schemas.cases: schemas in hex text, their texts, and as they are written (Schema.fbs)."""
+"""Writes crates/run_cases/data/values/schemas.cases: schemas in hex text, their texts, and as they are written (Schema.fbs)."""
 from pathlib import Path
 
 import laid_by_hand
 from layout import lay
 from schemas import EVERY, EVERY_PAIRS, NESTED, NESTED_PAIRS, ONE, field, message, schema_table, schema_text
 
-OUT = Path(__file__).parents[2] / "crates/run_values/data/schemas.cases"
+OUT = Path(__file__).parents[2] / "crates/run_cases/data/values/schemas.cases"
 LINE = 64
 
 

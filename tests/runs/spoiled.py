@@ -34,7 +34,7 @@ def spoil(lines, first):
 
 def told_by(output, name):
     """The lines that the program tells of a file."""
-    _, _, rest = output.partition(f"{name}: ")
+    _, _, rest = f"\n{output}".partition(f"\n{name}: ")
     told = []
     for line in rest.splitlines()[1:]:
         if re.fullmatch(r"\S+\.cases: \d+ calls", line):

@@ -6,7 +6,7 @@ use std::alloc::{AllocError, AllocFailed};
 use thiserror::Error;
 
 /// What is answered in a value's place.
-#[derive(Clone, Copy, Debug, PartialEq, Error)]
+#[derive(Clone, Copy, Debug, Error)]
 pub enum Fault {
     /// There is no memory: the run ends.
     #[error("no memory")]

@@ -8,7 +8,7 @@ mod words;
 
 pub use columns::{fields_of, schema_of};
 pub use fault::Fault;
-pub use types::{index_type, type_of};
+pub use types::type_of;
 pub use words::{
     Answer, add_bytes, bits, bytes, bytes_of, counts, halves, hex_bytes, numbers, pair, parts,
     repeat, rest, word,

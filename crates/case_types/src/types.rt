@@ -1,10 +1,8 @@
 //! Types as words, each in front of its children: `list int8`, `struct(2) a=int8 b=utf8!`.
-use crate::fault::Fault;
 use crate::words::{Answer, numbers, parts};
 use arrow_types::{
     ArrowDataType, ExtensionType, Field, IntegerType, IntervalUnit, TimeUnit, UnionMode, UnionType,
 };
-use std::alloc::{AllocError, Global};
 
 /// A type, and the name and the nulls of the column or the child that has it.
 #[derive(Drop)]
@@ -51,127 +49,107 @@ fn plain_type(name: &str) -> Option<ArrowDataType> {
     }
 }
 
-fn time_unit(word: &str) -> Result<TimeUnit, Fault> {
+fn time_unit(word: &str) -> Option<TimeUnit> {
     match word {
-        "s" => Ok(TimeUnit::Second),
-        "ms" => Ok(TimeUnit::Millisecond),
-        "us" => Ok(TimeUnit::Microsecond),
-        "ns" => Ok(TimeUnit::Nanosecond),
-        _ => Err(Fault::Words),
+        "s" => Some(TimeUnit::Second),
+        "ms" => Some(TimeUnit::Millisecond),
+        "us" => Some(TimeUnit::Microsecond),
+        "ns" => Some(TimeUnit::Nanosecond),
+        _ => None,
     }
 }
 
-fn interval_unit(word: &str) -> Result<IntervalUnit, Fault> {
+fn interval(word: &str) -> Option<ArrowDataType> {
     match word {
-        "ym" => Ok(IntervalUnit::YearMonth),
-        "dt" => Ok(IntervalUnit::DayTime),
-        "mdn" => Ok(IntervalUnit::MonthDayNano),
-        _ => Err(Fault::Words),
+        "ym" => Some(ArrowDataType::Interval(IntervalUnit::YearMonth)),
+        "dt" => Some(ArrowDataType::Interval(IntervalUnit::DayTime)),
+        "mdn" => Some(ArrowDataType::Interval(IntervalUnit::MonthDayNano)),
+        _ => None,
     }
 }
 
-/// Precision and scale.
-fn decimal(answer: &mut Answer, word: &str) -> (usize, usize) {
-    let (precision, scale) = word.split_once(',').unwrap_or(("", ""));
-    (answer.count(precision), answer.count(scale))
+/// A type of times of a unit.
+fn timed_type(name: &str, unit: &str) -> Option<ArrowDataType> {
+    let unit = time_unit(unit)?;
+    match name {
+        "time32" => Some(ArrowDataType::Time32(unit)),
+        "time64" => Some(ArrowDataType::Time64(unit)),
+        "duration" => Some(ArrowDataType::Duration(unit)),
+        _ => None,
+    }
 }
 
 /// A unit, with a zone behind it or none.
-fn timestamp(alloc: Global, word: &str) -> Result<ArrowDataType, Fault> {
+fn timestamp(answer: &Answer, word: &str) -> Option<ArrowDataType> {
     match word.split_once(',') {
         Some((unit, zone)) => {
             let unit = time_unit(unit)?;
-            let zone = String::from_str(alloc, zone)?;
-            Ok(ArrowDataType::Timestamp(unit, Some(zone)))
+            Some(ArrowDataType::Timestamp(unit, Some(answer.text(zone))))
         }
-        None => Ok(ArrowDataType::Timestamp(time_unit(word)?, None)),
+        None => Some(ArrowDataType::Timestamp(time_unit(word)?, None)),
+    }
+}
+
+/// A decimal of a precision and a scale.
+fn decimal(answer: &Answer, word: &str, is_wide: bool) -> ArrowDataType {
+    let (precision, scale) = word.split_once(',').unwrap_or(("", ""));
+    let (precision, scale) = (answer.count(precision), answer.count(scale));
+    if is_wide {
+        ArrowDataType::Decimal256(precision, scale)
+    } else {
+        ArrowDataType::Decimal(precision, scale)
     }
 }
 
 /// A type with a parameter that is no type.
-fn sized_type(answer: &mut Answer, name: &str, word: &str) -> Result<ArrowDataType, Fault> {
+fn sized_type(answer: &Answer, name: &str, word: &str) -> Option<ArrowDataType> {
     match name {
-        "fixed_binary" => Ok(ArrowDataType::FixedSizeBinary(answer.count(word))),
-        "decimal" => {
-            let (precision, scale) = decimal(answer, word);
-            Ok(ArrowDataType::Decimal(precision, scale))
-        }
-        "decimal256" => {
-            let (precision, scale) = decimal(answer, word);
-            Ok(ArrowDataType::Decimal256(precision, scale))
-        }
-        "time32" => Ok(ArrowDataType::Time32(time_unit(word)?)),
-        "time64" => Ok(ArrowDataType::Time64(time_unit(word)?)),
-        "duration" => Ok(ArrowDataType::Duration(time_unit(word)?)),
-        "interval" => Ok(ArrowDataType::Interval(interval_unit(word)?)),
-        _ => Err(Fault::Words),
+        "fixed_binary" => Some(ArrowDataType::FixedSizeBinary(answer.count(word))),
+        "decimal" => Some(decimal(answer, word, false)),
+        "decimal256" => Some(decimal(answer, word, true)),
+        "timestamp" => timestamp(answer, word),
+        "interval" => interval(word),
+        _ => timed_type(name, word),
     }
 }
 
 /// The field of a type that was read.
-fn field(alloc: Global, named: Named) -> Result<Field, AllocError> {
-    let Named {
-        name,
-        dtype,
-        is_nullable,
-    } = named;
-    match String::from_str(alloc, name) {
-        Ok(name) => Ok(Field::new(alloc, name, dtype, is_nullable)),
-        Err(e) => {
-            drop(dtype);
-            Err(e)
-        }
-    }
-}
-
-/// The type that stands right behind.
-fn inner(types: &mut Types) -> Result<ArrowDataType, Fault> {
-    match types.pop() {
-        Some(named) => Ok(named.dtype),
-        None => Err(Fault::Words),
-    }
-}
-
-/// The same as a field.
-fn child(alloc: Global, types: &mut Types) -> Result<Box<Field>, Fault> {
-    match types.pop() {
-        Some(named) => Ok(Box::new(alloc, field(alloc, named)?)?),
-        None => Err(Fault::Words),
-    }
+fn field(answer: &Answer, named: Named) -> Field {
+    let name = answer.text(named.name);
+    Field::new(answer.alloc(), name, named.dtype, named.is_nullable)
 }
 
 /// So many types that stand behind, as fields.
-pub(crate) fn children(
-    alloc: Global,
-    types: &mut Types,
-    count: usize,
-) -> Result<Vec<Field>, Fault> {
-    let mut fields = Vec::new(alloc);
+pub(crate) fn children(answer: &Answer, types: &mut Types, count: usize) -> Vec<Field> {
+    let mut fields = Vec::new(answer.alloc());
     for _ in 0..count {
         match types.pop() {
-            Some(named) => fields.push(field(alloc, named)?)?,
-            None => return Err(Fault::Words),
+            Some(named) => answer.done(fields.push(field(answer, named))),
+            None => {
+                answer.refuse();
+                break;
+            }
         }
     }
-    Ok(fields)
+    fields
 }
 
 /// A type of keys.
-pub fn index_type(word: &str) -> Result<IntegerType, Fault> {
+fn index_type(word: &str) -> Option<IntegerType> {
     match word {
-        "int8" => Ok(IntegerType::Int8),
-        "int16" => Ok(IntegerType::Int16),
-        "int32" => Ok(IntegerType::Int32),
-        "int64" => Ok(IntegerType::Int64),
-        "uint8" => Ok(IntegerType::UInt8),
-        "uint16" => Ok(IntegerType::UInt16),
-        "uint32" => Ok(IntegerType::UInt32),
-        "uint64" => Ok(IntegerType::UInt64),
-        _ => Err(Fault::Words),
+        "int8" => Some(IntegerType::Int8),
+        "int16" => Some(IntegerType::Int16),
+        "int32" => Some(IntegerType::Int32),
+        "int64" => Some(IntegerType::Int64),
+        "uint8" => Some(IntegerType::UInt8),
+        "uint16" => Some(IntegerType::UInt16),
+        "uint32" => Some(IntegerType::UInt32),
+        "uint64" => Some(IntegerType::UInt64),
+        _ => None,
     }
 }
 
-fn ids(answer: &mut Answer, word: &str) -> Vec<i32> {
+fn ids(answer: &Answer, word: &str) -> Vec<i32> {
     let mut ids = Vec::new(answer.alloc());
     for id in &numbers(answer, word) {
         match i32::try_from(*id) {
@@ -183,89 +161,97 @@ fn ids(answer: &mut Answer, word: &str) -> Vec<i32> {
 }
 
 /// `dense:5,7` over as many children as there are ids.
-fn union(answer: &mut Answer, word: &str, types: &mut Types) -> Result<ArrowDataType, Fault> {
+fn union(answer: &Answer, word: &str, types: &mut Types) -> Option<ArrowDataType> {
     let (mode, listed) = word.split_once(':').unwrap_or(("", ""));
     let ids = ids(answer, listed);
-    let fields = children(answer.alloc(), types, ids.len())?;
     let union = UnionType {
-        fields,
+        fields: children(answer, types, ids.len()),
         ids: Some(ids),
         mode: UnionMode::sparse(mode == "sparse"),
     };
-    Ok(ArrowDataType::Union(Box::new(answer.alloc(), union)?))
+    match answer.value(Box::new(answer.alloc(), union)) {
+        Some(union) => Some(ArrowDataType::Union(union)),
+        None => None,
+    }
 }
 
-/// The type of the keys, and `ordered` behind it or not.
-fn dictionary(alloc: Global, word: &str, types: &mut Types) -> Result<ArrowDataType, Fault> {
+/// The type of the keys, and `ordered` behind it or not, over the values.
+fn dictionary(answer: &Answer, word: &str, values: ArrowDataType) -> Option<ArrowDataType> {
     let (index, order) = word.split_once(',').unwrap_or((word, ""));
-    let index = index_type(index)?;
-    let values = Box::new(alloc, inner(types)?)?;
-    Ok(ArrowDataType::Dictionary(index, values, order == "ordered"))
+    match (
+        index_type(index),
+        answer.value(Box::new(answer.alloc(), values)),
+    ) {
+        (Some(index), Some(values)) => {
+            Some(ArrowDataType::Dictionary(index, values, order == "ordered"))
+        }
+        _ => None,
+    }
 }
 
 /// A name, and what else is said of it or nothing.
-fn extension(alloc: Global, word: &str, types: &mut Types) -> Result<ArrowDataType, Fault> {
-    let (name, said) = match word.split_once(',') {
-        Some((name, said)) => (name, Some(String::from_str(alloc, said)?)),
+fn extension(answer: &Answer, word: &str, inner: ArrowDataType) -> Option<ArrowDataType> {
+    let (name, metadata) = match word.split_once(',') {
+        Some((name, said)) => (name, Some(answer.text(said))),
         None => (word, None),
     };
     let extension = ExtensionType {
-        name: String::from_str(alloc, name)?,
-        inner: inner(types)?,
-        metadata: said,
+        name: answer.text(name),
+        inner,
+        metadata,
     };
-    Ok(ArrowDataType::Extension(Box::new(alloc, extension)?))
+    match answer.value(Box::new(answer.alloc(), extension)) {
+        Some(extension) => Some(ArrowDataType::Extension(extension)),
+        None => None,
+    }
 }
 
-fn fixed_list(answer: &mut Answer, word: &str, types: &mut Types) -> Result<ArrowDataType, Fault> {
-    let size = answer.count(word);
-    Ok(ArrowDataType::FixedSizeList(child(answer.alloc(), types)?, size))
-}
-
-/// A type over one other.
-fn listed_type(
-    answer: &mut Answer,
-    name: &str,
-    word: &str,
-    types: &mut Types,
-) -> Result<ArrowDataType, Fault> {
+/// A list of the type behind it.
+fn list(answer: &Answer, name: &str, word: &str, child: Named) -> Option<ArrowDataType> {
+    let child = field(answer, child);
+    let Some(child) = answer.value(Box::new(answer.alloc(), child)) else {
+        return None;
+    };
     match name {
-        "list" => Ok(ArrowDataType::List(child(answer.alloc(), types)?)),
-        "large_list" => Ok(ArrowDataType::LargeList(child(answer.alloc(), types)?)),
-        "map" => Ok(ArrowDataType::Map(child(answer.alloc(), types)?, word == "sorted")),
+        "list" => Some(ArrowDataType::List(child)),
+        "large_list" => Some(ArrowDataType::LargeList(child)),
+        "map" => Some(ArrowDataType::Map(child, word == "sorted")),
+        _ => Some(ArrowDataType::FixedSizeList(child, answer.count(word))),
+    }
+}
+
+/// A type over the one that stands right behind.
+fn outer_type(answer: &Answer, name: &str, word: &str, types: &mut Types) -> Option<ArrowDataType> {
+    match (name, types.pop()) {
+        ("dictionary", Some(inner)) => dictionary(answer, word, inner.dtype),
+        ("extension", Some(inner)) => extension(answer, word, inner.dtype),
+        (_, Some(inner)) => list(answer, name, word, inner),
+        _ => None,
+    }
+}
+
+/// Whether a type of this name stands over one other.
+fn is_outer(name: &str) -> bool {
+    matches!(
+        name,
+        "list" | "large_list" | "fixed_list" | "map" | "dictionary" | "extension"
+    )
+}
+
+/// A type that has parameters.
+fn made_type(answer: &Answer, name: &str, word: &str, types: &mut Types) -> Option<ArrowDataType> {
+    if is_outer(name) {
+        return outer_type(answer, name, word, types);
+    }
+    match name {
+        "struct" => Some(ArrowDataType::Struct(children(answer, types, answer.count(word)))),
+        "union" => union(answer, word, types),
         _ => sized_type(answer, name, word),
     }
 }
 
-fn structs(answer: &mut Answer, word: &str, types: &mut Types) -> Result<ArrowDataType, Fault> {
-    let count = answer.count(word);
-    Ok(ArrowDataType::Struct(children(answer.alloc(), types, count)?))
-}
-
-/// A type over others.
-fn nested_type(
-    answer: &mut Answer,
-    name: &str,
-    word: &str,
-    types: &mut Types,
-) -> Result<ArrowDataType, Fault> {
-    match name {
-        "fixed_list" => fixed_list(answer, word, types),
-        "struct" => structs(answer, word, types),
-        "union" => union(answer, word, types),
-        "dictionary" => dictionary(answer.alloc(), word, types),
-        "extension" => extension(answer.alloc(), word, types),
-        "timestamp" => timestamp(answer.alloc(), word),
-        _ => listed_type(answer, name, word, types),
-    }
-}
-
 /// The type of a word, over those that stand behind it.
-fn read_word<'a>(
-    answer: &mut Answer,
-    word: &'a str,
-    types: &mut Types<'a>,
-) -> Result<Named<'a>, Fault> {
+fn read_word<'a>(answer: &Answer, word: &'a str, types: &mut Types<'a>) -> Named<'a> {
     let (name, rest) = word.split_once('=').unwrap_or(("", word));
     let (rest, is_nullable) = match rest.strip_suffix('!') {
         Some(rest) => (rest, false),
@@ -273,35 +259,41 @@ fn read_word<'a>(
     };
     let (kind, parameter) = parts(rest);
     let dtype = match plain_type(kind) {
-        Some(dtype) => dtype,
-        None => nested_type(answer, kind, parameter, types)?,
+        Some(dtype) => Some(dtype),
+        None => made_type(answer, kind, parameter, types),
     };
-    Ok(Named {
+    Named {
         name,
-        dtype,
+        dtype: known(answer, dtype),
         is_nullable,
-    })
+    }
+}
+
+/// A type, or that of nulls where the words say none.
+fn known(answer: &Answer, dtype: Option<ArrowDataType>) -> ArrowDataType {
+    match dtype {
+        Some(dtype) => dtype,
+        None => {
+            answer.refuse();
+            ArrowDataType::Null
+        }
+    }
 }
 
 /// The types that no other word is in front of. Words are read from the last one on, so that children stand before what is over them.
-pub(crate) fn types_of<'a>(answer: &mut Answer, words: &'a [&'a str]) -> Types<'a> {
+pub(crate) fn types_of<'a>(answer: &Answer, words: &'a [&'a str]) -> Types<'a> {
     let mut types = Vec::new(answer.alloc());
     for word in words.iter().rev() {
-        match read_word(answer, *word, &mut types) {
-            Ok(named) => answer.done(types.push(named)),
-            Err(fault) => answer.fail(fault),
-        }
+        let named = read_word(answer, *word, &mut types);
+        answer.done(types.push(named));
     }
     types
 }
 
 /// The type of these words, or that of nulls.
-pub fn type_of(answer: &mut Answer, words: &[&str]) -> ArrowDataType {
+pub fn type_of(answer: &Answer, words: &[&str]) -> ArrowDataType {
     match types_of(answer, words).pop() {
         Some(named) => named.dtype,
-        None => {
-            answer.refuse();
-            ArrowDataType::Null
-        }
+        None => known(answer, None),
     }
 }

@@ -2,6 +2,7 @@
 use crate::fault::Fault;
 use hex::decode;
 use std::alloc::{AllocError, Global};
+use std::cell::{Cell, RefCell};
 
 /// The answer of a call as it is made: its text, or the first fault that was met.
 ///
@@ -10,8 +11,8 @@ use std::alloc::{AllocError, Global};
 #[derive(Drop)]
 pub struct Answer {
     alloc: Global,
-    text: String,
-    fault: Option<Fault>,
+    text: RefCell<String>,
+    fault: Cell<Option<Fault>>,
 }
 
 impl Answer {
@@ -19,8 +20,8 @@ impl Answer {
     pub fn new(alloc: Global) -> Answer {
         Answer {
             alloc,
-            text: String::new(alloc),
-            fault: None,
+            text: RefCell::new(String::new(alloc)),
+            fault: Cell::new(None),
         }
     }
 
@@ -31,38 +32,42 @@ impl Answer {
 
     /// Whether there is no fault.
     pub fn is_well(&self) -> bool {
-        self.fault.is_none()
+        self.fault.get().is_none()
     }
 
     /// The text, or the fault in its place.
     pub fn into_text(self) -> Result<String, Fault> {
-        match self.fault {
-            None => Ok(self.text),
+        match self.fault.get() {
+            None => Ok(self.text.into_inner()),
             Some(fault) => Err(fault),
         }
     }
 
     /// There is a fault.
-    pub fn fail(&mut self, fault: Fault) {
-        if self.fault.is_none() {
-            self.fault = Some(fault);
+    pub fn fail(&self, fault: Fault) {
+        if self.is_well() {
+            self.fault.set(Some(fault));
         }
     }
 
     /// The words are none of a call.
-    pub fn refuse(&mut self) {
+    pub fn refuse(&self) {
         self.fail(Fault::Words);
     }
 
     /// Adds a text.
-    pub fn say(&mut self, text: &str) {
-        if self.text.push_str(text).is_err() {
+    pub fn say(&self, text: &str) {
+        let is_said = match self.text.try_borrow_mut() {
+            Ok(mut all) => all.push_str(text).is_ok(),
+            Err(_) => false,
+        };
+        if !is_said {
             self.fail(Fault::Memory);
         }
     }
 
     /// Adds a text that was made.
-    pub fn tell(&mut self, text: Result<String, AllocError>) {
+    pub fn tell(&self, text: Result<String, AllocError>) {
         match text {
             Ok(text) => self.say(&text),
             Err(_) => self.fail(Fault::Memory),
@@ -70,14 +75,14 @@ impl Answer {
     }
 
     /// What is done gives nothing but a fault.
-    pub fn done<E: Into<Fault>>(&mut self, done: Result<(), E>) {
+    pub fn done<E: Into<Fault>>(&self, done: Result<(), E>) {
         if let Err(error) = done {
             self.fail(error.into());
         }
     }
 
     /// A list that was made, or an empty one.
-    pub fn list<T: Drop, E: Into<Fault>>(&mut self, list: Result<Vec<T>, E>) -> Vec<T> {
+    pub fn list<T: Drop, E: Into<Fault>>(&self, list: Result<Vec<T>, E>) -> Vec<T> {
         match list {
             Ok(list) => list,
             Err(error) => {
@@ -88,7 +93,7 @@ impl Answer {
     }
 
     /// What was made, or none.
-    pub fn value<T: Drop, E: Into<Fault>>(&mut self, made: Result<T, E>) -> Option<T> {
+    pub fn value<T: Drop, E: Into<Fault>>(&self, made: Result<T, E>) -> Option<T> {
         match made {
             Ok(value) => Some(value),
             Err(error) => {
@@ -98,8 +103,19 @@ impl Answer {
         }
     }
 
+    /// A word as a text of its own.
+    pub fn text(&self, word: &str) -> String {
+        match String::from_str(self.alloc, word) {
+            Ok(text) => text,
+            Err(_) => {
+                self.fail(Fault::Memory);
+                String::new(self.alloc)
+            }
+        }
+    }
+
     /// A count, in decimal digits.
-    pub fn count(&mut self, word: &str) -> usize {
+    pub fn count(&self, word: &str) -> usize {
         match word.parse::<usize>() {
             Ok(count) => count,
             Err(_) => {
@@ -110,7 +126,7 @@ impl Answer {
     }
 
     /// A number of 64 bits.
-    pub fn long(&mut self, word: &str) -> i64 {
+    pub fn long(&self, word: &str) -> i64 {
         match word.parse::<i64>() {
             Ok(number) => number,
             Err(_) => {
@@ -120,7 +136,7 @@ impl Answer {
         }
     }
 
-    fn plain_number(&mut self, word: &str) -> i128 {
+    fn plain_number(&self, word: &str) -> i128 {
         match word.parse::<i128>() {
             Ok(number) => number,
             Err(_) => {
@@ -131,7 +147,7 @@ impl Answer {
     }
 
     /// A number, in decimal digits; or numbers of 32, 32 and 64 bits joined by slashes, from the lowest bits up.
-    pub fn number(&mut self, word: &str) -> i128 {
+    pub fn number(&self, word: &str) -> i128 {
         let Some((first, rest)) = word.split_once('/') else {
             return self.plain_number(word);
         };
@@ -179,7 +195,7 @@ pub fn parts(word: &str) -> (&str, &str) {
     }
 }
 
-fn listed(answer: &mut Answer, word: &str) -> Vec<i128> {
+fn listed(answer: &Answer, word: &str) -> Vec<i128> {
     let mut numbers = Vec::new(answer.alloc());
     for part in word.split(',') {
         let number = answer.number(part);
@@ -188,14 +204,14 @@ fn listed(answer: &mut Answer, word: &str) -> Vec<i128> {
     numbers
 }
 
-fn the_same(answer: &mut Answer, one: &str, times: &str) -> Vec<i128> {
+fn the_same(answer: &Answer, one: &str, times: &str) -> Vec<i128> {
     let (one, times) = (answer.number(one), answer.count(times));
     let numbers = vec![in answer.alloc(); one; times];
     answer.list(numbers)
 }
 
 /// Numbers joined by commas, or one so many times, as `7*128`; `-` is none.
-pub fn numbers(answer: &mut Answer, word: &str) -> Vec<i128> {
+pub fn numbers(answer: &Answer, word: &str) -> Vec<i128> {
     if word == "-" {
         return Vec::new(answer.alloc());
     }
@@ -206,7 +222,7 @@ pub fn numbers(answer: &mut Answer, word: &str) -> Vec<i128> {
 }
 
 /// Counts joined by commas; no character is none.
-pub fn counts(answer: &mut Answer, word: &str) -> Vec<usize> {
+pub fn counts(answer: &Answer, word: &str) -> Vec<usize> {
     let mut counts = Vec::new(answer.alloc());
     if word.is_empty() {
         return counts;
@@ -219,13 +235,13 @@ pub fn counts(answer: &mut Answer, word: &str) -> Vec<usize> {
 }
 
 /// Two numbers joined by a sign.
-pub fn pair(answer: &mut Answer, word: &str, sign: char) -> (i64, i64) {
+pub fn pair(answer: &Answer, word: &str, sign: char) -> (i64, i64) {
     let (first, second) = word.split_once(sign).unwrap_or(("", ""));
     (answer.long(first), answer.long(second))
 }
 
 /// The bytes of hex digits.
-pub fn hex_bytes(answer: &mut Answer, word: &str) -> Vec<u8> {
+pub fn hex_bytes(answer: &Answer, word: &str) -> Vec<u8> {
     match decode(answer.alloc(), word) {
         Ok(bytes) => bytes,
         Err(_) => {
@@ -236,14 +252,14 @@ pub fn hex_bytes(answer: &mut Answer, word: &str) -> Vec<u8> {
 }
 
 /// The same bytes so many times.
-pub fn repeat(answer: &mut Answer, all: &mut Vec<u8>, bytes: &[u8], times: usize) {
+pub fn repeat(answer: &Answer, all: &mut Vec<u8>, bytes: &[u8], times: usize) {
     for _ in 0..times {
         answer.done(all.extend_from_slice(bytes));
     }
 }
 
 /// Adds the bytes of hex digits, or so many times, as `00*64`, or behind an apostrophe as they stand; of `-` none.
-pub fn add_bytes(answer: &mut Answer, all: &mut Vec<u8>, word: &str) {
+pub fn add_bytes(answer: &Answer, all: &mut Vec<u8>, word: &str) {
     if let Some(text) = word.strip_prefix('\'') {
         return answer.done(all.extend_from_slice(text.as_bytes()));
     }
@@ -256,14 +272,14 @@ pub fn add_bytes(answer: &mut Answer, all: &mut Vec<u8>, word: &str) {
 }
 
 /// The bytes of a word.
-pub fn bytes(answer: &mut Answer, word: &str) -> Vec<u8> {
+pub fn bytes(answer: &Answer, word: &str) -> Vec<u8> {
     let mut all = Vec::new(answer.alloc());
     add_bytes(answer, &mut all, word);
     all
 }
 
 /// The bytes of several words, one behind another.
-pub fn bytes_of(answer: &mut Answer, words: &[&str]) -> Vec<u8> {
+pub fn bytes_of(answer: &Answer, words: &[&str]) -> Vec<u8> {
     let mut all = Vec::new(answer.alloc());
     for word in words {
         add_bytes(answer, &mut all, *word);
@@ -272,7 +288,7 @@ pub fn bytes_of(answer: &mut Answer, words: &[&str]) -> Vec<u8> {
 }
 
 /// Bits from the first row on, packed from the lowest bit of a byte up.
-pub fn bits(answer: &mut Answer, word: &str) -> Vec<u8> {
+pub fn bits(answer: &Answer, word: &str) -> Vec<u8> {
     let mut packed = Vec::new(answer.alloc());
     let mut byte = 0u8;
     let mut mask = 1u8;

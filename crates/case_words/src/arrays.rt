@@ -7,10 +7,10 @@ use arrow_buffers::{
     NullArray, PrimitiveArray, TextRows, VariableArray, ViewType,
 };
 use arrow_types::{NativeType, Offset};
-use case_types::{Answer, Fault, bits, bytes, halves, numbers, rest, word};
+use case_types::{Answer, bits, bytes, halves, numbers, rest, word};
 
 /// Numbers of a width, each in its lowest bytes.
-pub fn items<T: NativeType>(answer: &mut Answer, word: &str) -> Result<Buffer<T>, Fault> {
+pub fn items<T: NativeType>(answer: &Answer, word: &str) -> Option<Buffer<T>> {
     let mut items = Vec::new(answer.alloc());
     for number in &numbers(answer, word) {
         let bytes = number.to_le_bytes();
@@ -19,11 +19,11 @@ pub fn items<T: NativeType>(answer: &mut Answer, word: &str) -> Result<Buffer<T>
             None => answer.refuse(),
         }
     }
-    Ok(Buffer::from_vec(items)?)
+    answer.value(Buffer::from_vec(items))
 }
 
 /// As many bits as there are digits.
-pub fn bitmap(answer: &mut Answer, word: &str) -> Option<Bitmap> {
+pub fn bitmap(answer: &Answer, word: &str) -> Option<Bitmap> {
     let packed = bits(answer, word);
     let count = word.len();
     if packed.len() < count / 8 + 1 {
@@ -34,109 +34,98 @@ pub fn bitmap(answer: &mut Answer, word: &str) -> Option<Bitmap> {
 }
 
 /// The bytes of a word as a buffer.
-pub fn bytes_buffer(answer: &mut Answer, word: &str) -> Result<Buffer<u8>, Fault> {
-    Ok(Buffer::from_bytes(bytes(answer, word))?)
+pub fn bytes_buffer(answer: &Answer, word: &str) -> Option<Buffer<u8>> {
+    answer.value(Buffer::from_bytes(bytes(answer, word)))
 }
 
-pub(crate) fn of_numbers<T: NativeType>(
-    answer: &mut Answer,
-    made: Made,
-) -> Result<PrimitiveArray<T>, Fault> {
-    let values = items(answer, word(made.words, 0))?;
-    let validity = made.validity(answer);
-    Ok(PrimitiveArray::try_new(made.dtype(answer), values, validity)?)
+pub(crate) fn of_numbers<T: NativeType>(answer: &Answer, made: Made) -> Option<PrimitiveArray<T>> {
+    let values = items(answer, made.word(0))?;
+    let (dtype, validity) = (made.dtype(answer), made.validity(answer));
+    answer.value(PrimitiveArray::try_new(dtype, values, validity))
 }
 
-fn of_bits(answer: &mut Answer, made: Made) -> Result<Array, Fault> {
-    let validity = made.validity(answer);
-    match bitmap(answer, word(made.words, 0)) {
-        Some(values) => {
-            Ok(Array::Boolean(BooleanArray::try_new(made.dtype(answer), values, validity)?))
-        }
-        None => Err(Fault::Words),
-    }
+fn of_bits(answer: &Answer, made: Made) -> Option<Array> {
+    let values = bitmap(answer, made.word(0))?;
+    let (dtype, validity) = (made.dtype(answer), made.validity(answer));
+    Some(Array::Boolean(answer.value(BooleanArray::try_new(dtype, values, validity))?))
 }
 
-fn of_bytes(answer: &mut Answer, made: Made) -> Result<Array, Fault> {
-    let values = bytes_buffer(answer, word(made.words, 0))?;
-    let validity = made.validity(answer);
-    let array = FixedSizeBinaryArray::try_new(made.dtype(answer), values, validity)?;
-    Ok(Array::FixedSizeBinary(array))
+fn of_bytes(answer: &Answer, made: Made) -> Option<Array> {
+    let values = bytes_buffer(answer, made.word(0))?;
+    let (dtype, validity) = (made.dtype(answer), made.validity(answer));
+    let array = answer.value(FixedSizeBinaryArray::try_new(dtype, values, validity))?;
+    Some(Array::FixedSizeBinary(array))
 }
 
 /// Offsets, and the bytes that they lead into.
-fn between<O: Offset, V: ViewType>(
-    answer: &mut Answer,
-    made: Made,
-) -> Result<VariableArray<O, V>, Fault> {
-    let offsets = items(answer, word(made.words, 0))?;
-    let values = bytes_buffer(answer, word(made.words, 1))?;
-    let validity = made.validity(answer);
-    Ok(VariableArray::try_new(made.dtype(answer), offsets, values, validity)?)
+fn between<O: Offset, V: ViewType>(answer: &Answer, made: Made) -> Option<VariableArray<O, V>> {
+    let offsets = items(answer, made.word(0))?;
+    let values = bytes_buffer(answer, made.word(1))?;
+    let (dtype, validity) = (made.dtype(answer), made.validity(answer));
+    answer.value(VariableArray::try_new(dtype, offsets, values, validity))
 }
 
 /// The buffers that views lead into.
-fn held(answer: &mut Answer, made: Made) -> Result<Vec<Buffer<u8>>, Fault> {
+fn held(answer: &Answer, words: &[&str]) -> Vec<Buffer<u8>> {
     let mut buffers = Vec::new(answer.alloc());
-    for word in rest(made.words, 1) {
-        buffers.push(bytes_buffer(answer, *word)?)?;
+    for word in words {
+        match bytes_buffer(answer, *word) {
+            Some(buffer) => answer.done(buffers.push(buffer)),
+            None => break,
+        }
     }
-    Ok(buffers)
+    buffers
 }
 
-fn views<V: ViewType>(answer: &mut Answer, made: Made) -> Result<BinaryViewArrayGeneric<V>, Fault> {
-    let views = bytes_buffer(answer, word(made.words, 0))?;
-    let buffers = held(answer, made)?;
-    let validity = made.validity(answer);
-    Ok(BinaryViewArrayGeneric::try_new(made.dtype(answer), views, buffers, validity)?)
+fn views<V: ViewType>(answer: &Answer, made: Made) -> Option<BinaryViewArrayGeneric<V>> {
+    let views = bytes_buffer(answer, made.word(0))?;
+    let buffers = held(answer, rest(made.words, 1));
+    let (dtype, validity) = (made.dtype(answer), made.validity(answer));
+    answer.value(BinaryViewArrayGeneric::try_new(dtype, views, buffers, validity))
 }
 
-fn nulls(answer: &mut Answer, made: Made) -> Result<Array, Fault> {
-    let rows = answer.count(word(made.words, 0));
-    Ok(Array::Null(NullArray::try_new(made.dtype(answer), rows)?))
+fn nulls(answer: &Answer, made: Made) -> Option<Array> {
+    let rows = answer.count(made.word(0));
+    Some(Array::Null(answer.value(NullArray::try_new(made.dtype(answer), rows))?))
 }
 
 /// An array of numbers, where the word names their width.
-fn of_width(answer: &mut Answer, name: &str, made: Made) -> Result<Array, Fault> {
+fn of_width(answer: &Answer, name: &str, made: Made) -> Option<Array> {
     match name {
-        "i8" => Ok(Array::Int8(of_numbers(answer, made)?)),
-        "i16" => Ok(Array::Int16(of_numbers(answer, made)?)),
-        "i32" => Ok(Array::Int32(of_numbers(answer, made)?)),
-        "i64" => Ok(Array::Int64(of_numbers(answer, made)?)),
-        "i128" => Ok(Array::Int128(of_numbers(answer, made)?)),
-        "u8" => Ok(Array::UInt8(of_numbers(answer, made)?)),
-        "u16" => Ok(Array::UInt16(of_numbers(answer, made)?)),
-        "u32" => Ok(Array::UInt32(of_numbers(answer, made)?)),
-        "u64" => Ok(Array::UInt64(of_numbers(answer, made)?)),
-        "days" => Ok(Array::DaysMs(of_numbers(answer, made)?)),
-        "months" => Ok(Array::MonthsDaysNs(of_numbers(answer, made)?)),
-        _ => Err(Fault::Words),
+        "i8" => Some(Array::Int8(of_numbers(answer, made)?)),
+        "i16" => Some(Array::Int16(of_numbers(answer, made)?)),
+        "i32" => Some(Array::Int32(of_numbers(answer, made)?)),
+        "i64" => Some(Array::Int64(of_numbers(answer, made)?)),
+        "i128" => Some(Array::Int128(of_numbers(answer, made)?)),
+        "u8" => Some(Array::UInt8(of_numbers(answer, made)?)),
+        "u16" => Some(Array::UInt16(of_numbers(answer, made)?)),
+        "u32" => Some(Array::UInt32(of_numbers(answer, made)?)),
+        "u64" => Some(Array::UInt64(of_numbers(answer, made)?)),
+        "days" => Some(Array::DaysMs(of_numbers(answer, made)?)),
+        "months" => Some(Array::MonthsDaysNs(of_numbers(answer, made)?)),
+        _ => None,
     }
 }
 
 /// An array without children.
-pub(crate) fn leaf(answer: &mut Answer, name: &str, made: Made) -> Result<Array, Fault> {
+pub(crate) fn leaf(answer: &Answer, name: &str, made: Made) -> Option<Array> {
     match name {
         "nulls" => nulls(answer, made),
         "bits" => of_bits(answer, made),
         "bytes" => of_bytes(answer, made),
-        "strings" => Ok(Array::Binary(between::<i32, ByteRows>(answer, made)?)),
-        "large_strings" => Ok(Array::LargeBinary(between::<i64, ByteRows>(answer, made)?)),
-        "texts" => Ok(Array::Utf8(between::<i32, TextRows>(answer, made)?)),
-        "large_texts" => Ok(Array::LargeUtf8(between::<i64, TextRows>(answer, made)?)),
-        "string_views" => Ok(Array::BinaryView(views::<ByteRows>(answer, made)?)),
-        "text_views" => Ok(Array::Utf8View(views::<TextRows>(answer, made)?)),
+        "strings" => Some(Array::Binary(between::<i32, ByteRows>(answer, made)?)),
+        "large_strings" => Some(Array::LargeBinary(between::<i64, ByteRows>(answer, made)?)),
+        "texts" => Some(Array::Utf8(between::<i32, TextRows>(answer, made)?)),
+        "large_texts" => Some(Array::LargeUtf8(between::<i64, TextRows>(answer, made)?)),
+        "string_views" => Some(Array::BinaryView(views::<ByteRows>(answer, made)?)),
+        "text_views" => Some(Array::Utf8View(views::<TextRows>(answer, made)?)),
         _ => of_width(answer, name, made),
     }
 }
 
-/// The array of `TYPE | PARTS`, with `valid BITS` behind them where it has a validity. Children are those that were made last, which
-/// it takes.
-pub fn array_of(
-    answer: &mut Answer,
-    arrays: &mut Vec<Array>,
-    words: &[&str],
-) -> Result<Array, Fault> {
+/// The array of `TYPE | PARTS`, with `valid BITS` behind them where it has a validity, or none, of which the answer has the reason.
+/// Children are those that were made last, which it takes.
+pub fn array_of(answer: &Answer, arrays: &mut Vec<Array>, words: &[&str]) -> Option<Array> {
     let (types, parts) = halves(words, "|");
     let (parts, valid) = halves(parts, "valid");
     let made = Made {
@@ -144,5 +133,9 @@ pub fn array_of(
         words: rest(parts, 1),
         valid: valid.first().copied(),
     };
-    nested(answer, word(parts, 0), made, arrays)
+    let array = nested(answer, word(parts, 0), made, arrays);
+    if array.is_none() {
+        answer.refuse();
+    }
+    array
 }

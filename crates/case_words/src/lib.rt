@@ -17,10 +17,10 @@ mod tables;
 pub use arrays::{array_of, bitmap, bytes_buffer, items};
 pub use batches::batch_of;
 pub use case_types::{
-    Answer, Fault, add_bytes, bytes, bytes_of, counts, fields_of, halves, hex_bytes, index_type,
-    numbers, parts, repeat, rest, schema_of, type_of, word,
+    Answer, Fault, add_bytes, bytes, bytes_of, counts, fields_of, halves, hex_bytes, numbers,
+    parts, repeat, rest, schema_of, type_of, word,
 };
 pub use cases::{Case, run_files, text_of};
-pub use kept::{keep, keep_made, part, say_same, take};
+pub use kept::{keep, part, say_same};
 pub use shown::{is_valid_at, say_bytes, say_cells, say_counts, say_lines, say_one, say_rows};
 pub use tables::{Tables, say_body, say_buffers};

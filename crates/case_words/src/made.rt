@@ -2,7 +2,7 @@
 use crate::arrays::bitmap;
 use arrow_buffers::Bitmap;
 use arrow_types::ArrowDataType;
-use case_types::{Answer, type_of};
+use case_types::{Answer, type_of, word};
 
 /// What an array is made of, but its children, as words: nothing is owned until the array is made.
 #[derive(Clone, Copy)]
@@ -13,12 +13,16 @@ pub(crate) struct Made<'a> {
     pub(crate) valid: Option<&'a str>,
 }
 
-impl Made<'_> {
-    pub(crate) fn dtype(&self, answer: &mut Answer) -> ArrowDataType {
+impl<'a> Made<'a> {
+    pub(crate) fn word(&self, at: usize) -> &'a str {
+        word(self.words, at)
+    }
+
+    pub(crate) fn dtype(&self, answer: &Answer) -> ArrowDataType {
         type_of(answer, self.types)
     }
 
-    pub(crate) fn validity(&self, answer: &mut Answer) -> Option<Bitmap> {
+    pub(crate) fn validity(&self, answer: &Answer) -> Option<Bitmap> {
         match self.valid {
             Some(word) => bitmap(answer, word),
             None => None,

@@ -11,13 +11,13 @@ use hex::encode;
 use std::convert::AsSlice;
 
 /// How many rows there are, and how many of them are null.
-pub fn say_counts(answer: &mut Answer, array: &Array) {
+pub fn say_counts(answer: &Answer, array: &Array) {
     let (rows, nulls) = (array.len(), array.null_count());
     answer.tell(format!(in answer.alloc(); "{rows} rows, {nulls} null"));
 }
 
 /// Bytes as hex digits; `-` where there are none.
-pub fn say_bytes(answer: &mut Answer, bytes: &[u8]) {
+pub fn say_bytes(answer: &Answer, bytes: &[u8]) {
     if bytes.is_empty() {
         answer.say("-");
     } else {
@@ -43,13 +43,13 @@ pub fn is_valid_at(validity: Option<&Bitmap>, row: usize) -> bool
     }
 }
 
-fn say_number<T: NativeType>(answer: &mut Answer, array: &PrimitiveArray<T>, row: usize) {
+fn say_number<T: NativeType>(answer: &Answer, array: &PrimitiveArray<T>, row: usize) {
     if row < array.len() {
         say_bytes(answer, array.value(row).to_be_bytes().as_slice());
     }
 }
 
-fn say_optional(answer: &mut Answer, bytes: Option<&[u8]>) {
+fn say_optional(answer: &Answer, bytes: Option<&[u8]>) {
     match bytes {
         Some(bytes) => say_bytes(answer, bytes),
         None => answer.say("none"),
@@ -57,7 +57,7 @@ fn say_optional(answer: &mut Answer, bytes: Option<&[u8]>) {
 }
 
 /// A row of bytes.
-fn say_string(answer: &mut Answer, array: &Array, row: usize) {
+fn say_string(answer: &Answer, array: &Array, row: usize) {
     match array {
         Array::Binary(array) if row < array.len() => say_bytes(answer, array.value(row)),
         Array::LargeBinary(array) if row < array.len() => say_bytes(answer, array.value(row)),
@@ -85,7 +85,7 @@ fn range_of(array: &Array, row: usize) -> Option<(usize, usize)> {
 }
 
 /// A key, and the part and the row that it leads to.
-fn say_key(answer: &mut Answer, array: &DictionaryArray, row: usize) {
+fn say_key(answer: &Answer, array: &DictionaryArray, row: usize) {
     if row < array.len() && is_valid_at(array.validity(), row) {
         let (part, place) = array.index(row);
         let key = array.key_value(row);
@@ -94,7 +94,7 @@ fn say_key(answer: &mut Answer, array: &DictionaryArray, row: usize) {
 }
 
 /// A row of numbers of one width.
-fn say_value(answer: &mut Answer, array: &Array, row: usize) {
+fn say_value(answer: &Answer, array: &Array, row: usize) {
     match array {
         Array::Boolean(array) if row < array.len() => {
             answer.say(if array.value(row) { "1" } else { "0" })
@@ -114,7 +114,7 @@ fn say_value(answer: &mut Answer, array: &Array, row: usize) {
     }
 }
 
-fn say_row(answer: &mut Answer, array: &Array, row: usize) {
+fn say_row(answer: &Answer, array: &Array, row: usize) {
     say_value(answer, array, row);
     say_string(answer, array, row);
     if let Array::Dictionary(array) = array {
@@ -126,7 +126,7 @@ fn say_row(answer: &mut Answer, array: &Array, row: usize) {
 }
 
 /// A row of an array by what its kind tells of it, or `null`.
-pub fn say_one(answer: &mut Answer, array: &Array, row: usize) {
+pub fn say_one(answer: &Answer, array: &Array, row: usize) {
     if is_valid_at(array.validity(), row) {
         say_row(answer, array, row);
     } else {
@@ -135,7 +135,7 @@ pub fn say_one(answer: &mut Answer, array: &Array, row: usize) {
 }
 
 /// The rows of an array, in order.
-pub fn say_rows(answer: &mut Answer, array: &Array) {
+pub fn say_rows(answer: &Answer, array: &Array) {
     for row in 0..array.len() {
         answer.say(" ");
         say_one(answer, array, row);
@@ -143,7 +143,7 @@ pub fn say_rows(answer: &mut Answer, array: &Array) {
 }
 
 /// The same, also of what is held under rows that are null.
-pub fn say_cells(answer: &mut Answer, array: &Array) {
+pub fn say_cells(answer: &Answer, array: &Array) {
     for row in 0..array.len() {
         answer.say(" ");
         say_row(answer, array, row);
@@ -151,7 +151,7 @@ pub fn say_cells(answer: &mut Answer, array: &Array) {
 }
 
 /// Bytes as hex digits, 64 bytes a line.
-pub fn say_lines(answer: &mut Answer, bytes: &[u8]) {
+pub fn say_lines(answer: &Answer, bytes: &[u8]) {
     for (line, chunk) in bytes.chunks(64).enumerate() {
         if line > 0 {
             answer.say("\n");

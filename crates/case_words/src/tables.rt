@@ -1,4 +1,6 @@
 //! The tables of a column and its body, as words.
+ghost use Rattle.std.specs.Prelude.{◌≡◌, []};
+
 use crate::shown::{front, say_bytes};
 use arrow_spec::{FieldNode, IpcBuffer};
 use case_types::{Answer, add_bytes, pair};
@@ -18,7 +20,7 @@ pub struct Tables {
 }
 
 /// Rows and nulls of each node.
-fn say_nodes(answer: &mut Answer, nodes: &[FieldNode]) {
+fn say_nodes(answer: &Answer, nodes: &[FieldNode]) {
     answer.say("nodes");
     for node in nodes {
         let (rows, nulls) = (node.length, node.null_count);
@@ -27,7 +29,7 @@ fn say_nodes(answer: &mut Answer, nodes: &[FieldNode]) {
 }
 
 /// The line `buffers PLACE+LENGTH ..`.
-pub fn say_buffers(answer: &mut Answer, buffers: &[IpcBuffer]) {
+pub fn say_buffers(answer: &Answer, buffers: &[IpcBuffer]) {
     answer.say("buffers");
     for buffer in buffers {
         let (place, length) = (buffer.offset, buffer.length);
@@ -35,7 +37,7 @@ pub fn say_buffers(answer: &mut Answer, buffers: &[IpcBuffer]) {
     }
 }
 
-fn say_views(answer: &mut Answer, views: &[i64]) {
+fn say_views(answer: &Answer, views: &[i64]) {
     answer.say("views");
     for count in views {
         answer.tell(format!(in answer.alloc(); " {count}"));
@@ -43,7 +45,7 @@ fn say_views(answer: &mut Answer, views: &[i64]) {
 }
 
 /// The line `body LENGTH HEX ..`: a body's length, and what each 64 bytes of it hold, but for the zeros at their end.
-pub fn say_body(answer: &mut Answer, body: &[u8]) {
+pub fn say_body(answer: &Answer, body: &[u8]) {
     let length = body.len();
     answer.tell(format!(in answer.alloc(); "body {length}"));
     for chunk in body.chunks(64) {
@@ -54,7 +56,9 @@ pub fn say_body(answer: &mut Answer, body: &[u8]) {
 
 impl Tables {
     /// Nothing of any column.
-    pub fn new(alloc: Global) -> Tables {
+    pub fn new(alloc: Global) -> Tables
+        ensures { result.body.items ≡ [] }
+    {
         Tables {
             nodes: Vec::new(alloc),
             buffers: Vec::new(alloc),
@@ -64,7 +68,7 @@ impl Tables {
     }
 
     /// The three lines `nodes ROWS/NULLS ..`, `buffers PLACE+LENGTH ..` and `views COUNT ..`.
-    pub fn say_without_body(&self, answer: &mut Answer) {
+    pub fn say_without_body(&self, answer: &Answer) {
         say_nodes(answer, &self.nodes);
         answer.say("\n");
         say_buffers(answer, &self.buffers);
@@ -73,13 +77,13 @@ impl Tables {
     }
 
     /// The same, and the line `body LENGTH HEX ..`.
-    pub fn say(&self, answer: &mut Answer) {
+    pub fn say(&self, answer: &Answer) {
         self.say_without_body(answer);
         answer.say("\n");
         say_body(answer, &self.body);
     }
 
-    fn put_word(&mut self, answer: &mut Answer, name: &str, word: &str) {
+    fn put_word(&mut self, answer: &Answer, name: &str, word: &str) {
         match name {
             "nodes" => {
                 let (length, null_count) = pair(answer, word, '/');
@@ -99,7 +103,7 @@ impl Tables {
     }
 
     /// Adds what a line says: of the body its bytes, of the others the same words as those of `say`.
-    pub fn put(&mut self, answer: &mut Answer, name: &str, words: &[&str]) {
+    pub fn put(&mut self, answer: &Answer, name: &str, words: &[&str]) {
         for word in words {
             self.put_word(answer, name, *word);
         }

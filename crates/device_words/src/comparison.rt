@@ -11,7 +11,7 @@ pub(crate) fn same_front(one: &[u8], other: &[u8]) -> usize {
 }
 
 /// How two lists of bytes compare.
-pub fn say_compared(answer: &mut Answer, found: &[u8], wanted: &[u8]) {
+pub fn say_compared(answer: &Answer, found: &[u8], wanted: &[u8]) {
     if found == wanted {
         return answer.say("same");
     }
@@ -21,7 +21,7 @@ pub fn say_compared(answer: &mut Answer, found: &[u8], wanted: &[u8]) {
 
 /// How many bytes there are, and their sum: from 14695981039346656037 on, each byte is joined by exclusive or, and the whole is multiplied
 /// by 1099511628211 (FNV-1a, 64 bits).
-pub fn say_sum(answer: &mut Answer, bytes: &[u8]) {
+pub fn say_sum(answer: &Answer, bytes: &[u8]) {
     let mut sum = 14695981039346656037u64;
     for byte in bytes {
         sum = (sum ^ u64::from(*byte)).wrapping_mul(1099511628211);

@@ -40,19 +40,14 @@ impl<T: Drop> Names<T> {
     }
 
     /// Puts a list under a name, in front of one that stands there.
-    pub(crate) fn put(&mut self, answer: &mut Answer, name: &str, items: Vec<T>) {
-        match String::from_str(answer.alloc(), name) {
-            Ok(name) => answer.done(self.held.insert(0, Named { name, items })),
-            Err(error) => {
-                drop(items);
-                answer.fail(error.into());
-            }
-        }
+    pub(crate) fn put(&mut self, answer: &Answer, name: &str, items: Vec<T>) {
+        let name = answer.text(name);
+        answer.done(self.held.insert(0, Named { name, items }));
     }
 }
 
 /// A name's bytes, or those of hex digits.
-fn plain(answer: &mut Answer, known: &Names<u8>, word: &str) -> Vec<u8> {
+fn plain(answer: &Answer, known: &Names<u8>, word: &str) -> Vec<u8> {
     match known.get(word) {
         Some(bytes) => answer.list(bytes.to_vec(answer.alloc())),
         None => hex_bytes(answer, word),
@@ -60,7 +55,7 @@ fn plain(answer: &mut Answer, known: &Names<u8>, word: &str) -> Vec<u8> {
 }
 
 /// Adds so many times the hex text of bytes.
-fn add_text(answer: &mut Answer, bytes: &mut Vec<u8>, shown: &[u8], times: usize) {
+fn add_text(answer: &Answer, bytes: &mut Vec<u8>, shown: &[u8], times: usize) {
     match encode(answer.alloc(), shown) {
         Ok(text) => repeat(answer, bytes, text.as_bytes(), times),
         Err(error) => answer.fail(error.into()),
@@ -68,7 +63,7 @@ fn add_text(answer: &mut Answer, bytes: &mut Vec<u8>, shown: &[u8], times: usize
 }
 
 /// Adds what `WORD` or `WORD*N` says, or behind `@` its hex text.
-fn add_piece(answer: &mut Answer, known: &Names<u8>, bytes: &mut Vec<u8>, word: &str) {
+fn add_piece(answer: &Answer, known: &Names<u8>, bytes: &mut Vec<u8>, word: &str) {
     let (word, times) = word.split_once('*').unwrap_or((word, "1"));
     let times = answer.count(times);
     match word.strip_prefix('@') {
@@ -84,7 +79,7 @@ fn add_piece(answer: &mut Answer, known: &Names<u8>, bytes: &mut Vec<u8>, word: 
 }
 
 /// Other bytes from a place on; or as many bytes from the front as are said.
-fn change(answer: &mut Answer, bytes: &mut Vec<u8>, place: &str, word: &str) {
+fn change(answer: &Answer, bytes: &mut Vec<u8>, place: &str, word: &str) {
     if place == "cut" {
         return bytes.truncate(answer.count(word));
     }
@@ -99,7 +94,7 @@ fn change(answer: &mut Answer, bytes: &mut Vec<u8>, place: &str, word: &str) {
 
 /// Adds what a word says: behind an apostrophe the text itself; `WORD*N` so many times the word; `AT=HEX` other bytes from a place on, in
 /// what stands so far; `cut=N` so many bytes of it; or a piece.
-pub fn add(answer: &mut Answer, known: &Names<u8>, bytes: &mut Vec<u8>, word: &str) {
+pub fn add(answer: &Answer, known: &Names<u8>, bytes: &mut Vec<u8>, word: &str) {
     if word.starts_with('\'') {
         return add_bytes(answer, bytes, word);
     }
@@ -110,7 +105,7 @@ pub fn add(answer: &mut Answer, known: &Names<u8>, bytes: &mut Vec<u8>, word: &s
 }
 
 /// The bytes that words say, one behind the other.
-pub fn bytes_of(answer: &mut Answer, known: &Names<u8>, words: &[&str]) -> Vec<u8> {
+pub fn bytes_of(answer: &Answer, known: &Names<u8>, words: &[&str]) -> Vec<u8> {
     let mut bytes = Vec::new(answer.alloc());
     for word in words {
         add(answer, known, &mut bytes, *word);
@@ -120,7 +115,7 @@ pub fn bytes_of(answer: &mut Answer, known: &Names<u8>, words: &[&str]) -> Vec<u
 
 impl Names<u8> {
     /// Whether a call is `bytes NAME WORD..`, which puts bytes under a name.
-    pub fn know(&mut self, answer: &mut Answer, name: &str, words: &[&str]) -> bool {
+    pub fn know(&mut self, answer: &Answer, name: &str, words: &[&str]) -> bool {
         if name != "bytes" {
             return false;
         }

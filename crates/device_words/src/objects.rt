@@ -46,7 +46,7 @@ impl Objects {
     /// Whether a call is one of an object.
     pub fn call(
         &mut self,
-        answer: &mut Answer,
+        answer: &Answer,
         known: &Names<u8>,
         outside: &Outside,
         name: &str,
@@ -63,18 +63,18 @@ impl Objects {
     }
 }
 
-fn say_error<E: Display + Drop>(answer: &mut Answer, error: E) {
+fn say_error<E: Display + Drop>(answer: &Answer, error: E) {
     answer.tell(format!(in answer.alloc(); "{error}"));
 }
 
-fn say_done<E: Display + Drop>(answer: &mut Answer, done: Result<(), E>) {
+fn say_done<E: Display + Drop>(answer: &Answer, done: Result<(), E>) {
     match done {
         Ok(()) => answer.say("done"),
         Err(error) => say_error(answer, error),
     }
 }
 
-fn say_size<S: Source>(answer: &mut Answer, source: &mut S) {
+fn say_size<S: Source>(answer: &Answer, source: &mut S) {
     match source.size() {
         Ok(size) => answer.tell(format!(in answer.alloc(); "{size}")),
         Err(error) => say_error(answer, error),
@@ -82,7 +82,7 @@ fn say_size<S: Source>(answer: &mut Answer, source: &mut S) {
 }
 
 /// `read AT`: three bytes from a place on.
-fn say_read<S: Source>(answer: &mut Answer, source: &mut S, words: &[&str]) {
+fn say_read<S: Source>(answer: &Answer, source: &mut S, words: &[&str]) {
     let at = answer.count(word(words, 0)) as u64;
     let mut out = [0; 3];
     match source.read_at(at, &mut out) {
@@ -93,7 +93,7 @@ fn say_read<S: Source>(answer: &mut Answer, source: &mut S, words: &[&str]) {
 }
 
 /// `write AT WORD..`
-fn write(answer: &mut Answer, known: &Names<u8>, disk: &mut MemoryDisk, words: &[&str]) {
+fn write(answer: &Answer, known: &Names<u8>, disk: &mut MemoryDisk, words: &[&str]) {
     let at = answer.count(word(words, 0));
     let bytes = bytes_of(answer, known, rest(words, 1));
     if at > disk.bytes().len() {
@@ -103,7 +103,7 @@ fn write(answer: &mut Answer, known: &Names<u8>, disk: &mut MemoryDisk, words: &
 }
 
 /// `cut COUNT`
-fn cut(answer: &mut Answer, disk: &mut MemoryDisk, words: &[&str]) {
+fn cut(answer: &Answer, disk: &mut MemoryDisk, words: &[&str]) {
     let count = answer.count(word(words, 0));
     if count > disk.bytes().len() {
         return answer.refuse();
@@ -111,12 +111,7 @@ fn cut(answer: &mut Answer, disk: &mut MemoryDisk, words: &[&str]) {
     say_done(answer, disk.cut(count as u64));
 }
 
-fn put_each<D: Disk>(
-    answer: &mut Answer,
-    known: &Names<u8>,
-    tail: &mut DiskTail<D>,
-    words: &[&str],
-) {
+fn put_each<D: Disk>(answer: &Answer, known: &Names<u8>, tail: &mut DiskTail<D>, words: &[&str]) {
     let mut between = "";
     for word in words {
         let mut bytes = Vec::new(answer.alloc());
@@ -129,7 +124,7 @@ fn put_each<D: Disk>(
 
 /// What is put behind a disk, each word by itself. Behind `off` the disk is cut off where the tail ends.
 fn follow<D: Disk + Drop>(
-    answer: &mut Answer,
+    answer: &Answer,
     known: &Names<u8>,
     made: Result<DiskTail<D>, RefusedDisk<D>>,
     words: &[&str],
@@ -151,7 +146,7 @@ fn follow<D: Disk + Drop>(
 }
 
 /// `tail_at COUNT WORD..`
-fn tail_at(answer: &mut Answer, known: &Names<u8>, disk: &mut MemoryDisk, words: &[&str]) {
+fn tail_at(answer: &Answer, known: &Names<u8>, disk: &mut MemoryDisk, words: &[&str]) {
     let count = answer.count(word(words, 0));
     if count > disk.bytes().len() {
         return answer.refuse();
@@ -165,14 +160,14 @@ fn tail_at(answer: &mut Answer, known: &Names<u8>, disk: &mut MemoryDisk, words:
 }
 
 /// `holds WORD..`
-fn holds(answer: &mut Answer, known: &Names<u8>, disk: &MemoryDisk, words: &[&str]) {
+fn holds(answer: &Answer, known: &Names<u8>, disk: &MemoryDisk, words: &[&str]) {
     let wanted = bytes_of(answer, known, words);
     say_compared(answer, disk.bytes(), &wanted);
 }
 
 /// `sink new`, `sink put WORD..`: the sink is that of the last run.
 pub fn call_sink(
-    answer: &mut Answer,
+    answer: &Answer,
     known: &Names<u8>,
     outside: &Outside,
     sink: &mut NotingSink,
@@ -190,7 +185,7 @@ pub fn call_sink(
 
 /// `disk new WORD..`: a disk of these bytes, which fails as a file does. Its calls are `disk CALL ..`.
 fn call_disk(
-    answer: &mut Answer,
+    answer: &Answer,
     known: &Names<u8>,
     outside: &Outside,
     disk: &mut MemoryDisk,
@@ -215,7 +210,7 @@ fn call_disk(
 
 /// `source new WORD..`: a source of these bytes, which fails as a file does. Its calls are `source CALL ..`.
 fn call_source(
-    answer: &mut Answer,
+    answer: &Answer,
     known: &Names<u8>,
     outside: &Outside,
     source: &mut MemorySource,
@@ -238,7 +233,7 @@ fn call_source(
 }
 
 /// `feed pull COUNT`: the next bytes, four at most.
-fn pull(answer: &mut Answer, feed: &mut MemoryFeed, words: &[&str]) {
+fn pull(answer: &Answer, feed: &mut MemoryFeed, words: &[&str]) {
     let count = answer.count(word(words, 0)).min(4);
     let mut out = [0; 4];
     match feed.pull(&mut out[..count]) {
@@ -249,7 +244,7 @@ fn pull(answer: &mut Answer, feed: &mut MemoryFeed, words: &[&str]) {
 
 /// `feed new WORD..`: a feed of these bytes, which fails as the input does. Its call is `feed pull COUNT`.
 fn call_feed(
-    answer: &mut Answer,
+    answer: &Answer,
     known: &Names<u8>,
     outside: &Outside,
     feed: &mut MemoryFeed,
@@ -266,7 +261,7 @@ fn call_feed(
 }
 
 /// The first three bytes of a file that is opened and closed.
-fn open(answer: &mut Answer, shelf: &mut MemoryShelf, name: &str) {
+fn open(answer: &Answer, shelf: &mut MemoryShelf, name: &str) {
     match shelf.open_file(name) {
         Ok(mut file) => {
             say_read(answer, &mut file, &["0"]);
@@ -277,7 +272,7 @@ fn open(answer: &mut Answer, shelf: &mut MemoryShelf, name: &str) {
 }
 
 /// `shelf new`: a shelf of the files. Its call is `shelf open NAME`.
-fn call_shelf(answer: &mut Answer, outside: &Outside, shelf: &mut MemoryShelf, words: &[&str]) {
+fn call_shelf(answer: &Answer, outside: &Outside, shelf: &mut MemoryShelf, words: &[&str]) {
     match word(words, 0) {
         "new" => *shelf = outside.shelf(answer),
         "open" => open(answer, shelf, word(words, 1)),

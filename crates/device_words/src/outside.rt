@@ -64,7 +64,7 @@ impl Drop for Devices {
 }
 
 /// The numbers of calls, which count from 1 in words.
-fn calls(answer: &mut Answer, words: &[&str]) -> Vec<u64> {
+fn calls(answer: &Answer, words: &[&str]) -> Vec<u64> {
     let mut calls = Vec::new(answer.alloc());
     for word in words {
         match answer.count(*word) {
@@ -73,16 +73,6 @@ fn calls(answer: &mut Answer, words: &[&str]) -> Vec<u64> {
         }
     }
     calls
-}
-
-fn owned(answer: &mut Answer, name: &str) -> String {
-    match String::from_str(answer.alloc(), name) {
-        Ok(name) => name,
-        Err(error) => {
-            answer.fail(error.into());
-            String::new(answer.alloc())
-        }
-    }
 }
 
 impl Outside {
@@ -105,18 +95,18 @@ impl Outside {
     }
 
     /// `file NAME WORD..`
-    fn stand(&mut self, answer: &mut Answer, known: &Names<u8>, words: &[&str]) {
+    fn stand(&mut self, answer: &Answer, known: &Names<u8>, words: &[&str]) {
         let bytes = bytes_of(answer, known, rest(words, 1));
         self.files.put(answer, word(words, 0), bytes);
     }
 
     /// `input WORD..`
-    fn give(&mut self, answer: &mut Answer, known: &Names<u8>, words: &[&str]) {
+    fn give(&mut self, answer: &Answer, known: &Names<u8>, words: &[&str]) {
         self.input = bytes_of(answer, known, words);
     }
 
     /// The calls of a device that fail, from 0 on; of memory the puts of the output that want memory.
-    pub fn fail_at(&mut self, answer: &mut Answer, device: &str, calls: Vec<u64>) {
+    pub fn fail_at(&mut self, answer: &Answer, device: &str, calls: Vec<u64>) {
         match device {
             "input" | "output" | "notes" | "file" | "shelf" | "memory" => {
                 self.failing.put(answer, device, calls)
@@ -126,13 +116,13 @@ impl Outside {
     }
 
     /// `fails DEVICE N..`, whose calls count from 1.
-    fn fail(&mut self, answer: &mut Answer, words: &[&str]) {
+    fn fail(&mut self, answer: &Answer, words: &[&str]) {
         let calls = calls(answer, rest(words, 1));
         self.fail_at(answer, word(words, 0), calls);
     }
 
     /// `room DEVICE N`
-    fn limit(&mut self, answer: &mut Answer, words: &[&str]) {
+    fn limit(&mut self, answer: &Answer, words: &[&str]) {
         let count = answer.count(word(words, 1));
         match word(words, 0) {
             "output" => self.room = Some(count),
@@ -143,7 +133,7 @@ impl Outside {
     }
 
     /// `unreadable FROM TO`, up to the place before the second.
-    fn damage(&mut self, answer: &mut Answer, words: &[&str]) {
+    fn damage(&mut self, answer: &Answer, words: &[&str]) {
         let from = answer.count(word(words, 0));
         for place in from..answer.count(word(words, 1)) {
             answer.done(self.places.push(place as u64));
@@ -153,7 +143,7 @@ impl Outside {
     /// Whether a call sets what stands around runs.
     pub fn prepare(
         &mut self,
-        answer: &mut Answer,
+        answer: &Answer,
         known: &Names<u8>,
         name: &str,
         words: &[&str],
@@ -173,13 +163,13 @@ impl Outside {
         self.failing.get(device).unwrap_or(&[])
     }
 
-    fn failing_of(&self, answer: &mut Answer, device: &str) -> Vec<u64> {
+    fn failing_of(&self, answer: &Answer, device: &str) -> Vec<u64> {
         answer.list(self.calls_of(device).to_vec(answer.alloc()))
     }
 
-    fn entry(&self, answer: &mut Answer, file: &Named<u8>) -> Entry {
+    fn entry(&self, answer: &Answer, file: &Named<u8>) -> Entry {
         Entry {
-            name: owned(answer, &file.name),
+            name: answer.text(&file.name),
             bytes: answer.list(file.items.to_vec(answer.alloc())),
             failing: self.failing_of(answer, "file"),
             places: answer.list(self.places.to_vec(answer.alloc())),
@@ -187,7 +177,7 @@ impl Outside {
     }
 
     /// The files. Of two of one name the one that came last stands first.
-    pub(crate) fn shelf(&self, answer: &mut Answer) -> MemoryShelf {
+    pub(crate) fn shelf(&self, answer: &Answer) -> MemoryShelf {
         let mut entries = Vec::new(answer.alloc());
         for file in &self.files.held {
             let entry = self.entry(answer, file);
@@ -197,7 +187,7 @@ impl Outside {
     }
 
     /// What a run is lent.
-    pub fn devices(&self, answer: &mut Answer) -> Devices {
+    pub fn devices(&self, answer: &Answer) -> Devices {
         let text = answer.list(self.input.to_vec(answer.alloc()));
         Devices {
             shelf: self.shelf(answer),
@@ -211,31 +201,31 @@ impl Outside {
     }
 
     /// An output.
-    pub fn output(&self, answer: &mut Answer) -> NotingSink {
+    pub fn output(&self, answer: &Answer) -> NotingSink {
         let failing = self.failing_of(answer, "output");
         let sink = MemorySink::new(answer.alloc(), self.room, failing);
         NotingSink::new(sink, self.failing_of(answer, "memory"))
     }
 
     /// An input of these bytes.
-    pub fn feed(&self, answer: &mut Answer, bytes: Vec<u8>) -> MemoryFeed {
+    pub fn feed(&self, answer: &Answer, bytes: Vec<u8>) -> MemoryFeed {
         MemoryFeed::new(bytes, self.most.max(1), self.failing_of(answer, "input"))
     }
 
     /// A disk of these bytes.
-    pub(crate) fn disk(&self, answer: &mut Answer, bytes: Vec<u8>) -> MemoryDisk {
+    pub(crate) fn disk(&self, answer: &Answer, bytes: Vec<u8>) -> MemoryDisk {
         let places = answer.list(self.places.to_vec(answer.alloc()));
         MemoryDisk::new(bytes, self.failing_of(answer, "file"), places)
     }
 
     /// A file of these bytes.
-    pub fn source(&self, answer: &mut Answer, bytes: Vec<u8>) -> MemorySource {
+    pub fn source(&self, answer: &Answer, bytes: Vec<u8>) -> MemorySource {
         let places = answer.list(self.places.to_vec(answer.alloc()));
         MemorySource::new(bytes, self.failing_of(answer, "file"), places)
     }
 
     /// The files are as a run left them.
-    pub fn keep(&mut self, answer: &mut Answer, shelf: &MemoryShelf) {
+    pub fn keep(&mut self, answer: &Answer, shelf: &MemoryShelf) {
         for file in self.files.held.iter_mut() {
             if let Some(bytes) = shelf.bytes(&file.name) {
                 file.items.clear();

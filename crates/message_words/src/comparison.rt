@@ -13,7 +13,7 @@ fn equal_bytes(bytes: &[u8], wanted: &[u8]) -> usize {
 }
 
 /// Tells how bytes stand to those that are wanted.
-pub fn compare(answer: &mut Answer, bytes: &[u8], wanted: &[u8]) {
+pub fn compare(answer: &Answer, bytes: &[u8], wanted: &[u8]) {
     let (length, all) = (bytes.len(), wanted.len());
     let equal = equal_bytes(bytes, wanted);
     if equal < length {

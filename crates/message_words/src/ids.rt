@@ -4,7 +4,7 @@ use case_words::{Answer, parts};
 use ipc_fields::IpcField;
 
 /// So many fields that were read last.
-fn lasts(answer: &mut Answer, fields: &mut Vec<IpcField>, count: usize) -> Vec<IpcField> {
+fn lasts(answer: &Answer, fields: &mut Vec<IpcField>, count: usize) -> Vec<IpcField> {
     let mut lasts = Vec::new(answer.alloc());
     for _ in 0..count {
         match fields.pop() {
@@ -16,7 +16,7 @@ fn lasts(answer: &mut Answer, fields: &mut Vec<IpcField>, count: usize) -> Vec<I
 }
 
 /// An id, or `-`, and in parentheses how many of the words behind it are below it.
-fn put_field(answer: &mut Answer, fields: &mut Vec<IpcField>, word: &str) {
+fn put_field(answer: &Answer, fields: &mut Vec<IpcField>, word: &str) {
     let (id, below) = parts(word);
     let below = if below.is_empty() {
         0
@@ -36,7 +36,7 @@ fn put_field(answer: &mut Answer, fields: &mut Vec<IpcField>, word: &str) {
 }
 
 /// The IPC fields behind `ids`, each in front of what is below it: `0(1) 1`.
-pub fn ids_of(answer: &mut Answer, words: &[&str]) -> Option<Vec<IpcField>> {
+pub fn ids_of(answer: &Answer, words: &[&str]) -> Option<Vec<IpcField>> {
     if !has(words, "ids") {
         return None;
     }

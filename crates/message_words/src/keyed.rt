@@ -1,75 +1,51 @@
-//! Dictionaries of texts of one byte each, in one part or in several, and dictionaries of structs of them.
-use arrow_arrays::Array;
-use case_words::{Answer, Fault, array_of, word};
+//! Dictionaries of texts of one byte each, in one part or in several, and dictionaries of structs of them, as lines of words, each of an
+//! array over those before it.
+use case_words::{Answer, word};
 use std::alloc::AllocError;
 
 /// The offsets of so many texts of one byte each.
 const OFFSETS: &[&str] = &["0", "0,1", "0,1,2", "0,1,2,3"];
 
-/// The array of a line of words, over those that were made last.
-fn array_of_line(
-    answer: &mut Answer,
-    arrays: &mut Vec<Array>,
-    line: Result<String, AllocError>,
-) -> Result<Array, Fault> {
-    let line = line?;
-    let words: Vec<&str> = line.split_whitespace().collect(answer.alloc())?;
-    array_of(answer, arrays, words.as_slice())
-}
-
-fn make(answer: &mut Answer, arrays: &mut Vec<Array>, line: Result<String, AllocError>) {
-    match array_of_line(answer, arrays, line) {
-        Ok(array) => answer.done(arrays.push(array)),
-        Err(fault) => answer.fail(fault),
+fn add(answer: &Answer, lines: &mut Vec<String>, line: Result<String, AllocError>) {
+    if let Some(line) = answer.value(line) {
+        answer.done(lines.push(line));
     }
 }
 
 /// Texts of one byte each, up to three; `-` is none of them.
-fn texts(answer: &mut Answer, arrays: &mut Vec<Array>, text: &str) {
+fn texts(answer: &Answer, lines: &mut Vec<String>, text: &str) {
     let text = if text == "-" { "" } else { text };
     let offsets = word(OFFSETS, text.len());
-    make(
-        answer,
-        arrays,
-        format!(in answer.alloc(); "utf8 | texts {offsets} '{text}"),
-    );
+    let line = format!(in answer.alloc(); "utf8 | texts {offsets} '{text}");
+    add(answer, lines, line);
 }
 
 /// So many rows of the first text, over a part for each word.
-pub(crate) fn keyed(answer: &mut Answer, arrays: &mut Vec<Array>, rows: &str, parts: &[&str]) {
+pub(crate) fn keyed(answer: &Answer, lines: &mut Vec<String>, rows: &str, parts: &[&str]) {
     for text in parts {
-        texts(answer, arrays, *text);
+        texts(answer, lines, *text);
     }
     let count = parts.len();
-    make(
-        answer,
-        arrays,
-        format!(in answer.alloc(); "dictionary(int32) utf8 | keys int32 0*{rows} {count}"),
-    );
+    let line = format!(in answer.alloc(); "dictionary(int32) utf8 | keys int32 0*{rows} {count}");
+    add(answer, lines, line);
 }
 
 /// Structs of one column of so many rows of the first of some texts: `TEXTS/ROWS`.
-fn structs(answer: &mut Answer, arrays: &mut Vec<Array>, word: &str) {
+fn structs(answer: &Answer, lines: &mut Vec<String>, word: &str) {
     let (text, rows) = word.split_once('/').unwrap_or(("", ""));
-    keyed(answer, arrays, rows, &[text]);
-    make(
-        answer,
-        arrays,
-        format!(in answer.alloc(); "struct(1) dictionary(int32) utf8 | structs {rows} 1"),
-    );
+    keyed(answer, lines, rows, &[text]);
+    let line = format!(in answer.alloc(); "struct(1) dictionary(int32) utf8 | structs {rows} 1");
+    add(answer, lines, line);
 }
 
 /// A dictionary without rows of structs, a part for each word.
-pub(crate) fn nested(answer: &mut Answer, arrays: &mut Vec<Array>, words: &[&str]) {
+pub(crate) fn nested(answer: &Answer, lines: &mut Vec<String>, words: &[&str]) {
     for word in words {
-        structs(answer, arrays, *word);
+        structs(answer, lines, *word);
     }
     let count = words.len();
-    make(
-        answer,
-        arrays,
-        format!(in answer.alloc();
-            "dictionary(int32) struct(1) dictionary(int32) utf8 | keys int32 - {count}"
-        ),
+    let line = format!(in answer.alloc();
+        "dictionary(int32) struct(1) dictionary(int32) utf8 | keys int32 - {count}"
     );
+    add(answer, lines, line);
 }

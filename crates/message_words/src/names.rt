@@ -32,7 +32,7 @@ impl Names {
     }
 
     /// The bytes of names and of hex digits, one behind the other.
-    pub fn bytes_of(&self, answer: &mut Answer, words: &[&str]) -> Vec<u8> {
+    pub fn bytes_of(&self, answer: &Answer, words: &[&str]) -> Vec<u8> {
         let mut all = Vec::new(answer.alloc());
         for word in words {
             match self.get(*word) {
@@ -44,13 +44,11 @@ impl Names {
     }
 
     /// `name NAME PARTS`, and how many bytes they are.
-    pub fn put(&mut self, answer: &mut Answer, words: &[&str]) {
+    pub fn put(&mut self, answer: &Answer, words: &[&str]) {
         let bytes = self.bytes_of(answer, rest(words, 1));
         let length = bytes.len();
         answer.tell(format!(in answer.alloc(); "{length} bytes"));
-        match String::from_str(answer.alloc(), word(words, 0)) {
-            Ok(name) => answer.done(self.held.push(Named { name, bytes })),
-            Err(error) => answer.fail(error.into()),
-        }
+        let name = answer.text(word(words, 0));
+        answer.done(self.held.push(Named { name, bytes }));
     }
 }

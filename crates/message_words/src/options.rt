@@ -29,7 +29,7 @@ fn named<'a>(words: &'a [&'a str], name: &str) -> &'a str {
 }
 
 /// The count behind a name.
-pub fn optional_count(answer: &mut Answer, words: &[&str], name: &str) -> Option<usize> {
+pub fn optional_count(answer: &Answer, words: &[&str], name: &str) -> Option<usize> {
     match named(words, name) {
         "" => None,
         word => Some(answer.count(word)),
@@ -37,7 +37,7 @@ pub fn optional_count(answer: &mut Answer, words: &[&str], name: &str) -> Option
 }
 
 /// The counts, joined by commas, behind a name; `-` is none of them.
-pub fn optional_counts(answer: &mut Answer, words: &[&str], name: &str) -> Option<Vec<usize>> {
+pub fn optional_counts(answer: &Answer, words: &[&str], name: &str) -> Option<Vec<usize>> {
     match named(words, name) {
         "" => None,
         "-" => Some(Vec::new(answer.alloc())),
@@ -46,7 +46,7 @@ pub fn optional_counts(answer: &mut Answer, words: &[&str], name: &str) -> Optio
 }
 
 /// The numbers of calls behind a name, or none.
-pub fn numbers_of(answer: &mut Answer, words: &[&str], name: &str) -> Vec<u64> {
+pub fn numbers_of(answer: &Answer, words: &[&str], name: &str) -> Vec<u64> {
     let mut numbers = Vec::new(answer.alloc());
     for count in &counts(answer, named(words, name)) {
         answer.done(numbers.push(*count as u64));
@@ -66,7 +66,7 @@ fn one_pair(alloc: Global, key: &str, value: &str) -> Result<Metadata, Fault>
 }
 
 /// The pair `KEY=VALUE`.
-pub fn pair_of(answer: &mut Answer, word: &str) -> Metadata
+pub fn pair_of(answer: &Answer, word: &str) -> Metadata
     ensures { length result.entries ≤ 1 }
 {
     let Some((key, value)) = word.split_once('=') else {

@@ -22,7 +22,7 @@ fn below(array: &Array, row: usize) -> Option<(&Array, usize)> {
 }
 
 /// What a row leads to in the end.
-fn say_deepest(answer: &mut Answer, array: &Array, row: usize) {
+fn say_deepest(answer: &Answer, array: &Array, row: usize) {
     let mut place = (array, row);
     for _ in 0..64 {
         match below(place.0, place.1) {
@@ -34,7 +34,7 @@ fn say_deepest(answer: &mut Answer, array: &Array, row: usize) {
 }
 
 /// The rows of an array, in order.
-pub fn say_values(answer: &mut Answer, array: &Array) {
+pub fn say_values(answer: &Answer, array: &Array) {
     for row in 0..array.len() {
         answer.say(" ");
         say_deepest(answer, array, row);
@@ -42,7 +42,7 @@ pub fn say_values(answer: &mut Answer, array: &Array) {
 }
 
 /// Pairs, or `none`.
-pub fn say_pairs(answer: &mut Answer, pairs: Option<&Metadata>) {
+pub fn say_pairs(answer: &Answer, pairs: Option<&Metadata>) {
     let Some(pairs) = pairs else {
         return answer.say("none");
     };
@@ -57,7 +57,7 @@ pub fn say_pairs(answer: &mut Answer, pairs: Option<&Metadata>) {
 }
 
 /// The rows of a batch, the cells of each column, and the pairs of its message.
-pub fn say_batch(answer: &mut Answer, batch: &RecordBatch) {
+pub fn say_batch(answer: &Answer, batch: &RecordBatch) {
     let rows = batch.height();
     answer.tell(format!(in answer.alloc(); "{rows} rows"));
     for column in batch.arrays() {

@@ -13,21 +13,21 @@ fn option<'a>(words: &'a [&'a str], name: &str) -> Option<&'a str> {
     None
 }
 
-pub(crate) fn columns(answer: &mut Answer, words: &[&str]) -> Option<Vec<usize>> {
+pub(crate) fn columns(answer: &Answer, words: &[&str]) -> Option<Vec<usize>> {
     match option(words, "columns") {
         Some(list) => Some(counts(answer, list)),
         None => None,
     }
 }
 
-pub(crate) fn limit(answer: &mut Answer, words: &[&str]) -> Option<usize> {
+pub(crate) fn limit(answer: &Answer, words: &[&str]) -> Option<usize> {
     match option(words, "limit") {
         Some(rows) => Some(answer.count(rows)),
         None => None,
     }
 }
 
-pub(crate) fn from(answer: &mut Answer, words: &[&str]) -> usize {
+pub(crate) fn from(answer: &Answer, words: &[&str]) -> usize {
     match option(words, "from") {
         Some(block) => answer.count(block),
         None => 0,
@@ -39,7 +39,7 @@ fn is_option(word: &str) -> bool {
 }
 
 /// The bytes of the other words.
-pub(crate) fn bytes(answer: &mut Answer, known: &Names<u8>, words: &[&str]) -> Vec<u8> {
+pub(crate) fn bytes(answer: &Answer, known: &Names<u8>, words: &[&str]) -> Vec<u8> {
     let mut bytes = Vec::new(answer.alloc());
     for word in words {
         if !is_option(*word) {

@@ -4,7 +4,7 @@ use crate::runs::{run_words, say_status};
 use device_words::{Answer, NotingSink, Outside, rest, word};
 
 /// What a run puts whose device does not fail.
-fn whole(answer: &mut Answer, outside: &mut Outside, device: &str, words: &[&str]) -> NotingSink {
+fn whole(answer: &Answer, outside: &mut Outside, device: &str, words: &[&str]) -> NotingSink {
     outside.fail_at(answer, device, Vec::new(answer.alloc()));
     let mut devices = outside.devices(answer);
     let mut output = outside.output(answer);
@@ -13,7 +13,7 @@ fn whole(answer: &mut Answer, outside: &mut Outside, device: &str, words: &[&str
 }
 
 /// How much was put, but where the output fails, which may be at any place; and whether it is the front of what a whole run puts.
-fn say_put(answer: &mut Answer, device: &str, put: &[u8], whole: &[u8]) {
+fn say_put(answer: &Answer, device: &str, put: &[u8], whole: &[u8]) {
     if device == "output" {
         answer.say(", a front");
     } else {
@@ -27,7 +27,7 @@ fn say_put(answer: &mut Answer, device: &str, put: &[u8], whole: &[u8]) {
 
 /// One run, whose status is given.
 fn attempt(
-    answer: &mut Answer,
+    answer: &Answer,
     outside: &Outside,
     device: &str,
     words: &[&str],
@@ -37,15 +37,15 @@ fn attempt(
     let mut devices = outside.devices(answer);
     let mut output = outside.output(answer);
     let status = run_words(answer, &mut devices, &mut output, words);
-    let mut told = Answer::new(answer.alloc());
-    say_status(&mut told, status, devices.notes.bytes());
-    say_put(&mut told, device, output.bytes(), whole);
+    let told = Answer::new(answer.alloc());
+    say_status(&told, status, devices.notes.bytes());
+    say_put(&told, device, output.bytes(), whole);
     add(answer, groups, told, outside.kept(&devices.shelf));
     status
 }
 
 /// `each DEVICE WORD..`: runs up to one that is not refused, each with what it put and how much it kept of the first file.
-pub(crate) fn run_each(answer: &mut Answer, outside: &mut Outside, words: &[&str]) {
+pub(crate) fn run_each(answer: &Answer, outside: &mut Outside, words: &[&str]) {
     let (device, words) = (word(words, 0), rest(words, 1));
     let whole = whole(answer, outside, device, words);
     let mut groups = Vec::new(answer.alloc());

@@ -1,5 +1,6 @@
 //! The calls of cases.
 use crate::cuts::cut_each;
+use crate::endless::call_endless;
 use crate::readers::read;
 use crate::runs::{run_named, say_text};
 use crate::streams::{read_stream, transcode_words};
@@ -19,20 +20,20 @@ pub(crate) struct Calls {
 }
 
 /// `output WORD..`: whether the last run put these bytes.
-fn compare_output(answer: &mut Answer, known: &Names<u8>, output: &[u8], words: &[&str]) {
+fn compare_output(answer: &Answer, known: &Names<u8>, output: &[u8], words: &[&str]) {
     let wanted = bytes_of(answer, known, words);
     say_compared(answer, output, &wanted);
 }
 
 /// `begins WORD..`: whether what the last run put begins with these bytes.
-fn compare_front(answer: &mut Answer, known: &Names<u8>, output: &[u8], words: &[&str]) {
+fn compare_front(answer: &Answer, known: &Names<u8>, output: &[u8], words: &[&str]) {
     let wanted = bytes_of(answer, known, words);
     let length = wanted.len().min(output.len());
     say_compared(answer, &output[..length], &wanted);
 }
 
 /// `holds NAME WORD..`: whether a file has these bytes.
-fn compare_file(answer: &mut Answer, known: &Names<u8>, outside: &Outside, words: &[&str]) {
+fn compare_file(answer: &Answer, known: &Names<u8>, outside: &Outside, words: &[&str]) {
     let wanted = bytes_of(answer, known, rest(words, 1));
     match outside.file(word(words, 0)) {
         Some(bytes) => say_compared(answer, bytes, &wanted),
@@ -42,7 +43,7 @@ fn compare_file(answer: &mut Answer, known: &Names<u8>, outside: &Outside, words
 
 /// Reads and compares, and refuses what is no call.
 fn look(
-    answer: &mut Answer,
+    answer: &Answer,
     known: &Names<u8>,
     outside: &Outside,
     output: &NotingSink,
@@ -57,13 +58,14 @@ fn look(
         "text" => say_text(answer, output.bytes()),
         "longest" => answer.tell(format!(in answer.alloc(); "{}", output.longest())),
         "stream" => read_stream(answer, known, outside, words),
+        "endless" => call_endless(answer, known, outside, words),
         _ => read(answer, known, outside, name, words),
     }
 }
 
 /// Whether a call puts bytes into an output that it makes.
 fn put(
-    answer: &mut Answer,
+    answer: &Answer,
     known: &Names<u8>,
     outside: &Outside,
     output: &mut NotingSink,
@@ -96,7 +98,7 @@ impl Case for Calls {
         self.objects = Objects::new(alloc);
     }
 
-    fn answer(&mut self, rt: &HostRuntime, answer: &mut Answer, words: &[&str]) {
+    fn answer(&mut self, rt: &HostRuntime, answer: &Answer, words: &[&str]) {
         let (name, words) = (word(words, 0), rest(words, 1));
         let Calls {
             known,

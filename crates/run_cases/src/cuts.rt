@@ -6,7 +6,7 @@ use device_words::{Answer, Names, NotingSink, Outside, rest, word};
 
 /// The answer on the first bytes.
 fn answer_at(
-    answer: &mut Answer,
+    answer: &Answer,
     known: &Names<u8>,
     outside: &Outside,
     output: &mut NotingSink,
@@ -28,7 +28,7 @@ fn answer_at(
     }
 }
 
-fn say_group(answer: &mut Answer, group: &Group) {
+fn say_group(answer: &Answer, group: &Group) {
     let (from, to) = (group.least, group.greatest);
     answer.tell(format!(in answer.alloc(); "{from} to {to}:"));
     for line in group.text.lines() {
@@ -38,7 +38,7 @@ fn say_group(answer: &mut Answer, group: &Group) {
 
 /// `cuts FROM TO CALL ..`: what a call gives of bytes of each of these lengths, the second among them.
 pub(crate) fn cut_each(
-    answer: &mut Answer,
+    answer: &Answer,
     known: &Names<u8>,
     outside: &Outside,
     output: &mut NotingSink,
@@ -47,8 +47,8 @@ pub(crate) fn cut_each(
     let (from, to) = (answer.count(word(words, 0)), answer.count(word(words, 1)));
     let mut groups = Vec::new(answer.alloc());
     for length in from..=to {
-        let mut at = Answer::new(answer.alloc());
-        answer_at(&mut at, known, outside, output, rest(words, 2), length);
+        let at = Answer::new(answer.alloc());
+        answer_at(&at, known, outside, output, rest(words, 2), length);
         add(answer, &mut groups, at, length);
     }
     let mut end = "";

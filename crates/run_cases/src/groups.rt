@@ -10,10 +10,9 @@ pub(crate) struct Group {
 }
 
 /// An answer more.
-pub(crate) fn add(answer: &mut Answer, groups: &mut Vec<Group>, more: Answer, number: usize) {
-    let text = match text_of(answer.alloc(), more.into_text()) {
-        Ok(text) => text,
-        Err(error) => return answer.fail(error.into()),
+pub(crate) fn add(answer: &Answer, groups: &mut Vec<Group>, more: Answer, number: usize) {
+    let Some(text) = answer.value(text_of(answer.alloc(), more)) else {
+        return;
     };
     if let Some(last) = groups.last_mut() {
         if last.text == text {

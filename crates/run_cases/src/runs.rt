@@ -5,7 +5,7 @@ use ipc_tool::{FolderShelf, answer as answered, run};
 use std::str::from_utf8;
 
 /// The words, of which `''` is the empty one.
-fn asked<'a>(answer: &mut Answer, words: &'a [&'a str]) -> Vec<&'a str> {
+fn asked<'a>(answer: &Answer, words: &'a [&'a str]) -> Vec<&'a str> {
     let mut all = Vec::new(answer.alloc());
     for word in words {
         answer.done(all.push(if *word == "''" { "" } else { *word }));
@@ -13,19 +13,16 @@ fn asked<'a>(answer: &mut Answer, words: &'a [&'a str]) -> Vec<&'a str> {
     all
 }
 
-fn owned(answer: &mut Answer, words: &[&str]) -> Vec<String> {
+fn owned(answer: &Answer, words: &[&str]) -> Vec<String> {
     let mut all = Vec::new(answer.alloc());
     for word in words {
-        match String::from_str(answer.alloc(), *word) {
-            Ok(word) => answer.done(all.push(word)),
-            Err(error) => answer.fail(error.into()),
-        }
+        answer.done(all.push(answer.text(*word)));
     }
     all
 }
 
 /// `text`: what was put, as lines. Where the last one has no end, ` ..` stands behind it.
-pub(crate) fn say_text(answer: &mut Answer, bytes: &[u8]) {
+pub(crate) fn say_text(answer: &Answer, bytes: &[u8]) {
     let Ok(text) = from_utf8(bytes) else {
         return answer.refuse();
     };
@@ -39,7 +36,7 @@ pub(crate) fn say_text(answer: &mut Answer, bytes: &[u8]) {
 }
 
 /// A status, and what was noted.
-pub(crate) fn say_status(answer: &mut Answer, status: u8, notes: &[u8]) {
+pub(crate) fn say_status(answer: &Answer, status: u8, notes: &[u8]) {
     answer.tell(format!(in answer.alloc(); "{status}"));
     if !notes.is_empty() {
         answer.say(" ");
@@ -49,7 +46,7 @@ pub(crate) fn say_status(answer: &mut Answer, status: u8, notes: &[u8]) {
 
 /// A run over the files of the case.
 pub(crate) fn run_words(
-    answer: &mut Answer,
+    answer: &Answer,
     devices: &mut Devices,
     output: &mut NotingSink,
     words: &[&str],
@@ -67,7 +64,7 @@ pub(crate) fn run_words(
 
 /// The same by the call that knows help.
 fn answer_words(
-    answer: &mut Answer,
+    answer: &Answer,
     devices: &mut Devices,
     output: &mut NotingSink,
     words: &[&str],
@@ -86,7 +83,7 @@ fn answer_words(
 /// A run over the files of the current folder.
 fn run_here(
     rt: &HostRuntime,
-    answer: &mut Answer,
+    answer: &Answer,
     devices: &mut Devices,
     output: &mut NotingSink,
     words: &[&str],
@@ -105,7 +102,7 @@ fn run_here(
 /// A run by a name: its status, and what was noted.
 fn run_once(
     rt: &HostRuntime,
-    answer: &mut Answer,
+    answer: &Answer,
     outside: &mut Outside,
     output: &mut NotingSink,
     name: &str,
@@ -125,7 +122,7 @@ fn run_once(
 /// Whether a call runs the program: `run WORD..`, `answer WORD..`, `here WORD..` or `each DEVICE WORD..`.
 pub(crate) fn run_named(
     rt: &HostRuntime,
-    answer: &mut Answer,
+    answer: &Answer,
     outside: &mut Outside,
     output: &mut NotingSink,
     name: &str,

@@ -31,14 +31,14 @@ fn inner_text(array: &DictionaryArray, row: usize) -> Option<&[u8]> {
     }
 }
 
-fn say_text(answer: &mut Answer, bytes: Option<&[u8]>) {
+fn say_text(answer: &Answer, bytes: Option<&[u8]>) {
     match bytes {
         Some(bytes) => answer.say(from_utf8(bytes).unwrap_or("?")),
         None => answer.say("null"),
     }
 }
 
-fn say_number(answer: &mut Answer, is_valid: bool, number: i64) {
+fn say_number(answer: &Answer, is_valid: bool, number: i64) {
     if is_valid {
         answer.tell(format!(in answer.alloc(); "{number}"));
     } else {
@@ -47,7 +47,7 @@ fn say_number(answer: &mut Answer, is_valid: bool, number: i64) {
 }
 
 /// A row of numbers, of texts by key, or of texts by key by key.
-fn say_row(answer: &mut Answer, column: &Array, row: usize) {
+fn say_row(answer: &Answer, column: &Array, row: usize) {
     match column {
         Array::Int32(numbers) if row < numbers.len() => {
             let is_valid = is_valid_at(numbers.validity(), row);
@@ -66,7 +66,7 @@ fn say_row(answer: &mut Answer, column: &Array, row: usize) {
 }
 
 /// How many rows a batch has, those of its first column, and how many pairs.
-fn say_batch(answer: &mut Answer, batch: &RecordBatch) {
+fn say_batch(answer: &Answer, batch: &RecordBatch) {
     let rows = batch.height();
     answer.tell(format!(in answer.alloc(); "{rows} rows"));
     if let Some(column) = batch.arrays().first() {
@@ -82,7 +82,7 @@ fn say_batch(answer: &mut Answer, batch: &RecordBatch) {
 }
 
 /// What a reader's next call gave.
-pub(crate) fn say_next(answer: &mut Answer, next: Option<Result<RecordBatch, IpcError>>) {
+pub(crate) fn say_next(answer: &Answer, next: Option<Result<RecordBatch, IpcError>>) {
     match next {
         None => answer.say("end"),
         Some(Err(error)) => answer.tell(format!(in answer.alloc(); "{error}")),

@@ -1,12 +1,12 @@
 //! Files that become streams, and streams that are read call by call.
 use crate::asked::{bytes, columns, limit};
 use crate::shown::say_next;
-use device_words::{Answer, Fault, MemoryFeed, Names, NotingSink, Outside, rest, word};
+use device_words::{Answer, Feed, Names, NotingSink, Outside, rest, word};
 use ipc_tool::{IpcError, StreamReader, StreamState, read_stream_metadata, transcode};
 
 /// How many batches, rows and bytes were put.
 pub(crate) fn transcode_bytes(
-    answer: &mut Answer,
+    answer: &Answer,
     outside: &Outside,
     output: &mut NotingSink,
     bytes: Vec<u8>,
@@ -35,7 +35,7 @@ pub(crate) fn transcode_bytes(
 
 /// `transcode ..`
 pub(crate) fn transcode_words(
-    answer: &mut Answer,
+    answer: &Answer,
     known: &Names<u8>,
     outside: &Outside,
     output: &mut NotingSink,
@@ -45,7 +45,7 @@ pub(crate) fn transcode_words(
     transcode_bytes(answer, outside, output, bytes, words);
 }
 
-fn say_state(answer: &mut Answer, next: Option<Result<StreamState, IpcError>>) {
+fn say_state(answer: &Answer, next: Option<Result<StreamState, IpcError>>) {
     match next {
         None => say_next(answer, None),
         Some(Err(error)) => say_next(answer, Some(Err(error))),
@@ -54,21 +54,17 @@ fn say_state(answer: &mut Answer, next: Option<Result<StreamState, IpcError>>) {
     }
 }
 
-fn say_states(answer: &mut Answer, mut feed: MemoryFeed, words: &[&str]) -> Result<(), Fault> {
+/// What so many calls of the reader of a feed give, one to three, and whether it is finished then.
+pub(crate) fn say_states<F: Feed + Drop>(
+    answer: &Answer,
+    mut feed: F,
+    words: &[&str],
+) -> Result<(), IpcError> {
     let metadata = read_stream_metadata(answer.alloc(), &mut feed)?;
     let columns = columns(answer, words);
-    let mut reader = match StreamReader::new(answer.alloc(), feed, metadata, columns) {
-        Ok(reader) => reader,
-        Err(refused) => return Err(Fault::Ipc(refused.error)),
-    };
-    let calls = answer.count(word(words, 0));
-    say_state(answer, reader.next());
-    if calls > 1 {
-        answer.say("\n");
-        say_state(answer, reader.next());
-    }
-    if calls > 2 {
-        answer.say("\n");
+    let mut reader = StreamReader::new(answer.alloc(), feed, metadata, columns)?;
+    for call in 0..answer.count(word(words, 0)).max(1) {
+        answer.say(if call > 0 { "\n" } else { "" });
         say_state(answer, reader.next());
     }
     answer.say("\n");
@@ -81,19 +77,14 @@ fn say_states(answer: &mut Answer, mut feed: MemoryFeed, words: &[&str]) -> Resu
 }
 
 /// What so many calls of a stream's reader give, one to three, and whether it is finished then.
-pub(crate) fn read_bytes(answer: &mut Answer, outside: &Outside, bytes: Vec<u8>, words: &[&str]) {
+pub(crate) fn read_bytes(answer: &Answer, outside: &Outside, bytes: Vec<u8>, words: &[&str]) {
     let feed = outside.feed(answer, bytes);
     let done = say_states(answer, feed, words);
     answer.done(done);
 }
 
 /// `stream CALLS ..`
-pub(crate) fn read_stream(
-    answer: &mut Answer,
-    known: &Names<u8>,
-    outside: &Outside,
-    words: &[&str],
-) {
+pub(crate) fn read_stream(answer: &Answer, known: &Names<u8>, outside: &Outside, words: &[&str]) {
     let bytes = bytes(answer, known, rest(words, 1));
     read_bytes(answer, outside, bytes, words);
 }

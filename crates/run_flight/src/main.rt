@@ -1,5 +1,6 @@
 //! Of an Arrow file, whose hex text comes on standard input, the messages that a flight hands over, framed one behind another and with the
-//! end mark, as hex text: a stream that means the same. Where a call refuses, `refused` and the refusal's name.
+//! end mark, as hex text: a stream that means the same. A body stands as it was handed over, with zeros up to a multiple of 8 bytes behind it
+//! where its metadata counts them. Where a call refuses, `refused` and the refusal's name.
 #![tactic(auto)]
 
 mod messages;
@@ -46,7 +47,7 @@ fn input(rt: &HostRuntime) -> Result<Vec<u8>, &'static str> {
 fn text_of(alloc: Global, file: Vec<u8>) -> Result<String, &'static str> {
     let mut source = MemorySource::new(file, Vec::new(alloc), Vec::new(alloc));
     match messages_of(alloc, &mut source) {
-        Ok(sink) => match hex::encode(alloc, sink.bytes()) {
+        Ok(messages) => match hex::encode(alloc, messages.as_slice()) {
             Ok(text) => Ok(text),
             Err(_) => Err("Memory"),
         },

@@ -9,19 +9,19 @@ use ipc_io::MemoryFeed;
 use message_words::{Names, front, numbers_of};
 
 /// A file on a disk whose calls `fails N,..` fail, and that cannot be read at `places N,..`.
-pub(crate) fn disk_of(answer: &mut Answer, bytes: Vec<u8>, words: &[&str]) -> MemoryDisk {
+pub(crate) fn disk_of(answer: &Answer, bytes: Vec<u8>, words: &[&str]) -> MemoryDisk {
     let failing = numbers_of(answer, words, "fails");
     let places = numbers_of(answer, words, "places");
     MemoryDisk::new(bytes, failing, places)
 }
 
-fn stream_of(answer: &mut Answer, names: &Names, words: &[&str]) -> Result<WholeStream, IpcError> {
+fn stream_of(answer: &Answer, names: &Names, words: &[&str]) -> Result<WholeStream, IpcError> {
     let bytes = names.bytes_of(answer, front(words));
     let alloc = answer.alloc();
     read_whole(alloc, MemoryFeed::new(bytes, 100, Vec::new(alloc)))
 }
 
-fn say_appended(answer: &mut Answer, appended: Result<u64, IpcError>) {
+fn say_appended(answer: &Answer, appended: Result<u64, IpcError>) {
     match appended {
         Ok(count) => answer.tell(format!(in answer.alloc(); "{count} batches")),
         Err(error) => say_error(answer, error),
@@ -30,7 +30,7 @@ fn say_appended(answer: &mut Answer, appended: Result<u64, IpcError>) {
 
 /// `append_stream PARTS | OPTIONS`: the stream's batches behind those of the file.
 pub(crate) fn append_whole(
-    answer: &mut Answer,
+    answer: &Answer,
     names: &Names,
     bytes: &mut Vec<u8>,
     words: &[&str],
@@ -58,7 +58,7 @@ fn kept(before: &[u8], bytes: &[u8], below: usize) -> &'static str {
 
 /// What a stream's append answers where a call of the disk fails, and how the file stands behind it.
 fn failing_text(
-    answer: &mut Answer,
+    answer: &Answer,
     before: &[u8],
     stream: &WholeStream,
     below: usize,
@@ -68,9 +68,9 @@ fn failing_text(
     let failing = answer.list(vec![in alloc; call]);
     let bytes = answer.list(before.to_vec(alloc));
     let mut disk = MemoryDisk::new(bytes, failing, Vec::new(alloc));
-    let mut one = Answer::new(alloc);
+    let one = Answer::new(alloc);
     say_appended(
-        &mut one,
+        &one,
         append_stream(alloc, &mut disk, stream, WriteOptions::default()),
     );
     one.say(", ");
@@ -81,7 +81,7 @@ fn failing_text(
 /// `append_failing BELOW PARTS`: what the append of a stream answers where the first call of the disk fails, the second and so on up
 /// to one that is not made, each answer once, and how the file stands behind it: below a place, or all of it.
 pub(crate) fn append_failing(
-    answer: &mut Answer,
+    answer: &Answer,
     names: &Names,
     bytes: &[u8],
     words: &[&str],

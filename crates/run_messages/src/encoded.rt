@@ -6,7 +6,7 @@ use crate::sent::is_keyed;
 use crate::writers::write_options;
 use arrow_arrays::{Array, RecordBatch};
 use arrow_spec::IpcError;
-use case_words::{Answer, Fault, rest, word};
+use case_words::{Answer, rest, word};
 use ipc_append::{EncodedData, WriteOptions, message_to_bytes};
 use ipc_fields::IpcField;
 use ipc_stream_writer::{
@@ -17,7 +17,7 @@ use message_words::{any_array, ids_of};
 use std::alloc::Global;
 
 /// Messages in their frames, one behind another.
-fn framed(answer: &mut Answer, messages: &[EncodedData]) -> Vec<u8> {
+fn framed(answer: &Answer, messages: &[EncodedData]) -> Vec<u8> {
     let mut bytes = Vec::new(answer.alloc());
     for message in messages {
         match message_to_bytes(answer.alloc(), &message.ipc_message, &message.arrow_data) {
@@ -30,47 +30,43 @@ fn framed(answer: &mut Answer, messages: &[EncodedData]) -> Vec<u8> {
 
 /// `encode_new OPTIONS ARRAY ids ID`.
 fn encode_new(
-    answer: &mut Answer,
+    answer: &Answer,
     tracker: &mut DictionaryTracker,
     arrays: &mut Vec<Array>,
     words: &[&str],
-) -> Result<Vec<EncodedData>, Fault> {
+) -> Vec<EncodedData> {
     let options = write_options(answer, words);
     let fields = ids_of(answer, words);
-    let array = any_array(answer, arrays, words)?;
-    let Some([field]) = fields.as_deref() else {
-        return Err(Fault::Words);
-    };
-    if tracker.deltas != options.deltas {
-        return Err(Fault::Words);
-    }
+    let array = any_array(answer, arrays, words);
     let mut encoded = Vec::new(answer.alloc());
-    encode_new_dictionaries(
-        answer.alloc(),
-        field,
-        &array,
-        &options,
-        tracker,
-        &mut encoded,
-    )?;
-    Ok(encoded)
+    match (fields.as_deref(), &array) {
+        (Some([field]), Some(array)) if tracker.deltas == options.deltas => {
+            answer.done(encode_new_dictionaries(
+                answer.alloc(),
+                field,
+                array,
+                &options,
+                tracker,
+                &mut encoded,
+            ))
+        }
+        _ => answer.refuse(),
+    }
+    encoded
 }
 
 /// `encode_dictionary ID OPTIONS ARRAY`.
-fn encode_whole(
-    answer: &mut Answer,
-    arrays: &mut Vec<Array>,
-    words: &[&str],
-) -> Result<Vec<EncodedData>, Fault> {
+fn encode_whole(answer: &Answer, arrays: &mut Vec<Array>, words: &[&str]) -> Vec<EncodedData> {
     let id = answer.long(word(words, 0));
     let options = write_options(answer, words);
-    let array = any_array(answer, arrays, rest(words, 1))?;
-    if !is_keyed(&array) {
-        return Err(Fault::Words);
-    }
     let mut encoded = Vec::new(answer.alloc());
-    encode_dictionary(answer.alloc(), id, &array, &options, &mut encoded)?;
-    Ok(encoded)
+    match any_array(answer, arrays, rest(words, 1)) {
+        Some(array) if is_keyed(&array) => {
+            answer.done(encode_dictionary(answer.alloc(), id, &array, &options, &mut encoded))
+        }
+        _ => answer.refuse(),
+    }
+    encoded
 }
 
 /// What `encode_chunk` gives, by the call that takes a message in place.
@@ -92,38 +88,46 @@ fn encode_in_place(
 
 /// `encode_chunk OPTIONS ids IDS`, or `encode_chunk_amortized`, of the batch.
 fn encode_batch(
-    answer: &mut Answer,
+    answer: &Answer,
     tracker: &mut DictionaryTracker,
     batch: &RecordBatch,
     words: &[&str],
     is_in_place: bool,
-) -> Result<Vec<EncodedData>, Fault> {
+) -> Vec<EncodedData> {
     let options = write_options(answer, words);
     let fields = ids_of(answer, words);
     let fields = fields.as_deref().unwrap_or_default();
     if tracker.deltas != options.deltas {
-        return Err(Fault::Words);
+        answer.refuse();
+        return Vec::new(answer.alloc());
     }
     let encoded = if is_in_place {
         encode_in_place(answer.alloc(), batch, fields, tracker, &options)
     } else {
         encode_chunk(answer.alloc(), batch, fields, tracker, &options)
     };
-    let (mut messages, message) = encoded?;
-    messages.push(message)?;
-    Ok(messages)
+    match encoded {
+        Ok((mut messages, message)) => {
+            answer.done(messages.push(message));
+            messages
+        }
+        Err(error) => {
+            answer.fail(error.into());
+            Vec::new(answer.alloc())
+        }
+    }
 }
 
 /// Makes the call of a name, if it is one of these.
 pub(crate) fn call(
-    answer: &mut Answer,
+    answer: &Answer,
     tracker: &mut DictionaryTracker,
     made: &mut Made,
     bytes: &mut Vec<u8>,
     name: &str,
     words: &[&str],
 ) -> bool {
-    let encoded = match (name, &made.batch) {
+    let messages = match (name, &made.batch) {
         ("encode_new", _) => encode_new(answer, tracker, &mut made.arrays, words),
         ("encode_dictionary", _) => encode_whole(answer, &mut made.arrays, words),
         ("encode_chunk", Some(batch)) => encode_batch(answer, tracker, batch, words, false),
@@ -132,13 +136,10 @@ pub(crate) fn call(
         }
         _ => return false,
     };
-    match encoded {
-        Ok(messages) => {
-            let count = messages.len();
-            answer.tell(format!(in answer.alloc(); "{count} messages"));
-            *bytes = framed(answer, &messages);
-        }
-        Err(fault) => answer.fail(fault),
+    if answer.is_well() {
+        let count = messages.len();
+        answer.tell(format!(in answer.alloc(); "{count} messages"));
+        *bytes = framed(answer, &messages);
     }
     true
 }

@@ -8,12 +8,7 @@ use ipc_reader::{FileReader, read_file_dictionaries, read_file_metadata};
 use message_words::{Names, front, numbers_of, optional_count, optional_counts, say_batch};
 
 /// The bytes of `PARTS`, or without any those that were written last.
-pub(crate) fn file_bytes(
-    answer: &mut Answer,
-    names: &Names,
-    bytes: &[u8],
-    words: &[&str],
-) -> Vec<u8> {
+pub(crate) fn file_bytes(answer: &Answer, names: &Names, bytes: &[u8], words: &[&str]) -> Vec<u8> {
     if front(words).is_empty() {
         answer.list(bytes.to_vec(answer.alloc()))
     } else {
@@ -22,14 +17,14 @@ pub(crate) fn file_bytes(
 }
 
 /// The same as a source of which calls `fails N,..` fail, and that cannot be read at `places N,..`.
-fn source_of(answer: &mut Answer, names: &Names, bytes: &[u8], words: &[&str]) -> MemorySource {
+fn source_of(answer: &Answer, names: &Names, bytes: &[u8], words: &[&str]) -> MemorySource {
     let failing = numbers_of(answer, words, "fails");
     let places = numbers_of(answer, words, "places");
     MemorySource::new(file_bytes(answer, names, bytes, words), failing, places)
 }
 
 /// What the calls of a reader of `columns N,..`, up to `limit N` rows, give up to its end.
-fn read_file(answer: &mut Answer, source: MemorySource, words: &[&str]) -> Result<(), IpcError> {
+fn read_file(answer: &Answer, source: MemorySource, words: &[&str]) -> Result<(), IpcError> {
     let mut source = source;
     let columns = optional_counts(answer, words, "columns");
     let limit = optional_count(answer, words, "limit");
@@ -50,7 +45,7 @@ fn read_file(answer: &mut Answer, source: MemorySource, words: &[&str]) -> Resul
 }
 
 /// Blocks by place, length of the metadata and length of the body.
-fn say_blocks(answer: &mut Answer, blocks: &[Block]) {
+fn say_blocks(answer: &Answer, blocks: &[Block]) {
     for block in blocks {
         let (place, head, body) = (block.offset, block.meta_data_length, block.body_length);
         answer.tell(format!(in answer.alloc(); " {place}+{head}+{body}"));
@@ -58,7 +53,7 @@ fn say_blocks(answer: &mut Answer, blocks: &[Block]) {
 }
 
 /// The blocks of dictionaries and of batches in the footer.
-fn read_blocks(answer: &mut Answer, source: &mut MemorySource) -> Result<(), IpcError> {
+fn read_blocks(answer: &Answer, source: &mut MemorySource) -> Result<(), IpcError> {
     let metadata = read_file_metadata(answer.alloc(), source)?;
     answer.say("dictionaries");
     say_blocks(answer, &metadata.dictionaries);
@@ -68,7 +63,7 @@ fn read_blocks(answer: &mut Answer, source: &mut MemorySource) -> Result<(), Ipc
 }
 
 /// How many dictionaries there are.
-fn read_dictionaries(answer: &mut Answer, source: &mut MemorySource) -> Result<(), IpcError> {
+fn read_dictionaries(answer: &Answer, source: &mut MemorySource) -> Result<(), IpcError> {
     let alloc = answer.alloc();
     let metadata = read_file_metadata(alloc, source)?;
     let held = read_file_dictionaries(alloc, source, &metadata, &mut Vec::new(alloc))?;
@@ -79,7 +74,7 @@ fn read_dictionaries(answer: &mut Answer, source: &mut MemorySource) -> Result<(
 
 /// Reads the file of `PARTS`.
 fn read(
-    answer: &mut Answer,
+    answer: &Answer,
     names: &Names,
     bytes: &[u8],
     name: &str,
@@ -95,7 +90,7 @@ fn read(
 
 /// Makes the call of a name, if it is one of these.
 pub(crate) fn call(
-    answer: &mut Answer,
+    answer: &Answer,
     names: &Names,
     bytes: &mut Vec<u8>,
     name: &str,

@@ -1,6 +1,6 @@
 //! Bytes under names, arrays and batches.
 use arrow_arrays::{Array, RecordBatch};
-use case_words::{Answer, keep_made};
+use case_words::{Answer, keep};
 use message_words::{Names, any_array, any_batch};
 use std::alloc::Global;
 
@@ -22,23 +22,27 @@ impl Made {
 }
 
 /// Makes the batch of `FIELDS | PARTS`, in the place of the one before.
-pub(crate) fn make_batch(answer: &mut Answer, made: &mut Made, words: &[&str]) {
-    match any_batch(answer, &mut made.arrays, words) {
-        Ok(batch) => made.batch = Some(batch),
-        Err(fault) => answer.fail(fault),
+pub(crate) fn make_batch(answer: &Answer, made: &mut Made, words: &[&str]) {
+    if let Some(batch) = any_batch(answer, &mut made.arrays, words) {
+        made.batch = Some(batch);
     }
 }
 
-fn say_batch_rows(answer: &mut Answer, batch: &Option<RecordBatch>) {
+fn say_batch_rows(answer: &Answer, batch: &Option<RecordBatch>) {
     if let Some(batch) = batch {
         let rows = batch.height();
         answer.tell(format!(in answer.alloc(); "{rows} rows"));
     }
 }
 
+fn make_array(answer: &Answer, arrays: &mut Vec<Array>, words: &[&str]) {
+    let array = any_array(answer, arrays, words);
+    keep(answer, arrays, array);
+}
+
 /// Makes the call of a name, if it is one of these.
 pub(crate) fn call(
-    answer: &mut Answer,
+    answer: &Answer,
     names: &mut Names,
     made: &mut Made,
     name: &str,
@@ -46,10 +50,7 @@ pub(crate) fn call(
 ) -> bool {
     match name {
         "name" => names.put(answer, words),
-        "array" => {
-            let array = any_array(answer, &mut made.arrays, words);
-            keep_made(answer, &mut made.arrays, array);
-        }
+        "array" => make_array(answer, &mut made.arrays, words),
         "batch" => {
             make_batch(answer, made, words);
             say_batch_rows(answer, &made.batch);

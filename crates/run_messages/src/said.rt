@@ -3,12 +3,12 @@ use crate::sinks::Tally;
 use arrow_spec::IpcError;
 use case_words::Answer;
 
-pub(crate) fn say_error(answer: &mut Answer, error: IpcError) {
+pub(crate) fn say_error(answer: &Answer, error: IpcError) {
     answer.tell(format!(in answer.alloc(); "{error}"));
 }
 
 /// What a call gives but for a value, and how many bytes a sink has behind it.
-pub(crate) fn say_done(answer: &mut Answer, done: Result<(), IpcError>, tally: &Option<Tally>) {
+pub(crate) fn say_done(answer: &Answer, done: Result<(), IpcError>, tally: &Option<Tally>) {
     match done {
         Ok(()) => answer.say("ok"),
         Err(error) => say_error(answer, error),
@@ -20,7 +20,7 @@ pub(crate) fn say_done(answer: &mut Answer, done: Result<(), IpcError>, tally: &
 }
 
 /// The text of an answer that was made for a part of this one.
-pub(crate) fn text_of(answer: &mut Answer, part: Answer) -> String {
+pub(crate) fn text_of(answer: &Answer, part: Answer) -> String {
     match part.into_text() {
         Ok(text) => text,
         Err(fault) => {

@@ -21,7 +21,7 @@ pub(crate) struct CaseSink {
 
 impl CaseSink {
     /// A copy of the bytes so far.
-    pub(crate) fn copied(&self, answer: &mut Answer) -> Vec<u8> {
+    pub(crate) fn copied(&self, answer: &Answer) -> Vec<u8> {
         answer.list(self.sink.bytes().to_vec(answer.alloc()))
     }
 }
@@ -50,7 +50,7 @@ impl Sink for CaseSink {
 
 /// A sink with `room N`, which wants memory at the put `wants N` and fails at the puts `fails N,..`, and whose tally is kept.
 pub(crate) fn sink_of(
-    answer: &mut Answer,
+    answer: &Answer,
     kept: &mut Option<Tally>,
     words: &[&str],
 ) -> Result<CaseSink, IpcError> {

@@ -9,7 +9,7 @@ use message_words::{
 };
 
 /// The bytes of `PARTS`, the first `count N` of them, in pulls of at most `most N`, of which `fails N,..` fail.
-fn feed_of(answer: &mut Answer, names: &Names, words: &[&str]) -> MemoryFeed {
+fn feed_of(answer: &Answer, names: &Names, words: &[&str]) -> MemoryFeed {
     let most = optional_count(answer, words, "most").unwrap_or(64).max(1);
     let failing = numbers_of(answer, words, "fails");
     let mut bytes = names.bytes_of(answer, front(words));
@@ -21,7 +21,7 @@ fn feed_of(answer: &mut Answer, names: &Names, words: &[&str]) -> MemoryFeed {
 
 /// A reader of a feed, of `columns N,..` or of all.
 fn reader_of(
-    answer: &mut Answer,
+    answer: &Answer,
     feed: MemoryFeed,
     words: &[&str],
 ) -> Result<StreamReader<MemoryFeed>, IpcError> {
@@ -36,7 +36,7 @@ fn reader_of(
 
 /// `stream_reader PARTS | OPTIONS`.
 fn open(
-    answer: &mut Answer,
+    answer: &Answer,
     names: &Names,
     reader: &mut Option<StreamReader<MemoryFeed>>,
     words: &[&str],
@@ -58,7 +58,7 @@ fn open(
 }
 
 /// What the next call gives, and whether the reader is finished behind it.
-fn say_next(answer: &mut Answer, reader: &mut StreamReader<MemoryFeed>) {
+fn say_next(answer: &Answer, reader: &mut StreamReader<MemoryFeed>) {
     match reader.next() {
         None => answer.say("end"),
         Some(Ok(StreamState::Waiting)) => answer.say("waiting"),
@@ -71,27 +71,27 @@ fn say_next(answer: &mut Answer, reader: &mut StreamReader<MemoryFeed>) {
 }
 
 /// What the first three calls give of a stream that ends behind so many bytes.
-fn cut_text(answer: &mut Answer, bytes: &[u8], count: usize) -> String {
+fn cut_text(answer: &Answer, bytes: &[u8], count: usize) -> String {
     let alloc = answer.alloc();
     let mut bytes = answer.list(bytes.to_vec(alloc));
     bytes.truncate(count);
-    let mut three = Answer::new(alloc);
-    match reader_of(&mut three, MemoryFeed::new(bytes, 64, Vec::new(alloc)), &[]) {
+    let three = Answer::new(alloc);
+    match reader_of(&three, MemoryFeed::new(bytes, 64, Vec::new(alloc)), &[]) {
         Ok(opened) => {
             let mut reader = opened;
-            say_next(&mut three, &mut reader);
+            say_next(&three, &mut reader);
             for _ in 0..2 {
                 three.say("; ");
-                say_next(&mut three, &mut reader);
+                say_next(&three, &mut reader);
             }
         }
-        Err(error) => say_error(&mut three, error),
+        Err(error) => say_error(&three, error),
     }
     text_of(answer, three)
 }
 
 /// `cuts FROM TO PARTS`: what the first three calls give of the stream, wherever it ends between the two.
-fn cuts(answer: &mut Answer, names: &Names, words: &[&str]) {
+fn cuts(answer: &Answer, names: &Names, words: &[&str]) {
     let (from, to) = (answer.count(word(words, 0)), answer.count(word(words, 1)));
     let bytes = names.bytes_of(answer, rest(words, 2));
     let first = cut_text(answer, &bytes, from);
@@ -105,7 +105,7 @@ fn cuts(answer: &mut Answer, names: &Names, words: &[&str]) {
 }
 
 /// The pairs of the message of the schema, and of the schema, and whether a copy has the same schema.
-fn say_metadata(answer: &mut Answer, metadata: &StreamMetadata) {
+fn say_metadata(answer: &Answer, metadata: &StreamMetadata) {
     let (fields, version) = (metadata.schema.len(), metadata.version);
     answer.tell(format!(in answer.alloc(); "{fields} fields, {version:?}, message "));
     say_pairs(answer, metadata.custom_metadata.as_ref());
@@ -121,7 +121,7 @@ fn say_metadata(answer: &mut Answer, metadata: &StreamMetadata) {
 }
 
 /// `stream_metadata PARTS`.
-fn stream_metadata(answer: &mut Answer, names: &Names, words: &[&str]) {
+fn stream_metadata(answer: &Answer, names: &Names, words: &[&str]) {
     let mut feed = feed_of(answer, names, words);
     match read_stream_metadata(answer.alloc(), &mut feed) {
         Ok(metadata) => say_metadata(answer, &metadata),
@@ -131,7 +131,7 @@ fn stream_metadata(answer: &mut Answer, names: &Names, words: &[&str]) {
 
 /// Makes the call of a name, if it is one of these.
 pub(crate) fn call(
-    answer: &mut Answer,
+    answer: &Answer,
     names: &Names,
     reader: &mut Option<StreamReader<MemoryFeed>>,
     name: &str,

@@ -44,7 +44,7 @@ impl Writing {
 }
 
 /// Takes the bytes of the writer's sink or disk, where there is a writer.
-pub(crate) fn settle(answer: &mut Answer, writing: &mut Writing, bytes: &mut Vec<u8>) {
+pub(crate) fn settle(answer: &Answer, writing: &mut Writing, bytes: &mut Vec<u8>) {
     match mem::replace(&mut writing.writer, Writer::None) {
         Writer::None => {}
         Writer::Stream(writer) => *bytes = writer.into_inner().copied(answer),
@@ -55,7 +55,7 @@ pub(crate) fn settle(answer: &mut Answer, writing: &mut Writing, bytes: &mut Vec
 }
 
 /// The most metadata, `limit N`, whether there are `deltas`, and whether they are to be `compressed`.
-pub(crate) fn write_options(answer: &mut Answer, words: &[&str]) -> WriteOptions {
+pub(crate) fn write_options(answer: &Answer, words: &[&str]) -> WriteOptions {
     let limit = optional_count(answer, words, "limit");
     let default = WriteOptions::default();
     WriteOptions {
@@ -67,48 +67,71 @@ pub(crate) fn write_options(answer: &mut Answer, words: &[&str]) -> WriteOptions
 
 /// A writer of `FIELDS`, which has begun the file or not.
 fn file_writer(
-    answer: &mut Answer,
+    answer: &Answer,
     sink: CaseSink,
     words: &[&str],
     is_begun: bool,
-) -> Result<FileWriter<CaseSink>, Refused<CaseSink>> {
+) -> Result<Writer, Refused<CaseSink>> {
     let alloc = answer.alloc();
     let options = write_options(answer, words);
-    let ids = ids_of(answer, words);
-    match Rc::new(alloc, schema_of(answer, front(words))) {
-        Ok(schema) if is_begun => FileWriter::try_new(alloc, sink, schema, ids, options),
-        Ok(schema) => FileWriter::new(alloc, sink, schema, ids, options),
-        Err(_) => Err(Refused {
-            error: IpcError::Memory,
-            object: sink,
-        }),
+    let ids = ids_of(answer, &*words);
+    let schema = schema_of(answer, front(&*words));
+    let schema = match Rc::new(alloc, schema) {
+        Ok(schema) => schema,
+        Err(_) => {
+            return Err(Refused {
+                error: IpcError::Memory,
+                object: sink,
+            });
+        }
+    };
+    let made = if is_begun {
+        FileWriter::try_new(alloc, sink, schema, ids, options)
+    } else {
+        FileWriter::new(alloc, sink, schema, ids, options)
+    };
+    match made {
+        Ok(writer) => Ok(Writer::File(writer)),
+        Err(refused) => Err(refused),
     }
 }
 
 /// A writer of a stream's bytes, or where `hex` asks for it of their hex text.
-fn stream_core(answer: &mut Answer, words: &[&str]) -> Result<StreamCore, IpcError> {
+fn core_writer(
+    answer: &Answer,
+    sink: CaseSink,
+    words: &[&str],
+) -> Result<Writer, Refused<CaseSink>> {
     let options = write_options(answer, words);
     let encoding = if has(words, "hex") {
         Encoding::HexText
     } else {
         Encoding::Bytes
     };
-    StreamCore::new_as(answer.alloc(), options, encoding)
+    match StreamCore::new_as(answer.alloc(), options, encoding) {
+        Ok(core) => Ok(Writer::Core(core, sink)),
+        Err(error) => Err(Refused {
+            error,
+            object: sink,
+        }),
+    }
 }
 
 fn stream_writer(
-    answer: &mut Answer,
+    answer: &Answer,
     sink: CaseSink,
     words: &[&str],
-) -> Result<StreamWriter<CaseSink>, Refused<CaseSink>> {
-    let options = write_options(answer, words);
-    StreamWriter::new(answer.alloc(), sink, options)
+) -> Result<Writer, Refused<CaseSink>> {
+    match StreamWriter::new(answer.alloc(), sink, write_options(answer, words)) {
+        Ok(writer) => Ok(Writer::Stream(writer)),
+        Err(refused) => Err(refused),
+    }
 }
 
 /// `stream_writer OPTIONS`, `stream_core OPTIONS`, `file_writer FIELDS | OPTIONS` or `begun_file FIELDS | OPTIONS`. What the sink of a
 /// refused writer has is kept.
 fn begin(
-    answer: &mut Answer,
+    answer: &Answer,
     writing: &mut Writing,
     bytes: &mut Vec<u8>,
     name: &str,
@@ -116,21 +139,9 @@ fn begin(
 ) -> Result<(), IpcError> {
     let sink = sink_of(answer, &mut writing.tally, words)?;
     let made = match name {
-        "stream_writer" => match stream_writer(answer, sink, words) {
-            Ok(writer) => Ok(Writer::Stream(writer)),
-            Err(refused) => Err(refused),
-        },
-        "stream_core" => match stream_core(answer, words) {
-            Ok(core) => Ok(Writer::Core(core, sink)),
-            Err(error) => Err(Refused {
-                error,
-                object: sink,
-            }),
-        },
-        _ => match file_writer(answer, sink, words, name == "begun_file") {
-            Ok(writer) => Ok(Writer::File(writer)),
-            Err(refused) => Err(refused),
-        },
+        "stream_writer" => stream_writer(answer, sink, words),
+        "stream_core" => core_writer(answer, sink, words),
+        _ => file_writer(answer, sink, words, name == "begun_file"),
     };
     match made {
         Ok(writer) => {
@@ -147,14 +158,16 @@ fn begin(
 
 /// A writer that goes on with a file, or the file as it is left.
 fn continued(
-    answer: &mut Answer,
-    disk: MemoryDisk,
+    answer: &Answer,
+    mut disk: MemoryDisk,
     words: &[&str],
-) -> Result<FileWriter<DiskTail<MemoryDisk>>, Refused<MemoryDisk>> {
-    let mut disk = disk;
+) -> Result<Writer, Refused<MemoryDisk>> {
     let options = write_options(answer, words);
     match read_file_metadata(answer.alloc(), &mut disk) {
-        Ok(metadata) => try_from_file(answer.alloc(), disk, metadata, options),
+        Ok(metadata) => match try_from_file(answer.alloc(), disk, metadata, options) {
+            Ok(writer) => Ok(Writer::Appended(writer)),
+            Err(refused) => Err(refused),
+        },
         Err(error) => Err(Refused {
             error,
             object: disk,
@@ -164,7 +177,7 @@ fn continued(
 
 /// `append PARTS | OPTIONS`: the writer goes on with the file. No sink is seen then.
 fn append(
-    answer: &mut Answer,
+    answer: &Answer,
     names: &Names,
     writing: &mut Writing,
     bytes: &mut Vec<u8>,
@@ -175,7 +188,7 @@ fn append(
     writing.tally = None;
     match continued(answer, disk, words) {
         Ok(writer) => {
-            writing.writer = Writer::Appended(writer);
+            writing.writer = writer;
             Ok(())
         }
         Err(refused) => {
@@ -188,7 +201,7 @@ fn append(
 
 /// Makes the call of a name, if it is one of these.
 pub(crate) fn call(
-    answer: &mut Answer,
+    answer: &Answer,
     names: &Names,
     made: &mut Made,
     writing: &mut Writing,

@@ -10,11 +10,7 @@ use ipc_append::EncodedData;
 use message_words::{Names, front, ids_of};
 
 /// `start`, of a file, or `start FIELDS ids IDS`, of a stream.
-pub(crate) fn start(
-    answer: &mut Answer,
-    writer: &mut Writer,
-    words: &[&str],
-) -> Result<(), IpcError> {
+pub(crate) fn start(answer: &Answer, writer: &mut Writer, words: &[&str]) -> Result<(), IpcError> {
     let ids = ids_of(answer, words);
     let schema = schema_of(answer, front(words));
     match writer {
@@ -28,7 +24,7 @@ pub(crate) fn start(
 
 /// `write FIELDS | PARTS ids IDS`, or `write ids IDS` of the last batch.
 pub(crate) fn write(
-    answer: &mut Answer,
+    answer: &Answer,
     writer: &mut Writer,
     made: &mut Made,
     words: &[&str],
@@ -87,7 +83,7 @@ pub(crate) fn set_schema_pairs(writer: &mut Writer, pairs: Metadata) -> Result<(
 /// The message of a file of `METADATA BODY`, each a name or hex digits. It is written as it is, or with memory of its own lent to
 /// the writer.
 pub(crate) fn write_encoded(
-    answer: &mut Answer,
+    answer: &Answer,
     writer: &mut Writer,
     names: &Names,
     words: &[&str],
@@ -110,7 +106,7 @@ pub(crate) fn write_encoded(
 }
 
 /// How many bytes a stream has, as its writer counts them.
-pub(crate) fn say_count(answer: &mut Answer, writer: &Writer) {
+pub(crate) fn say_count(answer: &Answer, writer: &Writer) {
     let count = match writer {
         Writer::Stream(writer) => writer.byte_count(),
         Writer::Core(core, _) => core.byte_count(),

@@ -10,7 +10,7 @@ use crate::dictionaries::read_batch;
 use arrow_arrays::{Array, DictionaryArray, is_carried};
 use arrow_spec::{FieldNode, IpcBuffer, IpcError, MetadataVersion};
 use arrow_types::{ArrowDataType, Field, PhysicalType};
-use case_words::{Answer, Tables, fields_of, keep_made, rest, schema_of, type_of, word};
+use case_words::{Answer, Tables, fields_of, keep, rest, schema_of, type_of, word};
 use ipc_fields::IpcField;
 use ipc_read::{
     Body, Dictionaries, MemorySource, Source, default_ipc_fields, is_held_for, read,
@@ -30,7 +30,7 @@ pub(crate) struct Queues {
     views: VecDeque<i64>,
 }
 
-fn queue_of<T: Copy>(answer: &mut Answer, items: &[T]) -> VecDeque<T> {
+fn queue_of<T: Copy>(answer: &Answer, items: &[T]) -> VecDeque<T> {
     let mut queue = VecDeque::new(answer.alloc());
     for item in items {
         answer.done(queue.push_back(*item));
@@ -47,7 +47,7 @@ impl Queues {
         }
     }
 
-    fn of(answer: &mut Answer, tables: &Tables) -> Queues {
+    fn of(answer: &Answer, tables: &Tables) -> Queues {
         Queues {
             nodes: queue_of(answer, &tables.nodes),
             buffers: queue_of(answer, &tables.buffers),
@@ -67,7 +67,7 @@ struct Turn {
 }
 
 /// `ROWS WAY TYPE`, where WAY is `little`, `big`, `v4` or `kind`.
-fn turn_of(answer: &mut Answer, words: &[&str]) -> Turn {
+fn turn_of(answer: &Answer, words: &[&str]) -> Turn {
     let way = word(words, 1);
     Turn {
         rows: answer.count(word(words, 0)),
@@ -82,7 +82,7 @@ fn turn_of(answer: &mut Answer, words: &[&str]) -> Turn {
 }
 
 /// Two bytes stand before a body.
-fn source(answer: &mut Answer, body: &[u8]) -> MemorySource {
+fn source(answer: &Answer, body: &[u8]) -> MemorySource {
     let mut bytes = Vec::new(answer.alloc());
     answer.done(bytes.extend_from_slice(b"ab"));
     answer.done(bytes.extend_from_slice(body));
@@ -97,7 +97,7 @@ pub(crate) struct Column {
 }
 
 /// The first column of these fields.
-pub(crate) fn column_of(answer: &mut Answer, words: &[&str]) -> Option<Column> {
+pub(crate) fn column_of(answer: &Answer, words: &[&str]) -> Option<Column> {
     let schema = schema_of(answer, words);
     let ids = default_ipc_fields(answer.alloc(), &schema);
     match (fields_of(answer, words).pop(), answer.list(ids).pop()) {
@@ -277,7 +277,7 @@ fn read_column(
 
 /// The next column of the tables, over a body.
 fn read_next(
-    answer: &mut Answer,
+    answer: &Answer,
     queues: &mut Queues,
     body: &[u8],
     dictionaries: &Dictionaries,
@@ -300,7 +300,7 @@ fn read_next(
 
 /// The array of so many rows that is read from these tables alone.
 pub(crate) fn read_whole(
-    answer: &mut Answer,
+    answer: &Answer,
     tables: &Tables,
     column: &Column,
     rows: usize,
@@ -364,7 +364,7 @@ fn pass_kind(queues: &mut Queues, dtype: &ArrowDataType, turn: Turn) -> Result<(
 }
 
 /// Passes over the next column of the tables, and tells what is left of them.
-fn pass_next(answer: &mut Answer, queues: &mut Queues, words: &[&str]) {
+fn pass_next(answer: &Answer, queues: &mut Queues, words: &[&str]) {
     let turn = turn_of(answer, words);
     let dtype = type_of(answer, rest(words, 2));
     let passed = if turn.by_kind {
@@ -384,7 +384,7 @@ fn pass_next(answer: &mut Answer, queues: &mut Queues, words: &[&str]) {
 }
 
 /// A line of tables. The nodes come first, and with them nothing is left of others.
-fn put(answer: &mut Answer, tables: &mut Tables, name: &str, words: &[&str]) {
+fn put(answer: &Answer, tables: &mut Tables, name: &str, words: &[&str]) {
     if name == "nodes" {
         *tables = Tables::new(answer.alloc());
     }
@@ -393,7 +393,7 @@ fn put(answer: &mut Answer, tables: &mut Tables, name: &str, words: &[&str]) {
 
 /// `read`, `next` and `read_batch`: a column of the tables is read into an array.
 fn read_array(
-    answer: &mut Answer,
+    answer: &Answer,
     tables: &Tables,
     queues: &mut Queues,
     dictionaries: &Dictionaries,
@@ -411,7 +411,7 @@ fn read_array(
 
 /// Makes a call of tables and of what reads or passes them over, or tells that there is none of the name.
 pub(crate) fn call(
-    answer: &mut Answer,
+    answer: &Answer,
     tables: &mut Tables,
     queues: &mut Queues,
     dictionaries: &Dictionaries,
@@ -423,7 +423,8 @@ pub(crate) fn call(
         "nodes" | "buffers" | "views" | "body" => put(answer, tables, name, words),
         "read" | "next" | "read_batch" => {
             let read = read_array(answer, tables, queues, dictionaries, name, words);
-            keep_made(answer, arrays, read)
+            let read = answer.value(read);
+            keep(answer, arrays, read)
         }
         "skip" => {
             *queues = Queues::of(answer, tables);

@@ -51,7 +51,7 @@ fn ipc_schema(alloc: Global) -> Result<IpcSchema, AllocError>
 }
 
 /// The header of these tables, of so many rows.
-fn header(answer: &mut Answer, tables: &Tables, rows: &str) -> BatchHeader {
+fn header(answer: &Answer, tables: &Tables, rows: &str) -> BatchHeader {
     BatchHeader {
         length: answer.long(rows),
         nodes: answer.list(tables.nodes.clone()),
@@ -61,7 +61,7 @@ fn header(answer: &mut Answer, tables: &Tables, rows: &str) -> BatchHeader {
     }
 }
 
-fn source(answer: &mut Answer, tables: &Tables) -> MemorySource {
+fn source(answer: &Answer, tables: &Tables) -> MemorySource {
     let body = answer.list(tables.body.clone());
     MemorySource::new(body, Vec::new(answer.alloc()), Vec::new(answer.alloc()))
 }
@@ -102,7 +102,7 @@ fn hold_batch(
 }
 
 /// `hold ID ROWS base|delta once|replace`: texts of the tables become values.
-fn hold(answer: &mut Answer, tables: &Tables, dictionaries: &mut Dictionaries, words: &[&str]) {
+fn hold(answer: &Answer, tables: &Tables, dictionaries: &mut Dictionaries, words: &[&str]) {
     let holding = Holding {
         id: answer.long(word(words, 0)),
         is_delta: word(words, 2) == "delta",
@@ -115,7 +115,7 @@ fn hold(answer: &mut Answer, tables: &Tables, dictionaries: &mut Dictionaries, w
 }
 
 /// `held_for TYPE`: whether what is held has the types of these values.
-fn held_for(answer: &mut Answer, dictionaries: &Dictionaries, words: &[&str]) {
+fn held_for(answer: &Answer, dictionaries: &Dictionaries, words: &[&str]) {
     match column_of(answer, words) {
         Some(column) => {
             let is_held = is_held_for(&column.field.dtype, &column.ids, dictionaries);
@@ -155,7 +155,7 @@ fn read(
 
 /// `read_batch ROWS`: the column of texts by key of the batch of the tables.
 pub(crate) fn read_batch(
-    answer: &mut Answer,
+    answer: &Answer,
     tables: &Tables,
     dictionaries: &Dictionaries,
     words: &[&str],
@@ -184,25 +184,19 @@ fn only_texts(dictionary: &DictionaryArray) -> Option<&Array>
 }
 
 /// Tells how many values there are, and what they are written as by themselves.
-fn write_values(
-    answer: &mut Answer,
-    dictionary: &DictionaryArray,
-    values: &Array,
-    tables: &mut Tables,
-)
+fn write_values(answer: &Answer, dictionary: &DictionaryArray, values: &Array, tables: &mut Tables)
     requires only { dictionary.now.children ≡ also (parts_of values.now) none }
     requires order { MayHaveOrder (parts_of values.now) true }
     requires few { rows_in (parts_of values.now) < 2 ^ 63 }
     requires short { body_of 0 (map length (pieces_in little (parts_of values.now))) < 2 ^ 63 }
 {
-    let (mut nodes, mut buffers) = (Vec::new(answer.alloc()), Vec::new(answer.alloc()));
-    let (mut views, mut body) = (Vec::new(answer.alloc()), Vec::new(answer.alloc()));
+    *tables = Tables::new(answer.alloc());
     match write_dictionary(
         dictionary,
-        &mut buffers,
-        &mut body,
-        &mut nodes,
-        &mut views,
+        &mut tables.buffers,
+        &mut tables.body,
+        &mut tables.nodes,
+        &mut tables.views,
         &mut 0,
         true,
         false,
@@ -210,17 +204,11 @@ fn write_values(
         Ok(count) => answer.tell(format!(in answer.alloc(); "{count} values\n")),
         Err(error) => answer.fail(error.into()),
     }
-    *tables = Tables {
-        nodes,
-        buffers,
-        views,
-        body,
-    };
     tables.say(answer);
 }
 
 /// What the values of a dictionary are written as, where a batch can hold them.
-pub(crate) fn values(answer: &mut Answer, array: &Array, tables: &mut Tables) {
+pub(crate) fn values(answer: &Answer, array: &Array, tables: &mut Tables) {
     let Array::Dictionary(dictionary) = array else {
         return answer.refuse();
     };
@@ -235,7 +223,7 @@ pub(crate) fn values(answer: &mut Answer, array: &Array, tables: &mut Tables) {
 
 /// Makes a call of what is held, or tells that there is none of the name.
 pub(crate) fn call(
-    answer: &mut Answer,
+    answer: &Answer,
     tables: &Tables,
     dictionaries: &mut Dictionaries,
     name: &str,

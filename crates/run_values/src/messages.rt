@@ -14,7 +14,7 @@ fn endless(alloc: Global) -> MemorySink {
 }
 
 /// `continuation LENGTH`.
-fn continuation(answer: &mut Answer, words: &[&str]) {
+fn continuation(answer: &Answer, words: &[&str]) {
     let Ok(length) = word(words, 0).parse::<i32>() else {
         return answer.refuse();
     };
@@ -29,7 +29,7 @@ fn continuation(answer: &mut Answer, words: &[&str]) {
 }
 
 /// `message METADATA BODY`.
-fn message(answer: &mut Answer, words: &[&str]) {
+fn message(answer: &Answer, words: &[&str]) {
     let encoded = EncodedData {
         ipc_message: bytes(answer, word(words, 0)),
         arrow_data: bytes(answer, word(words, 1)),
@@ -45,7 +45,7 @@ fn message(answer: &mut Answer, words: &[&str]) {
 }
 
 /// What is there behind a batch with so much metadata at most, where 07 was there before it.
-fn within(answer: &mut Answer, batch: &RecordBatch, limit: &str) {
+fn within(answer: &Answer, batch: &RecordBatch, limit: &str) {
     let options = WriteOptions {
         compression: None,
         metadata_limit: answer.count(limit),
@@ -63,7 +63,7 @@ fn within(answer: &mut Answer, batch: &RecordBatch, limit: &str) {
 }
 
 /// Whether a plan is put as a message, with the same lengths told, and its body alone as that of the message.
-fn is_planned(answer: &mut Answer, plan: &BodyPlan, encoded: &EncodedData) -> bool {
+fn is_planned(answer: &Answer, plan: &BodyPlan, encoded: &EncodedData) -> bool {
     let alloc = answer.alloc();
     let (mut whole, mut planned, mut body) = (endless(alloc), endless(alloc), endless(alloc));
     let mut scratch = [0xff; 64];
@@ -78,7 +78,7 @@ fn is_planned(answer: &mut Answer, plan: &BodyPlan, encoded: &EncodedData) -> bo
 }
 
 /// Whether a batch is put in pieces as its message, and how many buffers and bytes its body has.
-fn in_pieces(answer: &mut Answer, batch: &RecordBatch) {
+fn in_pieces(answer: &Answer, batch: &RecordBatch) {
     let options = WriteOptions::default();
     let mut encoded = EncodedData::new(answer.alloc());
     answer.done(encode_record_batch(answer.alloc(), batch, &options, &mut encoded));
@@ -95,7 +95,7 @@ fn in_pieces(answer: &mut Answer, batch: &RecordBatch) {
 }
 
 /// `encode_within LIMIT`, or `in_pieces`, of the batch of the last array.
-fn of_last(answer: &mut Answer, arrays: &[Array], words: &[&str]) {
+fn of_last(answer: &Answer, arrays: &[Array], words: &[&str]) {
     let Some(array) = arrays.last() else {
         return answer.refuse();
     };
@@ -107,7 +107,7 @@ fn of_last(answer: &mut Answer, arrays: &[Array], words: &[&str]) {
 }
 
 /// Makes a call of this part, or tells that there is none of the name.
-pub(crate) fn call(answer: &mut Answer, arrays: &[Array], name: &str, words: &[&str]) -> bool {
+pub(crate) fn call(answer: &Answer, arrays: &[Array], name: &str, words: &[&str]) -> bool {
     match name {
         "continuation" => continuation(answer, words),
         "message" => message(answer, words),

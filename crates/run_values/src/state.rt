@@ -11,7 +11,7 @@ use value_calls::{arrays, batches, bodies, buffers, flatbuffers, headers, schema
 
 /// What the calls of one case leave to the next ones.
 #[derive(Drop)]
-pub(crate) struct Values {
+pub struct Values {
     /// Arrays, the last made last.
     arrays: Vec<Array>,
     /// Batches in the same order.
@@ -48,7 +48,7 @@ impl Case for Values {
         *self = Values::new(alloc);
     }
 
-    fn answer(&mut self, _rt: &HostRuntime, answer: &mut Answer, words: &[&str]) {
+    fn answer(&mut self, _rt: &HostRuntime, answer: &Answer, words: &[&str]) {
         let (name, words) = (word(words, 0), rest(words, 1));
         let is_known = arrays::call(answer, &mut self.arrays, name, words)
             || types::call(answer, &mut self.schema, name, words)

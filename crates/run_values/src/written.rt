@@ -70,7 +70,7 @@ pub(crate) fn encoded(alloc: Global, array: &Array) -> Result<Tables, Fault>
 }
 
 /// `encode`: the message becomes the tables.
-fn encode(answer: &mut Answer, array: &Array, tables: &mut Tables) {
+fn encode(answer: &Answer, array: &Array, tables: &mut Tables) {
     match encoded(answer.alloc(), array) {
         Ok(written) => *tables = written,
         Err(fault) => answer.fail(fault),
@@ -96,40 +96,28 @@ fn may_have_views(array: &Array) -> bool
 }
 
 /// An array without views and children by itself, in an order. It answers where what is written ends.
-fn write_alone(
-    answer: &mut Answer,
-    array: &Array,
-    tables: &mut Tables,
-    is_little_endian: bool,
-) -> i64
+fn write_alone(answer: &Answer, array: &Array, tables: &mut Tables, is_little_endian: bool) -> i64
     requires plain { MayHaveOrder (parts_of array.now) false }
     requires childless { has_no_children (parts_of array.now) ≡ true }
     requires few { rows_in (parts_of array.now) < 2 ^ 63 }
     requires short { body_of 0 (map length (pieces_in little (top (parts_of array.now)))) < 2 ^ 63 }
 {
-    let (mut nodes, mut buffers) = (Vec::new(answer.alloc()), Vec::new(answer.alloc()));
-    let (mut views, mut body) = (Vec::new(answer.alloc()), Vec::new(answer.alloc()));
+    *tables = Tables::new(answer.alloc());
     let mut end = 0;
     answer.done(write(
         array,
-        &mut buffers,
-        &mut body,
-        &mut nodes,
-        &mut views,
+        &mut tables.buffers,
+        &mut tables.body,
+        &mut tables.nodes,
+        &mut tables.views,
         &mut end,
         is_little_endian,
     ));
-    *tables = Tables {
-        nodes,
-        buffers,
-        views,
-        body,
-    };
     end
 }
 
 /// The same of an array that a batch can hold.
-fn alone(answer: &mut Answer, array: &Array, tables: &mut Tables, is_little_endian: bool) -> i64 {
+fn alone(answer: &Answer, array: &Array, tables: &mut Tables, is_little_endian: bool) -> i64 {
     if may_have_views(array) {
         answer.refuse();
         return 0;
@@ -145,7 +133,7 @@ fn alone(answer: &mut Answer, array: &Array, tables: &mut Tables, is_little_endi
 
 /// Tells whether an array is read back from its tables.
 fn say_back(
-    answer: &mut Answer,
+    answer: &Answer,
     array: &Array,
     tables: &Tables,
     is_little_endian: bool,
@@ -173,7 +161,7 @@ fn say_back(
 
 /// Makes a call on the last array, or tells that there is none of the name.
 pub(crate) fn call(
-    answer: &mut Answer,
+    answer: &Answer,
     arrays: &[Array],
     tables: &mut Tables,
     name: &str,

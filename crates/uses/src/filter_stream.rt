@@ -2,10 +2,10 @@
 use crate::again::next_batch;
 use crate::merge_streams::reader_of;
 use crate::write_batch::batch_of;
+use crate::write_stream::stream_writer;
 use arrow_ipc::array::Array;
 use arrow_ipc::io::MemorySink;
 use arrow_ipc::io::ipc::IpcError;
-use arrow_ipc::io::ipc::write::{StreamWriter, WriteOptions};
 use arrow_ipc::record_batch::{RecordBatch, column};
 use std::alloc::Global;
 
@@ -26,9 +26,7 @@ fn at_least(alloc: Global, batch: &RecordBatch, limit: i32) -> Result<RecordBatc
 /// The stream of the rows whose number is at least a limit.
 pub(crate) fn kept(alloc: Global, bytes: Vec<u8>, limit: i32) -> Result<MemorySink, IpcError> {
     let mut reader = reader_of(alloc, bytes)?;
-    let sink = MemorySink::new(alloc, None, Vec::new(alloc));
-    let mut writer = StreamWriter::new(alloc, sink, WriteOptions::default())?;
-    writer.start(reader.schema(), None)?;
+    let mut writer = stream_writer(alloc, reader.schema())?;
     for _ in 0..u64::MAX {
         match next_batch(&mut reader)? {
             Some(batch) => writer.write(&at_least(alloc, &batch, limit)?, None)?,

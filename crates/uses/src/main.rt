@@ -1,7 +1,7 @@
 //! Uses of `arrow_ipc`, by words, of which one command may stand behind another:
 //!
 //! - `show`, as without any word, shows nine uses, of an Arrow file on standard input;
-//! - `columns`, `dictionary`, `filter`, `grow` and `merge` show uses of arrays and batches that are made in memory;
+//! - `columns`, `dictionary`, `filter`, `grow`, `join`, `log` and `merge` show uses of arrays and batches that are made in memory;
 //! - `file-again FROM TO` and `stream-again FROM TO` write a file or a stream that they read, and `send FROM TO` a file as a stream;
 //! - `write-file NAME BATCHES ROWS` and `write-stream NAME BATCHES ROWS` write numbers, and `append NAME BATCHES ROWS` behind the batches of a file.
 #![tactic(auto)]
@@ -13,8 +13,10 @@ mod by_name;
 mod dictionary_file;
 mod each_batch;
 mod file_to_stream;
+mod files_to_stream;
 mod filter_stream;
 mod flight;
+mod log_service;
 mod merge_streams;
 mod numbers;
 mod read_column;
@@ -77,7 +79,7 @@ fn do_word<'a>(
             show_uses(rt)?;
             Ok(words)
         }
-        "columns" | "dictionary" | "filter" | "grow" | "merge" => {
+        "columns" | "dictionary" | "filter" | "grow" | "join" | "log" | "merge" => {
             show_use(rt, word)?;
             Ok(words)
         }

@@ -1,8 +1,8 @@
 //! Two streams of one schema that become one.
 use crate::again::write_batches;
+use crate::write_stream::stream_writer;
 use arrow_ipc::io::ipc::IpcError;
 use arrow_ipc::io::ipc::read::{StreamReader, read_stream_metadata};
-use arrow_ipc::io::ipc::write::{StreamWriter, WriteOptions};
 use arrow_ipc::io::{MemoryFeed, MemorySink};
 use std::alloc::Global;
 
@@ -22,9 +22,7 @@ pub(crate) fn merged(alloc: Global, one: Vec<u8>, other: Vec<u8>) -> Result<Memo
     if **one.schema() != **other.schema() {
         return Err(IpcError::SchemaMismatch);
     }
-    let sink = MemorySink::new(alloc, None, Vec::new(alloc));
-    let mut writer = StreamWriter::new(alloc, sink, WriteOptions::default())?;
-    writer.start(one.schema(), None)?;
+    let mut writer = stream_writer(alloc, one.schema())?;
     write_batches(&mut one, &mut writer)?;
     write_batches(&mut other, &mut writer)?;
     writer.finish()?;

@@ -3,7 +3,9 @@ use crate::append_each::file_with_each;
 use crate::by_name::{cities, show_cities};
 use crate::dictionary_file::file_of_colours;
 use crate::each_batch::heights;
+use crate::files_to_stream::joined;
 use crate::filter_stream::kept;
+use crate::log_service::{batches_behind_crash, new_log, run_once};
 use crate::merge_streams::merged;
 use crate::read_stream::first_height;
 use crate::write_file::file_of_numbers;
@@ -45,6 +47,14 @@ fn show_grown(rt: &HostRuntime, alloc: Global) -> Result<(), IpcError> {
     Ok(())
 }
 
+fn show_log(rt: &HostRuntime, alloc: Global) -> Result<(), IpcError> {
+    let disk = run_once(alloc, new_log(alloc)?, &[1, 3])?;
+    let disk = run_once(alloc, disk, &[5])?;
+    let batches = batches_behind_crash(alloc, disk)?;
+    let _ = println!(rt; "a log of {batches} batches behind a crash");
+    Ok(())
+}
+
 fn show_merged(rt: &HostRuntime, alloc: Global) -> Result<(), IpcError> {
     let one = bytes_in(alloc, &stream_of_numbers(alloc, &[1, 3])?)?;
     let other = bytes_in(alloc, &stream_of_numbers(alloc, &[5])?)?;
@@ -53,11 +63,21 @@ fn show_merged(rt: &HostRuntime, alloc: Global) -> Result<(), IpcError> {
     Ok(())
 }
 
+fn show_joined(rt: &HostRuntime, alloc: Global) -> Result<(), IpcError> {
+    let one = bytes_in(alloc, &file_of_numbers(alloc, &[1, 3])?)?;
+    let other = bytes_in(alloc, &file_of_numbers(alloc, &[5])?)?;
+    let length = joined(alloc, one, other)?.bytes().len();
+    let _ = println!(rt; "a stream of {length} bytes of two files");
+    Ok(())
+}
+
 fn show(rt: &HostRuntime, alloc: Global, word: &str) -> Result<(), IpcError> {
     match word {
         "columns" => show_cities(rt, &cities(alloc)?),
         "filter" => show_filtered(rt, alloc),
         "grow" => show_grown(rt, alloc),
+        "join" => show_joined(rt, alloc),
+        "log" => show_log(rt, alloc),
         "merge" => show_merged(rt, alloc),
         _ => show_colours(rt, alloc),
     }

@@ -3,7 +3,7 @@ use crate::buffers::some_bits;
 use arrow_buffers::{Buffer, rise_within};
 use arrow_types::{Offset, months_days_ns};
 use case_words::{
-    Answer, Fault, bytes, bytes_buffer, items, rest, say_body, say_buffers, say_bytes, word,
+    Answer, bytes, bytes_buffer, items, rest, say_body, say_buffers, say_bytes, word,
 };
 use ipc_bodies::{BodyBuffer, append_body, append_places, body_end, put_body};
 use ipc_io::MemorySink;
@@ -11,53 +11,67 @@ use std::rc::RcSlice;
 
 /// Offsets that rise up to a limit, from 0.
 fn rising<O: Offset>(
-    offsets: Result<Buffer<O>, Fault>,
+    answer: &Answer,
+    offsets: Option<Buffer<O>>,
     limit: usize,
     is_little_endian: bool,
-) -> Result<BodyBuffer, Fault> {
+) -> Option<BodyBuffer> {
     let offsets = offsets?;
     if !rise_within(&offsets, limit) {
-        return Err(Fault::Words);
+        return None;
     }
-    Ok(BodyBuffer::of_offsets(&offsets, limit, is_little_endian)?)
+    answer.value(BodyBuffer::of_offsets(&offsets, limit, is_little_endian))
 }
 
 /// Offsets that are held in big-endian order.
-fn big_offsets(answer: &mut Answer, word: &str) -> Result<Buffer<i32>, Fault> {
-    let bytes = RcSlice::from_vec(bytes(answer, word))?;
+fn big_offsets(answer: &Answer, word: &str) -> Option<Buffer<i32>> {
+    let bytes = answer.value(RcSlice::from_vec(bytes(answer, word)))?;
     let count = bytes.len() / 4;
-    Ok(Buffer::shared(bytes, 0, count, true))
+    Some(Buffer::shared(bytes, 0, count, true))
 }
 
 /// `offsets LISTED LIMIT`, of a width and an order in which they are held.
 fn offsets(
-    answer: &mut Answer,
+    answer: &Answer,
     kind: &str,
     words: &[&str],
     is_little_endian: bool,
-) -> Result<BodyBuffer, Fault> {
+) -> Option<BodyBuffer> {
     let (listed, limit) = (word(words, 0), answer.count(word(words, 1)));
     match kind {
-        "offsets" => rising(items::<i32>(answer, listed), limit, is_little_endian),
-        "large_offsets" => rising(items::<i64>(answer, listed), limit, is_little_endian),
-        "big_offsets" => rising(big_offsets(answer, listed), limit, is_little_endian),
-        _ => Err(Fault::Words),
+        "offsets" => rising(
+            answer,
+            items::<i32>(answer, listed),
+            limit,
+            is_little_endian,
+        ),
+        "large_offsets" => rising(
+            answer,
+            items::<i64>(answer, listed),
+            limit,
+            is_little_endian,
+        ),
+        "big_offsets" => rising(answer, big_offsets(answer, listed), limit, is_little_endian),
+        _ => None,
     }
 }
 
 /// `ORDER KIND WORDS`.
-fn buffer(answer: &mut Answer, words: &[&str]) -> Result<BodyBuffer, Fault> {
+fn buffer(answer: &Answer, words: &[&str]) -> Option<BodyBuffer> {
     let (is_little_endian, kind) = (word(words, 0) == "little", word(words, 1));
     let words = rest(words, 2);
     let listed = word(words, 0);
     match kind {
-        "none" => Ok(BodyBuffer::of_validity(None)?),
-        "bits" => Ok(BodyBuffer::of_bits(&some_bits(answer, words)?)?),
-        "bytes" => Ok(BodyBuffer::of_bytes(&bytes_buffer(answer, listed)?)?),
-        "i16" => Ok(BodyBuffer::of_numbers(&items::<i16>(answer, listed)?, is_little_endian)?),
+        "none" => answer.value(BodyBuffer::of_validity(None)),
+        "bits" => answer.value(BodyBuffer::of_bits(&some_bits(answer, words)?)),
+        "bytes" => answer.value(BodyBuffer::of_bytes(&bytes_buffer(answer, listed)?)),
+        "i16" => {
+            let numbers = items::<i16>(answer, listed)?;
+            answer.value(BodyBuffer::of_numbers(&numbers, is_little_endian))
+        }
         "months" => {
             let numbers = items::<months_days_ns>(answer, listed)?;
-            Ok(BodyBuffer::of_numbers(&numbers, is_little_endian)?)
+            answer.value(BodyBuffer::of_numbers(&numbers, is_little_endian))
         }
         _ => offsets(answer, kind, words, is_little_endian),
     }
@@ -68,7 +82,7 @@ fn endless(answer: &Answer) -> MemorySink {
 }
 
 /// The bytes as they are appended, if they are put through a scratch of 64 bytes as the same.
-fn say_buffer(answer: &mut Answer, buffer: &BodyBuffer) {
+fn say_buffer(answer: &Answer, buffer: &BodyBuffer) {
     if buffer.is_empty() {
         return answer.say("empty");
     }
@@ -82,24 +96,24 @@ fn say_buffer(answer: &mut Answer, buffer: &BodyBuffer) {
     }
 }
 
-fn keep(answer: &mut Answer, buffers: &mut Vec<BodyBuffer>, words: &[&str]) {
+fn keep(answer: &Answer, buffers: &mut Vec<BodyBuffer>, words: &[&str]) {
     match buffer(answer, words) {
-        Ok(buffer) => {
+        Some(buffer) => {
             say_buffer(answer, &buffer);
             answer.done(buffers.push(buffer));
         }
-        Err(fault) => answer.fail(fault),
+        None => answer.refuse(),
     }
 }
 
-fn body(answer: &mut Answer, buffers: &[BodyBuffer]) {
+fn body(answer: &Answer, buffers: &[BodyBuffer]) {
     let mut body = Vec::new(answer.alloc());
     answer.done(append_body(buffers, &mut body));
     say_body(answer, &body);
 }
 
 /// `put ROOM`, or `put` without an end: whether all is put, and what is.
-fn put(answer: &mut Answer, buffers: &[BodyBuffer], words: &[&str]) {
+fn put(answer: &Answer, buffers: &[BodyBuffer], words: &[&str]) {
     let room = match words.first() {
         Some(word) => Some(answer.count(*word)),
         None => None,
@@ -111,7 +125,7 @@ fn put(answer: &mut Answer, buffers: &[BodyBuffer], words: &[&str]) {
 }
 
 /// `end AT`: where the body of the buffers ends.
-fn end(answer: &mut Answer, buffers: &[BodyBuffer], words: &[&str]) {
+fn end(answer: &Answer, buffers: &[BodyBuffer], words: &[&str]) {
     match body_end(answer.count(word(words, 0)), buffers) {
         Some(end) => answer.tell(format!(in answer.alloc(); "{end}")),
         None => answer.say("none"),
@@ -119,7 +133,7 @@ fn end(answer: &mut Answer, buffers: &[BodyBuffer], words: &[&str]) {
 }
 
 /// `places AT`: where the buffers of a body from one place on stand.
-fn places(answer: &mut Answer, buffers: &[BodyBuffer], words: &[&str]) {
+fn places(answer: &Answer, buffers: &[BodyBuffer], words: &[&str]) {
     let at = answer.count(word(words, 0));
     if body_end(at, buffers).is_none() {
         return answer.refuse();
@@ -130,12 +144,7 @@ fn places(answer: &mut Answer, buffers: &[BodyBuffer], words: &[&str]) {
 }
 
 /// Makes a call of this part, or tells that there is none of the name.
-pub fn call(
-    answer: &mut Answer,
-    buffers: &mut Vec<BodyBuffer>,
-    name: &str,
-    words: &[&str],
-) -> bool {
+pub fn call(answer: &Answer, buffers: &mut Vec<BodyBuffer>, name: &str, words: &[&str]) -> bool {
     match name {
         "buffer" => keep(answer, buffers, words),
         "body_of" => body(answer, buffers),

@@ -1,22 +1,20 @@
 //! Bitmaps, and buffers in shared bytes.
 use arrow_buffers::{Bitmap, Buffer};
-use case_words::{Answer, Fault, bitmap, bytes, say_bytes, word};
+use case_words::{Answer, bitmap, bytes, say_bytes, word};
 use std::rc::RcSlice;
 
 /// `BITS FROM ROWS`: so many bits of these from one on.
-pub(crate) fn some_bits(answer: &mut Answer, words: &[&str]) -> Result<Bitmap, Fault> {
+pub(crate) fn some_bits(answer: &Answer, words: &[&str]) -> Option<Bitmap> {
     let (from, rows) = (answer.count(word(words, 1)), answer.count(word(words, 2)));
-    let Some(bits) = bitmap(answer, word(words, 0)) else {
-        return Err(Fault::Words);
-    };
+    let bits = bitmap(answer, word(words, 0))?;
     if bits.len() < from || bits.len() - from < rows {
-        return Err(Fault::Words);
+        return None;
     }
-    Ok(bits.sliced(from, rows))
+    Some(bits.sliced(from, rows))
 }
 
 /// The bits, and how many of them are not set.
-fn say_bits(answer: &mut Answer, bits: &Bitmap) {
+fn say_bits(answer: &Answer, bits: &Bitmap) {
     for i in 0..bits.len() {
         answer.say(if bits.get(i) { "1" } else { "0" });
     }
@@ -25,17 +23,17 @@ fn say_bits(answer: &mut Answer, bits: &Bitmap) {
 }
 
 /// `shared ORDER HEX AT COUNT`: so many numbers of 16 bits.
-fn shared(answer: &mut Answer, words: &[&str]) -> Result<Buffer<u16>, Fault> {
+fn shared(answer: &Answer, words: &[&str]) -> Option<Buffer<u16>> {
     let (at, count) = (answer.count(word(words, 2)), answer.count(word(words, 3)));
-    let bytes = RcSlice::from_vec(bytes(answer, word(words, 1)))?;
+    let bytes = answer.value(RcSlice::from_vec(bytes(answer, word(words, 1))))?;
     if bytes.len() < at || (bytes.len() - at) / 2 < count {
-        return Err(Fault::Words);
+        return None;
     }
-    Ok(Buffer::shared(bytes, at, count, word(words, 0) == "big"))
+    Some(Buffer::shared(bytes, at, count, word(words, 0) == "big"))
 }
 
 /// The bytes as they are held, where that is in this order.
-fn say_held(answer: &mut Answer, numbers: &Buffer<u16>, is_big: bool) {
+fn say_held(answer: &Answer, numbers: &Buffer<u16>, is_big: bool) {
     match numbers.held_in(is_big) {
         Some(bytes) => say_bytes(answer, bytes),
         None => answer.say("otherwise"),
@@ -43,7 +41,7 @@ fn say_held(answer: &mut Answer, numbers: &Buffer<u16>, is_big: bool) {
 }
 
 /// The numbers, and how they are held in both orders.
-fn say_numbers(answer: &mut Answer, numbers: &Buffer<u16>) {
+fn say_numbers(answer: &Answer, numbers: &Buffer<u16>) {
     let listed = numbers.to_vec(answer.alloc());
     for number in &answer.list(listed) {
         answer.tell(format!(in answer.alloc(); "{number} "));
@@ -55,15 +53,15 @@ fn say_numbers(answer: &mut Answer, numbers: &Buffer<u16>) {
 }
 
 /// Makes a call of this part, or tells that there is none of the name.
-pub fn call(answer: &mut Answer, name: &str, words: &[&str]) -> bool {
+pub fn call(answer: &Answer, name: &str, words: &[&str]) -> bool {
     match name {
         "bits" => match some_bits(answer, words) {
-            Ok(bits) => say_bits(answer, &bits),
-            Err(fault) => answer.fail(fault),
+            Some(bits) => say_bits(answer, &bits),
+            None => answer.refuse(),
         },
         "shared" => match shared(answer, words) {
-            Ok(numbers) => say_numbers(answer, &numbers),
-            Err(fault) => answer.fail(fault),
+            Some(numbers) => say_numbers(answer, &numbers),
+            None => answer.refuse(),
         },
         _ => return false,
     }

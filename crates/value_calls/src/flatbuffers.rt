@@ -3,7 +3,7 @@ use arrow_flat::{ChoiceWidth, Flat, FlatError, Table};
 use case_words::{Answer, bytes, bytes_of, repeat, rest, say_bytes, word};
 
 /// `change AT HEX`: other bytes at a place.
-fn change(answer: &mut Answer, held: &mut [u8], words: &[&str]) {
+fn change(answer: &Answer, held: &mut [u8], words: &[&str]) {
     let changed = bytes(answer, word(words, 1));
     match held.get_mut(answer.count(word(words, 0))..) {
         Some(held) => {
@@ -16,14 +16,14 @@ fn change(answer: &mut Answer, held: &mut [u8], words: &[&str]) {
 }
 
 /// `more TIMES HEX`: the same bytes so many times.
-fn more(answer: &mut Answer, held: &mut Vec<u8>, words: &[&str]) {
+fn more(answer: &Answer, held: &mut Vec<u8>, words: &[&str]) {
     let bytes = bytes_of(answer, rest(words, 1));
     let times = answer.count(word(words, 0));
     repeat(answer, held, &bytes, times);
 }
 
 /// `falling COUNT LAST`: so many numbers of 32 bits, each 4 below the one before it, down to the last one.
-fn falling(answer: &mut Answer, held: &mut Vec<u8>, words: &[&str]) {
+fn falling(answer: &Answer, held: &mut Vec<u8>, words: &[&str]) {
     let last = answer.count(word(words, 1));
     for i in (0..answer.count(word(words, 0))).rev() {
         match u32::try_from(i.wrapping_mul(4).wrapping_add(last)) {
@@ -33,7 +33,7 @@ fn falling(answer: &mut Answer, held: &mut Vec<u8>, words: &[&str]) {
     }
 }
 
-fn say_number<N: Copy + Into<i64>>(answer: &mut Answer, number: Result<N, FlatError>) {
+fn say_number<N: Copy + Into<i64>>(answer: &Answer, number: Result<N, FlatError>) {
     match number {
         Ok(number) => {
             let number: i64 = number.into();
@@ -44,7 +44,7 @@ fn say_number<N: Copy + Into<i64>>(answer: &mut Answer, number: Result<N, FlatEr
 }
 
 /// A number of a slot, of a kind, or the default.
-fn scalar(answer: &mut Answer, table: &Table, kind: &str, slot: usize, words: &[&str]) {
+fn scalar(answer: &Answer, table: &Table, kind: &str, slot: usize, words: &[&str]) {
     let default = answer.long(word(words, 0));
     let low = default.to_le_bytes();
     let two = [low[0], low[1]];
@@ -61,7 +61,7 @@ fn scalar(answer: &mut Answer, table: &Table, kind: &str, slot: usize, words: &[
 }
 
 /// A listed number of a slot, behind its default and how many are listed.
-fn choice(answer: &mut Answer, table: &Table, width: ChoiceWidth, slot: usize, words: &[&str]) {
+fn choice(answer: &Answer, table: &Table, width: ChoiceWidth, slot: usize, words: &[&str]) {
     let (default, listed) = (answer.count(word(words, 0)), answer.count(word(words, 1)));
     match (u16::try_from(default), u16::try_from(listed)) {
         (Ok(default), Ok(listed)) => {
@@ -72,7 +72,7 @@ fn choice(answer: &mut Answer, table: &Table, width: ChoiceWidth, slot: usize, w
 }
 
 /// The number of 8 bits at a slot of the table at a slot, or 7.
-fn inner(answer: &mut Answer, table: &Table, slot: usize, words: &[&str]) {
+fn inner(answer: &Answer, table: &Table, slot: usize, words: &[&str]) {
     let inner = answer.count(word(words, 0));
     match table.slot_table(slot) {
         Ok(Some(table)) => say_number(answer, table.slot_u8(inner, 7)),
@@ -82,7 +82,7 @@ fn inner(answer: &mut Answer, table: &Table, slot: usize, words: &[&str]) {
 }
 
 /// How many items of a width the vector at a slot has.
-fn items(answer: &mut Answer, table: &Table, slot: usize, words: &[&str]) {
+fn items(answer: &Answer, table: &Table, slot: usize, words: &[&str]) {
     match table.slot_vector(slot, answer.count(word(words, 0))) {
         Ok(Some(vector)) => {
             let count = vector.len();
@@ -94,7 +94,7 @@ fn items(answer: &mut Answer, table: &Table, slot: usize, words: &[&str]) {
 }
 
 /// The bytes of the first item of the vector at a slot.
-fn item(answer: &mut Answer, table: &Table, slot: usize, words: &[&str]) {
+fn item(answer: &Answer, table: &Table, slot: usize, words: &[&str]) {
     match table.slot_vector(slot, answer.count(word(words, 0))) {
         Ok(Some(vector)) if !vector.is_empty() => say_bytes(answer, vector.get(0)),
         Ok(_) => answer.say("none"),
@@ -103,7 +103,7 @@ fn item(answer: &mut Answer, table: &Table, slot: usize, words: &[&str]) {
 }
 
 /// The number of 8 bits at a slot of the first table of the vector at a slot, or 9.
-fn first(answer: &mut Answer, table: &Table, slot: usize, words: &[&str]) {
+fn first(answer: &Answer, table: &Table, slot: usize, words: &[&str]) {
     let inner = answer.count(word(words, 0));
     match table.slot_vector(slot, 4) {
         Ok(Some(vector)) if !vector.is_empty() => match vector.get_table(0) {
@@ -115,14 +115,14 @@ fn first(answer: &mut Answer, table: &Table, slot: usize, words: &[&str]) {
     }
 }
 
-fn say_text(answer: &mut Answer, table: &Table, slot: usize) {
+fn say_text(answer: &Answer, table: &Table, slot: usize) {
     match table.slot_text(slot) {
         Ok(text) => answer.say(text.unwrap_or("none")),
         Err(error) => answer.fail(error.into()),
     }
 }
 
-fn has(answer: &mut Answer, table: &Table, slot: usize) {
+fn has(answer: &Answer, table: &Table, slot: usize) {
     match table.has_slot(slot) {
         Ok(has) => answer.say(if has { "true" } else { "false" }),
         Err(error) => answer.fail(error.into()),
@@ -130,7 +130,7 @@ fn has(answer: &mut Answer, table: &Table, slot: usize) {
 }
 
 /// `slot KIND SLOT WORDS`.
-fn slot(answer: &mut Answer, table: &Table, words: &[&str]) {
+fn slot(answer: &Answer, table: &Table, words: &[&str]) {
     let (kind, slot) = (word(words, 0), answer.count(word(words, 1)));
     let words = rest(words, 2);
     match kind {
@@ -147,7 +147,7 @@ fn slot(answer: &mut Answer, table: &Table, words: &[&str]) {
 }
 
 /// `root`, and `slot` of it.
-fn root(answer: &mut Answer, held: &[u8], words: &[&str]) {
+fn root(answer: &Answer, held: &[u8], words: &[&str]) {
     match Flat::root(held) {
         Ok(table) => {
             if !words.is_empty() {
@@ -159,7 +159,7 @@ fn root(answer: &mut Answer, held: &[u8], words: &[&str]) {
 }
 
 /// Makes a call of this part, or tells that there is none of the name. The bytes are those that were said last.
-pub fn call(answer: &mut Answer, held: &mut Vec<u8>, name: &str, words: &[&str]) -> bool {
+pub fn call(answer: &Answer, held: &mut Vec<u8>, name: &str, words: &[&str]) -> bool {
     match name {
         "bytes" => *held = bytes_of(answer, words),
         "more" => more(answer, held, words),

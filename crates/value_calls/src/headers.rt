@@ -6,7 +6,7 @@ use ipc_schema::{
 };
 
 /// Rows, whether there is a compression, and the tables.
-fn say_batch(answer: &mut Answer, header: BatchHeader) {
+fn say_batch(answer: &Answer, header: BatchHeader) {
     let (rows, compressed) = (header.length, header.compressed);
     answer.tell(format!(in answer.alloc(); "{rows} rows, compressed {compressed}\n"));
     let tables = Tables {
@@ -18,7 +18,7 @@ fn say_batch(answer: &mut Answer, header: BatchHeader) {
     tables.say_without_body(answer);
 }
 
-fn record(answer: &mut Answer, bytes: &[u8]) {
+fn record(answer: &Answer, bytes: &[u8]) {
     match read_record_message(answer.alloc(), bytes) {
         Ok(message) => {
             let version = message.version;
@@ -29,7 +29,7 @@ fn record(answer: &mut Answer, bytes: &[u8]) {
     }
 }
 
-fn say_header(answer: &mut Answer, header: MessageHeader) {
+fn say_header(answer: &Answer, header: MessageHeader) {
     match header {
         MessageHeader::Schema => answer.say("schema"),
         MessageHeader::Dictionary {
@@ -41,7 +41,7 @@ fn say_header(answer: &mut Answer, header: MessageHeader) {
     }
 }
 
-fn header(answer: &mut Answer, bytes: &[u8]) {
+fn header(answer: &Answer, bytes: &[u8]) {
     match read_message_header(answer.alloc(), bytes) {
         Ok(message) => {
             let (version, length) = (message.version, message.body_length);
@@ -53,7 +53,7 @@ fn header(answer: &mut Answer, bytes: &[u8]) {
 }
 
 /// `prefix HEX`: the bytes of the prefix and of the metadata behind it.
-fn prefix(answer: &mut Answer, words: &[&str]) {
+fn prefix(answer: &Answer, words: &[&str]) {
     match message_prefix(&bytes(answer, word(words, 0))) {
         Ok((prefix, metadata)) => answer.tell(format!(in answer.alloc(); "{prefix}+{metadata}")),
         Err(error) => answer.fail(error.into()),
@@ -61,7 +61,7 @@ fn prefix(answer: &mut Answer, words: &[&str]) {
 }
 
 /// `footer_length END SIZE`: the length of the footer of a file that ends so.
-fn footer_length(answer: &mut Answer, words: &[&str]) {
+fn footer_length(answer: &Answer, words: &[&str]) {
     let (end, size) = (bytes(answer, word(words, 0)), answer.count(word(words, 1)));
     if end.len() != 10 {
         return answer.refuse();
@@ -73,7 +73,7 @@ fn footer_length(answer: &mut Answer, words: &[&str]) {
 }
 
 /// Makes a call of this part, or tells that there is none of the name.
-pub fn call(answer: &mut Answer, held: &[u8], name: &str, words: &[&str]) -> bool {
+pub fn call(answer: &Answer, held: &[u8], name: &str, words: &[&str]) -> bool {
     match name {
         "header" => header(answer, held),
         "record" => record(answer, held),

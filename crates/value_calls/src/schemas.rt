@@ -14,7 +14,7 @@ use std::alloc::{AllocError, Global};
 type Read = (ArrowSchema, IpcSchema, Option<Metadata>);
 
 /// A text without the end of its last line.
-fn say_text(answer: &mut Answer, text: Result<Vec<u8>, AllocError>) {
+fn say_text(answer: &Answer, text: Result<Vec<u8>, AllocError>) {
     match String::from_utf8(answer.list(text)) {
         Ok(text) => match text.as_str().strip_suffix('\n') {
             Some(lines) => answer.say(lines),
@@ -25,7 +25,7 @@ fn say_text(answer: &mut Answer, text: Result<Vec<u8>, AllocError>) {
 }
 
 /// `text FIELDS`: the text of a schema, where no dictionary has an id, or its dictionaries have default ones.
-fn text(answer: &mut Answer, words: &[&str], has_ids: bool) {
+fn text(answer: &Answer, words: &[&str], has_ids: bool) {
     let schema = schema_of(answer, words);
     let fields = if has_ids {
         let fields = default_ipc_fields(answer.alloc(), &schema);
@@ -44,7 +44,7 @@ fn text(answer: &mut Answer, words: &[&str], has_ids: bool) {
 }
 
 /// `serialize COUNT FIELDS`: whether a schema is written with so many IPC fields.
-fn serialize(answer: &mut Answer, words: &[&str]) {
+fn serialize(answer: &Answer, words: &[&str]) {
     let schema = schema_of(answer, rest(words, 1));
     let mut ids = Vec::new(answer.alloc());
     for _ in 0..answer.count(word(words, 0)) {
@@ -62,7 +62,7 @@ fn read_table(alloc: Global, bytes: &[u8]) -> Result<Read, IpcError> {
     }
 }
 
-fn say_read(answer: &mut Answer, read: Result<Read, IpcError>) {
+fn say_read(answer: &Answer, read: Result<Read, IpcError>) {
     match read {
         Ok((schema, ipc_schema, metadata)) => {
             let text = schema_text(answer.alloc(), &schema, &ipc_schema, metadata.as_ref());
@@ -93,7 +93,7 @@ fn table_again(alloc: Global, bytes: &[u8]) -> Result<Vec<u8>, IpcError> {
     }
 }
 
-fn say_written(answer: &mut Answer, bytes: Result<Vec<u8>, IpcError>) {
+fn say_written(answer: &Answer, bytes: Result<Vec<u8>, IpcError>) {
     match bytes {
         Ok(bytes) => say_lines(answer, &bytes),
         Err(error) => answer.fail(error.into()),
@@ -101,7 +101,7 @@ fn say_written(answer: &mut Answer, bytes: Result<Vec<u8>, IpcError>) {
 }
 
 /// Whether a schema is equal to its copy, and to one without fields.
-fn say_copy(answer: &mut Answer, read: Result<Read, IpcError>) {
+fn say_copy(answer: &Answer, read: Result<Read, IpcError>) {
     let (schema, _, _) = match read {
         Ok(read) => read,
         Err(error) => return answer.fail(error.into()),
@@ -117,7 +117,7 @@ fn say_copy(answer: &mut Answer, read: Result<Read, IpcError>) {
 }
 
 /// Whether ids are equal to their copy, and those of a field too, and whether they have a dictionary.
-fn say_copies(answer: &mut Answer, ids: &IpcSchema, field: &IpcField) -> Result<(), AllocError> {
+fn say_copies(answer: &Answer, ids: &IpcSchema, field: &IpcField) -> Result<(), AllocError> {
     let is_same = ids.try_clone(answer.alloc())? == *ids;
     let is_same_field = field.try_clone(answer.alloc())? == *field;
     let has_dictionary = field.contains_dictionary();
@@ -128,7 +128,7 @@ fn say_copies(answer: &mut Answer, ids: &IpcSchema, field: &IpcField) -> Result<
 }
 
 /// The same of the field at a place.
-fn ids(answer: &mut Answer, bytes: &[u8], words: &[&str]) {
+fn ids(answer: &Answer, bytes: &[u8], words: &[&str]) {
     let at = answer.count(word(words, 0));
     match read_table(answer.alloc(), bytes) {
         Ok((_, ids, _)) => match ids.fields.get(at) {
@@ -143,7 +143,7 @@ fn ids(answer: &mut Answer, bytes: &[u8], words: &[&str]) {
 }
 
 /// Makes a call of this part, or tells that there is none of the name.
-pub fn call(answer: &mut Answer, bytes: &[u8], name: &str, words: &[&str]) -> bool {
+pub fn call(answer: &Answer, bytes: &[u8], name: &str, words: &[&str]) -> bool {
     let alloc = answer.alloc();
     match name {
         "text" => text(answer, words, false),

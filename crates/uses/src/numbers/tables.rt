@@ -1,6 +1,6 @@
 //! Tables of one column of numbers, as they are written.
+use crate::write_batch::batch_of_column;
 use arrow_ipc::array::{Array, PrimitiveArray};
-use arrow_ipc::datatypes::{ArrowDataType, ArrowSchema, Field};
 use arrow_ipc::io::ipc::IpcError;
 use arrow_ipc::io::ipc::append::try_from_file;
 use arrow_ipc::io::ipc::read::read_file_metadata;
@@ -8,7 +8,6 @@ use arrow_ipc::io::ipc::write::{FileWriter, StreamWriter, WriteOptions};
 use arrow_ipc::io::{Disk, Sink};
 use arrow_ipc::record_batch::RecordBatch;
 use std::alloc::{AllocError, Global};
-use std::rc::Rc;
 
 /// The numbers from 0 on.
 fn numbers(alloc: Global, rows: u32) -> Result<Vec<i64>, AllocError> {
@@ -19,21 +18,12 @@ fn numbers(alloc: Global, rows: u32) -> Result<Vec<i64>, AllocError> {
     Ok(numbers)
 }
 
-/// The schema of one column of numbers.
-fn schema_of(alloc: Global) -> Result<ArrowSchema, AllocError> {
-    let name = String::from_str(alloc, "n")?;
-    let field = Field::new(alloc, name, ArrowDataType::Int64, false);
-    ArrowSchema::from_fields(alloc, vec![in alloc; field]?)
-}
-
 /// A batch of so many numbers.
 fn batch_of(alloc: Global, rows: u32) -> Result<RecordBatch, IpcError> {
     let numbers = numbers(alloc, rows)?;
     let column = PrimitiveArray::from_slice(alloc, &numbers)?;
-    let schema = schema_of(alloc)?;
-    let columns = vec![in alloc; Array::Int64(column)]?;
-    let schema = Rc::new(alloc, schema)?;
-    Ok(RecordBatch::try_new(numbers.len(), schema, columns)?)
+    drop(numbers);
+    batch_of_column(alloc, "n", Array::Int64(column))
 }
 
 /// Writes a batch of so many rows, so many times, as a file.

@@ -11,5 +11,5 @@ write-requires-clause-order c = order_in (parts_of c.args.array.now) c.args.is_l
 
 pub write-requires-clause-short : goal.write-requires-clause-short
 write-requires-clause-short c =
-    subst (λ xs. body_of (length xs) (map length (pieces_in (order_by c.args.is_little_endian) (parts_of c.args.array.now))) < 2 ^ 63) (sym c.new-body.ensures.items)
+    subst (λ xs. body_of (length xs) (map length (pieces_in (order_by c.args.is_little_endian) (parts_of c.args.array.now))) < 2 ^ 63) (sym c.new.ensures)
     (short_in (parts_of c.args.array.now) c.args.is_little_endian c.requires.childless c.requires.plain c.requires.short)

@@ -1,31 +1,17 @@
-//! Runs cases over writers and readers, call by call: what each call answers, and what the sink or the disk has behind it.
-#![tactic(auto)]
-
-mod appends;
-mod compared;
-mod encoded;
-mod files;
-mod made;
-mod said;
-mod sent;
-mod sinks;
-mod streams;
-mod writers;
-mod written;
-
-use case_words::{Answer, Case, rest, run_files, word};
+//! What the calls of a case leave to the next ones, and which calls there are.
+use crate::made::Made;
+use crate::writers::{Writing, settle};
+use crate::{compared, encoded, files, made, sent, streams, writers};
+use case_words::{Answer, Case, rest, word};
 use ipc_append::StreamReader;
 use ipc_io::MemoryFeed;
 use ipc_stream_writer::DictionaryTracker;
-use made::Made;
 use message_words::Names;
 use std::alloc::Global;
-use std::process::ExitCode;
-use writers::{Writing, settle};
 
 /// What the calls of one case leave to the next ones.
 #[derive(Drop)]
-struct State {
+pub struct Messages {
     names: Names,
     made: Made,
     writing: Writing,
@@ -35,9 +21,9 @@ struct State {
     tracker: DictionaryTracker,
 }
 
-impl Case for State {
-    fn new(alloc: Global) -> State {
-        State {
+impl Case for Messages {
+    fn new(alloc: Global) -> Messages {
+        Messages {
             names: Names::new(alloc),
             made: Made::new(alloc),
             writing: Writing::new(),
@@ -48,13 +34,13 @@ impl Case for State {
     }
 
     fn forget(&mut self, alloc: Global) {
-        *self = State::new(alloc);
+        *self = Messages::new(alloc);
     }
 
-    fn answer(&mut self, _: &HostRuntime, answer: &mut Answer, words: &[&str]) {
+    fn answer(&mut self, _: &HostRuntime, answer: &Answer, words: &[&str]) {
         let name = word(words, 0);
         let words = rest(words, 1);
-        let State {
+        let Messages {
             names,
             made,
             writing,
@@ -78,8 +64,4 @@ impl Case for State {
             answer.refuse();
         }
     }
-}
-
-fn main(rt: HostRuntime) -> ExitCode {
-    run_files::<State>(&rt)
 }
