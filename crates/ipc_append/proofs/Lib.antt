@@ -1,3 +1,4 @@
+pub mod Below
 pub mod Handed
 pub mod StreamKinds
 pub mod StreamRefusals

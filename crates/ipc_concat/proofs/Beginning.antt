@@ -21,7 +21,7 @@ use Rattle.ipc_write_laws.proofs.Messages.{messages_front_means}
 use Rattle.laws_walk.specs.Below.{AreSentFields, AreStarted, IsNumbered, plain_fields}
 use Rattle.laws_walk.proofs.Below.{are_sent_fields, begun_sent, why_refused}
 use Rattle.laws_transcode.specs.Files.{IsSentFile}
-use Rattle.laws_reading.specs.Reads.{IsOpened}
+use Rattle.laws_walk.specs.Below.{IsOpened}
 use Rattle.ipc_reader.specs.Below.{FileMetadata, FileSays, file_custom, meta_view, schema_shown}
 use Rattle.ipc_reader.specs.declared.cursor.FileCursor.{FileCursor}
 use Rattle.ipc_stream_writer.specs.Below.{SchemaIsSaid, StreamPairs, held_by, is_new, said_fields, stream_text}

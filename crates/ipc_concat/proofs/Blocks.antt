@@ -4,7 +4,7 @@ use Rattle.arrow_spec.specs.declared.error.IpcError.{IpcError}
 use Rattle.arrow_spec.specs.Features.{chosen_floats}
 use Rattle.arrow_spec.specs.Files.{TableBatch, «all», file_reading, to_read}
 use Rattle.arrow_spec.specs.Readings.{Refuses, refusals}
-use Rattle.laws_reading.specs.Reads.{IsOpened}
+use Rattle.laws_walk.specs.Below.{IsOpened}
 use Rattle.std.specs.Rc.{rc_value}
 use Rattle.ipc_reader.specs.Below.{MayProject, file_custom, meta_view}
 use Rattle.ipc_reader.specs.declared.cursor.FileCursor.{FileCursor}

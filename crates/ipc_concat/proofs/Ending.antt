@@ -13,7 +13,7 @@ use Rattle.ipc_bodies.specs.Puts.{Moved, PutsPart}
 use Rattle.ipc_stream_writer.specs.Below.{counted, is_started}
 use Rattle.ipc_stream_writer.specs.Calls.{Finishes, HasFinished}
 use Rattle.ipc_stream_writer.specs.declared.stream.StreamCore.{StreamCore}
-use Rattle.ipc_transcode.specs.declared.conversion.Summary.{Summary}
+use Rattle.laws_walk.specs.declared.summary.Summary.{Summary}
 use Rattle.laws_walk.proofs.Fronts.{Appends-text, of_put, part_behind}
 use Rattle.laws_walk.proofs.Nexts.{with_end}
 use Rattle.ipc_concat.specs.Begins.{Joins}

@@ -13,7 +13,7 @@ use Rattle.ipc_bodies.specs.Encodings.{text_of}
 use Rattle.ipc_bodies.specs.declared.encoding.Encoding.{Encoding}
 use Rattle.ipc_reader.specs.Below.{FileSays, file_custom, meta_view}
 use Rattle.ipc_reader.specs.declared.cursor.FileCursor.{FileCursor}
-use Rattle.ipc_transcode.specs.declared.conversion.Summary.{Summary}
+use Rattle.laws_walk.specs.declared.summary.Summary.{Summary}
 use Rattle.ipc_concat.specs.Begins.{Begins, Joins, NotBegun, start_of}
 use Rattle.ipc_concat.specs.Concat.{AddsPart, AllStand, CauseOf, ConcatCause, Concatenates, IsSmallRefusal}
 use Rattle.ipc_concat.specs.Files.{AddsFiles, AreAlike, AreUnread, BeginsWith, FilesAdded, HasFieldsOf, Holds, IsPut, IsStartOf, IsUnread, Start, first_schema, head_of, part_of, schema_of}

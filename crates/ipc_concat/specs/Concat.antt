@@ -8,7 +8,7 @@ use Rattle.arrow_spec.specs.Streams.{closed, stream_table, unended}
 use Rattle.ipc_io.specs.Outside.{AppendsPrefix, Rose, SourceKept, Stands}
 use Rattle.ipc_stream_writer.specs.Below.{counted}
 pub use Rattle.laws_walk.specs.Sends.{IsOfPut}
-use Rattle.ipc_transcode.specs.declared.conversion.Summary.{Summary}
+use Rattle.laws_walk.specs.declared.summary.Summary.{Summary}
 use Rattle.ipc_concat.specs.Tables.{MeanTables, joined}
 use Rattle.ipc_concat.specs.Opening.{AreOpen, StopsOpening, StopsStart}
 use Rattle.ipc_concat.specs.Stopping.{IsFront, StopsBehind}

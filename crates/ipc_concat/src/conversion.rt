@@ -15,7 +15,7 @@ use arrow_spec::IpcError;
 use ipc_io::{Sink, Source};
 use ipc_reader::FileCursor;
 use ipc_stream_writer::Encoding;
-use ipc_transcode::Summary;
+use laws_walk::Summary;
 use std::alloc::Global;
 
 /// Ends a stream. It answers what was written.

@@ -7,4 +7,4 @@ mod opening;
 mod stream;
 
 pub use conversion::{concat, concat_as};
-pub use ipc_transcode::Summary;
+pub use laws_walk::Summary;

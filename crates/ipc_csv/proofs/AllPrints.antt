@@ -8,7 +8,7 @@ use Rattle.arrow_spec.specs.Files.{TableBatch}
 use Rattle.ipc_reader.specs.declared.cursor.FileCursor.{FileCursor}
 use Rattle.laws_walk.specs.Places.{Sending, meta_in}
 use Rattle.laws_walk.proofs.Cursors.{blocks_as}
-use Rattle.ipc_transcode.specs.declared.conversion.Summary.{Summary}
+use Rattle.laws_walk.specs.declared.summary.Summary.{Summary}
 use Rattle.ipc_csv.specs.Printing.{IsPrintedBy, PrintedRows, PrintsAll, PrintsNext, PrintsOne}
 use Rattle.csv_rows.specs.declared.output.TextOut.{TextOut}
 use Rattle.ipc_csv.proofs.Nexts.{Told, printed_too}

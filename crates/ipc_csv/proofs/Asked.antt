@@ -15,7 +15,7 @@ use Rattle.arrow_types.specs.Schemas.{Keyed, fields_in}
 use Rattle.csv_texts.specs.Texts.{are_nested, printable, printed}
 use Rattle.csv_texts.proofs.Text.{text_of_read}
 use Rattle.ipc_bodies.specs.declared.encoding.Encoding.TheVariants.{Bytes}
-use Rattle.ipc_files.specs.Below.{IsRefusal}
+use Rattle.ipc_reader.specs.Below.{IsRefusal}
 use Rattle.ipc_io.specs.Outside.{Rose, Stands}
 use Rattle.ipc_reader.specs.Below.{FileCause, FileMetadata, FileSays, FooterFetched, MayProject, ProjectionInfo, WasRead, file_custom, meta_view}
 use Rattle.ipc_reader.proofs.Below.{file_width}
@@ -26,7 +26,7 @@ use Rattle.laws_walk.specs.Fetching.{FetchesSome, FileFetched}
 use Rattle.laws_walk.specs.Places.{Sending, fields_in_request, schema_of_reader, walking}
 use Rattle.laws_walk.proofs.Causes.{wrong_is}
 use Rattle.laws_walk.proofs.FetchedFiles.{file_by_blocks}
-use Rattle.ipc_transcode.specs.declared.conversion.Summary.{Summary}
+use Rattle.laws_walk.specs.declared.summary.Summary.{Summary}
 use Rattle.ipc_csv.specs.Printing.{CallCause, FileRefused, IsUnprinted, NotSelected, PrintsFile, Selected}
 use Rattle.ipc_csv.specs.Prints.{AddsPart, PrintCause, Prints}
 use Rattle.ipc_csv.proofs.Forms.{nested_is}

@@ -15,7 +15,7 @@ use Rattle.laws_walk.specs.Fetching.{FetchesSome, FetchesTo}
 use Rattle.laws_walk.specs.Places.{Sending, Walked, fields_in_request, meta_in, place_of, schema_of_reader, table_sent, walking}
 use Rattle.laws_walk.proofs.Begins.{none_so_far}
 use Rattle.laws_walk.proofs.Fetched.{none_begun as none_fetched, some_fetched}
-use Rattle.ipc_transcode.specs.declared.conversion.Summary.{Summary}
+use Rattle.laws_walk.specs.declared.summary.Summary.{Summary}
 use Rattle.csv_rows.specs.Output.{HasPut, PutCause, header_of}
 use Rattle.ipc_csv.specs.Printing.{IsPrintedBy, IsUnprinted, PrintedRows, PrintsAll, PrintsFile, text_so_far}
 use Rattle.ipc_csv.specs.Prints.{Prints}

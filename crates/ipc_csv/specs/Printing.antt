@@ -8,13 +8,13 @@ use Rattle.arrow_spec.specs.Files.{Request, TableBatch, columns_right, to_read}
 use Rattle.arrow_spec.specs.Kinds.{width}
 use Rattle.arrow_spec.specs.Readings.{Refuses, refusals}
 use Rattle.csv_texts.specs.Texts.{batches_text, header_text, are_nested, printed}
-use Rattle.ipc_files.specs.Below.{IsRefusal}
+use Rattle.ipc_reader.specs.Below.{IsRefusal}
 use Rattle.ipc_io.specs.Outside.{Rose}
 use Rattle.ipc_reader.specs.Below.{FileMetadata, MayProject, ProjectionInfo, meta_view}
 use Rattle.ipc_reader.specs.declared.cursor.FileCursor.{FileCursor}
 use Rattle.ipc_reader.specs.declared.kept.KeptDictionaries.TheVariants.{NotRead}
 use Rattle.laws_walk.specs.Places.{IsReadBy, Sending, Walked, fields_in_request, meta_in, place_of, walking}
-use Rattle.ipc_transcode.specs.declared.conversion.Summary.{Summary}
+use Rattle.laws_walk.specs.declared.summary.Summary.{Summary}
 use Rattle.csv_rows.specs.Output.{HasPut}
 use Rattle.ipc_csv.specs.Prints.{AddsPart, Prints}
 use Rattle.csv_rows.specs.declared.output.TextOut.{TextOut}

@@ -7,8 +7,8 @@ use Rattle.arrow_spec.specs.Files.{ArrowTable, Request}
 use Rattle.arrow_spec.specs.Meaning.{file_table}
 use Rattle.arrow_spec.specs.Readings.{IsAmong, Refuses, refusals}
 use Rattle.ipc_io.specs.Outside.{AppendsPrefix, Rose}
-use Rattle.ipc_transcode.specs.Transcode.{IsSummary}
-use Rattle.ipc_transcode.specs.declared.conversion.Summary.{Summary}
+use Rattle.laws_walk.specs.Summaries.{IsSummary}
+use Rattle.laws_walk.specs.declared.summary.Summary.{Summary}
 use Rattle.csv_texts.specs.Texts.{printable, printed, table_text}
 
 -- The text of a file's table under a request was added.

@@ -5,4 +5,4 @@ mod conversion;
 mod print;
 
 pub use conversion::to_csv;
-pub use ipc_transcode::Summary;
+pub use laws_walk::Summary;

@@ -13,7 +13,7 @@ use arrow_spec::IpcError;
 use csv_rows::TextOut;
 use ipc_io::{Sink, Source};
 use ipc_reader::{FileCursor, FileMetadata};
-use ipc_transcode::Summary;
+use laws_walk::Summary;
 use std::alloc::Global;
 
 /// How many record batches a file has.

@@ -16,8 +16,8 @@ use Rattle.ipc_log_records.proofs.RegularSchemas.{may_regular}
 use Rattle.ipc_fields.specs.IpcFields.{Ids, fields_with}
 use Rattle.ipc_streams.specs.Starts.{Start, start_in}
 use Rattle.ipc_streams.proofs.Below.{plain_fields_with}
-use Rattle.laws_sent.proofs.PlainFields.{same_numbers}
-use Rattle.laws_writers.proofs.OwnFields.{with_own}
+use Rattle.ipc_append.proofs.Below.{same_numbers}
+use Rattle.ipc_stream_writer.proofs.Below.{with_own}
 use Rattle.same_fields.proofs.BareKinds.{fields_with_bare}
 use Rattle.ipc_log_records.proofs.Stepped.{is_framed}
 

@@ -1,3 +1,4 @@
+pub mod Below
 pub mod Passes
 pub mod LogSchemas
 pub mod Written

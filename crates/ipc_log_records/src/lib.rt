@@ -10,3 +10,4 @@ mod passes;
 
 pub use decode::{batch_in, record_in};
 pub use encode::{first_record, record_of};
+pub use ipc_append::WholeStream;

@@ -25,8 +25,9 @@ use Rattle.ipc_fields.specs.IpcFields.{Ids, fields_with, ids, ids_of, kind_with,
 use Rattle.ipc_append.specs.Columns.{are_of, is_of}
 use Rattle.ipc_append.specs.Wholes.{FailsBehind, IsWhole, RefusesStream, table_read}
 use Rattle.ipc_append.specs.declared.stream.WholeStream.{WholeStream}
-use Rattle.ipc_transcode.specs.Transcode.{IsSmallRefusal, IsSummary, Transcodes}
-use Rattle.ipc_transcode.specs.declared.conversion.Summary.{Summary}
+use Rattle.ipc_transcode.specs.Below.{IsSummary}
+use Rattle.ipc_transcode.specs.Transcode.{IsSmallRefusal, Transcodes}
+use Rattle.ipc_transcode.specs.Below.{Summary}
 use Rattle.ipc_generate.specs.Table.{cell_of_n, column, first_batches, generated_batch, generated_fields, generated_table, row_count, row_state, state}
 use Rattle.ipc_generate.specs.Written.{IsSmall}
 use Rattle.arrow_spec.specs.Counts.{magnitude}

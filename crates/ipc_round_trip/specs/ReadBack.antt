@@ -4,8 +4,8 @@ use Rattle.arrow_spec.specs.Files.{ArrowTable}
 use Rattle.arrow_spec.specs.Streams.{closed, stream_table}
 use Rattle.arrow_arrays.specs.Batches.{Batch}
 use Rattle.arrow_arrays.specs.Parts.{Parts}
-use Rattle.ipc_transcode.specs.Transcode.{IsSummary}
-use Rattle.ipc_transcode.specs.declared.conversion.Summary.{Summary}
+use Rattle.ipc_transcode.specs.Below.{IsSummary}
+use Rattle.ipc_transcode.specs.Below.{Summary}
 
 -- a stream that is closed means a table, of which the summary has the numbers
 pub record IsStreamOfTable (t : ArrowTable) (s : Summary) (x : List ℕ) : Type 0 where

@@ -9,15 +9,15 @@ use Rattle.arrow_spec.specs.declared.error.IpcError.TheVariants.{Memory, ReadFau
 use Rattle.arrow_spec.specs.Files.{ArrowTable, TableBatch}
 use Rattle.arrow_spec.specs.Kinds.{Fields, bare}
 use Rattle.arrow_types.specs.Schemas.{Keyed, fields_in}
-use Rattle.ipc_append.specs.Wholes.{table_read}
-use Rattle.ipc_append.specs.declared.stream.WholeStream.{WholeStream}
+use Rattle.ipc_log_records.specs.Below.{table_read}
+use Rattle.ipc_log_records.specs.Below.{WholeStream}
 use Rattle.ipc_fields.specs.IpcFields.{ids_of}
 use Rattle.ipc_io.specs.Outside.{Rose}
 use Rattle.ipc_log_disk.specs.Crashes.{Images}
 use Rattle.ipc_record_log.specs.Logs.{OnlyReads, invalid_log, spans_from, truncated}
 use Rattle.ipc_record_log.specs.Records.{records_in}
 use Rattle.ipc_record_log.specs.declared.span.Span.{Span}
-use Rattle.ipc_stream_writer.specs.Below.{cells_of}
+use Rattle.ipc_log_records.specs.Below.{cells_of}
 use Rattle.laws_logs.specs.Tables.{IsRecordOf, MeansLog}
 use Rattle.same_fields.proofs.BareKinds.{fields_with_bare}
 use Rattle.ipc_log_records.specs.Decoded.{IsNoRecord, IsRecordRead, Unread}

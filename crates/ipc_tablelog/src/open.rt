@@ -5,7 +5,7 @@ ghost use Rattle.arrow_spec.specs.Kinds.{bare};
 ghost use Rattle.arrow_spec.specs.Regular.{regular};
 ghost use Rattle.arrow_spec.specs.declared.error.IpcError.TheVariants.{Memory, ReadFault};
 ghost use Rattle.arrow_types.specs.Schemas.{fields_in};
-ghost use Rattle.ipc_append.specs.Wholes.{table_read};
+ghost use Rattle.ipc_log_records.specs.Below.{table_read};
 ghost use Rattle.ipc_io.specs.Outside.{Rose};
 ghost use Rattle.ipc_record_log.specs.Logs.{OnlyReads, invalid_log};
 ghost use Rattle.ipc_record_log.specs.Records.{records_in};
@@ -15,9 +15,8 @@ ghost use Rattle.ipc_tablelog.specs.Opened.{AreOnes, IsFirst, RefusesLog, of_log
 
 use arrow_spec::{IpcError, OutOfSpecKind};
 use arrow_types::ArrowSchema;
-use ipc_append::WholeStream;
 use ipc_log_disk::LogDisk;
-use ipc_log_records::record_in;
+use ipc_log_records::{WholeStream, record_in};
 use ipc_record_log::RecordLog;
 use same_fields::have_same_fields;
 use std::alloc::Global;

@@ -9,7 +9,7 @@ ghost use Rattle.ipc_io.specs.Outside.{IsSize, Rose};
 ghost use Rattle.ipc_log_disk.specs.Below.{IsOfDisk};
 ghost use Rattle.ipc_log_disk.specs.Crashes.{Among, Elapses};
 ghost use Rattle.ipc_record_log.specs.Logs.{OnlyReads, invalid_log};
-ghost use Rattle.ipc_stream_writer.specs.Below.{cells_of};
+ghost use Rattle.ipc_log_records.specs.Below.{cells_of};
 ghost use Rattle.laws_logs.specs.Tables.{MeansBeforeOrAfter, MeansLog, table_of, with_batch};
 ghost use Rattle.ipc_log_records.specs.LogSchemas.{log_fields};
 ghost use Rattle.ipc_tablelog.specs.Opened.{IsNoLog, ReadFails};

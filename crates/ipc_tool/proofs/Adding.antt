@@ -11,14 +11,14 @@ use Rattle.ipc_io.specs.declared.outside.ShelfError.TheVariants as shelf
 use Rattle.ipc_io.specs.Faults.{put_error}
 use Rattle.ipc_io.specs.Outside.{AppendsPrefix, IsHeld, Puts, PutHasCause, Rose}
 use Rattle.ipc_io.proofs.Known.{AppendsPrefix-within, AppendsPrefix-after, Appends-kept_nil}
-use Rattle.ipc_transcode.specs.declared.conversion.Summary.{Summary}
+use Rattle.ipc_round_trip.specs.Below.{Summary}
 use Rattle.ipc_bodies.specs.declared.encoding.Encoding.TheVariants.{Bytes, HexText}
-use Rattle.ipc_transcode.proofs.Below.{told}
+use Rattle.ipc_round_trip.proofs.Below.{told}
 use Rattle.std.proofs.KnownBytes.{Keeps-refl}
 use Rattle.ipc_tool.specs.Commands.Stream.{AddsStreamPart, shown_as, stream_job, table_asked}
 use Rattle.laws_transcode.specs.Files.{IsFrontOf, IsStreamOf}
 use Rattle.ipc_bodies.specs.Encodings.{text_of}
-use Rattle.ipc_transcode.specs.Transcode.{AddsStream, AddsPiece, AddsPart, TranscodeCause, Transcodes}
+use Rattle.ipc_round_trip.specs.Below.{AddsStream, AddsPiece, AddsPart, TranscodeCause, Transcodes}
 use Rattle.ipc_tool.specs.FileTasks.{IsStatusOf, PutCause}
 use Rattle.ipc_tool.specs.Refusal.{error_status}
 use Rattle.ipc_words.specs.Requests.{Stream}

@@ -2,7 +2,7 @@
 use Rattle.std.proofs.Common.{◌≡◌, inl, inr, ℕ, true, false, arith, List, refl, sym, subst}
 use Rattle.arrow_spec.specs.declared.error.IpcError.{IpcError}
 use Rattle.arrow_spec.specs.declared.error.IpcError.TheVariants as errors
-use Rattle.ipc_append.specs.declared.stream.WholeStream.{WholeStream}
+use Rattle.ipc_round_trip.specs.Below.{WholeStream}
 use Rattle.ipc_io.specs.declared.outside.ShelfError.{ShelfError}
 use Rattle.ipc_io.specs.declared.outside.ShelfError.TheVariants as shelf
 use Rattle.ipc_io.specs.Outside.{Lacks, Rose}

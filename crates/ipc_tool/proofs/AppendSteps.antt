@@ -5,8 +5,8 @@ use Rattle.std.specs.Io.KnownBytes.{Appends, IsAtEnd, Keeps}
 use Rattle.arrow_spec.specs.declared.error.IpcError.{IpcError}
 use Rattle.arrow_spec.specs.declared.error.IpcError.TheVariants as errors
 use Rattle.arrow_spec.specs.Words.{Held}
-use Rattle.ipc_append.specs.Appended.{IsNotAppended, RefusalSays}
-use Rattle.ipc_append.specs.declared.stream.WholeStream.{WholeStream}
+use Rattle.ipc_round_trip.specs.Below.{IsNotAppended, RefusalSays}
+use Rattle.ipc_round_trip.specs.Below.{WholeStream}
 use Rattle.ipc_disk.specs.Places.{IsReplaced}
 use Rattle.ipc_io.proofs.Known.{Appends-kept_nil}
 use Rattle.ipc_io.specs.Outside.{Closes, IsHeld, Rose}
@@ -17,7 +17,7 @@ use Rattle.ipc_tool.specs.Tasks.{CauseOf, Does}
 use Rattle.ipc_tool.specs.declared.refusal.Refusal.{Refusal}
 use Rattle.ipc_tool.specs.declared.refusal.Refusal.TheVariants.{Ipc, Words, NotHex, InputTooLong, NoName}
 use Rattle.ipc_tool.proofs.AppendRefusals.{stops_cause}
-use Rattle.ipc_append.specs.Below.{WriteOptions}
+use Rattle.ipc_round_trip.specs.Below.{WriteOptions}
 
 -- ── the place ──
 

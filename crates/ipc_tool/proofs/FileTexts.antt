@@ -14,13 +14,13 @@ use Rattle.ipc_io.specs.Faults.{put_error}
 use Rattle.ipc_io.specs.Outside.{Puts, Stands}
 use Rattle.ipc_io.specs.declared.outside.PutError.{PutError}
 use Rattle.ipc_io.specs.declared.outside.PutError.TheVariants as put
-use Rattle.ipc_transcode.specs.Below.{meta_view, FileCause, CountCause, file_row_count, FileMetadata}
+use Rattle.ipc_round_trip.specs.Below.{meta_view, FileCause, CountCause, file_row_count, FileMetadata}
 use Rattle.ipc_tool.specs.Commands.Rows.{row_count_text, rows_job, rows_text_of}
 use Rattle.ipc_tool.specs.Commands.Schema.{schema_job}
 use Rattle.ipc_tool.specs.FileTasks.{PutCause}
 use Rattle.ipc_tool.specs.Texts.{AddsText, AddsTextPart, TextOf, text_job}
 use Rattle.ipc_tool.proofs.FileTasks.{stood}
-use Rattle.ipc_transcode.proofs.Below.{file_cause, told}
+use Rattle.ipc_round_trip.proofs.Below.{file_cause, told}
 
 -- what is made of a reading's value is refused where the reading is
 same_refusals : {A B : Type 0} (r : Reading A) (f : A → B) → refusals (r >>= λ x. Ok (f x)) ≡ refusals r

@@ -5,7 +5,7 @@ use Rattle.ipc_io.proofs.Known.{AppendsPrefix-front}
 use Rattle.ipc_tool.specs.declared.refusal.Refusal.{Refusal}
 use Rattle.ipc_tool.specs.Refusal.{line_of}
 use Rattle.ipc_tool.specs.Notes.{IsNoted}
-use Rattle.ipc_transcode.proofs.Refusing.{stood}
+use Rattle.ipc_round_trip.proofs.Below.{stood}
 
 pub neither_rose : (f f' w w' : ℕ) → Stands f f' → Stands w w' → Rose f f' ⊎ Rose w w' → ⊥
 neither_rose f f' w w' s t (inl r) = stood f f' s r

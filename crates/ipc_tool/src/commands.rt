@@ -19,7 +19,7 @@ use append::append_input;
 use cat::cat_files;
 use generate::put_generated_line;
 use ipc_disk::PlaceShelf;
-use ipc_transcode::{Feed, Sink};
+use ipc_io::{Feed, Sink};
 use ipc_words::Request;
 use rows::RowCount;
 use schema::SchemaText;

@@ -11,7 +11,7 @@ ghost use Rattle.ipc_words.specs.Views.{text};
 use crate::input::read_hex;
 use crate::refusal::Refusal;
 use arrow_spec::IpcError;
-use ipc_transcode::{Failed, Feed, Got, Shelf, Sink, Source};
+use ipc_io::{Failed, Feed, Got, Shelf, Sink, Source};
 use std::alloc::Global;
 
 /// Something that is put of a file's bytes.

@@ -7,7 +7,7 @@ ghost use Rattle.ipc_tool.specs.Input.{ReadCause, HexCause, no_white};
 
 use crate::decoder::Decoder;
 use crate::refusal::Refusal;
-use ipc_transcode::Feed;
+use ipc_io::Feed;
 use std::alloc::{AllocError, Global};
 
 const MAX_INPUT: usize = 1 << 27;

@@ -12,12 +12,11 @@ mod refusal;
 
 pub use arrow_spec::IpcError;
 pub use command_line::{answer, status_of_process};
-pub use ipc_append::{StreamReader, StreamState, read_stream_metadata};
-pub use ipc_system::{FolderShelf, InputFeed, OutputSink};
-pub use ipc_transcode::{
-    FileCursor, FileMetadata, FileReader, RecordMessage, Summary, get_row_count,
-    get_row_count_from_blocks, read_file_metadata, transcode,
+pub use ipc_round_trip::{
+    FileCursor, FileMetadata, FileReader, RecordMessage, StreamReader, StreamState, Summary,
+    get_row_count, get_row_count_from_blocks, read_file_metadata, read_stream_metadata, transcode,
 };
+pub use ipc_system::{FolderShelf, InputFeed, OutputSink};
 pub use note::note_refusal;
 pub use program::run;
 pub use refusal::{Refusal, status};

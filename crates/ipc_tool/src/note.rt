@@ -6,7 +6,7 @@ ghost use Rattle.ipc_tool.specs.Notes.{IsNoted};
 
 use crate::refusal::Refusal;
 use arrow_spec::IpcError;
-use ipc_transcode::{PutError, Sink};
+use ipc_io::{PutError, Sink};
 
 // The front of the line of an error of the library, up to the name.
 fn error_front(error: &IpcError) -> &'static [u8]

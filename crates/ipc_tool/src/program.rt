@@ -11,7 +11,7 @@ use crate::commands::perform;
 use crate::note::note_refusal;
 use crate::refusal::Refusal;
 use ipc_disk::PlaceShelf;
-use ipc_transcode::{Feed, Sink};
+use ipc_io::{Feed, Sink};
 use ipc_words::read_words;
 use std::alloc::Global;
 

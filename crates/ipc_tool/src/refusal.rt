@@ -5,7 +5,7 @@ ghost use Rattle.ipc_tool.specs.Refusal.{error_status, number_of, name_of, put_r
 ghost use Rattle.ipc_tool.specs.declared.refusal.Refusal.TheVariants.{Ipc};
 
 use arrow_spec::IpcError;
-use ipc_transcode::{Failed, PutError, ShelfError};
+use ipc_io::{Failed, PutError, ShelfError};
 use ipc_words::WordsError;
 use std::alloc::{AllocError, AllocFailed};
 use thiserror::Error;

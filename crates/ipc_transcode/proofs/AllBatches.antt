@@ -14,7 +14,7 @@ use Rattle.laws_walk.specs.Sends.{SendsOne}
 use Rattle.laws_walk.proofs.Cursors.{blocks_as, reads_too}
 use Rattle.laws_walk.proofs.Fronts.{refused_before}
 use Rattle.laws_walk.proofs.Places.{first_mean, front_count, open_within}
-use Rattle.ipc_transcode.specs.declared.conversion.Summary.{Summary}
+use Rattle.laws_walk.specs.declared.summary.Summary.{Summary}
 use Rattle.ipc_transcode.specs.Sends.{FileRows, FileSoFar, IsSentBy, SendsAll, SendsNext}
 
 -- a reader of the same file and columns

@@ -5,7 +5,7 @@ use Rattle.arrow_spec.specs.declared.error.IpcError.TheVariants as errors
 use Rattle.arrow_spec.specs.Files.{Request}
 use Rattle.ipc_bodies.specs.declared.encoding.Encoding.{Encoding}
 use Rattle.ipc_reader.proofs.Below.{told}
-use Rattle.ipc_transcode.specs.declared.conversion.Summary.{Summary}
+use Rattle.laws_walk.specs.declared.summary.Summary.{Summary}
 use Rattle.laws_walk.specs.Sends.{SendCause}
 use Rattle.ipc_transcode.specs.Sends.{FileRefused, SendsFile}
 use Rattle.ipc_transcode.specs.Transcode.{AddsPart, TranscodeCause, Transcodes}

@@ -12,7 +12,7 @@ use Rattle.ipc_bodies.specs.Encodings.{text_of}
 use Rattle.ipc_bodies.specs.declared.encoding.Encoding.{Encoding}
 use Rattle.ipc_reader.specs.Below.{FileCause, FileSays, file_custom, meta_view, FileMetadata}
 use Rattle.laws_transcode.proofs.Readings.{columns_refused}
-use Rattle.ipc_transcode.specs.declared.conversion.Summary.{Summary}
+use Rattle.laws_walk.specs.declared.summary.Summary.{Summary}
 use Rattle.laws_walk.specs.Sends.{IsOfSink, SendCause}
 use Rattle.ipc_transcode.specs.Sends.{FileRefused, SendsFile}
 use Rattle.laws_walk.proofs.Causes.{never_of_sink, wrong_is}

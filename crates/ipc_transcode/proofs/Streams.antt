@@ -25,7 +25,7 @@ use Rattle.laws_walk.proofs.Cursors.{blocks_as}
 use Rattle.laws_walk.proofs.Ends.{HasEnded, ended, not_ended}
 use Rattle.laws_walk.proofs.Fronts.{refused_before}
 use Rattle.laws_walk.proofs.Requests.{fields_by}
-use Rattle.ipc_transcode.specs.declared.conversion.Summary.{Summary}
+use Rattle.laws_walk.specs.declared.summary.Summary.{Summary}
 use Rattle.ipc_transcode.specs.Sends.{FileRows, IsSentBy, SendsAll, SendsFile}
 use Rattle.ipc_transcode.specs.Transcode.{Transcodes}
 use Rattle.ipc_transcode.proofs.AllBatches.{sent_too}

@@ -14,7 +14,7 @@ use Rattle.ipc_stream_writer.specs.declared.stream.StreamCore.{StreamCore}
 use Rattle.laws_walk.specs.Places.{IsReadBy, Sending, fields_in_request, meta_in, place_of, walking}
 use Rattle.laws_walk.specs.Sends.{Refused, SendsOne, SentRows, SentSoFar}
 use Rattle.ipc_transcode.specs.Transcode.{AddsPart, Transcodes}
-use Rattle.ipc_transcode.specs.declared.conversion.Summary.{Summary}
+use Rattle.laws_walk.specs.declared.summary.Summary.{Summary}
 
 -- a reader of columns of a file, whose metadata was read
 pub record IsReader (c : FileCursor) : Type 0 where

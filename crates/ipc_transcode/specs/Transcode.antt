@@ -8,7 +8,8 @@ use Rattle.arrow_spec.specs.Files.{Request, ArrowTable, «all»}
 use Rattle.laws_transcode.specs.Files.{IsFrontOf, IsStreamOf, StopsBehind}
 use Rattle.arrow_spec.specs.Meaning.{file_table, may}
 use Rattle.ipc_io.specs.Outside.{AppendsPrefix, Rose}
-use Rattle.ipc_transcode.specs.declared.conversion.Summary.{Summary}
+use Rattle.laws_walk.specs.Summaries.{IsSummary}
+use Rattle.laws_walk.specs.declared.summary.Summary.{Summary}
 
 -- The text of a whole stream was added.
 pub record AddsStream (b : List ℕ) (r : Request) (text : List ℕ → List ℕ) (old new : Option (List ℕ)) : Type 0 where
@@ -34,12 +35,6 @@ pub record AddsPiece (b : List ℕ) (r : Request) (shown text : List ℕ → Lis
 -- Nothing was added, or the text of a front that stops at the block that was refused: its batches are those before it, each once. A device's fault and want of memory come anywhere.
 abbrev pub AddsFrontOrNone : IpcError → List ℕ → Request → (List ℕ → List ℕ) → Option (List ℕ) → Option (List ℕ) → Type 0
 AddsFrontOrNone e b r text old new = Keeps old new ⊎ ((front : AddsFront b r text old new) × StopsBehind b r (length front.table.batches) e)
-
--- the numbers of a summary
-pub record IsSummary (s : Summary) (table : ArrowTable) (x : List ℕ) : Type 0 where
-  pub batches : s.batches ≡ length table.batches
-  pub rows : s.rows ≡ sum_by (λ batch. batch.rows) table.batches
-  pub bytes : s.bytes ≡ length x
 
 -- A transcoding that was done. Where the whole file means a table, the stream has of it the columns asked for, each batch cut to its share of the limit.
 pub record Transcodes (s : Summary) (b : List ℕ) (r : Request) (text : List ℕ → List ℕ) (old new : Option (List ℕ)) : Type 0 where

@@ -12,18 +12,8 @@ use crate::send::send_file;
 use arrow_spec::IpcError;
 use ipc_bodies::Encoding;
 use ipc_reader::{Sink, Source};
+use laws_walk::Summary;
 use std::alloc::Global;
-
-/// What was written: the number of record batches, the sum of their rows, and the number of bytes of the stream.
-#[derive(Clone, Copy, Debug, PartialEq, Eq)]
-pub struct Summary {
-    /// The record batches.
-    pub batches: u128,
-    /// Their rows together.
-    pub rows: u128,
-    /// The bytes of the stream, whatever the encoding.
-    pub bytes: u128,
-}
 
 /// As `transcode`, with the bytes of the stream put in an encoding.
 ///

@@ -4,7 +4,7 @@
 mod conversion;
 mod send;
 
-pub use conversion::{Summary, transcode, transcode_as};
+pub use conversion::{transcode, transcode_as};
 pub use ipc_bodies::Encoding;
 pub use ipc_reader::{
     BatchHeader, Body, Dictionaries, Failed, Feed, FileCursor, FileMetadata, FileReader, Footer,
@@ -27,3 +27,4 @@ pub use ipc_stream_writer::{
     encode_chunk, encode_chunk_amortized, encode_dictionary, encode_new_dictionaries,
     new_dictionaries,
 };
+pub use laws_walk::Summary;

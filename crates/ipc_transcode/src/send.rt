@@ -15,14 +15,13 @@ ghost use Rattle.laws_walk.specs.Places.{IsUnread, Sending, schema_of_reader, wa
 ghost use Rattle.laws_walk.specs.Sends.{IsNewWriter, IsWriter, SendCause, send_options};
 ghost use Rattle.ipc_transcode.specs.Sends.{BeginsStream, FileRows, FileSoFar, IsReader, IsSentBy, SendsAll, SendsFile, SendsNext};
 
-use crate::conversion::Summary;
 use arrow_spec::IpcError;
 use ipc_bodies::Encoding;
 use ipc_fields::copy_if_any;
 use ipc_io::{Sink, Source};
 use ipc_reader::{FileCursor, FileMetadata, read_file_metadata};
 use ipc_stream_writer::{StreamCore, WriteOptions};
-use laws_walk::types_have_no_ids;
+use laws_walk::{Summary, types_have_no_ids};
 use std::alloc::Global;
 
 /// How the stream is written: what goes on of a dictionary is sent as a delta.

@@ -4,7 +4,10 @@
 
 ghost use Rattle.laws_walk.specs.Laws.{WalkIsFile};
 
+mod summary;
+
 pub use laws_sent::types_have_no_ids;
+pub use summary::Summary;
 
 /// Within a request a walk gives what the file means (Arrow Columnar Format, "IPC File Format").
 pub fn walk_is_file()

@@ -4,13 +4,13 @@ use Rattle.std.specs.Io.KnownBytes.{Appends, Keeps}
 use Rattle.arrow_spec.specs.declared.error.IpcError.{IpcError}
 use Rattle.arrow_spec.specs.declared.error.IpcError.TheVariants as errors
 use Rattle.arrow_spec.specs.Words.{Held, bytes_of_hex}
-use Rattle.ipc_append.specs.Appended.{IsAppended, IsNotAppended, RefusalSays}
-use Rattle.ipc_append.specs.Below.{WriteOptions}
-use Rattle.ipc_append.specs.Targets.{HasOtherFields}
-use Rattle.ipc_append.specs.Wholes.{IsWhole, RefusesStream}
-use Rattle.ipc_append.specs.declared.stream.WholeStream.{WholeStream}
+use Rattle.ipc_round_trip.specs.Below.{IsAppended, IsNotAppended, RefusalSays}
+use Rattle.ipc_round_trip.specs.Below.{WriteOptions}
+use Rattle.ipc_round_trip.specs.Below.{HasOtherFields}
+use Rattle.ipc_round_trip.specs.Below.{IsWhole, RefusesStream}
+use Rattle.ipc_round_trip.specs.Below.{WholeStream}
 use Rattle.ipc_disk.specs.Places.{IsReplaced}
-use Rattle.ipc_transcode.specs.Below.{FileCause}
+use Rattle.ipc_round_trip.specs.Below.{FileCause}
 use Rattle.ipc_io.specs.declared.outside.ShelfError.{ShelfError}
 use Rattle.ipc_io.specs.declared.outside.ShelfError.TheVariants as shelf
 use Rattle.ipc_io.specs.Outside.{AppendsPrefix, IsHeld, Lacks, Rose}

@@ -2,7 +2,7 @@
 use Rattle.std.specs.Prelude.{ℕ, ℤ, List, [], ◌∷◌, ◌++◌, Option, Ok}
 use Rattle.std.specs.Fmt.{signed_decimal}
 use Rattle.arrow_spec.specs.Readings.{Reading, ◌>>=◌}
-use Rattle.ipc_transcode.specs.Below.{file_row_count}
+use Rattle.ipc_round_trip.specs.Below.{file_row_count}
 use Rattle.ipc_tool.specs.FileTasks.{FileJob, file_task}
 use Rattle.ipc_tool.specs.Tasks.{Task}
 use Rattle.ipc_tool.specs.Texts.{text_job}

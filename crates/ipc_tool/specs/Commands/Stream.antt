@@ -9,7 +9,7 @@ use Rattle.ipc_io.specs.Outside.{Rose}
 use Rattle.ipc_bodies.specs.declared.encoding.Encoding.{Encoding}
 use Rattle.ipc_bodies.specs.declared.encoding.Encoding.TheVariants.{Bytes, HexText}
 use Rattle.ipc_bodies.specs.Encodings.{text_of}
-use Rattle.ipc_transcode.specs.Transcode.{AddsFrontOrNone, AddsPiece, AddsStream}
+use Rattle.ipc_round_trip.specs.Below.{AddsFrontOrNone, AddsPiece, AddsStream}
 use Rattle.ipc_words.specs.Requests.{Stream}
 use Rattle.ipc_tool.specs.FileTasks.{FileJob, file_task}
 use Rattle.ipc_tool.specs.Tasks.{Task}

@@ -7,9 +7,9 @@ ghost use Rattle.ipc_tool.specs.Tasks.{Does};
 
 use crate::input::read_hex;
 use crate::refusal::Refusal;
-use ipc_append::{WholeStream, WriteOptions, append_stream, read_whole};
 use ipc_disk::PlaceShelf;
-use ipc_transcode::{Failed, Feed, Sink};
+use ipc_io::{Failed, Feed, Sink};
+use ipc_round_trip::{WholeStream, WriteOptions, append_stream, read_whole};
 use std::alloc::{AllocError, Global};
 
 // Bytes in memory that are handed out from the front and never fail.

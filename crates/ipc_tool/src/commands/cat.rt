@@ -10,9 +10,10 @@ ghost use Rattle.ipc_tool.specs.Tasks.{Does};
 
 use crate::refusal::Refusal;
 use arrow_spec::IpcError;
+use ipc_bodies::Encoding;
 use ipc_concat::concat_as;
 use ipc_disk::PlaceShelf;
-use ipc_transcode::{Encoding, Feed, Shelf, Sink, Source};
+use ipc_io::{Feed, Shelf, Sink, Source};
 use ipc_words::Cat;
 use std::alloc::{AllocFailed, Global};
 

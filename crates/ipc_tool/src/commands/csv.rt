@@ -5,7 +5,7 @@ ghost use Rattle.ipc_words.specs.Views.{csv_view};
 use crate::file_job::PutsFile;
 use arrow_spec::IpcError;
 use ipc_csv::to_csv;
-use ipc_transcode::{Sink, Source};
+use ipc_io::{Sink, Source};
 use ipc_words::Csv;
 use std::alloc::Global;
 

@@ -7,8 +7,8 @@ ghost use Rattle.ipc_tool.specs.Tasks.{Does};
 
 use crate::refusal::Refusal;
 use ipc_disk::PlaceShelf;
+use ipc_io::{Feed, Sink};
 use ipc_round_trip::generated_line;
-use ipc_transcode::{Feed, Sink};
 use std::alloc::Global;
 
 fn put_line<W: Sink>(output: &mut W, text: &[u8]) -> Result<(), Refusal>

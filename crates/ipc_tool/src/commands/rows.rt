@@ -7,7 +7,8 @@ ghost use Rattle.ipc_tool.specs.Refusal.{error_status};
 
 use crate::file_job::PutsFile;
 use arrow_spec::IpcError;
-use ipc_transcode::{Sink, Source, get_row_count};
+use ipc_io::{Sink, Source};
+use ipc_round_trip::get_row_count;
 use std::alloc::{AllocError, Global};
 
 /// The number of a file's rows, and a line feed.

@@ -8,8 +8,9 @@ ghost use Rattle.ipc_tool.specs.Refusal.{error_status};
 
 use crate::file_job::PutsFile;
 use arrow_spec::IpcError;
+use ipc_io::{Sink, Source};
+use ipc_round_trip::{metadata_of, read_file_schema};
 use ipc_text::schema_text;
-use ipc_transcode::{Sink, Source, metadata_of, read_file_schema};
 use std::alloc::Global;
 
 /// The text of a file's schema, of any types and in either byte order.

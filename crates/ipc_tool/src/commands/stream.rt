@@ -3,13 +3,15 @@ ghost use Rattle.std.specs.Prelude.{◌≡◌, ◌≤◌, IfErr, IfOk, IfSome, I
 ghost use Rattle.arrow_spec.specs.Meaning.{file_table};
 ghost use Rattle.ipc_io.specs.Outside.{SinkKept, SourceKept, Stands};
 ghost use Rattle.ipc_bodies.specs.Encodings.{text_of};
-ghost use Rattle.ipc_transcode.specs.Transcode.{AddsPart, IsSmallRefusal, TranscodeCause, Transcodes};
+ghost use Rattle.ipc_round_trip.specs.Below.{AddsPart, IsSmallRefusal, TranscodeCause, Transcodes};
 ghost use Rattle.ipc_tool.specs.Commands.Stream.{stream_job, table_asked};
 ghost use Rattle.ipc_words.specs.Views.{stream_view};
 
 use crate::file_job::PutsFile;
 use arrow_spec::IpcError;
-use ipc_transcode::{Encoding, Sink, Source, Summary, transcode_as};
+use ipc_bodies::Encoding;
+use ipc_io::{Sink, Source};
+use ipc_round_trip::{Summary, transcode_as};
 use ipc_words::Stream;
 use std::alloc::Global;
 

@@ -1,6 +1,6 @@
 use Rattle.std.proofs.Common.{◌≡◌, ◌∙◌, List, Err, IfErr, true, false, sym, ap, subst}
 use Rattle.arrow_types.specs.Schemas.{Keyed, fields_in}
-use Rattle.laws_sent.specs.Below.{columns_of}
+use Rattle.laws_walk.specs.Below.{columns_of}
 use Rattle.csv_texts.specs.Texts.{are_nested}
 use Rattle.ipc_reader.proofs.Below.{is_err}
 use Rattle.ipc_reader.specs.Below.{asked}

@@ -3,7 +3,7 @@ use Rattle.ipc_io.proofs.Kept.{sink_kept_on, source_kept_on}
 use Rattle.ipc_reader.proofs.Below.{is_err}
 use Rattle.laws_walk.specs.Places.{schema_of_reader}
 use Rattle.laws_walk.specs.Sends.{IsWriter}
-use Rattle.ipc_transcode.specs.declared.conversion.Summary.{Summary}
+use Rattle.laws_walk.specs.declared.summary.Summary.{Summary}
 use Rattle.ipc_transcode.proofs.AllBatches.{NextOf, SentSome, no_more, one_more, refused}
 use Rattle.ipc_transcode.proofs.FetchedCalls.{more_fetched}
 use Rattle.ipc_transcode.proofs.Readers.{reader_on}

@@ -2,7 +2,7 @@ use Rattle.std.proofs.Common.{[], ◌∷◌, List, ℕ, inl, inr, Some, refl, sy
 use Rattle.arrow_spec.specs.Regular.{regular}
 use Rattle.arrow_types.specs.Schemas.{fields_in}
 use Rattle.ipc_log_disk.specs.Below.{IsOfDisk}
-use Rattle.ipc_stream_writer.specs.Below.{cells_of}
+use Rattle.ipc_log_records.specs.Below.{cells_of}
 use Rattle.laws_logs.specs.Tables.{IsRecordOf}
 use Rattle.ipc_log_records.specs.LogSchemas.{log_fields}
 use Rattle.ipc_log_records.proofs.Writing.{handed}

@@ -1,5 +1,5 @@
 use Rattle.std.proofs.lemmas.Result.{IfOk-weaker}
-use Rattle.ipc_stream_writer.specs.Below.{cells_of}
+use Rattle.ipc_log_records.specs.Below.{cells_of}
 use Rattle.ipc_log_records.proofs.Writing.{handed, if_err}
 use Rattle.ipc_tablelog.proofs.Logs.{batch_not_read, batch_read, bytes_not_read}
 use Rattle.ipc_tablelog.proofs.table_log.TableLog.read.Goals as goal

@@ -1,0 +1,4 @@
+-- What crates below say, handed on to those above.
+pub use Rattle.ipc_append.specs.Wholes.{table_read}
+pub use Rattle.ipc_append.specs.declared.stream.WholeStream.{WholeStream}
+pub use Rattle.ipc_stream_writer.specs.Below.{cells_of}
