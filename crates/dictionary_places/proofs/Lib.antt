@@ -1,0 +1,3 @@
+mod Places
+mod Steps
+mod Appended

@@ -1,0 +1,4 @@
+pub mod Places
+pub mod Shifts
+pub mod Lists
+pub mod Below

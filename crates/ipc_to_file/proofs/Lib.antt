@@ -1,0 +1,9 @@
+pub mod Walks
+pub mod Fields
+pub mod Puts
+pub mod Batches
+pub mod Ends
+pub mod Wholes
+pub mod Tables
+pub mod Refusals
+pub mod Feeds

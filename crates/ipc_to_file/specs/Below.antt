@@ -1,0 +1,2 @@
+-- What crates below say, handed on to those above.
+pub use Rattle.ipc_streams.specs.Feeds.{FeedKept}

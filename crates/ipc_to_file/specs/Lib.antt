@@ -1,0 +1,4 @@
+pub mod Below
+pub mod Streams
+pub mod Files
+pub mod Writing

@@ -1,0 +1,13 @@
+//! Arrow streams that become Arrow files (Arrow Columnar Format, "IPC File Format", "IPC Streaming Format").
+#![tactic(auto)]
+
+mod begin;
+mod conversion;
+mod feed;
+mod held;
+mod read;
+mod stream;
+mod write;
+
+pub use conversion::{to_file, to_file_as};
+pub use feed::SourceFeed;

@@ -1,0 +1,10 @@
+mod Walks
+mod ListSteps
+mod TypeSteps
+mod Singles
+mod OverSteps
+mod Finishing
+mod BatchSteps
+mod Whole
+mod Moving
+mod Tops

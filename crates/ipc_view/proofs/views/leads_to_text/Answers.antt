@@ -1,0 +1,57 @@
+use Rattle.std.proofs.Common.{◌≡◌, ◌≤◌, ◌<◌, length, refl, sym, ap, subst, ◌∙◌, arith}
+use Rattle.std.specs.Str.{is_utf8}
+use Rattle.std.proofs.lemmas.List.{get_or_read}
+use Rattle.arrow_spec.specs.Arrays.{u32_of}
+use Rattle.arrow_buffers.specs.Views.{buffer_at}
+use Rattle.arrow_buffers.proofs.Views.{leads, long_view, range_bytes, short_view}
+use Rattle.view_types.specs.Ranges.{Lies}
+use Rattle.view_types.specs.Tops.{top_in}
+use Rattle.ipc_view.specs.Layouts.{buffers_in}
+use Rattle.ipc_view.proofs.Viewed.{buffer_lent, count_seen}
+use Rattle.ipc_view.proofs.views.leads_to_text.Goals as goal
+
+pub returns-then-length-le-SHORT : goal.returns-then-length-le-SHORT
+returns-then-length-le-SHORT c =
+    let bufs = buffers_in (top_in c.args.parts.now) in
+    let view = c.args.view.now in
+    let short : u32_of view 0 ≤ 12 = omega (arith, c.number_at-length.ensures.number, c.if-length-le-SHORT.true) in
+    c.is_text.ensures ∙ ap is_utf8 (c.bytes_from.ensures ∙ range_bytes view view 4 4 c.number_at-length.result (u32_of view 0) refl refl c.number_at-length.ensures.number ∙ sym (short_view bufs view short))
+
+pub index-requires : goal.index-requires
+index-requires c =
+    let p = c.args.parts.now in
+    let view = c.args.view.now in
+    let long : 12 < u32_of view 0 = omega (arith, c.number_at-length.ensures.number, c.if-length-le-SHORT.false) in
+    let l = leads (buffers_in (top_in p)) view c.requires.good long in
+    omega (arith, l.number, c.number_at-number.ensures.number, count_seen p.input.now p.buffers.items, p.buffers.ok.0)
+
+pub part_of-buffer-requires : goal.part_of-buffer-requires
+part_of-buffer-requires c =
+    let p = c.args.parts.now in
+    let view = c.args.view.now in
+    let long : 12 < u32_of view 0 = omega (arith, c.number_at-length.ensures.number, c.if-length-le-SHORT.false) in
+    let l = leads (buffers_in (top_in p)) view c.requires.good long in
+    let n : c.number_at-number.result < length p.buffers.items = omega (arith, l.number, c.number_at-number.ensures.number, count_seen p.input.now p.buffers.items) in
+    subst (Lies p.input.now) (sym (get_or_read p.buffers.items c.number_at-number.result c.index.result.now n c.index.ensures (record { at = 0; length = 0 }))) (c.requires.lie c.number_at-number.result n)
+
+pub bytes_from-requires-2 : goal.bytes_from-requires-2
+bytes_from-requires-2 c =
+    let p = c.args.parts.now in
+    let bufs = buffers_in (top_in p) in
+    let view = c.args.view.now in
+    let long : 12 < u32_of view 0 = omega (arith, c.number_at-length.ensures.number, c.if-length-le-SHORT.false) in
+    let l = leads bufs view c.requires.good long in
+    let n : c.number_at-number.result < length p.buffers.items = omega (arith, l.number, c.number_at-number.ensures.number, count_seen p.input.now p.buffers.items) in
+    let b : c.part_of-buffer.result.now ≡ buffer_at bufs (u32_of view 8) = buffer_lent p.input.now p.buffers.items c.number_at-number.result (u32_of view 8) c.index.result.now c.part_of-buffer.result.now c.number_at-number.ensures.number n c.index.ensures c.part_of-buffer.ensures.part in
+    omega (arith, ap length b, l.inside, c.number_at-from.ensures.number, c.number_at-length.ensures.number)
+
+pub returns : goal.returns
+returns c =
+    let p = c.args.parts.now in
+    let bufs = buffers_in (top_in p) in
+    let view = c.args.view.now in
+    let long : 12 < u32_of view 0 = omega (arith, c.number_at-length.ensures.number, c.if-length-le-SHORT.false) in
+    let l = leads bufs view c.requires.good long in
+    let n : c.number_at-number.result < length p.buffers.items = omega (arith, l.number, c.number_at-number.ensures.number, count_seen p.input.now p.buffers.items) in
+    let b : c.part_of-buffer.result.now ≡ buffer_at bufs (u32_of view 8) = buffer_lent p.input.now p.buffers.items c.number_at-number.result (u32_of view 8) c.index.result.now c.part_of-buffer.result.now c.number_at-number.ensures.number n c.index.ensures c.part_of-buffer.ensures.part in
+    c.is_text-2.ensures ∙ ap is_utf8 (c.bytes_from-2.ensures ∙ range_bytes c.part_of-buffer.result.now (buffer_at bufs (u32_of view 8)) c.number_at-from.result (u32_of view 12) c.number_at-length.result (u32_of view 0) b c.number_at-from.ensures.number c.number_at-length.ensures.number ∙ sym (long_view bufs view long))

@@ -1,0 +1,10 @@
+pub mod Answers
+pub mod Built
+pub mod Tests
+pub mod Layouts
+pub mod Nested
+pub mod Lists
+pub mod Dictionaries
+pub mod Batches
+pub mod Lent
+pub mod Unions

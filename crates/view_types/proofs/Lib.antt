@@ -1,0 +1,10 @@
+pub mod Children
+pub mod Rooms
+pub mod Ranged
+pub mod Ends
+pub mod Pieces
+pub mod Utf8
+pub mod Ids
+pub mod Fits
+pub mod Places
+pub mod Spans
