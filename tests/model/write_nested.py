@@ -141,4 +141,5 @@ def main():
     print(number, "kinds in kinds", len("\n".join(lines)), "bytes")
 
 
-main()
+if __name__ == "__main__":
+    main()
