@@ -4,42 +4,6 @@
    that is given back behind its batch, and put in pieces of at most 65,536 bytes. */
 #include "plain.h"
 
-/* The footer's schema: one column. */
-
-static Column column_of(Bytes footer, uint64_t schema) {
-    uint64_t count;
-    need(scalar(footer, schema, 0, 2) == 0, "byte order");
-    uint64_t fields = items(footer, schema, 1, 4, &count);
-    need(count == 1, "one column");
-    uint64_t field = child(footer, fields);
-    Column column = {scalar(footer, field, 2, 1), 0};
-    need(slot(footer, field, 4) == 0, "dictionary");
-    if (column.kind == INT) column.width = integer_width(footer, field);
-    if (column.kind == LIST) {
-        uint64_t below = items(footer, field, 5, 4, &count);
-        need(count == 1 && scalar(footer, child(footer, below), 2, 1) == INT, "child");
-        column.width = integer_width(footer, child(footer, below));
-    }
-    return column;
-}
-
-/* A view is short and padded with zeros, or leads to bytes of a data buffer that begin as it says. */
-static void check_view(const uint8_t *at, const Bytes *data, uint64_t count) {
-    uint32_t view[4];
-    unsigned __int128 whole;
-    memcpy(view, at, 16);
-    memcpy(&whole, at, 16);
-    if (view[0] <= 12) {
-        need(view[0] == 12 || whole >> (32 + 8 * view[0]) == 0, "view");
-        need(is_utf8(at + 4, 12), "text"); /* With the padding, which is of no other character. */
-        return;
-    }
-    need(view[2] < count && (uint64_t)view[3] + view[0] <= data[view[2]].length, "view");
-    const uint8_t *bytes = data[view[2]].at + view[3];
-    need(memcmp(bytes, view + 1, 4) == 0, "view");
-    need(is_utf8(bytes, view[0]), "text");
-}
-
 static void check_views(Bytes views, const Bytes *data, uint64_t count) {
     uint64_t used = 0, held = 0;
     for (uint64_t at = 0; at < views.length; at += 16) {

@@ -1,5 +1,6 @@
-/* What the plain programs of the benchmarks share: a file of the forms that `bench/raw` and `bench/csv` write, read and checked as
-   `vokdrim` does it, with no proof. Each buffer is read by one call into memory that is given back behind its batch. */
+/* What the plain programs of the benchmarks share: a file of the forms that `bench/raw`, `bench/csv` and `bench/views` write, read and
+   checked as `vokdrim` does it, with no proof. Each buffer is read by one call into memory that is given back behind its batch, or is
+   taken otherwise where a program says so. */
 #include <fcntl.h>
 #include <stdint.h>
 #include <stdio.h>
@@ -58,6 +59,9 @@ static Bytes fetch(uint64_t at, uint64_t length) {
     }
     return bytes;
 }
+
+/* How a buffer is taken. */
+static Bytes (*take)(uint64_t at, uint64_t length) = fetch;
 
 static void put(const uint8_t *bytes, uint64_t length) {
     for (uint64_t done = 0; done < length;) {
@@ -118,6 +122,25 @@ static Bytes open_file(const char *name) {
 
 static uint64_t integer_width(Bytes in, uint64_t field) { return scalar(in, child(in, slot(in, field, 3)), 0, 4) / 8; }
 
+/* The footer's schema: one column. */
+
+static Column column_of(Bytes footer, uint64_t schema) {
+    uint64_t count;
+    need(scalar(footer, schema, 0, 2) == 0, "byte order");
+    uint64_t fields = items(footer, schema, 1, 4, &count);
+    need(count == 1, "one column");
+    uint64_t field = child(footer, fields);
+    Column column = {scalar(footer, field, 2, 1), 0};
+    need(slot(footer, field, 4) == 0, "dictionary");
+    if (column.kind == INT) column.width = integer_width(footer, field);
+    if (column.kind == LIST) {
+        uint64_t below = items(footer, field, 5, 4, &count);
+        need(count == 1 && scalar(footer, child(footer, below), 2, 1) == INT, "child");
+        column.width = integer_width(footer, child(footer, below));
+    }
+    return column;
+}
+
 /* A record batch's message. */
 
 static Header header_of(Bytes message, uint64_t body) {
@@ -153,7 +176,7 @@ static Bytes read_buffer(Batch *batch, const Header *header, uint64_t index, uin
     uint64_t length = number(batch->message, 8 + header->buffers + 16 * index + 8, 8);
     need(offset <= body && length <= body - offset, "buffer range");
     if (size != UINT64_MAX) need(size <= length, "buffer length");
-    Bytes bytes = fetch(start + offset, size == UINT64_MAX ? length : size);
+    Bytes bytes = take(start + offset, size == UINT64_MAX ? length : size);
     return batch->buffers[batch->count++] = bytes;
 }
 
@@ -210,6 +233,23 @@ static void check_texts(const int32_t *offsets, uint64_t rows, Bytes values) {
     uint64_t end = offsets[rows];
     need(is_utf8(values.at + offsets[0], end - offsets[0]), "text");
     for (uint64_t i = 0; i <= rows; i++) need((uint64_t)offsets[i] == end || !follows(values.at[offsets[i]]), "text");
+}
+
+/* A view is short and padded with zeros, or leads to bytes of a data buffer that begin as it says. */
+static void check_view(const uint8_t *at, const Bytes *data, uint64_t count) {
+    uint32_t view[4];
+    unsigned __int128 whole;
+    memcpy(view, at, 16);
+    memcpy(&whole, at, 16);
+    if (view[0] <= 12) {
+        need(view[0] == 12 || whole >> (32 + 8 * view[0]) == 0, "view");
+        need(is_utf8(at + 4, 12), "text"); /* With the padding, which is of no other character. */
+        return;
+    }
+    need(view[2] < count && (uint64_t)view[3] + view[0] <= data[view[2]].length, "view");
+    const uint8_t *bytes = data[view[2]].at + view[3];
+    need(memcmp(bytes, view + 1, 4) == 0, "view");
+    need(is_utf8(bytes, view[0]), "text");
 }
 
 static void give_back(Batch *batch) {

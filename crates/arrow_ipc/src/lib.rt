@@ -6,6 +6,7 @@ pub mod bitmap;
 pub mod buffer;
 pub mod datatypes;
 pub mod io;
+pub mod mmap;
 pub mod offset;
 pub mod record_batch;
 pub mod types;

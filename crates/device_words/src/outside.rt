@@ -5,6 +5,7 @@ use crate::sink::NotingSink;
 use case_words::{Answer, rest, word};
 use ipc_disk::{Entry, MemoryDisk, MemoryShelf};
 use ipc_io::{MemoryFeed, MemorySink, MemorySource};
+use ipc_log_disk::MemoryVaultShelf;
 use std::alloc::Global;
 
 /// What stands around a run to the end of a case.
@@ -43,7 +44,7 @@ impl Drop for Outside {
 /// What a run is lent beside its output.
 pub struct Devices {
     /// The files.
-    pub shelf: MemoryShelf,
+    pub shelf: MemoryVaultShelf,
     /// The text that is read.
     pub input: MemoryFeed,
     /// What is noted.
@@ -190,7 +191,7 @@ impl Outside {
     pub fn devices(&self, answer: &Answer) -> Devices {
         let text = answer.list(self.input.to_vec(answer.alloc()));
         Devices {
-            shelf: self.shelf(answer),
+            shelf: MemoryVaultShelf::new(answer.alloc(), self.shelf(answer)),
             input: self.feed(answer, text),
             notes: MemorySink::new(
                 answer.alloc(),
@@ -225,7 +226,7 @@ impl Outside {
     }
 
     /// The files are as a run left them.
-    pub fn keep(&mut self, answer: &Answer, shelf: &MemoryShelf) {
+    pub fn keep(&mut self, answer: &Answer, shelf: &MemoryVaultShelf) {
         for file in self.files.held.iter_mut() {
             if let Some(bytes) = shelf.bytes(&file.name) {
                 file.items.clear();
@@ -234,8 +235,16 @@ impl Outside {
         }
     }
 
+    /// The first file has these bytes from now on.
+    pub fn leave(&mut self, bytes: Vec<u8>) {
+        match self.files.held.first_mut() {
+            Some(file) => file.items = bytes,
+            None => drop(bytes),
+        }
+    }
+
     /// How many bytes the first file has from its front as before a run.
-    pub fn kept(&self, shelf: &MemoryShelf) -> usize {
+    pub fn kept(&self, shelf: &MemoryVaultShelf) -> usize {
         let Some(file) = self.files.held.first() else {
             return 0;
         };

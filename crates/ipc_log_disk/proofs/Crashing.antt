@@ -1,7 +1,7 @@
 -- A crash that fills what is not on the disk: it leaves an image, of the length that is asked for.
 use Rattle.std.proofs.Common.{◌≡◌, ℕ, ◌+◌, ◌-◌, ◌<◌, ◌≤◌, min, max, List, [], ◌∷◌, ◌++◌, length, take, drop, replicate, reverse, get_or, suc, zero, Bool, true, false, nat_le, nat_lt, cond, refl, sym, ◌∙◌, ap, subst, inr, Result, IfOk, ⊎_elim, arith, length-append, drop-drop, take-append-drop}
 use Rattle.std.proofs.lemmas.Bool.{and_parts, cases_lt, le-ltb, leb-true, ltb-false, ltb-true}
-use Rattle.std.proofs.lemmas.List.{take_at, drop_at, drop_all, drop_min, take_all, take_min, take_more, length-take-le, length-drop, length-replicate, length-reverse, reverse-append}
+use Rattle.std.proofs.lemmas.List.{take_at, drop_at, drop_all, drop_min, take_min, take_more, length-take-le, length-drop, length-replicate, length-reverse, reverse-append}
 use Rattle.ipc_disk.specs.Memory.{DiskState}
 use Rattle.ipc_io.specs.Memory.{new_source}
 use Rattle.ipc_log_disk.specs.Crashes.{Torn}
@@ -140,11 +140,10 @@ torn_long fill most at count held out le is = is ∙ ap (λ (n : ℕ). take at h
 
 -- ── what a walk over the oldest changes makes ──
 
-pub left_is : (items some old : List Change) (i count fill size : ℕ) (first left : List ℕ) → some ≡ take count items → length some ≤ i → count ≤ length old → reverse items ≡ old → left ≡ crashed_after fill size first (reverse (take i some)) → left ≡ crashed_after fill size first (oldest count old)
-left_is items some old i count fill size first left are done few is walked =
-    let all : take i some ≡ take count items = take_all i some done ∙ are in
+pub left_is : (items some old : List Change) (count fill size : ℕ) (first left : List ℕ) → some ≡ take count items → count ≤ length old → reverse items ≡ old → left ≡ crashed_after fill size first (reverse some) → left ≡ crashed_after fill size first (oldest count old)
+left_is items some old count fill size first left are few is walked =
     let long : length old ≡ length items = sym (ap length is) ∙ length-reverse items in
-    walked ∙ ap (λ (l : List Change). crashed_after fill size first (reverse l)) all ∙ ap (crashed_after fill size first) (oldest_is items count (omega (arith, few, long)) ∙ ap (oldest count) is)
+    walked ∙ ap (λ (l : List Change). crashed_after fill size first (reverse l)) are ∙ ap (crashed_after fill size first) (oldest_is items count (omega (arith, few, long)) ∙ ap (oldest count) is)
 
 pub disk_left : {E : Type 0} → (r : Result LogState E) (s : DiskState) (left failing places x : List ℕ) → s ≡ record { source = new_source left failing places; wants = 0 } → failing ≡ [] → places ≡ [] → left ≡ x → IfOk r (λ d. d ≡ new_log_disk s) → IfOk r (λ d. d ≡ new_log_disk (new_disk x))
 disk_left r s left failing places x is none nowhere same made =

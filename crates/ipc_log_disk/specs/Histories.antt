@@ -1,5 +1,5 @@
 -- The history of a disk over memory: its bytes at first, all of them on the disk, and the changes since, the newest first.
-use Rattle.std.specs.Prelude.{nat_lt, nat_le, min, replicate, if◌then◌else◌, ◌≡◌, ◌⊎◌, ℕ, ◌+◌, ◌-◌, ◌≤◌, max, Bool, true, false, ◌&&◌, List, [], ◌∷◌, ◌++◌, length, take, drop, Vec, Some, Result, Ok, Err, refl}
+use Rattle.std.specs.Prelude.{nat_lt, nat_le, min, replicate, if◌then◌else◌, ◌≡◌, ◌⊎◌, ℕ, ◌+◌, ◌-◌, ◌≤◌, max, Bool, true, false, ◌&&◌, List, [], ◌∷◌, ◌++◌, length, take, drop, Vec, Option, None, Some, reverse, Result, Ok, Err, refl}
 use Rattle.std.specs.declared.alloc.Global.{Global}
 use Rattle.std.proofs.Common.{inl, subst, arith}
 use Rattle.ipc_disk.specs.Disks.{overwritten}
@@ -10,6 +10,7 @@ use Rattle.ipc_io.specs.declared.outside.PutError.TheVariants as put
 use Rattle.ipc_log_disk.specs.Crashes.{Images, IsTorn}
 use Rattle.ipc_log_disk.specs.declared.change.Change.{Change}
 use Rattle.ipc_log_disk.specs.declared.change.Change.TheVariants.{Written, Synced}
+use Rattle.ipc_log_disk.specs.declared.history.History.{History}
 
 -- the bytes after some changes
 abbrev pub content_after : List ℕ → List Change → List ℕ
@@ -34,6 +35,11 @@ abbrev pub is_history : List ℕ → List Change → Bool
 is_history first [] = true
 is_history first (Written at bytes count ∷ changes) = nat_le at (length (content_after first changes)) && (nat_le (length bytes.items) count && is_history first changes)
 is_history first (Synced ∷ changes) = is_history first changes
+
+-- what a crash might have left at some moment of a disk whose record is kept
+abbrev pub images_in : Option History → Images
+images_in None = λ c. ⊥
+images_in (Some h) = WasImage h.first.items (reverse h.changes.items) 0
 
 -- ── a crash that leaves one byte wherever a byte is not on the disk ──
 

@@ -1,6 +1,6 @@
 //! What a crash leaves of bytes in memory, change by change.
-ghost use Rattle.std.specs.Prelude.{◌≡◌, ◌+◌, ◌++◌, ◌∷◌, [], IfOk, length, take, drop};
-ghost use Rattle.ipc_log_disk.specs.Histories.{content_after, left_behind, torn_by};
+ghost use Rattle.std.specs.Prelude.{◌≡◌, ◌+◌, ◌++◌, ◌∷◌, [], IfOk, length, reverse, take, drop};
+ghost use Rattle.ipc_log_disk.specs.Histories.{content_after, crashed_after, left_behind, torn_by};
 
 use crate::Change;
 use std::alloc::{AllocError, Global};
@@ -44,11 +44,7 @@ fn torn(
 }
 
 // What a read gives behind one change more.
-pub(crate) fn read_behind(
-    alloc: Global,
-    held: &[u8],
-    change: &Change,
-) -> Result<Vec<u8>, AllocError>
+fn read_behind(alloc: Global, held: &[u8], change: &Change) -> Result<Vec<u8>, AllocError>
     ensures { IfOk result (λ v. v.items ≡ content_after held.now (change.now ∷ [])) }
 {
     match change {
@@ -58,7 +54,7 @@ pub(crate) fn read_behind(
 }
 
 // What a crash leaves behind one change more.
-pub(crate) fn crashed_behind(
+fn crashed_behind(
     alloc: Global,
     held: &[u8],
     left: &[u8],
@@ -72,4 +68,23 @@ pub(crate) fn crashed_behind(
         Change::Written { at, count, .. } => torn(alloc, left, *at, *count, fill, most),
         Change::Synced => held.to_vec(alloc),
     }
+}
+
+// What a crash leaves behind some changes, the oldest first.
+pub(crate) fn crashed_bytes(
+    alloc: Global,
+    first: &[u8],
+    changes: &[Change],
+    fill: u8,
+    size: usize,
+) -> Result<Vec<u8>, AllocError>
+    ensures { IfOk result (λ v. v.items ≡ crashed_after fill size first.now (reverse changes.now)) }
+{
+    let mut held = first.to_vec(alloc)?;
+    let mut left = first.to_vec(alloc)?;
+    for change in changes {
+        left = crashed_behind(alloc, &held, &left, change, fill, size)?;
+        held = read_behind(alloc, &held, change)?;
+    }
+    Ok(left)
 }

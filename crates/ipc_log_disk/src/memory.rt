@@ -4,8 +4,8 @@ ghost use Rattle.ipc_disk.specs.Disks.{WritesAt};
 ghost use Rattle.ipc_io.specs.Outside.{Rose};
 ghost use Rattle.ipc_log_disk.specs.Histories.{LogState, MayBeLeft, Notes, WasImage, content_after, crashed_after, front_by, images_after, is_history, is_wanted, new_disk, new_log_disk, now_image, now_only, oldest, told_image};
 
-use crate::crash::{crashed_behind, read_behind};
-use crate::{Change, LogDisk};
+use crate::crash::crashed_bytes;
+use crate::{Change, History, LogDisk};
 use ipc_disk::{Disk, MemoryDisk};
 use ipc_io::{Failed, Got, PutError, Source};
 use std::alloc::{AllocError, Global};
@@ -77,12 +77,7 @@ impl MemoryLogDisk {
         ensures length { IfOk result (λ d. MayBeLeft self.now.first (oldest count self.now.changes) size → length d.first ≡ size) }
     {
         let changes = &self.changes[..count];
-        let mut held = self.first.to_vec(self.alloc)?;
-        let mut left = self.first.to_vec(self.alloc)?;
-        for change in changes {
-            left = crashed_behind(self.alloc, &held, &left, change, fill, size)?;
-            held = read_behind(self.alloc, &held, change)?;
-        }
+        let left = crashed_bytes(self.alloc, &self.first, changes, fill, size)?;
         let disk = MemoryDisk::new(left, Vec::new(self.alloc), Vec::new(self.alloc));
         MemoryLogDisk::new(self.alloc, disk)
     }
@@ -93,6 +88,23 @@ impl MemoryLogDisk {
         ensures calls { result.source.calls ≡ self.calls }
     {
         self.disk
+    }
+
+    /// The disk, and its record.
+    pub fn into_parts(self) -> (MemoryDisk, History)
+        ensures bytes { result.0.source.bytes ≡ content_after self.first self.changes }
+        ensures calls { result.0.source.calls ≡ self.calls }
+        ensures first { result.1.first.items ≡ self.first }
+        ensures changes { reverse result.1.changes.items ≡ self.changes }
+    {
+        let MemoryLogDisk {
+            alloc: _,
+            first,
+            changes,
+            disk,
+            wants: _,
+        } = self;
+        (disk, History { first, changes })
     }
 }
 

@@ -1,25 +1,32 @@
 //! A shelf of vaults over memory.
-ghost use Rattle.std.specs.Prelude.{◌≡◌, Some, option_map};
+ghost use Rattle.std.specs.Prelude.{◌≡◌, None, Some, option_map};
 ghost use Rattle.ipc_disk.specs.Shelves.{held_in};
+ghost use Rattle.ipc_log_disk.specs.Histories.{images_in};
 
-use crate::{MemoryLogDisk, VaultShelf};
+use crate::{History, MemoryLogDisk, VaultShelf};
 use ipc_disk::{MemoryDisk, MemoryShelf, PlaceShelf};
 use ipc_io::{MemorySource, Shelf, ShelfError};
 use std::alloc::Global;
 
-/// A shelf over memory whose places are vaults too. A vault fails where a place would.
+/// A shelf over memory whose places are vaults too. A vault fails where a place would. The record of the vault that was closed last is kept.
 #[derive(Drop)]
 pub struct MemoryVaultShelf {
     alloc: Global,
     shelf: MemoryShelf,
+    last: Option<History>,
 }
 
 impl MemoryVaultShelf {
     /// Takes its parts as they are: no copy, no memory.
     pub fn new(alloc: Global, shelf: MemoryShelf) -> Self
-        ensures { result.shelf ≡ shelf }
+        ensures shelf { result.shelf ≡ shelf }
+        ensures last { result.last ≡ None }
     {
-        MemoryVaultShelf { alloc, shelf }
+        MemoryVaultShelf {
+            alloc,
+            shelf,
+            last: None,
+        }
     }
 
     /// The bytes under a name.
@@ -27,6 +34,13 @@ impl MemoryVaultShelf {
         ensures { option_map (λ b. b.now) result ≡ held_in self.now.shelf.entries name.now }
     {
         self.shelf.bytes(name)
+    }
+
+    /// The record of the vault that was closed last.
+    pub fn last(&self) -> Option<&History>
+        ensures { option_map (λ h. h.now) result ≡ self.now.last }
+    {
+        self.last.as_ref()
     }
 }
 
@@ -61,6 +75,8 @@ impl PlaceShelf for MemoryVaultShelf {
 impl VaultShelf for MemoryVaultShelf {
     type Vault = MemoryLogDisk;
 
+    ghost left = { λ s. images_in s.last };
+
     /// Opens a place, and copies its bytes.
     fn open_vault(&mut self, name: &str) -> Result<MemoryLogDisk, ShelfError> {
         let place = self.shelf.open_place(name)?;
@@ -68,6 +84,8 @@ impl VaultShelf for MemoryVaultShelf {
     }
 
     fn close_vault(&mut self, name: &str, vault: MemoryLogDisk) {
-        self.shelf.close_place(name, vault.into_disk())
+        let (disk, history) = vault.into_parts();
+        self.shelf.close_place(name, disk);
+        self.last = Some(history);
     }
 }

@@ -1,6 +1,7 @@
 -- What is read of a record.
 use Rattle.std.proofs.Common.{◌≡◌, ◌⊎◌, inl, inr, ℕ, ◌<◌, ◌≤◌, List, [], ◌∷◌, ◌++◌, length, map, true, Some, None, Result, Ok, Err, IfErr, refl, sym, ◌∙◌, ap, subst, arith}
 use Rattle.std.specs.Rc.{rc_value}
+use Rattle.std.proofs.lemmas.Bool.{and_parts}
 use Rattle.arrow_spec.specs.declared.error.IpcError.{IpcError}
 use Rattle.arrow_spec.specs.declared.error.IpcError.TheVariants as errors
 use Rattle.arrow_spec.specs.declared.error.IpcError.TheVariants.{Memory}
@@ -12,21 +13,28 @@ use Rattle.arrow_spec.specs.Regular.{regular}
 use Rattle.arrow_spec.specs.Streams.{closed, stream_reading, stream_table}
 use Rattle.arrow_spec.specs.WrittenSchemas.{SchemaMayBeWritten}
 use Rattle.arrow_spec.proofs.Projection.{some_meaning}
-use Rattle.arrow_types.specs.Schemas.{fields_in}
+use Rattle.arrow_types.specs.Schemas.{Keyed, fields_in}
 use Rattle.arrow_arrays.specs.Batches.{Batch}
+use Rattle.arrow_arrays.specs.Columns.{columns_of}
+use Rattle.arrow_arrays.specs.Parts.{forest}
+use Rattle.ipc_append.specs.Columns.{are_of, is_of}
 use Rattle.ipc_append.specs.Wholes.{FailsBehind, HasTooMany, IsWhole, RefusesStream, table_read}
 use Rattle.ipc_append.specs.declared.stream.WholeStream.{WholeStream}
 use Rattle.ipc_fields.specs.Causes.{IsOfBytes}
-use Rattle.ipc_fields.specs.IpcFields.{ids_of}
+use Rattle.ipc_fields.specs.IpcFields.{fields_with, ids_of}
 use Rattle.ipc_record_log.specs.Logs.{invalid_log}
 use Rattle.ipc_stream_writer.specs.Below.{cells_of}
 use Rattle.ipc_streams.specs.Below.{FileCause}
 use Rattle.ipc_streams.specs.Starts.{start_view, stream_schema}
 use Rattle.laws_logs.specs.Tables.{IsRecordOf, dictionaries_from}
+use Rattle.laws_sent.specs.Below.{plain_fields}
+use Rattle.same_fields.proofs.OneKind.{kinds_through}
 use Rattle.ipc_log_records.specs.Decoded.{IsNoRecord, IsRecordRead, Unread}
-use Rattle.ipc_log_records.specs.LogSchemas.{log_fields}
+use Rattle.ipc_log_records.specs.LogSchemas.{WasSaid, log_fields}
 use Rattle.ipc_log_records.specs.Passes.{told_as}
+use Rattle.ipc_log_records.proofs.LogKinds.{kinds_of_log}
 use Rattle.ipc_log_records.proofs.Many.{too_many_none}
+use Rattle.ipc_log_records.proofs.ReadSchemas.{may_without}
 use Rattle.ipc_log_records.proofs.Schemas.{read_own, read_regular, start_may}
 
 -- ── the fields ──
@@ -40,6 +48,12 @@ module _ (b : List ℕ) (s : WholeStream) (bytes : AreBytes b) (w : IsWhole b s)
 
   pub whole_regular : regular (fields_in (rc_value s.metadata.schema)) [] ≡ true
   whole_regular = read_regular (fields_in (rc_value s.metadata.schema)) (ids_of s.metadata.ipc_schema.fields.items) (stream_schema s.metadata).metadata may
+
+  pub whole_said : WasSaid (rc_value s.metadata.schema)
+  whole_said = record {
+    own = ids_of s.metadata.ipc_schema.fields.items;
+    may = may_without (fields_with (fields_in (rc_value s.metadata.schema)) (ids_of s.metadata.ipc_schema.fields.items)) (stream_schema s.metadata).metadata may;
+  }
 
 -- ── refusals ──
 
@@ -119,6 +133,21 @@ last_is (z ∷ w ∷ front) x y h = let same : cells_of z ∷ cells_of w ∷ map
 
 pub one_read : (b : List ℕ) (s : WholeStream) (front : List Batch) (x : Batch) (fields : Fields) (y : TableBatch) → IsWhole b s → s.batches.items ≡ front ++ x ∷ [] → IsRecordOf fields (y ∷ []) b → y ≡ cells_of x
 one_read b s front x fields y w is r = last_is front x y (ap (map cells_of) (sym is) ∙ same_batches b s fields (y ∷ []) w r)
+
+one_of : (fs : Fields) (before : List Batch) (x : Batch) → are_of fs (before ++ x ∷ []) ≡ true → is_of fs x ≡ true
+one_of fs [] x h = (and_parts (is_of fs x) (are_of fs []) h).0
+one_of fs (y ∷ ys) x h = one_of fs ys x (and_parts (is_of fs y) (are_of fs (ys ++ x ∷ [])) h).1
+
+-- its columns are of the kinds of each schema of the log's fields
+pub one_kinds : (b : List ℕ) (s : WholeStream) (front : List Batch) (x : Batch) (fields : Fields) (y : TableBatch) (k : List Keyed) → IsWhole b s → (table_read s).fields ≡ log_fields (rc_value s.metadata.schema) → s.batches.items ≡ front ++ x ∷ [] → IsRecordOf fields (y ∷ []) b
+    → plain_fields (fields_in (rc_value s.metadata.schema)) ≡ fields_in (rc_value s.metadata.schema) → plain_fields (fields_in k) ≡ fields_in k → fields ≡ log_fields k → is_of (fields_in k) x ≡ true
+one_kinds b s front x fields y k w own is r plain others log =
+    let own_schema = rc_value s.metadata.schema in
+    let of : is_of (fields_in own_schema) x ≡ true = one_of (fields_in own_schema) front x (subst (λ (bs : List Batch). are_of (fields_in own_schema) bs ≡ true) is s.kinds) in
+    let same : Some (table_read s) ≡ Some r.table = sym w.table ∙ r.means in
+    let table : table_read s ≡ r.table = cc in
+    let fields : log_fields k ≡ log_fields own_schema = sym log ∙ sym r.same_fields ∙ sym (ap (λ (t : ArrowTable). t.fields) table) ∙ own in
+    kinds_through (fields_in k) (fields_in own_schema) (columns_of (forest x.arrays)) (kinds_of_log k own_schema others plain fields) of
 
 pub none_read : (b : List ℕ) (s : WholeStream) (fields : Fields) (y : TableBatch) → IsWhole b s → s.batches.items ≡ [] → IsRecordOf fields (y ∷ []) b → ⊥
 none_read b s fields y w is r = let same : [] ≡ y ∷ [] = sym (ap (map cells_of) is) ∙ same_batches b s fields (y ∷ []) w r in cc

@@ -9,4 +9,5 @@ pub mod ReadSchemas
 pub mod Schemas
 pub mod Writing
 pub mod Meaning
+pub mod LogKinds
 pub mod Decoding

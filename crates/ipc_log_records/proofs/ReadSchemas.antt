@@ -1,5 +1,5 @@
 -- A schema that was read: it is said as it was read, with whatever pairs.
-use Rattle.std.proofs.Common.{◌≡◌, ℕ, zero, suc, [], length, true, arith}
+use Rattle.std.proofs.Common.{◌≡◌, ℕ, zero, suc, [], length, arith}
 use Rattle.arrow_spec.specs.Kinds as kind
 use Rattle.arrow_spec.specs.Kinds.{Kind, Fields, Metadata, none, field}
 use Rattle.arrow_spec.specs.WrittenSchemas.{FieldsFit, HaveNoReserved, KindFits, KindHasNoReserved, Part, SchemaMayBeWritten, of_dictionary, of_extension, of_field, own_fields}

@@ -6,28 +6,31 @@ ghost use Rattle.arrow_spec.specs.Kinds.{Fields};
 ghost use Rattle.arrow_spec.specs.Laws.{AreBytes};
 ghost use Rattle.arrow_spec.specs.Regular.{regular};
 ghost use Rattle.arrow_spec.specs.declared.error.IpcError.TheVariants.{Memory};
-ghost use Rattle.arrow_types.specs.Schemas.{fields_in};
+ghost use Rattle.arrow_types.specs.Schemas.{Keyed, fields_in};
 ghost use Rattle.arrow_arrays.specs.Batches.{Batch};
+ghost use Rattle.ipc_append.specs.Columns.{is_of};
 ghost use Rattle.ipc_append.specs.Wholes.{IsWhole, table_read};
 ghost use Rattle.ipc_fields.specs.Causes.{IsOfBytes};
 ghost use Rattle.ipc_record_log.specs.Logs.{invalid_log};
 ghost use Rattle.ipc_stream_writer.specs.Below.{cells_of};
 ghost use Rattle.laws_logs.specs.Tables.{IsRecordOf};
+ghost use Rattle.laws_sent.specs.Below.{plain_fields};
 ghost use Rattle.ipc_log_records.specs.Decoded.{IsNoRecord, IsRecordRead, Unread};
-ghost use Rattle.ipc_log_records.specs.LogSchemas.{log_fields};
+ghost use Rattle.ipc_log_records.specs.LogSchemas.{WasSaid, log_fields};
 
 use crate::closed::{closed_dictionaries, told};
 use crate::memory::BytesFeed;
 use arrow_arrays::RecordBatch;
 use arrow_spec::{IpcError, OutOfSpecKind};
 use ipc_append::{WholeStream, read_whole};
+use laws_sent::types_have_no_ids;
 use std::alloc::Global;
 
 /// The most dictionary messages of a record.
 pub(crate) const MOST_DICTIONARIES: u64 = 1_048_576;
 
 /// What a slice of bytes holds are bytes.
-fn are_bytes(bytes: &[u8])
+pub fn are_bytes(bytes: &[u8])
     ensures { AreBytes bytes.now }
 {
     let _ = bytes;
@@ -38,6 +41,7 @@ fn whole(alloc: Global, bytes: Vec<u8>) -> Result<WholeStream, IpcError>
     ensures whole { IfOk result (λ s. IsWhole bytes.items s) }
     ensures fields { IfOk result (λ s. (table_read s).fields ≡ log_fields (rc_value s.metadata.schema)) }
     ensures is_regular { IfOk result (λ s. regular (fields_in (rc_value s.metadata.schema)) [] ≡ true) }
+    ensures said { IfOk result (λ s. WasSaid (rc_value s.metadata.schema)) }
     ensures err { IfErr result (λ e. (e ≡ Memory) ⊎ (IsOfBytes e × IsNoRecord bytes.items)) }
 {
     are_bytes(&bytes);
@@ -53,6 +57,7 @@ pub fn record_in(alloc: Global, bytes: Vec<u8>) -> Result<WholeStream, IpcError>
     ensures record { IfOk result (λ s. IsRecordRead bytes.items s) }
     ensures fields { IfOk result (λ s. (table_read s).fields ≡ log_fields (rc_value s.metadata.schema)) }
     ensures is_regular { IfOk result (λ s. regular (fields_in (rc_value s.metadata.schema)) [] ≡ true) }
+    ensures said { IfOk result (λ s. WasSaid (rc_value s.metadata.schema)) }
     ensures err { IfErr result (λ e. Unread e bytes.items) }
 {
     let dictionaries = closed_dictionaries(&bytes)?;
@@ -84,9 +89,11 @@ fn last_of(batches: Vec<RecordBatch>) -> Result<RecordBatch, IpcError>
 /// Where the bytes are no record of one batch, as of `read_whole`, or `OutOfSpec(InvalidLog)`; `Memory`.
 pub fn batch_in(alloc: Global, bytes: Vec<u8>) -> Result<RecordBatch, IpcError>
     ensures batch { IfOk result (λ x. (fields : Fields) (y : TableBatch) → IsRecordOf fields (y ∷ []) bytes.items → y ≡ cells_of x) }
+    ensures kinds { IfOk result (λ x. (fields : Fields) (y : TableBatch) (s : List Keyed) → IsRecordOf fields (y ∷ []) bytes.items → plain_fields (fields_in s) ≡ fields_in s → fields ≡ log_fields s → is_of (fields_in s) x ≡ true) }
     ensures err { IfErr result (λ e. (e ≡ Memory) ⊎ (IsOfBytes e × ((fields : Fields) (y : TableBatch) → IsRecordOf fields (y ∷ []) bytes.items → ⊥))) }
 {
     let stream = whole(alloc, bytes)?;
+    types_have_no_ids(&stream.metadata.schema);
     let WholeStream { metadata, batches } = stream;
     drop(metadata);
     last_of(batches)

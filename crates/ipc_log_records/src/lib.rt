@@ -8,6 +8,8 @@ mod encode;
 mod memory;
 mod passes;
 
-pub use decode::{batch_in, record_in};
+pub use decode::{are_bytes, batch_in, record_in};
 pub use encode::{first_record, record_of};
 pub use ipc_append::WholeStream;
+pub use ipc_messages::is_of_schema;
+pub use laws_sent::types_have_no_ids;

@@ -1,5 +1,5 @@
 //! A log that is begun.
-ghost use Rattle.std.specs.Prelude.{◌≡◌, ◌⊎◌, ◌+◌, ◌^◌, ◌<◌, ◌++◌, ◌∷◌, [], length, IfErr, IfOk, OnOk, option_map};
+ghost use Rattle.std.specs.Prelude.{◌≡◌, ◌⊎◌, ◌+◌, ◌^◌, ◌<◌, ◌≤◌, ◌++◌, ◌∷◌, [], length, IfErr, IfOk, OnOk, option_map};
 ghost use Rattle.ipc_io.specs.Outside.{IsSize};
 ghost use Rattle.ipc_log_disk.specs.Below.{IsOfDisk, overwritten};
 ghost use Rattle.ipc_log_disk.specs.Crashes.{Elapses, Only};
@@ -38,6 +38,7 @@ pub(crate) fn begin<D: LogDisk>(
     ensures durable { OnOk result (Only (D.content disk.new) (D.images disk.new)) }
     ensures time { Elapses (D.moment disk.old) (D.moment disk.new) (D.images_since disk.old) (D.images_since disk.new) }
     ensures err { IfErr result (λ e. ((e ≡ Memory) × (disk.new ≡ disk.old)) ⊎ IsOfDisk e (D.faults disk.old) (D.faults disk.new) (D.wants disk.old) (D.wants disk.new)) }
+    ensures later { D.faults disk.old ≤ D.faults disk.new }
     ensures same_references { D.references disk.new ≡ D.references disk.old }
 {
     let bytes = first_bytes(alloc, first)?;

@@ -1,5 +1,5 @@
 //! A log.
-ghost use Rattle.std.specs.Prelude.{◌≡◌, ◌⊎◌, ◌+◌, ◌^◌, ◌<◌, ◌++◌, ◌∷◌, [], List, ℕ, length, map, None, Some, true, false, IfOk, IfErr, OnOk, MatchResult, slice_get};
+ghost use Rattle.std.specs.Prelude.{◌≡◌, ◌⊎◌, ◌+◌, ◌^◌, ◌<◌, ◌≤◌, ◌++◌, ◌∷◌, [], List, ℕ, length, map, None, Some, true, false, IfOk, IfErr, OnOk, MatchResult, slice_get};
 ghost use Rattle.ipc_io.specs.Outside.{IsSize, Rose};
 ghost use Rattle.ipc_log_disk.specs.Below.{IsOfDisk};
 ghost use Rattle.ipc_log_disk.specs.Crashes.{Among, Elapses};
@@ -45,6 +45,7 @@ impl<D: LogDisk> RecordLog<D> {
             (λ e. Elapses (D.moment disk) (D.moment e.object) (D.images_since disk) (D.images_since e.object)) }
         ensures err { IfErr result (λ e. ((e.error ≡ Memory) × (e.object ≡ disk))
             ⊎ IsOfDisk e.error (D.faults disk) (D.faults e.object) (D.wants disk) (D.wants e.object)) }
+        ensures later { MatchResult result (λ l. D.faults disk ≤ D.faults l.disk) (λ e. D.faults disk ≤ D.faults e.object) }
         ensures same_references { MatchResult result (λ l. D.references l.disk ≡ D.references disk) (λ e. D.references e.object ≡ D.references disk) }
     {
         let mut disk = disk;
@@ -81,6 +82,8 @@ impl<D: LogDisk> RecordLog<D> {
         ensures err { IfErr result (λ e. (e.error ≡ Memory) ⊎ IsOfDisk e.error (D.faults disk) (D.faults e.object) (D.wants disk) (D.wants e.object)
             ⊎ ((e.error ≡ ReadFault) × Rose (D.faults disk) (D.faults e.object))
             ⊎ ((e.error ≡ invalid_log) × ((b : List ℕ) → D.content disk ≡ Some b → log_records b ≡ None))) }
+        ensures left { IfErr result (λ e. IsOfDisk e.error (D.faults disk) (D.faults e.object) (D.wants disk) (D.wants e.object) ⊎ (D.content e.object ≡ D.content disk)) }
+        ensures later { MatchResult result (λ l. D.faults disk ≤ D.faults l.disk) (λ e. D.faults disk ≤ D.faults e.object) }
         ensures same_references { MatchResult result (λ l. D.references l.disk ≡ D.references disk) (λ e. D.references e.object ≡ D.references disk) }
     {
         let mut disk = disk;
@@ -97,6 +100,13 @@ impl<D: LogDisk> RecordLog<D> {
                 object: disk,
             }),
         }
+    }
+
+    /// Whether a call of the disk has failed.
+    pub fn is_failed(&self) -> bool
+        ensures { result ≡ self.now.is_failed }
+    {
+        self.is_failed
     }
 
     /// How many records there are.
@@ -152,6 +162,7 @@ impl<D: LogDisk> RecordLog<D> {
             (((e ≡ State) × (self.old.is_failed ≡ true)) ⊎ ((e ≡ Memory) × (self.old.is_failed ≡ false)))
             × (self.new.disk ≡ self.old.disk) × (self.new.spans.items ≡ self.old.spans.items) × (self.new.end ≡ self.old.end) × (self.new.is_failed ≡ self.old.is_failed)
             ⊎ ((self.new.is_failed ≡ true) × IsOfDisk e (D.faults self.old.disk) (D.faults self.new.disk) (D.wants self.old.disk) (D.wants self.new.disk))) }
+        ensures later { D.faults self.old.disk ≤ D.faults self.new.disk }
     {
         if self.is_failed {
             return Err(IpcError::State);

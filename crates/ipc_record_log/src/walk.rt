@@ -1,5 +1,5 @@
 //! A log's records from the first to the last.
-ghost use Rattle.std.specs.Prelude.{◌≡◌, ◌⊎◌, ◌^◌, ◌<◌, List, ℕ, Some, None, IfErr, IfOk, OnOk};
+ghost use Rattle.std.specs.Prelude.{◌≡◌, ◌⊎◌, ◌^◌, ◌<◌, ◌≤◌, List, ℕ, Some, None, IfErr, IfOk, OnOk};
 ghost use Rattle.ipc_log_disk.specs.Below.{IsOfDisk};
 ghost use Rattle.ipc_log_disk.specs.Crashes.{Among, Elapses, Only};
 ghost use Rattle.ipc_io.specs.Outside.{Rose};
@@ -53,6 +53,8 @@ pub(crate) fn synced_walk<D: LogDisk>(alloc: Global, disk: &mut D) -> Result<Wal
     ensures err { IfErr result (λ e. (e ≡ Memory) ⊎ IsOfDisk e (D.faults disk.old) (D.faults disk.new) (D.wants disk.old) (D.wants disk.new)
         ⊎ ((e ≡ ReadFault) × Rose (D.faults disk.old) (D.faults disk.new))
         ⊎ ((e ≡ invalid_log) × ((b : List ℕ) → D.content disk.old ≡ Some b → log_records b ≡ None))) }
+    ensures left { IfErr result (λ e. IsOfDisk e (D.faults disk.old) (D.faults disk.new) (D.wants disk.old) (D.wants disk.new) ⊎ (D.content disk.new ≡ D.content disk.old)) }
+    ensures later { D.faults disk.old ≤ D.faults disk.new }
     ensures same_references { D.references disk.new ≡ D.references disk.old }
 {
     disk.sync()?;

@@ -1,10 +1,11 @@
 //! The shelf over a folder of regular files. Files tell no content.
-ghost use Rattle.std.specs.Prelude.{◌≡◌, ◌↔◌, IsOk, None};
+ghost use Rattle.std.specs.Prelude.{◌≡◌, ◌↔◌, ◌≤◌, IsOk, None, OnOk, ⊤};
 ghost use Rattle.std.specs.Fs.{IsFile, file_type};
-ghost use Rattle.ipc_io.specs.Outside.{OpenHasCause};
+ghost use Rattle.ipc_io.specs.Outside.{OpenHasCause, Rose};
 
 use ipc_disk::{FileDisk, PlaceShelf};
 use ipc_io::{Shelf, ShelfError};
+use ipc_log_disk::{FileLogDisk, VaultShelf};
 use std::fs::{self, Metadata, OpenFile, OpenOptions};
 use std::io::{self, ErrorKind};
 use std::os::unix::fs::FileExt;
@@ -25,18 +26,30 @@ impl<'a, R> FolderShelf<'a, R> {
         FolderShelf { rt, faults: 0 }
     }
 
+    // Why nothing was opened, by what the system answered.
+    fn refused(&mut self, error: io::Error) -> ShelfError
+        ensures later { self.old.faults ≤ self.new.faults }
+        ensures failed { result ≡ ShelfError.Failed → Rose self.old.faults self.new.faults }
+        ensures unknown { result ≡ ShelfError.Unknown → self.new.faults ≡ self.old.faults }
+    {
+        match error.kind() {
+            ErrorKind::NotFound => ShelfError::Unknown,
+            ErrorKind::OutOfMemory => ShelfError::Memory,
+            _ => {
+                self.faults = self.faults.saturating_add(1);
+                ShelfError::Failed
+            }
+        }
+    }
+
     // What the system answered to an opening.
     fn opened<T>(&mut self, answer: io::Result<T>) -> Result<T, ShelfError>
-        ensures { OpenHasCause self.old.faults self.new.faults result }
+        ensures cause { OpenHasCause self.old.faults self.new.faults result }
+        ensures kept { OnOk result (self.new.faults ≡ self.old.faults) }
     {
         match answer {
             Ok(file) => Ok(file),
-            Err(error) if error.kind() == ErrorKind::NotFound => Err(ShelfError::Unknown),
-            Err(error) if error.kind() == ErrorKind::OutOfMemory => Err(ShelfError::Memory),
-            Err(_) => {
-                self.faults = self.faults.saturating_add(1);
-                Err(ShelfError::Failed)
-            }
+            Err(error) => Err(self.refused(error)),
         }
     }
 }
@@ -99,6 +112,32 @@ where
     /// What the place wrote stands in the file.
     fn close_place(&mut self, _name: &str, place: FileDisk<R::File>) {
         if place.has_failed() {
+            self.faults = self.faults.saturating_add(1);
+        }
+    }
+}
+
+impl<'a, R: Files> VaultShelf for FolderShelf<'a, R>
+where
+    R::File: FileExt,
+{
+    type Vault = FileLogDisk<R::File>;
+
+    ghost left = { λ s c. ⊤ };
+
+    /// `Unknown` where the system finds no file under the path: none is made, so the folder needs no sync.
+    fn open_vault(&mut self, name: &str) -> Result<FileLogDisk<R::File>, ShelfError> {
+        let answer = open_regular(self.rt, OpenOptions::new().read(true).write(true), name);
+        let file = self.opened(answer)?;
+        match FileLogDisk::new(file) {
+            Ok(vault) => Ok(vault),
+            Err(error) => Err(self.refused(error)),
+        }
+    }
+
+    /// What the vault wrote stands in the file.
+    fn close_vault(&mut self, _name: &str, vault: FileLogDisk<R::File>) {
+        if vault.has_failed() {
             self.faults = self.faults.saturating_add(1);
         }
     }

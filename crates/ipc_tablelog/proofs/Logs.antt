@@ -1,6 +1,6 @@
 -- A log on a disk as a table, call by call.
 use Rattle.std.proofs.Common.{◌≡◌, ◌⊎◌, inl, inr, ⊎_elim, ◌↔◌, ℕ, zero, suc, ◌+◌, ◌-◌, ◌<◌, ◌≤◌, List, [], ◌∷◌, ◌++◌, length, Bool, false, true, Option, Some, None, Result, Ok, Err, IfErr, OnOk, refl, sym, ◌∙◌, ap, subst, arith, add-one}
-use Rattle.std.specs.Prelude.{slice_get}
+use Rattle.std.specs.Prelude.{IsTrue, slice_get}
 use Rattle.arrow_spec.specs.declared.error.IpcError.{IpcError}
 use Rattle.arrow_spec.specs.declared.error.IpcError.TheVariants.{Memory, ReadFault, State}
 use Rattle.arrow_spec.specs.Files.{ArrowTable, TableBatch}
@@ -8,18 +8,21 @@ use Rattle.arrow_spec.specs.Kinds.{Fields}
 use Rattle.arrow_spec.specs.Regular.{regular}
 use Rattle.arrow_types.specs.Schemas.{Keyed, fields_in}
 use Rattle.arrow_arrays.specs.Batches.{Batch}
+use Rattle.ipc_log_records.specs.Below.{is_of}
 use Rattle.ipc_fields.specs.Causes.{IsOfBytes}
+use Rattle.ipc_fields.specs.IpcFields.{Ids}
 use Rattle.ipc_io.specs.Outside.{Rose}
 use Rattle.ipc_log_disk.specs.Below.{IsOfDisk}
 use Rattle.ipc_log_disk.specs.Crashes.{Among, Elapses, Images}
 use Rattle.ipc_record_log.specs.Logs.{Holds, IsSettled, invalid_log, spans_from, truncated}
 use Rattle.ipc_record_log.specs.Records.{IsBeforeOrAfter, log_records, records_in}
 use Rattle.ipc_record_log.specs.declared.span.Span.{Span}
+use Rattle.ipc_log_records.specs.Below.{Suits}
 use Rattle.laws_logs.specs.Tables.{IsRecordOf, MeansBeforeOrAfter, MeansLog, table_of, with_batch}
 use Rattle.laws_logs.proofs.Lifting.{crashed_append, more_records_are_table, same_records}
 use Rattle.ipc_log_records.specs.LogSchemas.{log_fields}
 use Rattle.ipc_log_records.specs.Written.{RecordCause}
-use Rattle.ipc_tablelog.specs.Opened.{AreOnes, IsFirst, IsNoLog, ReadFails, RefusesLog}
+use Rattle.ipc_tablelog.specs.Opened.{AreOnes, IsFirst, IsNoLog, RefusesLog}
 use Rattle.ipc_tablelog.specs.TableLogs.{IsTableOf, KeepsTable}
 use Rattle.ipc_tablelog.proofs.Records.{count, framed, later, log_read}
 
@@ -89,11 +92,11 @@ crashed content s t bytes c x h r left =
 -- why a record is not added, in a log's words
 pub append_causes : {D : Type 0} (r : Result (Unit {0}) IpcError) (s : List Keyed) (batch : Option Batch) (failed failed' : Bool) (disk disk' : D) (spans spans' : List Span) (end end' : ℕ) (fails : IpcError → Type 0)
     → IfErr r (λ e. (((e ≡ State) × (failed ≡ true)) ⊎ ((e ≡ Memory) × (failed ≡ false))) × (disk' ≡ disk) × (spans' ≡ spans) × (end' ≡ end) × (failed' ≡ failed) ⊎ ((failed' ≡ true) × fails e))
-    → IfErr r (λ e. (((e ≡ State) × (failed ≡ true)) ⊎ RecordCause e s batch) × (disk' ≡ disk) × (spans' ≡ spans) × (end' ≡ end) × (failed' ≡ failed) ⊎ ((failed' ≡ true) × fails e))
-append_causes (Ok u) s batch failed failed' disk disk' spans spans' end end' fails h = tt
-append_causes (Err e) s batch failed failed' disk disk' spans spans' end end' fails (inl (inl state, kept, same, place, flag)) = inl (inl state, kept, same, place, flag)
-append_causes (Err e) s batch failed failed' disk disk' spans spans' end end' fails (inl (inr memory, kept, same, place, flag)) = inl (inr (inl (inl memory.0)), kept, same, place, flag)
-append_causes (Err e) s batch failed failed' disk disk' spans spans' end end' fails (inr h) = inr h
+    → failed ≡ false → IfErr r (λ e. (((e ≡ State) × (failed ≡ true)) ⊎ ((failed ≡ false) × RecordCause e s batch)) × (disk' ≡ disk) × (spans' ≡ spans) × (end' ≡ end) × (failed' ≡ failed) ⊎ ((failed' ≡ true) × fails e))
+append_causes (Ok u) s batch failed failed' disk disk' spans spans' end end' fails h sound = tt
+append_causes (Err e) s batch failed failed' disk disk' spans spans' end end' fails (inl (inl state, kept, same, place, flag)) sound = inl (inl state, kept, same, place, flag)
+append_causes (Err e) s batch failed failed' disk disk' spans spans' end end' fails (inl (inr memory, kept, same, place, flag)) sound = inl (inr (sound, inl (inl memory.0)), kept, same, place, flag)
+append_causes (Err e) s batch failed failed' disk disk' spans spans' end end' fails (inr h) sound = inr h
 
 pub on_ok : {T E : Type 0} → (r : Result T E) (P Q : Type 0) → (P → Q) → OnOk r P → OnOk r Q
 on_ok (Ok x) P Q f h = f h
@@ -122,6 +125,27 @@ batch_read content s t i v x h at only = let l = later_of content s t i v h at i
 pub batch_never : (content : Option (List ℕ)) (s : List Keyed) (t : ArrowTable) (i : ℕ) (v : List ℕ) → IsTableOf content s t → ((b : List ℕ) → content ≡ Some b → slice_get (records_in b) (i + 1) ≡ Some v)
     → ((fields : Fields) (y : TableBatch) → IsRecordOf fields (y ∷ []) v → ⊥) → ⊥
 batch_never content s t i v h at never = let l = later_of content s t i v h at in never t.fields l.0 l.2
+
+-- a batch that is one of a schema's, and one that is not
+pub suited : (s : List Keyed) (below : Ids) (x : Batch) {r : Bool} → IsTrue r ↔ Suits s below x None → r ≡ true → is_of (fields_in s) x ≡ true
+suited s below x h is = (h.0 is).types
+
+pub not_suited : (s : List Keyed) (below : Ids) (x : Batch) {r : Bool} → IsTrue r ↔ Suits s below x None → r ≡ false → is_of (fields_in s) x ≡ false
+not_suited s below x {r} h is = by (is_of (fields_in s) x) refl
+  where
+    by : (k : Bool) → is_of (fields_in s) x ≡ k → is_of (fields_in s) x ≡ false
+    by false same = same
+    by true same = let clash : true ≡ false = sym (h.1 (record { types = same; own = tt })) ∙ is in cc
+
+-- its columns are of the log's kinds
+pub batch_kinds : (content : Option (List ℕ)) (s : List Keyed) (t : ArrowTable) (i : ℕ) (v : List ℕ) (kinds : Bool) → IsTableOf content s t → ((b : List ℕ) → content ≡ Some b → slice_get (records_in b) (i + 1) ≡ Some v)
+    → ((fields : Fields) (y : TableBatch) → IsRecordOf fields (y ∷ []) v → fields ≡ log_fields s → kinds ≡ true) → kinds ≡ true
+batch_kinds content s t i v kinds h at of = let l = later_of content s t i v h at in of t.fields l.0 l.2 h.fields
+
+-- so a record of other kinds is none of the log's
+pub other_kinds : (content : Option (List ℕ)) (s : List Keyed) (i : ℕ) (v : List ℕ) (kinds : Bool) → kinds ≡ false → ((b : List ℕ) → content ≡ Some b → slice_get (records_in b) (i + 1) ≡ Some v)
+    → ((fields : Fields) (y : TableBatch) → IsRecordOf fields (y ∷ []) v → fields ≡ log_fields s → kinds ≡ true) → (t : ArrowTable) → IsTableOf content s t → ⊥
+other_kinds content s i v kinds not at of t h = let clash : true ≡ false = sym (batch_kinds content s t i v kinds h at of) ∙ not in cc
 
 -- why a batch is not read
 abbrev pub BatchCause : IpcError → Bool → Option (List ℕ) → List Keyed → ℕ → ℕ → Type 0
@@ -153,18 +177,18 @@ module _ {D : Type 0} (content_of : D → Option (List ℕ)) (faults_of wants_of
   -- why a log is not opened
   abbrev pub OpenCause : IpcError → D → D → Type 0
   OpenCause e old new = (e ≡ Memory) ⊎ (IsOfDisk e (faults_of old) (faults_of new) (wants_of old) (wants_of new)
-      ⊎ (((e ≡ ReadFault) × ReadFails content_of faults_of old new) ⊎ ((e ≡ invalid_log) × IsNoLog (content_of old))))
+      ⊎ (((e ≡ ReadFault) × Rose (faults_of old) (faults_of new)) ⊎ ((e ≡ invalid_log) × IsNoLog (content_of old))))
 
   -- the walk over its heads is refused
   pub not_walked : (e : IpcError) (old new : D) → (e ≡ Memory) ⊎ (IsOfDisk e (faults_of old) (faults_of new) (wants_of old) (wants_of new)
       ⊎ (((e ≡ ReadFault) × Rose (faults_of old) (faults_of new)) ⊎ ((e ≡ invalid_log) × ((b : List ℕ) → content_of old ≡ Some b → log_records b ≡ None)))) → OpenCause e old new
   not_walked e old new (inl h) = inl h
   not_walked e old new (inr (inl h)) = inr (inl h)
-  not_walked e old new (inr (inr (inl h))) = inr (inr (inl (h.0, record { from = old; content = refl; rose = h.1 })))
+  not_walked e old new (inr (inr (inl h))) = inr (inr (inl h))
   not_walked e old new (inr (inr (inr h))) = inr (inr (inr (h.0, never_framed (content_of old) h.1)))
 
   -- or its records are
-  pub not_read : (e : IpcError) (old d new : D) → content_of d ≡ content_of old → RefusesLog e (content_of d) (faults_of d) (faults_of new) → OpenCause e old new
-  not_read e old d new same (inl h) = inl h
-  not_read e old d new same (inr (inl h)) = inr (inr (inl (h.0, record { from = d; content = same; rose = h.1 })))
-  not_read e old d new same (inr (inr h)) = inr (inr (inr (h.0, subst IsNoLog same h.1)))
+  pub not_read : (e : IpcError) (old d new : D) → content_of d ≡ content_of old → faults_of old ≤ faults_of d → RefusesLog e (content_of d) (faults_of d) (faults_of new) → OpenCause e old new
+  not_read e old d new same later (inl h) = inl h
+  not_read e old d new same later (inr (inl h)) = inr (inr (inl (h.0, omega (arith, later, h.1))))
+  not_read e old d new same later (inr (inr h)) = inr (inr (inr (h.0, subst IsNoLog same h.1)))

@@ -30,12 +30,6 @@ IsNoLog content = (b : List ℕ) (t : ArrowTable) → content ≡ Some b → Mea
 abbrev pub RefusesLog : IpcError → Option (List ℕ) → ℕ → ℕ → Type 0
 RefusesLog e content faults faults' = (e ≡ Memory) ⊎ (((e ≡ ReadFault) × Rose faults faults') ⊎ ((e ≡ invalid_log) × IsNoLog content))
 
--- a read failed, of the disk as it was, or as it was behind the walk over a log's heads, where it told the same bytes
-pub record ReadFails {D : Type 0} (content_of : D → Option (List ℕ)) (faults_of : D → ℕ) (old new : D) : Type 0 where
-  pub from : D
-  pub content : content_of from ≡ content_of old
-  pub rose : Rose (faults_of from) (faults_of new)
-
 -- what is told of a record that is not read
 abbrev pub of_log : IpcError → IpcError
 of_log (errors.OutOfSpec kind) = invalid_log

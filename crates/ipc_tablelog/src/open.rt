@@ -10,7 +10,7 @@ ghost use Rattle.ipc_io.specs.Outside.{Rose};
 ghost use Rattle.ipc_record_log.specs.Logs.{OnlyReads, invalid_log};
 ghost use Rattle.ipc_record_log.specs.Records.{records_in};
 ghost use Rattle.ipc_log_records.specs.Decoded.{IsNoRecord, IsRecordRead};
-ghost use Rattle.ipc_log_records.specs.LogSchemas.{log_fields};
+ghost use Rattle.ipc_log_records.specs.LogSchemas.{WasSaid, log_fields};
 ghost use Rattle.ipc_tablelog.specs.Opened.{AreOnes, IsFirst, RefusesLog, of_log};
 
 use arrow_spec::{IpcError, OutOfSpecKind};
@@ -57,6 +57,7 @@ fn record_at<D: LogDisk>(
     ensures record { IfOk result (λ s. (b r : List ℕ) → D.content log.old.disk ≡ Some b → slice_get (records_in b) i ≡ Some r → IsRecordRead r s) }
     ensures fields { IfOk result (λ s. (table_read s).fields ≡ log_fields (rc_value s.metadata.schema)) }
     ensures is_regular { IfOk result (λ s. regular (fields_in (rc_value s.metadata.schema)) [] ≡ true) }
+    ensures said { IfOk result (λ s. WasSaid (rc_value s.metadata.schema)) }
     ensures kept { OnlyReads D.content D.images D.moment D.images_since D.faults D.wants D.references log.old.disk log.new.disk }
     ensures same { (log.new.spans.items ≡ log.old.spans.items) × (log.new.end ≡ log.old.end) × (log.new.is_failed ≡ log.old.is_failed) }
     ensures err { IfErr result (λ e. RefusesLog e (D.content log.old.disk) (D.faults log.old.disk) (D.faults log.new.disk)) }
@@ -78,6 +79,7 @@ fn first_schema<D: LogDisk>(alloc: Global, log: &mut RecordLog<D>) -> Result<Arr
     ensures some { OnOk result (0 < length log.old.spans.items) }
     ensures first { IfOk result (λ s. IsFirst (D.content log.old.disk) (log_fields s)) }
     ensures is_regular { IfOk result (λ s. regular (fields_in s) [] ≡ true) }
+    ensures said { IfOk result WasSaid }
     ensures own { IfOk result (λ s. log_fields s ≡ bare (fields_in s)) }
     ensures kept { OnlyReads D.content D.images D.moment D.images_since D.faults D.wants D.references log.old.disk log.new.disk }
     ensures same { (log.new.spans.items ≡ log.old.spans.items) × (log.new.end ≡ log.old.end) × (log.new.is_failed ≡ log.old.is_failed) }
@@ -136,6 +138,7 @@ pub(crate) fn schema_in<D: LogDisk>(
     ensures first { IfOk result (λ s. IsFirst (D.content log.old.disk) (log_fields s)) }
     ensures ones { IfOk result (λ s. AreOnes (D.content log.old.disk) (log_fields s) (length log.old.spans.items)) }
     ensures is_regular { IfOk result (λ s. regular (fields_in s) [] ≡ true) }
+    ensures said { IfOk result WasSaid }
     ensures kept { OnlyReads D.content D.images D.moment D.images_since D.faults D.wants D.references log.old.disk log.new.disk }
     ensures same { (log.new.spans.items ≡ log.old.spans.items) × (log.new.end ≡ log.old.end) × (log.new.is_failed ≡ log.old.is_failed) }
     ensures err { IfErr result (λ e. RefusesLog e (D.content log.old.disk) (D.faults log.old.disk) (D.faults log.new.disk)) }

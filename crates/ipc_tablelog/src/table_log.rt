@@ -1,5 +1,5 @@
 //! A log of record batches.
-ghost use Rattle.std.specs.Prelude.{◌≡◌, ◌⊎◌, ◌+◌, ◌-◌, ◌<◌, List, ℕ, [], IfErr, IfOk, MatchResult, None, OnOk, Some, false, length, slice_get, true};
+ghost use Rattle.std.specs.Prelude.{◌≡◌, ◌⊎◌, ◌+◌, ◌-◌, ◌<◌, ◌≤◌, List, ℕ, [], IfErr, IfOk, MatchResult, None, OnOk, Some, false, length, slice_get, true};
 ghost use Rattle.arrow_spec.specs.Files.{ArrowTable};
 ghost use Rattle.arrow_spec.specs.Regular.{regular};
 ghost use Rattle.arrow_spec.specs.declared.error.IpcError.TheVariants.{Memory, ReadFault, State};
@@ -11,18 +11,19 @@ ghost use Rattle.ipc_log_disk.specs.Crashes.{Among, Elapses};
 ghost use Rattle.ipc_record_log.specs.Logs.{OnlyReads, invalid_log};
 ghost use Rattle.ipc_log_records.specs.Below.{cells_of};
 ghost use Rattle.laws_logs.specs.Tables.{MeansBeforeOrAfter, MeansLog, table_of, with_batch};
-ghost use Rattle.ipc_log_records.specs.LogSchemas.{log_fields};
-ghost use Rattle.ipc_tablelog.specs.Opened.{IsNoLog, ReadFails};
+ghost use Rattle.ipc_log_records.specs.LogSchemas.{WasSaid, log_fields};
+ghost use Rattle.ipc_log_records.specs.Below.{is_of};
+ghost use Rattle.ipc_tablelog.specs.Opened.{IsNoLog};
 ghost use Rattle.ipc_tablelog.specs.TableLogs.{IsTableOf, KeepsTable};
 ghost use Rattle.ipc_log_records.specs.Written.{RecordCause};
 
 use crate::open::schema_in;
 use arrow_arrays::RecordBatch;
-use arrow_spec::IpcError;
+use arrow_spec::{IpcError, OutOfSpecKind};
 use arrow_types::ArrowSchema;
 use ipc_io::Refused;
 use ipc_log_disk::LogDisk;
-use ipc_log_records::{batch_in, first_record, record_of};
+use ipc_log_records::{batch_in, first_record, is_of_schema, record_of, types_have_no_ids};
 use ipc_record_log::RecordLog;
 use std::alloc::Global;
 
@@ -58,6 +59,7 @@ impl<D: LogDisk> TableLog<D> {
             (λ e. Elapses (D.moment disk) (D.moment e.object) (D.images_since disk) (D.images_since e.object)) }
         ensures err { IfErr result (λ e. (RecordCause e.error schema.now None × (e.object ≡ disk))
             ⊎ IsOfDisk e.error (D.faults disk) (D.faults e.object) (D.wants disk) (D.wants e.object)) }
+        ensures later { MatchResult result (λ l. D.faults disk ≤ D.faults l.log.disk) (λ e. D.faults disk ≤ D.faults e.object) }
         ensures same_references { MatchResult result (λ l. D.references l.log.disk ≡ D.references disk) (λ e. D.references e.object ≡ D.references disk) }
     {
         match first_record(alloc, schema) {
@@ -86,6 +88,7 @@ impl<D: LogDisk> TableLog<D> {
         ensures opened { IfOk result (λ l. (b : List ℕ) → D.content disk ≡ Some b
             → (t : ArrowTable) × MeansLog b t × KeepsTable (D.content l.log.disk) (D.images l.log.disk) l.schema t) }
         ensures is_regular { IfOk result (λ l. regular (fields_in l.schema) [] ≡ true) }
+        ensures said { IfOk result (λ l. WasSaid l.schema) }
         ensures content { IfOk result (λ l. D.content l.log.disk ≡ D.content disk) }
         ensures ok { IfOk result (λ l. l.log.is_failed ≡ false) }
         ensures since { MatchResult result
@@ -95,8 +98,10 @@ impl<D: LogDisk> TableLog<D> {
             (λ l. Elapses (D.moment disk) (D.moment l.log.disk) (D.images_since disk) (D.images_since l.log.disk))
             (λ e. Elapses (D.moment disk) (D.moment e.object) (D.images_since disk) (D.images_since e.object)) }
         ensures err { IfErr result (λ e. (e.error ≡ Memory) ⊎ IsOfDisk e.error (D.faults disk) (D.faults e.object) (D.wants disk) (D.wants e.object)
-            ⊎ ((e.error ≡ ReadFault) × ReadFails D.content D.faults disk e.object)
+            ⊎ ((e.error ≡ ReadFault) × Rose (D.faults disk) (D.faults e.object))
             ⊎ ((e.error ≡ invalid_log) × IsNoLog (D.content disk))) }
+        ensures left { IfErr result (λ e. IsOfDisk e.error (D.faults disk) (D.faults e.object) (D.wants disk) (D.wants e.object) ⊎ (D.content e.object ≡ D.content disk)) }
+        ensures later { MatchResult result (λ l. D.faults disk ≤ D.faults l.log.disk) (λ e. D.faults disk ≤ D.faults e.object) }
         ensures same_references { MatchResult result (λ l. D.references l.log.disk ≡ D.references disk) (λ e. D.references e.object ≡ D.references disk) }
     {
         let mut log = RecordLog::open(alloc, disk)?;
@@ -128,10 +133,12 @@ impl<D: LogDisk> TableLog<D> {
     ///
     /// # Errors
     ///
-    /// `State` where the log has failed; `ReadFault`; `Memory`; over a disk that does not tell its bytes as of `read_whole`. All is as before.
+    /// `State` where the log has failed; `ReadFault`; `Memory`; over a disk that does not tell its bytes as of `read_whole`, and
+    /// `OutOfSpec(InvalidLog)` where the record is not one batch of the log's kinds. All is as before.
     pub fn read(&mut self, i: usize) -> Result<RecordBatch, IpcError>
         requires { i + 1 < length self.old.log.spans.items }
         ensures batch { IfOk result (λ x. (t : ArrowTable) → IsTableOf (D.content self.old.log.disk) self.old.schema t → slice_get t.batches i ≡ Some (cells_of x)) }
+        ensures kinds { IfOk result (λ x. is_of (fields_in self.old.schema) x ≡ true) }
         ensures kept { OnlyReads D.content D.images D.moment D.images_since D.faults D.wants D.references self.old.log.disk self.new.log.disk }
         ensures same { (self.new.log.spans.items ≡ self.old.log.spans.items) × (self.new.log.end ≡ self.old.log.end) × (self.new.log.is_failed ≡ self.old.log.is_failed) }
         ensures schema { self.new.schema ≡ self.old.schema }
@@ -141,7 +148,12 @@ impl<D: LogDisk> TableLog<D> {
             ⊎ (IsOfBytes e × ((t : ArrowTable) → IsTableOf (D.content self.old.log.disk) self.old.schema t → ⊥))) }
     {
         let bytes = self.log.read(i + 1)?;
-        batch_in(self.alloc, bytes)
+        let batch = batch_in(self.alloc, bytes)?;
+        types_have_no_ids(&self.schema);
+        if !is_of_schema(&self.schema, &[], &batch, None) {
+            return Err(IpcError::OutOfSpec(OutOfSpecKind::InvalidLog));
+        }
+        Ok(batch)
     }
 
     /// The disk.
@@ -168,10 +180,14 @@ impl<D: LogDisk> TableLog<D> {
         ensures schema { self.new.schema ≡ self.old.schema }
         ensures ok { OnOk result ((self.old.log.is_failed ≡ false) × (self.new.log.is_failed ≡ false)) }
         ensures err { IfErr result (λ e.
-            (((e ≡ State) × (self.old.log.is_failed ≡ true)) ⊎ RecordCause e self.old.schema (Some batch.now))
+            (((e ≡ State) × (self.old.log.is_failed ≡ true)) ⊎ ((self.old.log.is_failed ≡ false) × RecordCause e self.old.schema (Some batch.now)))
             × (self.new.log.disk ≡ self.old.log.disk) × (self.new.log.spans.items ≡ self.old.log.spans.items) × (self.new.log.end ≡ self.old.log.end) × (self.new.log.is_failed ≡ self.old.log.is_failed)
             ⊎ ((self.new.log.is_failed ≡ true) × IsOfDisk e (D.faults self.old.log.disk) (D.faults self.new.log.disk) (D.wants self.old.log.disk) (D.wants self.new.log.disk))) }
+        ensures later { D.faults self.old.log.disk ≤ D.faults self.new.log.disk }
     {
+        if self.log.is_failed() {
+            return Err(IpcError::State);
+        }
         let bytes = record_of(self.alloc, &self.schema, Some(batch))?;
         self.log.append(&bytes)
     }

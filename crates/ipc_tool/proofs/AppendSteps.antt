@@ -55,14 +55,14 @@ place_left t e old mid new s content behind o first failures before opened after
 
 -- ── what stays ──
 
-same_others : (t : List ℕ) (old new : Option Held) → new ≡ old → KeepsOthers t old new
+pub same_others : (t : List ℕ) (old new : Option Held) → new ≡ old → KeepsOthers t old new
 same_others t old new h = subst (KeepsOthers t old) (sym h) (itself old)
   where
     itself : (held : Option Held) → KeepsOthers t held held
     itself None = refl
     itself (Some held) = λ other apart. refl
 
-replaced_others : (t : List ℕ) (old new : Option Held) (behind : Option (List ℕ)) → IsReplaced old new t behind → KeepsOthers t old new
+pub replaced_others : (t : List ℕ) (old new : Option Held) (behind : Option (List ℕ)) → IsReplaced old new t behind → KeepsOthers t old new
 replaced_others t None new behind h = h
 replaced_others t (Some held) None behind h = h
 replaced_others t (Some held) (Some held') behind h = h.others
@@ -82,7 +82,7 @@ module _ (t : List ℕ) (old new : Outside) where
   kept_others e (inr (inr h)) = replaced_others t old.held new.held h.place.behind h.place.is
 
   -- nothing is a part of the text of a number
-  adds_nothing : (e : Refusal) → Keeps old.written new.written → AddsCount e old new
+  pub adds_nothing : (e : Refusal) → Keeps old.written new.written → AddsCount e old new
   adds_nothing (Ipc errors.WriteFault) k = (0, (0, Appends-kept_nil old.written new.written k))
   adds_nothing (Ipc e) k = k
   adds_nothing e k = k

@@ -1,11 +1,14 @@
 pub mod AppendRefusals
 pub mod AppendSteps
 pub mod Adding
+pub mod LogSteps
+pub mod LogShows
 pub mod CatNames
 pub mod CatPuts
 pub mod CatSteps
 pub mod Decoding
 pub mod Digits
+pub mod FileSteps
 pub mod FileTasks
 pub mod FileTexts
 pub mod Front

@@ -11,8 +11,8 @@ use crate::note::note_refusal;
 use crate::program::run;
 use crate::refusal::Refusal;
 use arrow_spec::IpcError;
-use ipc_disk::PlaceShelf;
 use ipc_io::{Feed, Sink};
+use ipc_log_disk::VaultShelf;
 use ipc_system::{FolderShelf, InputFeed, OutputSink};
 use ipc_words::help_text;
 use std::alloc::{AllocError, Global};
@@ -53,7 +53,7 @@ fn show<W: Sink, N: Sink>(text: &str, output: &mut W, notes: &mut N) -> u8
 }
 
 /// Answers what the words ask for: puts the text of help or of the version, where that is asked for, and else runs. Then the status is that of `run`.
-pub fn answer<H: PlaceShelf, I: Feed, W: Sink, N: Sink>(
+pub fn answer<H: VaultShelf, I: Feed, W: Sink, N: Sink>(
     alloc: Global,
     words: &[String],
     shelf: &mut H,

@@ -1,14 +1,16 @@
 //! The commands, each in a file of its own.
 ghost use Rattle.std.specs.Prelude.{◌≡◌, [], IsFalse};
 ghost use Rattle.ipc_words.specs.Views.{request_view};
-ghost use Rattle.ipc_tool.specs.Commands.{task_of};
+ghost use Rattle.ipc_tool.specs.Commands.{LogSurvives, task_of};
 ghost use Rattle.ipc_tool.specs.Outside.{outside_of};
 ghost use Rattle.ipc_tool.specs.Tasks.{Does};
 
 mod append;
 mod cat;
 mod csv;
+mod file;
 mod generate;
+mod log;
 mod rows;
 mod schema;
 mod stream;
@@ -18,15 +20,16 @@ use crate::refusal::Refusal;
 use append::append_input;
 use cat::cat_files;
 use generate::put_generated_line;
-use ipc_disk::PlaceShelf;
 use ipc_io::{Feed, Sink};
+use ipc_log_disk::VaultShelf;
 use ipc_words::Request;
+use log::log_target;
 use rows::RowCount;
 use schema::SchemaText;
 use std::alloc::Global;
 
 /// What a request asks for.
-pub(crate) fn perform<H: PlaceShelf, I: Feed, W: Sink>(
+pub(crate) fn perform<H: VaultShelf, I: Feed, W: Sink>(
     alloc: Global,
     request: &Request<'_>,
     shelf: &mut H,
@@ -37,6 +40,8 @@ pub(crate) fn perform<H: PlaceShelf, I: Feed, W: Sink>(
         (outside_of H.held H.faults I.rest I.faults W.written W.faults W.wants shelf.old input.old output.old)
         (outside_of H.held H.faults I.rest I.faults W.written W.faults W.wants shelf.new input.new output.new) }
     ensures unread { IsFalse (task_of (request_view request.now)).reads → input.new ≡ input.old }
+    ensures survives { LogSurvives (request_view request.now)
+        (outside_of H.held H.faults I.rest I.faults W.written W.faults W.wants shelf.old input.old output.old) (H.left shelf.old) (H.left shelf.new) }
     ensures unopened { (task_of (request_view request.now)).opens ≡ [] → shelf.new ≡ shelf.old }
 {
     match request {
@@ -46,6 +51,8 @@ pub(crate) fn perform<H: PlaceShelf, I: Feed, W: Sink>(
         Request::Append(target) => append_input(alloc, shelf, input, output, *target),
         Request::Gen(seed) => put_generated_line(alloc, shelf, input, output, *seed),
         Request::Cat(cat) => cat_files(alloc, shelf, input, output, cat),
+        Request::Log(log) => log_target(alloc, shelf, input, output, log),
         Request::Csv(csv) => of_file(alloc, shelf, input, output, csv, csv.name),
+        Request::File(file) => of_file(alloc, shelf, input, output, file, file.name),
     }
 }

@@ -1,7 +1,8 @@
 //! Commands on one file: what stands under a name, or what the input's hex text stands for.
 ghost use Rattle.std.specs.Prelude.{◌≡◌, ◌⊎◌, ◌≤◌, IsNone, IsSome, IfErr, IfSome, OnOk, Some, option_map};
 ghost use Rattle.arrow_spec.specs.declared.error.IpcError.TheVariants.{Memory};
-ghost use Rattle.ipc_io.specs.Outside.{SinkKept, SourceKept, Stands};
+ghost use Rattle.ipc_io.specs.Outside.{SinkKept, Stands};
+ghost use Rattle.ipc_to_file.specs.Below.{FeedKept};
 ghost use Rattle.ipc_tool.specs.FileTasks.{FileJob, IsStatusOf, PutCause, file_task};
 ghost use Rattle.ipc_tool.specs.Outside.{outside_of};
 ghost use Rattle.ipc_tool.specs.Refusal.{error_status};
@@ -29,7 +30,7 @@ pub(crate) trait PutsFile {
         ensures left { IfErr result (λ e. (job self.now).left e (S.content source.old) (W.written sink.old) (W.written sink.new) (W.wants sink.old) (W.wants sink.new)) }
         ensures complete { IfSome (S.content source.old) (λ b. (job self.now).must b → Stands (S.faults source.old) (S.faults source.new) → Stands (W.faults sink.old) (W.faults sink.new) → IfErr result (λ e. (e ≡ Memory) ⊎ (job self.now).still e b)) }
         ensures statuses { IfErr result (λ e. IsStatusOf (job self.now) (error_status e)) }
-        ensures kept { SourceKept S.content S.faults S.references source.old source.new }
+        ensures kept { FeedKept S.faults S.references source.old source.new }
         ensures sink { SinkKept W.faults W.wants W.references sink.old sink.new };
 }
 

@@ -7,5 +7,7 @@ pub mod NumberSteps
 mod Parsing
 mod WorkedCat
 mod WorkedCsv
+mod WorkedFile
 mod WorkedGen
+mod WorkedLog
 mod WorkedWords

@@ -33,6 +33,9 @@ limit = option (codes "limit")
 abbrev pub raw : Rule
 raw = flag (codes "raw")
 
+abbrev pub append : Rule
+append = flag (codes "append")
+
 abbrev pub name : Rule
 name = word (codes "NAME")
 

@@ -27,6 +27,13 @@ pub record Cat : Type 0 where
   -- one or more
   pub names : List Text
 
+-- file [--raw] [NAME]
+pub record File : Type 0 where
+  -- as bytes, else as hex text
+  pub raw : Bool
+  -- the input where there is none
+  pub name : Option Text
+
 -- csv [--columns LIST] [--limit N] [NAME]
 pub record Csv : Type 0 where
   -- all of them where there is none
@@ -35,6 +42,14 @@ pub record Csv : Type 0 where
   pub limit : Option ℕ
   -- the input where there is none
   pub name : Option Text
+
+-- log [--append] [--raw] TARGET
+pub record Log : Type 0 where
+  -- the input's stream is appended, else the log's table is written
+  pub appends : Bool
+  -- as bytes, else as hex text
+  pub raw : Bool
+  pub target : Text
 
 -- a request
 pub data Request : Type 0 where
@@ -48,7 +63,9 @@ pub data Request : Type 0 where
   -- the number that the rows begin with
   gen : ℕ → Request
   cat : Cat → Request
+  file : File → Request
   csv : Csv → Request
+  log : Log → Request
 
 -- ── what the options and places of a command say, by the rows that `clap` found ──
 
@@ -151,6 +168,13 @@ cat_entry = record {
   asks = λ found. option_map (λ names. cat (record { raw = raw_in found; names = names })) (names_in found);
 }
 
+abbrev pub file_entry : Entry
+file_entry = record {
+  name = codes "file";
+  rules = line.raw ∷ line.name ∷ [];
+  asks = λ found. Some (file (record { raw = raw_in found; name = name_in found }));
+}
+
 abbrev pub csv_entry : Entry
 csv_entry = record {
   name = codes "csv";
@@ -162,6 +186,17 @@ csv_entry = record {
   })) (limit_in found)) (columns_in found);
 }
 
+abbrev pub log_entry : Entry
+log_entry = record {
+  name = codes "log";
+  rules = line.append ∷ line.raw ∷ line.target ∷ [];
+  asks = λ found. option_map (λ target. log (record {
+    appends = is_on (codes "append") found;
+    raw = raw_in found;
+    target = target;
+  })) (target_in found);
+}
+
 -- all commands, in the order in which help lists them
 unfoldable pub commands : List Entry
 commands =
@@ -171,7 +206,9 @@ commands =
     append_entry ∷
     gen_entry ∷
     cat_entry ∷
+    file_entry ∷
     csv_entry ∷
+    log_entry ∷
     []
 
 -- a command as `clap` reads it

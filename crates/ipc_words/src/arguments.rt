@@ -1,5 +1,5 @@
 //! The options of the commands and their words by place, as `clap` is told of them.
-ghost use Rattle.ipc_words.specs.CommandLine.{columns, limit, name, names, number, raw, target};
+ghost use Rattle.ipc_words.specs.CommandLine.{append, columns, limit, name, names, number, raw, target};
 ghost use Rattle.ipc_words.specs.Commands.{IsArg};
 
 use clap::{Arg, ArgAction};
@@ -33,6 +33,16 @@ pub(crate) fn raw_flag<'a>(alloc: Global) -> Arg<'a>
         .long("raw")
         .action(ArgAction::SetTrue)
         .help("Puts the bytes as they are, and not as hex text")
+}
+
+/// --append
+pub(crate) fn append_flag<'a>(alloc: Global) -> Arg<'a>
+    ensures { IsArg append result }
+{
+    Arg::new(alloc, "append")
+        .long("append")
+        .action(ArgAction::SetTrue)
+        .help("Appends the batches of a stream, which standard input has as hex text")
 }
 
 /// NAME, which may be absent

@@ -3,18 +3,19 @@ ghost use Rattle.std.specs.Prelude.{◌≡◌, ◌∷◌, [], IfOk, IfErr, List,
 ghost use Rattle.clap.specs.Walk.{rows_of};
 ghost use Rattle.clap.specs.Words.{found_of};
 ghost use Rattle.ipc_words.specs.Commands.{HasCommands, IsCommand, Reads, asked_of};
-ghost use Rattle.ipc_words.specs.Requests.{Entry, append_entry, asked_by, cat_entry, command_line, csv_entry, gen_entry, rows_entry, schema_entry, stream_entry};
+ghost use Rattle.ipc_words.specs.Requests.{Entry, append_entry, asked_by, cat_entry, command_line, csv_entry, file_entry, gen_entry, log_entry, rows_entry, schema_entry, stream_entry};
 ghost use Rattle.ipc_words.specs.Views.{request_view};
 ghost use Rattle.ipc_words.specs.declared.words_error.WordsError.TheVariants.{NoRequest};
 
 use crate::arguments::{
-    columns_option, limit_option, name_word, names_words, number_word, raw_flag, target_word,
+    append_flag, columns_option, limit_option, name_word, names_words, number_word, raw_flag,
+    target_word,
 };
 use crate::found::{
     is_flag_in, read_columns, read_limit, read_name, read_names, read_number, read_target,
 };
 use crate::help::statuses;
-use crate::requests::{Cat, Csv, Request, Stream};
+use crate::requests::{Cat, Csv, File, Log, Request, Stream};
 use crate::words_error::WordsError;
 use clap::{ArgMatches, Command};
 use std::alloc::{AllocError, Global};
@@ -131,6 +132,25 @@ pub(crate) fn read_cat<'a>(alloc: Global, found: &ArgMatches<'a>) -> Result<Requ
     }))
 }
 
+fn file_command<'a>(alloc: Global) -> Result<Command<'a>, AllocError>
+    ensures { IfOk result (IsCommand file_entry) }
+{
+    Command::new(alloc, "file")
+        .about("Writes a stream as a file")
+        .arg(raw_flag(alloc))?
+        .arg(name_word(alloc))
+}
+
+/// file [--raw] [NAME]
+pub(crate) fn read_file<'a>(found: &ArgMatches<'a>) -> Request<'a>
+    ensures { asked_of file_entry found.now ≡ Some (request_view result) }
+{
+    Request::File(File {
+        raw: is_flag_in(found, "raw"),
+        name: read_name(found),
+    })
+}
+
 fn csv_command<'a>(alloc: Global) -> Result<Command<'a>, AllocError>
     ensures { IfOk result (IsCommand csv_entry) }
 {
@@ -152,6 +172,32 @@ pub(crate) fn read_csv<'a>(alloc: Global, found: &ArgMatches<'a>) -> Result<Requ
         columns,
         limit,
         name: read_name(found),
+    }))
+}
+
+fn log_command<'a>(alloc: Global) -> Result<Command<'a>, AllocError>
+    ensures { IfOk result (IsCommand log_entry) }
+{
+    Command::new(alloc, "log")
+        .about("Writes the table of a crash-safe log as a stream, or appends to the log")
+        .arg(append_flag(alloc))?
+        .arg(raw_flag(alloc))?
+        .arg(target_word(
+            alloc,
+            "The log, which --append makes where the file is empty",
+        ))
+}
+
+/// log [--append] [--raw] TARGET
+pub(crate) fn read_log<'a>(found: &ArgMatches<'a>) -> Result<Request<'a>, WordsError>
+    ensures asked { IfOk result (λ r. asked_of log_entry found.now ≡ Some (request_view r)) }
+    ensures refused { IfErr result (λ e. e ≡ NoRequest → asked_of log_entry found.now ≡ None) }
+{
+    let target = read_target(found)?;
+    Ok(Request::Log(Log {
+        appends: is_flag_in(found, "append"),
+        raw: is_flag_in(found, "raw"),
+        target,
     }))
 }
 
@@ -191,7 +237,9 @@ pub(crate) fn program<'a>(alloc: Global) -> Result<Command<'a>, AllocError>
     program = with_command(program, append_command(alloc));
     program = with_command(program, gen_command(alloc));
     program = with_command(program, cat_command(alloc));
+    program = with_command(program, file_command(alloc));
     program = with_command(program, csv_command(alloc));
+    program = with_command(program, log_command(alloc));
     program
 }
 
@@ -211,7 +259,9 @@ pub(crate) fn read_command<'a>(
         "append" => read_append(found),
         "gen" => read_gen(found),
         "cat" => read_cat(alloc, found),
+        "file" => Ok(read_file(found)),
         "csv" => read_csv(alloc, found),
+        "log" => read_log(found),
         _ => Err(WordsError::NoRequest),
     }
 }

@@ -11,6 +11,6 @@ mod words;
 mod words_error;
 
 pub use help::help_text;
-pub use requests::{Cat, Csv, Request, Stream};
+pub use requests::{Cat, Csv, File, Log, Request, Stream};
 pub use words::read_words;
 pub use words_error::WordsError;

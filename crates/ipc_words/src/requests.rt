@@ -24,6 +24,15 @@ pub struct Cat<'a> {
     ghost some: { 0 < length names.items },
 }
 
+/// file [--raw] [NAME]
+#[derive(Debug, Drop, PartialEq, Eq)]
+pub struct File<'a> {
+    /// Whether the file is put as it is, and not as hex text.
+    pub raw: bool,
+    /// The name of the stream, or the input.
+    pub name: Option<&'a str>,
+}
+
 /// csv [--columns LIST] [--limit N] [NAME]
 #[derive(Debug, Drop, PartialEq, Eq)]
 pub struct Csv<'a> {
@@ -33,6 +42,17 @@ pub struct Csv<'a> {
     pub limit: Option<usize>,
     /// The name of the file, or the input.
     pub name: Option<&'a str>,
+}
+
+/// log [--append] [--raw] TARGET
+#[derive(Debug, Drop, PartialEq, Eq)]
+pub struct Log<'a> {
+    /// Whether the stream that the input has as hex text is appended, and not the log written.
+    pub appends: bool,
+    /// Whether the stream is put as it is, and not as hex text.
+    pub raw: bool,
+    /// The name of the log.
+    pub target: &'a str,
 }
 
 /// What words ask for.
@@ -50,6 +70,10 @@ pub enum Request<'a> {
     Gen(u64),
     /// The files of several names as one stream.
     Cat(Cat<'a>),
+    /// A stream as a file.
+    File(File<'a>),
     /// The rows of a file as CSV.
     Csv(Csv<'a>),
+    /// The table of a log, or batches at its end.
+    Log(Log<'a>),
 }

@@ -5,6 +5,7 @@
 mod asked;
 mod attempts;
 mod calls;
+mod crashes;
 mod cuts;
 mod endless;
 mod groups;

@@ -1,5 +1,6 @@
 //! Runs of the program.
 use crate::attempts::run_each;
+use crate::crashes::run_crashed;
 use device_words::{Answer, Devices, NotingSink, Outside};
 use ipc_tool::{FolderShelf, answer as answered, run};
 use std::str::from_utf8;
@@ -119,7 +120,7 @@ fn run_once(
     outside.keep(answer, &devices.shelf);
 }
 
-/// Whether a call runs the program: `run WORD..`, `answer WORD..`, `here WORD..` or `each DEVICE WORD..`.
+/// Whether a call runs the program: `run WORD..`, `answer WORD..`, `here WORD..`, `each DEVICE WORD..` or `crash COUNT FILL SIZE WORD..`.
 pub(crate) fn run_named(
     rt: &HostRuntime,
     answer: &Answer,
@@ -131,6 +132,7 @@ pub(crate) fn run_named(
     match name {
         "run" | "answer" | "here" => run_once(rt, answer, outside, output, name, words),
         "each" => run_each(answer, outside, words),
+        "crash" => run_crashed(answer, outside, words),
         _ => return false,
     }
     true

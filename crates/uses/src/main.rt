@@ -1,8 +1,9 @@
 //! Uses of `arrow_ipc`, by words, of which one command may stand behind another:
 //!
-//! - `show`, as without any word, shows nine uses, of an Arrow file on standard input;
+//! - `show`, as without any word, shows ten uses, of an Arrow file on standard input;
 //! - `columns`, `dictionary`, `filter`, `grow`, `join`, `log` and `merge` show uses of arrays and batches that are made in memory;
 //! - `file-again FROM TO` and `stream-again FROM TO` write a file or a stream that they read, and `send FROM TO` a file as a stream;
+//! - `look NAME` and `read NAME` count the rows of a file in memory, by views and by arrays, `sum-views NAME` and `sum-arrays NAME` add up its first column, and `load NAME` does neither;
 //! - `write-file NAME BATCHES ROWS` and `write-stream NAME BATCHES ROWS` write numbers, and `append NAME BATCHES ROWS` behind the batches of a file.
 #![tactic(auto)]
 
@@ -16,6 +17,7 @@ mod file_to_stream;
 mod files_to_stream;
 mod filter_stream;
 mod flight;
+mod lent;
 mod log_service;
 mod merge_streams;
 mod numbers;
@@ -23,11 +25,14 @@ mod read_column;
 mod read_stream;
 mod show;
 mod show_made;
+mod sum_lent;
+mod sums;
 mod write_batch;
 mod write_file;
 mod write_stream;
 
 use again::write_again;
+use lent::count_file;
 use numbers::write_numbers;
 use show::show_uses;
 use show_made::show_use;
@@ -44,6 +49,19 @@ fn do_again<'a>(
         return Err("two names");
     };
     write_again(rt, word, from, to)?;
+    Ok(behind)
+}
+
+/// Counts what a word asks for of a file, by a name, and gives the words behind it.
+fn do_count<'a>(
+    rt: &HostRuntime,
+    word: &str,
+    words: &'a [String],
+) -> Result<&'a [String], &'static str> {
+    let [name, behind @ ..] = words else {
+        return Err("a name");
+    };
+    count_file(rt, word, name)?;
     Ok(behind)
 }
 
@@ -84,6 +102,7 @@ fn do_word<'a>(
             Ok(words)
         }
         "file-again" | "stream-again" | "send" => do_again(rt, word, words),
+        "load" | "look" | "read" | "sum-views" | "sum-arrays" => do_count(rt, word, words),
         "write-file" | "write-stream" | "append" => do_numbers(rt, word, words),
         _ => Err("no such word"),
     }

@@ -1,10 +1,11 @@
-//! Nine uses of `arrow_ipc`. An Arrow file comes on standard input: the first column of its first record batch, the rows of each batch and those that come through a flight are printed, a batch of numbers is written, by itself, as a stream, which is read again, and as a file, to which another is appended, and the file is sent as a stream.
+//! Ten uses of `arrow_ipc`. An Arrow file comes on standard input: the sum of its first column is printed, of bytes that are lent; the first column of its first record batch, the rows of each batch and those that come through a flight are printed, a batch of numbers is written, by itself, as a stream, which is read again, and as a file, to which another is appended, and the file is sent as a stream.
 use crate::append_batch::file_with;
 use crate::each_batch::heights;
 use crate::file_to_stream::stream_of;
 use crate::flight::rows_handed;
 use crate::read_column::{first_batch, first_column};
 use crate::read_stream::first_height;
+use crate::sum_lent::{Count, count_lent};
 use crate::write_batch::message_of;
 use crate::write_file::file_of_numbers;
 use crate::write_stream::stream_of_numbers;
@@ -73,6 +74,13 @@ fn show_batches(rt: &HostRuntime, source: &mut MemorySource) -> Result<(), IpcEr
     Ok(())
 }
 
+/// The sum of the first column, whose bytes are lent.
+fn show_sum(rt: &HostRuntime, file: &[u8]) -> Result<(), IpcError> {
+    let sum = count_lent(rt.alloc(), file, Count::Cells)?;
+    let _ = println!(rt; "a sum of {sum} over lent bytes");
+    Ok(())
+}
+
 /// The lengths of a stream and a file that are written.
 fn show_written(rt: &HostRuntime) -> Result<(), &'static str> {
     match written(rt.alloc()) {
@@ -110,6 +118,9 @@ fn show_appended(rt: &HostRuntime) -> Result<(), &'static str> {
 /// The uses, one after another.
 pub(crate) fn show_uses(rt: &HostRuntime) -> Result<(), &'static str> {
     let bytes = input(rt)?;
+    if let Err(error) = show_sum(rt, &bytes) {
+        return Err(error.name());
+    }
     let mut source = MemorySource::new(bytes, Vec::new(rt.alloc()), Vec::new(rt.alloc()));
     if let Err(error) = show_batches(rt, &mut source) {
         return Err(error.name());

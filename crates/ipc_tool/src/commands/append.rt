@@ -1,6 +1,8 @@
 //! append TARGET: the input's stream, appended to what stands under a name.
 ghost use Rattle.std.specs.Prelude.{◌≡◌, ◌≤◌, IfOk, IfErr, OnOk, Some, drop, length};
 ghost use Rattle.std.specs.Io.KnownBytes.{Appends, IsAtEnd};
+ghost use Rattle.ipc_log_streams.specs.Appends.{schema_of};
+ghost use Rattle.ipc_log_streams.specs.Below.{WasSaid};
 ghost use Rattle.ipc_tool.specs.Commands.Append.{CountRefused, InputCause, IsReadStream, PlaceAppended, PlaceRefused, append_options, append_task, count_text};
 ghost use Rattle.ipc_tool.specs.Outside.{outside_of};
 ghost use Rattle.ipc_tool.specs.Tasks.{Does};
@@ -9,6 +11,7 @@ use crate::input::read_hex;
 use crate::refusal::Refusal;
 use ipc_disk::PlaceShelf;
 use ipc_io::{Failed, Feed, Sink};
+use ipc_log_streams::are_bytes;
 use ipc_round_trip::{WholeStream, WriteOptions, append_stream, read_whole};
 use std::alloc::{AllocError, Global};
 
@@ -45,13 +48,15 @@ fn append_options() -> WriteOptions
 }
 
 // The stream that the input's hex text stands for.
-fn read_stream<I: Feed>(alloc: Global, input: &mut I) -> Result<WholeStream, Refusal>
+pub(crate) fn read_stream<I: Feed>(alloc: Global, input: &mut I) -> Result<WholeStream, Refusal>
     ensures stream { IfOk result (λ s. IsReadStream (I.rest input.old) s) }
+    ensures said { IfOk result (λ s. WasSaid (schema_of s)) }
     ensures at_end { OnOk result (IsAtEnd (I.rest input.new)) }
     ensures cause { IfErr result (λ e. InputCause e (I.rest input.old) (I.rest input.new) (I.faults input.old) (I.faults input.new)) }
     ensures reads { I.faults input.old ≤ I.faults input.new }
 {
     let bytes = read_hex(alloc, input)?;
+    are_bytes(&bytes);
     let stream = read_whole(alloc, BytesFeed { bytes, at: 0 })?;
     Ok(stream)
 }
@@ -84,7 +89,7 @@ fn count_text(alloc: Global, count: u64) -> Result<Vec<u8>, AllocError>
     Ok(text)
 }
 
-fn put_count<W: Sink>(alloc: Global, output: &mut W, count: u64) -> Result<(), Refusal>
+pub(crate) fn put_count<W: Sink>(alloc: Global, output: &mut W, count: u64) -> Result<(), Refusal>
     ensures text { OnOk result (Appends (W.written output.old) (W.written output.new) (count_text count)) }
     ensures refused { IfErr result (λ e. CountRefused e count (W.written output.old) (W.written output.new) (W.faults output.old) (W.faults output.new)) }
     ensures writes { W.faults output.old ≤ W.faults output.new }

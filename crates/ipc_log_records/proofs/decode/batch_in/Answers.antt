@@ -1,5 +1,8 @@
+use Rattle.std.proofs.Common.{◌≡◌, List, subst}
 use Rattle.std.proofs.lemmas.Result.{IfOk-weaker}
-use Rattle.ipc_log_records.proofs.Decoding.{none_one, not_one, one_read}
+use Rattle.arrow_types.specs.Schemas.{Keyed, fields_in}
+use Rattle.laws_sent.specs.Below.{plain_fields}
+use Rattle.ipc_log_records.proofs.Decoding.{none_one, not_one, one_kinds, one_read}
 use Rattle.ipc_log_records.proofs.Writing.{handed, if_err}
 use Rattle.ipc_log_records.proofs.decode.batch_in.Goals as goal
 
@@ -12,3 +15,9 @@ returns-clause-batch c =
 
 pub returns-clause-err : goal.returns-clause-err
 returns-clause-err c = if_err c.last_of.result _ _ (λ e h. none_one e c.args.bytes.items c.in_ok-stream.stream c.in_ok-stream.ensures.whole h) c.last_of.ensures.none
+
+pub returns-clause-kinds : goal.returns-clause-kinds
+returns-clause-kinds c =
+    let s = c.in_ok-stream.stream in
+    let plain = subst (λ (k : List Keyed). plain_fields (fields_in k) ≡ fields_in k) c.deref.ensures c.types_have_no_ids.ensures in
+    IfOk-weaker c.last_of.result _ _ (λ x l fields y k r others log. one_kinds c.args.bytes.items s l.0 x fields y k c.in_ok-stream.ensures.whole c.in_ok-stream.ensures.fields l.1 r plain others log) c.last_of.ensures.last

@@ -27,3 +27,9 @@ returns-in-Cat-clause-does g c =
 pub returns-in-Cat-clause-unopened : goal.returns-in-Cat-clause-unopened
 returns-in-Cat-clause-unopened g c =
     subst (λ request. (task_of (request_view request)).opens ≡ [] → c.cat_files.new.shelf ≡ c.args.shelf.now) (sym c.in-Cat.is) (λ none. absurd (no_names c.in-Cat.cat.names.items c.in-Cat.cat.some none))
+
+pub returns-in-Log-clause-does : goal.returns-in-Log-clause-does
+returns-in-Log-clause-does g c =
+    let old = outside_of g.H.Shelf.held g.H.Shelf.faults g.I.Feed.rest g.I.Feed.faults g.W.Sink.written g.W.Sink.faults g.W.Sink.wants c.args.shelf.now c.args.input.now c.args.output.now in
+    let new = outside_of g.H.Shelf.held g.H.Shelf.faults g.I.Feed.rest g.I.Feed.faults g.W.Sink.written g.W.Sink.faults g.W.Sink.wants c.log_target.new.shelf c.log_target.new.input c.log_target.new.output in
+    subst (λ request. Does (task_of (request_view request)) c.log_target.result old new) (sym c.in-Log.is) c.log_target.ensures.does

@@ -27,9 +27,17 @@ pub returns-in-cat : goal.returns-in-cat
 unfolding asked_by commands
 returns-in-cat c = record { asked = rw c.in-cat.is c.read_cat.ensures.asked; refused = rw c.in-cat.is c.read_cat.ensures.refused }
 
+pub returns-in-file-clause-asked : goal.returns-in-file-clause-asked
+unfolding asked_by commands
+returns-in-file-clause-asked c = rw c.in-file.is c.read_file.ensures
+
 pub returns-in-csv : goal.returns-in-csv
 unfolding asked_by commands
 returns-in-csv c = record { asked = rw c.in-csv.is c.read_csv.ensures.asked; refused = rw c.in-csv.is c.read_csv.ensures.refused }
+
+pub returns-in-log : goal.returns-in-log
+unfolding asked_by commands
+returns-in-log c = record { asked = rw c.in-log.is c.read_log.ensures.asked; refused = rw c.in-log.is c.read_log.ensures.refused }
 
 pub returns-in_default-clause-refused : goal.returns-in_default-clause-refused
 unfolding commands

@@ -1,4 +1,4 @@
-use Rattle.std.proofs.Common.{[], ◌∷◌, List, ℕ, inl, inr, Some, refl, sym, subst, true, ◌≡◌}
+use Rattle.std.proofs.Common.{[], ◌∷◌, List, ℕ, inl, inr, Some, refl, sym, subst, true, false, ◌≡◌, ◌∙◌}
 use Rattle.arrow_spec.specs.Regular.{regular}
 use Rattle.arrow_types.specs.Schemas.{fields_in}
 use Rattle.ipc_log_disk.specs.Below.{IsOfDisk}
@@ -15,7 +15,9 @@ returns-in_err-bytes-clause-any_moment g c = λ ready x t h since.
     untouched (g.D.LogDisk.content l.disk) (g.D.LogDisk.images l.disk) c.args.self.now.schema t l.spans.items l.end x (cells_of c.args.batch.now) h (λ b told. l.ready ready b told) (g.met.D.LogDisk.only_now l.disk x since)
 
 pub returns-in_err-bytes-clause-err : goal.returns-in_err-bytes-clause-err
-returns-in_err-bytes-clause-err g c = handed _ c.from_residual.result c.in_err-bytes.field-0.0 c.from_residual.ensures.1 (inl (inr c.in_err-bytes.ensures.err, refl, refl, refl, refl))
+returns-in_err-bytes-clause-err g c =
+    let sound : c.args.self.now.log.is_failed ≡ false = sym c.is_failed.ensures ∙ c.if-is_failed.false in
+    handed _ c.from_residual.result c.in_err-bytes.field-0.0 c.from_residual.ensures.1 (inl (inr (sound, c.in_err-bytes.ensures.err), refl, refl, refl, refl))
 
 pub returns-clause-acknowledged : goal.returns-clause-acknowledged
 returns-clause-acknowledged g c =
@@ -40,4 +42,4 @@ returns-clause-err g c =
     let d = g.D.LogDisk in
     let l = c.args.self.now.log in
     let n = c.append.new.self in
-    append_causes c.append.result c.args.self.now.schema (Some c.args.batch.now) l.is_failed n.is_failed l.disk n.disk l.spans.items n.spans.items l.end n.end (λ e. IsOfDisk e (d.faults l.disk) (d.faults n.disk) (d.wants l.disk) (d.wants n.disk)) c.append.ensures.err
+    append_causes c.append.result c.args.self.now.schema (Some c.args.batch.now) l.is_failed n.is_failed l.disk n.disk l.spans.items n.spans.items l.end n.end (λ e. IsOfDisk e (d.faults l.disk) (d.faults n.disk) (d.wants l.disk) (d.wants n.disk)) c.append.ensures.err (sym c.is_failed.ensures ∙ c.if-is_failed.false)

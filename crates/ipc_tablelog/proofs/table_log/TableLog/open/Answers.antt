@@ -1,4 +1,4 @@
-use Rattle.std.proofs.Common.{◌∙◌, sym, subst}
+use Rattle.std.proofs.Common.{◌∙◌, ap, arith, inr, sym, subst}
 use Rattle.ipc_log_disk.specs.Crashes.{Among, Elapses}
 use Rattle.ipc_log_records.proofs.Writing.{handed}
 use Rattle.ipc_record_log.proofs.ReadOn.{elapses_on}
@@ -43,4 +43,16 @@ pub returns-in-Err-clause-err : goal.returns-in-Err-clause-err
 returns-in-Err-clause-err g c =
     let d = g.D.LogDisk in
     subst (λ x. OpenCause d.content d.faults d.wants c.in-Err.error c.args.disk x) (sym c.into_inner.ensures)
-    (not_read d.content d.faults d.wants c.in-Err.error c.args.disk c.in_ok-log.log.disk c.schema_in.new.log.disk c.in_ok-log.ensures.content c.in-Err.ensures.err)
+    (not_read d.content d.faults d.wants c.in-Err.error c.args.disk c.in_ok-log.log.disk c.schema_in.new.log.disk c.in_ok-log.ensures.content c.in_ok-log.ensures.later c.in-Err.ensures.err)
+
+pub returns-in_err-log-clause-left : goal.returns-in_err-log-clause-left
+returns-in_err-log-clause-left g c = handed _ c.from_residual.result c.in_err-log.field-0.0 c.from_residual.ensures.1 c.in_err-log.ensures.left
+
+pub returns-in-Ok-clause-later : goal.returns-in-Ok-clause-later
+returns-in-Ok-clause-later g c = omega (arith, c.in_ok-log.ensures.later, c.schema_in.ensures.kept.faults)
+
+pub returns-in-Err-clause-left : goal.returns-in-Err-clause-left
+returns-in-Err-clause-left g c = inr (ap g.D.LogDisk.content c.into_inner.ensures ∙ c.schema_in.ensures.kept.content ∙ c.in_ok-log.ensures.content)
+
+pub returns-in-Err-clause-later : goal.returns-in-Err-clause-later
+returns-in-Err-clause-later g c = omega (arith, c.in_ok-log.ensures.later, c.schema_in.ensures.kept.faults, ap g.D.LogDisk.faults c.into_inner.ensures)
