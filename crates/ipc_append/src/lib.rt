@@ -20,6 +20,7 @@ pub use ipc_file_writer::{
     plan_values, put_body, write, write_continuation, write_dictionary, write_message, write_plan,
 };
 pub use ipc_streams::{StreamMetadata, StreamReader, StreamState, read_stream_metadata};
+pub use laws_sent::types_have_no_ids;
 pub use stream::WholeStream;
 pub use stream_append::append_stream;
 pub use whole::read_whole;

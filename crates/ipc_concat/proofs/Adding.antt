@@ -17,11 +17,7 @@ use Rattle.ipc_bodies.specs.Encodings.{text_of}
 use Rattle.ipc_bodies.specs.Puts.{Moved, PutsPart}
 use Rattle.laws_walk.proofs.Below.{kinds_of_schema}
 use Rattle.same_fields.proofs.OneKind.{kinds_through}
-use Rattle.ipc_reader.specs.Below.{FileCause, FileMetadata, HasFields, file_block, meta_view, schema_shown, table_of}
-use Rattle.ipc_reader.specs.Reads.{NextBatch}
-use Rattle.ipc_reader.specs.declared.cursor.FileCursor.{FileCursor}
-use Rattle.ipc_stream_writer.specs.Below.{cells_of, chunk_text, columns_of, counted}
-use Rattle.ipc_stream_writer.specs.Calls.{WriteFailed, Writes}
+use Rattle.laws_walk.specs.Below.{FileCause, FileMetadata, HasFields, file_block, meta_view, schema_shown, table_of, NextBatch, FileCursor, cells_of, chunk_text, columns_of, counted, WriteFailed, Writes}
 use Rattle.laws_walk.specs.Places.{IsReadBy, Walked, place_of, walking}
 use Rattle.laws_walk.proofs.Cursors.{answered, next_none as none_walked, next_refused as walk_refused, read_on, reads_too}
 use Rattle.laws_walk.proofs.Fronts.{of_put, part_behind}

@@ -8,7 +8,7 @@ use Rattle.arrow_spec.specs.declared.error.IpcError.{IpcError}
 use Rattle.arrow_spec.specs.Files.{TableBatch}
 use Rattle.arrow_types.specs.Schemas.{Keyed}
 use Rattle.ipc_bodies.specs.Encodings.{text_of}
-use Rattle.ipc_reader.specs.declared.cursor.FileCursor.{FileCursor}
+use Rattle.laws_walk.specs.Below.{FileCursor}
 use Rattle.ipc_io.specs.Outside.{Rose}
 use Rattle.ipc_concat.specs.Concat.{AddsPart, CauseOf}
 use Rattle.ipc_concat.proofs.Keeping.{cause_as}

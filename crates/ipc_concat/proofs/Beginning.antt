@@ -18,17 +18,10 @@ use Rattle.ipc_bodies.specs.Encodings.{text_of}
 use Rattle.ipc_bodies.specs.Puts.{Moved, PutsPart}
 use Rattle.ipc_bodies.specs.declared.encoding.Encoding.{Encoding}
 use Rattle.ipc_write_laws.proofs.Messages.{messages_front_means}
-use Rattle.laws_walk.specs.Below.{AreSentFields, AreStarted, IsNumbered, plain_fields}
-use Rattle.laws_walk.proofs.Below.{are_sent_fields, begun_sent, why_refused}
+use Rattle.laws_walk.specs.Below.{AreSentFields, AreStarted, IsNumbered, plain_fields, IsOpened, FileMetadata, FileSays, file_custom, meta_view, schema_shown, FileCursor, SchemaIsSaid, StreamPairs, is_new, said_fields, stream_text, HasBegun, LeavesAll, StartCause, StartFailed, IsWritten, table_with, StreamCore}
+use Rattle.laws_walk.proofs.Below.{are_sent_fields, begun_sent, why_refused, schema_is_put}
 use Rattle.laws_transcode.specs.Files.{IsSentFile}
-use Rattle.laws_walk.specs.Below.{IsOpened}
-use Rattle.ipc_reader.specs.Below.{FileMetadata, FileSays, file_custom, meta_view, schema_shown}
-use Rattle.ipc_reader.specs.declared.cursor.FileCursor.{FileCursor}
-use Rattle.ipc_stream_writer.specs.Below.{SchemaIsSaid, StreamPairs, held_by, is_new, said_fields, stream_text}
-use Rattle.ipc_stream_writer.specs.Calls.{HasBegun, LeavesAll, StartCause, StartFailed}
-use Rattle.ipc_stream_writer.specs.Written.{IsWritten, table_with}
-use Rattle.ipc_stream_writer.specs.declared.stream.StreamCore.{StreamCore}
-use Rattle.ipc_stream_writer.proofs.Below.{schema_is_put}
+use Rattle.ipc_dictionaries.specs.Tracker.{held_by}
 use Rattle.laws_walk.specs.Places.{Sending, place_of, schema_of_reader, walking}
 use Rattle.laws_walk.specs.Sends.{IsNewWriter, IsWriter}
 use Rattle.laws_walk.proofs.Begins.{among_refuses, begun}

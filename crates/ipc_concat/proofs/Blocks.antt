@@ -4,10 +4,8 @@ use Rattle.arrow_spec.specs.declared.error.IpcError.{IpcError}
 use Rattle.arrow_spec.specs.Features.{chosen_floats}
 use Rattle.arrow_spec.specs.Files.{TableBatch, «all», file_reading, to_read}
 use Rattle.arrow_spec.specs.Readings.{Refuses, refusals}
-use Rattle.laws_walk.specs.Below.{IsOpened}
+use Rattle.laws_walk.specs.Below.{IsOpened, MayProject, file_custom, meta_view, FileCursor}
 use Rattle.std.specs.Rc.{rc_value}
-use Rattle.ipc_reader.specs.Below.{MayProject, file_custom, meta_view}
-use Rattle.ipc_reader.specs.declared.cursor.FileCursor.{FileCursor}
 use Rattle.laws_walk.specs.Places.{place_of, table_sent, walking}
 use Rattle.laws_walk.specs.Walks.{IsOpenFor, walk_reading, within}
 use Rattle.laws_walk.proofs.Begins.{none_so_far}

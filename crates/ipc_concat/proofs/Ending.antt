@@ -10,9 +10,7 @@ use Rattle.arrow_spec.specs.Streams.{closed, end_mark}
 use Rattle.ipc_io.specs.Outside.{Rose}
 use Rattle.ipc_bodies.specs.Encodings.{text_of}
 use Rattle.ipc_bodies.specs.Puts.{Moved, PutsPart}
-use Rattle.ipc_stream_writer.specs.Below.{counted, is_started}
-use Rattle.ipc_stream_writer.specs.Calls.{Finishes, HasFinished}
-use Rattle.ipc_stream_writer.specs.declared.stream.StreamCore.{StreamCore}
+use Rattle.laws_walk.specs.Below.{counted, is_started, Finishes, HasFinished, StreamCore}
 use Rattle.laws_walk.specs.declared.summary.Summary.{Summary}
 use Rattle.laws_walk.proofs.Fronts.{Appends-text, of_put, part_behind}
 use Rattle.laws_walk.proofs.Nexts.{with_end}

@@ -6,7 +6,7 @@ use Rattle.arrow_spec.specs.Kinds as kind
 use Rattle.arrow_spec.specs.Kinds.{Fields, Kind, bare, bare_kind}
 use Rattle.arrow_types.specs.Schemas.{fields_in}
 use Rattle.ipc_fields.specs.IpcFields.{ids_of}
-use Rattle.ipc_reader.specs.Below.{FileMetadata, meta_view}
+use Rattle.laws_walk.specs.Below.{FileMetadata, meta_view}
 use Rattle.same_fields.proofs.BareKinds.{fields_with_bare}
 
 mutual

@@ -3,7 +3,7 @@ use Rattle.std.proofs.Common.{◌≡◌, sym, ℕ, ◌<◌, List, length, get_or
 use Rattle.std.specs.List.{AllByRecursion}
 use Rattle.arrow_types.specs.Schemas.{Keyed}
 use Rattle.ipc_io.specs.Outside.{IsSize}
-use Rattle.ipc_reader.specs.declared.cursor.FileCursor.{FileCursor}
+use Rattle.laws_walk.specs.Below.{FileCursor}
 use Rattle.ipc_concat.specs.Concat.{EachKept}
 use Rattle.ipc_concat.specs.Files.{AreUnread, HasFieldsOf, IsReaderOf, IsUnread}
 use Rattle.ipc_concat.proofs.Files.{all_at, unread_at}

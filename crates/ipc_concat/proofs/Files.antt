@@ -12,10 +12,8 @@ use Rattle.arrow_types.specs.Schemas.{Keyed, fields_in}
 use Rattle.std.specs.Rc.{rc_value}
 use Rattle.ipc_io.specs.Outside.{Rose}
 use Rattle.ipc_bodies.specs.Encodings.{text_of}
-use Rattle.ipc_reader.specs.Below.{FileMetadata, file_block, meta_view}
-use Rattle.ipc_reader.specs.declared.cursor.FileCursor.{FileCursor}
+use Rattle.laws_walk.specs.Below.{FileMetadata, file_block, meta_view, FileCursor, IsWritten}
 use Rattle.laws_walk.proofs.Places.{split_at, take_next}
-use Rattle.ipc_stream_writer.specs.Written.{IsWritten}
 use Rattle.laws_walk.proofs.Fronts.{put_before}
 use Rattle.ipc_concat.specs.Concat.{AddsPart, SourceCause}
 use Rattle.ipc_concat.specs.Files.{AddsFile, AddsFiles, AreOf, AreUnread, BeginTables, BeginsWith, FileAdded, FilesAdded, HasFieldsOf, HasHead, HasReadBlocks, Holds, IsPut, IsReaderOf, IsStartOf, IsUnread, NextAdded, NextTooLarge, Start, StopsFile, StopsNext, part_of, schema_of, with_batches}

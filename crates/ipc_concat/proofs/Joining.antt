@@ -9,7 +9,7 @@ use Rattle.arrow_spec.specs.Meaning.{file_table}
 use Rattle.arrow_spec.specs.Readings.{Reading, meaning}
 use Rattle.arrow_spec.proofs.Projection.{place-ok}
 use Rattle.arrow_spec.proofs.ReadPairs.{same_read, through}
-use Rattle.ipc_reader.specs.declared.cursor.FileCursor.{FileCursor}
+use Rattle.laws_walk.specs.Below.{FileCursor}
 use Rattle.ipc_concat.specs.Files.{AreUnread}
 use Rattle.ipc_concat.specs.Opening.{IsOpen}
 use Rattle.ipc_concat.specs.Tables.{AreTables, batches_in, told}

@@ -11,8 +11,7 @@ use Rattle.std.proofs.KnownBytes.{Keeps-refl}
 use Rattle.ipc_io.specs.Outside.{Rose, Stands}
 use Rattle.ipc_bodies.specs.Encodings.{text_of}
 use Rattle.ipc_bodies.specs.declared.encoding.Encoding.{Encoding}
-use Rattle.ipc_reader.specs.Below.{FileSays, file_custom, meta_view}
-use Rattle.ipc_reader.specs.declared.cursor.FileCursor.{FileCursor}
+use Rattle.laws_walk.specs.Below.{FileSays, file_custom, meta_view, FileCursor}
 use Rattle.laws_walk.specs.declared.summary.Summary.{Summary}
 use Rattle.ipc_concat.specs.Begins.{Begins, Joins, NotBegun, start_of}
 use Rattle.ipc_concat.specs.Concat.{AddsPart, AllStand, CauseOf, ConcatCause, Concatenates, IsSmallRefusal}

@@ -1,3 +1,4 @@
+pub mod Below
 pub mod Joining
 pub mod Keeping
 pub mod Refusing

@@ -7,8 +7,7 @@ use Rattle.arrow_spec.specs.declared.error.IpcError.{IpcError}
 use Rattle.arrow_spec.specs.declared.error.IpcError.TheVariants as errors
 use Rattle.arrow_spec.specs.Readings.{Refuses, refusals}
 use Rattle.ipc_io.specs.Outside.{Rose, SourceKept}
-use Rattle.ipc_reader.specs.Below.{FileCause}
-use Rattle.ipc_reader.specs.declared.cursor.FileCursor.{FileCursor}
+use Rattle.laws_walk.specs.Below.{FileCause, FileCursor}
 use Rattle.ipc_concat.specs.Concat.{CauseOf, ConcatCause, EachKept, OneRose}
 use Rattle.ipc_concat.specs.Files.{AreAlike, AreUnread, FitsFirst, FitsKinds, IsUnread}
 use Rattle.ipc_concat.specs.Opening.{StopsOpening, opening}

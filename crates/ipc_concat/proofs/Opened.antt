@@ -17,8 +17,7 @@ use Rattle.laws_transcode.proofs.Readings.{columns_refused, custom_refused, meta
 use Rattle.arrow_types.specs.Schemas.{Keyed, fields_in}
 use Rattle.ipc_fields.proofs.SameKinds.{same_itself}
 use Rattle.ipc_io.specs.Outside.{IsSize}
-use Rattle.ipc_reader.specs.Below.{FileCause, FileMetadata, MayProject, ProjectionInfo, file_custom, meta_view}
-use Rattle.ipc_reader.specs.declared.cursor.FileCursor.{FileCursor}
+use Rattle.laws_walk.specs.Below.{FileCause, FileMetadata, MayProject, ProjectionInfo, file_custom, meta_view, FileCursor}
 use Rattle.laws_walk.proofs.Places.{split_at, take_next}
 use Rattle.ipc_concat.specs.Files.{AreAlike, AreUnread, FitsFirst, FitsKinds, HasFieldsOf, IsUnread, first_schema, schema_of}
 use Rattle.ipc_concat.specs.Opening.{AreOpen, IsOpen, IsOpenWith, IsOpenWithOthers, StopsOpening, opening}

@@ -11,12 +11,12 @@ use Rattle.arrow_arrays.specs.Heads.{indexed}
 use Rattle.arrow_arrays.specs.Parts.{Forest, Parts, also, fault_each, forest, leaf, nested, none, rows_in}
 use Rattle.ipc_fields.specs.IpcFields.{Ids, ids_of}
 use Rattle.ipc_fields.specs.Uses.{first_id, first_ids, other_ids}
-use Rattle.ipc_dictionaries.specs.NewDictionaries.{array_sent, dictionary_sent, has_several, holding, parts_sent, scoped, then_by}
-use Rattle.ipc_reader.specs.Below.{Plans, WriteOptions}
-use Rattle.ipc_stream_writer.specs.Below.{Options, RefusesChunk, RefusesOne, Sending, Stops, ToSend, arrays_sent, begun, columns_fault, columns_of, options_of, unless_fault}
-use Rattle.ipc_stream_writer.specs.Calls.{SuitsStream, found_before}
-use Rattle.ipc_stream_writer.specs.declared.stream.StreamCore.{StreamCore}
-use Rattle.ipc_stream_writer.proofs.Below.{batch_refused}
+use Rattle.ipc_dictionaries.specs.NewDictionaries.{array_sent, dictionary_sent, has_several, holding, parts_sent, scoped, then_by, Options, Sending, ToSend, arrays_sent}
+use Rattle.laws_walk.specs.Below.{Plans, WriteOptions, RefusesChunk, RefusesOne, Stops, columns_of, SuitsStream, found_before, StreamCore}
+use Rattle.ipc_dictionaries.specs.Batches.{begun}
+use Rattle.ipc_dictionaries.specs.Columns.{columns_fault, unless_fault}
+use Rattle.ipc_dictionaries.specs.Walks.{options_of}
+use Rattle.laws_walk.proofs.Below.{batch_refused}
 use Rattle.ipc_bodies.specs.declared.encoding.Encoding.{Encoding}
 use Rattle.laws_walk.specs.Sends.{IsWriter}
 use Rattle.laws_walk.proofs.WriteCauses.{faultless, unreplaced}

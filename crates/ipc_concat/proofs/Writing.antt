@@ -15,10 +15,7 @@ use Rattle.ipc_io.specs.Outside.{Rose}
 use Rattle.ipc_bodies.specs.Encodings.{text_of}
 use Rattle.ipc_bodies.specs.Puts.{Moved, NoneFalls, PutsPart}
 use Rattle.ipc_bodies.specs.declared.encoding.Encoding.{Encoding}
-use Rattle.ipc_stream_writer.specs.Below.{StreamPairs, cells_of, chunk_text, columns_of, counted, is_started}
-use Rattle.ipc_stream_writer.specs.Calls.{HasWritten, LeavesAll, Stays, WriteCause, WriteFailed, Writes}
-use Rattle.ipc_stream_writer.specs.Written.{table_with}
-use Rattle.ipc_stream_writer.specs.declared.stream.StreamCore.{StreamCore}
+use Rattle.laws_walk.specs.Below.{StreamPairs, cells_of, chunk_text, columns_of, counted, is_started, HasWritten, LeavesAll, Stays, WriteCause, WriteFailed, Writes, table_with, StreamCore}
 use Rattle.laws_walk.specs.Sends.{IsWriter}
 use Rattle.laws_walk.proofs.Fronts.{Appends-text}
 use Rattle.ipc_concat.specs.Concat.{CauseOf}

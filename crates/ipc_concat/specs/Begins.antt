@@ -6,9 +6,7 @@ use Rattle.arrow_spec.specs.Files.{TableBatch, «all»}
 use Rattle.ipc_io.specs.Outside.{AppendsPrefix}
 use Rattle.ipc_bodies.specs.Encodings.{text_of}
 use Rattle.ipc_bodies.specs.declared.encoding.Encoding.{Encoding}
-use Rattle.laws_walk.specs.Below.{IsOpened}
-use Rattle.ipc_reader.specs.Below.{file_custom, meta_view}
-use Rattle.ipc_reader.specs.declared.cursor.FileCursor.{FileCursor}
+use Rattle.laws_walk.specs.Below.{IsOpened, file_custom, meta_view, FileCursor}
 use Rattle.laws_walk.specs.declared.summary.Summary.{Summary}
 use Rattle.ipc_concat.specs.Concat.{AddsPart, Concatenates, IsOfPut}
 use Rattle.ipc_concat.specs.Files.{Holds, IsPut, Start, head_of}

@@ -6,7 +6,7 @@ use Rattle.arrow_spec.specs.declared.error.IpcError.TheVariants as errors
 use Rattle.arrow_spec.specs.Files.{ArrowTable, TableBatch}
 use Rattle.arrow_spec.specs.Streams.{closed, stream_table, unended}
 use Rattle.ipc_io.specs.Outside.{AppendsPrefix, Rose, SourceKept, Stands}
-use Rattle.ipc_stream_writer.specs.Below.{counted}
+use Rattle.laws_walk.specs.Below.{counted}
 pub use Rattle.laws_walk.specs.Sends.{IsOfPut}
 use Rattle.laws_walk.specs.declared.summary.Summary.{Summary}
 use Rattle.ipc_concat.specs.Tables.{MeanTables, joined}

@@ -18,13 +18,8 @@ use Rattle.ipc_bodies.specs.Encodings.{text_of}
 use Rattle.ipc_bodies.specs.declared.encoding.Encoding.{Encoding}
 use Rattle.ipc_bodies.specs.declared.encoding.Encoding.TheVariants.{Bytes}
 use Rattle.laws_transcode.specs.Files.{table_asked}
-use Rattle.ipc_reader.specs.Below.{FileMetadata, FileSays, WasRead, file_custom, meta_view}
-use Rattle.ipc_reader.specs.declared.cursor.FileCursor.{FileCursor}
-use Rattle.ipc_reader.specs.declared.kept.KeptDictionaries.TheVariants.{NotRead}
-use Rattle.ipc_stream_writer.specs.Below.{RefusesChunk, Sending, StreamPairs, cells_of, counted}
-use Rattle.ipc_stream_writer.specs.Calls.{found_before}
-use Rattle.ipc_stream_writer.specs.Written.{IsWritten, table_with}
-use Rattle.ipc_stream_writer.specs.declared.stream.StreamCore.{StreamCore}
+use Rattle.laws_walk.specs.Below.{FileMetadata, FileSays, WasRead, file_custom, meta_view, FileCursor, NotRead, RefusesChunk, StreamPairs, cells_of, counted, found_before, IsWritten, table_with, StreamCore}
+use Rattle.ipc_dictionaries.specs.NewDictionaries.{Sending}
 use Rattle.laws_walk.specs.Places.{IsReadBy, Sending as SentFile, Walked, place_of, walking}
 use Rattle.laws_walk.specs.Sends.{IsWriter, send_options}
 use Rattle.ipc_concat.specs.Concat.{AddsPart, IsOfPut}

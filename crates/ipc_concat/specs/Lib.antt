@@ -1,3 +1,4 @@
+pub mod Below
 pub mod Tables
 pub mod Opening
 pub mod Stopping

@@ -6,10 +6,8 @@ use Rattle.arrow_spec.specs.Files.{ArrowTable, TableBatch, «all», file_reading
 use Rattle.arrow_spec.specs.Readings.{Refuses, refusals}
 use Rattle.arrow_spec.specs.Streams.{stream_table, unended}
 use Rattle.arrow_arrays.specs.Batches.{Batch}
-use Rattle.ipc_stream_writer.specs.Below.{RefusesChunk, Sending, StreamPairs, cells_of}
-use Rattle.ipc_stream_writer.specs.Calls.{found_before}
-use Rattle.ipc_stream_writer.specs.Written.{IsWritten}
-use Rattle.ipc_stream_writer.specs.declared.stream.StreamCore.{StreamCore}
+use Rattle.laws_walk.specs.Below.{RefusesChunk, StreamPairs, cells_of, found_before, IsWritten, StreamCore}
+use Rattle.ipc_dictionaries.specs.NewDictionaries.{Sending}
 use Rattle.laws_walk.specs.Sends.{send_options}
 use Rattle.ipc_concat.specs.Tables.{AreTables, HaveFieldsOf, and_batch, joined_to}
 

@@ -2,7 +2,7 @@
 ghost use Rattle.std.specs.Prelude.{◌≡◌, ◌≤◌, List, ℕ, None, IfErr, IfOk, length};
 ghost use Rattle.arrow_spec.specs.declared.error.IpcError.TheVariants.{Memory};
 ghost use Rattle.ipc_io.specs.Outside.{SinkKept};
-ghost use Rattle.ipc_reader.specs.Below.{FileSays, file_custom, meta_view};
+ghost use Rattle.laws_walk.specs.Below.{FileSays, file_custom, meta_view};
 ghost use Rattle.laws_walk.specs.Places.{schema_of_reader};
 ghost use Rattle.laws_walk.specs.Sends.{IsNewWriter, IsWriter, send_options};
 ghost use Rattle.ipc_concat.specs.Begins.{Begins};
@@ -11,11 +11,10 @@ ghost use Rattle.ipc_concat.specs.Files.{IsUnread};
 
 use crate::stream::JoinedStream;
 use arrow_spec::IpcError;
+use ipc_bodies::Encoding;
 use ipc_fields::copy_if_any;
 use ipc_io::Sink;
-use ipc_reader::{FileCursor, FileMetadata};
-use ipc_stream_writer::{Encoding, StreamCore, WriteOptions};
-use laws_walk::types_have_no_ids;
+use laws_walk::{FileCursor, FileMetadata, StreamCore, WriteOptions, types_have_no_ids};
 use std::alloc::Global;
 
 /// How the stream is written: what goes on of a dictionary is sent as a delta.

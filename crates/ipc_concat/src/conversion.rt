@@ -12,10 +12,9 @@ use crate::begin::begin_stream;
 use crate::opening::open_files;
 use crate::stream::{JoinedStream, add_files};
 use arrow_spec::IpcError;
+use ipc_bodies::Encoding;
 use ipc_io::{Sink, Source};
-use ipc_reader::FileCursor;
-use ipc_stream_writer::Encoding;
-use laws_walk::Summary;
+use laws_walk::{FileCursor, Summary};
 use std::alloc::Global;
 
 /// Ends a stream. It answers what was written.

@@ -7,4 +7,4 @@ mod opening;
 mod stream;
 
 pub use conversion::{concat, concat_as};
-pub use laws_walk::Summary;
+pub use laws_walk::{StreamCore, Summary, WriteOptions, types_have_no_ids};

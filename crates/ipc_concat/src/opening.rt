@@ -2,7 +2,7 @@
 ghost use Rattle.std.specs.Prelude.{◌≡◌, ◌↔◌, IfErr, IfOk, IfSome, IsTrue, None, length, map, true};
 ghost use Rattle.arrow_spec.specs.Readings.{Refuses, refusals};
 ghost use Rattle.ipc_io.specs.Outside.{SourceKept};
-ghost use Rattle.ipc_reader.specs.Below.{FileCause};
+ghost use Rattle.laws_walk.specs.Below.{FileCause};
 ghost use Rattle.ipc_concat.specs.Concat.{ConcatCause, EachKept};
 ghost use Rattle.ipc_concat.specs.Files.{AreAlike, AreUnread, FitsFirst, FitsKinds, IsUnread};
 ghost use Rattle.ipc_concat.specs.Opening.{StopsOpening, opening};
@@ -10,7 +10,7 @@ ghost use Rattle.ipc_concat.specs.Tables.{told};
 
 use arrow_spec::IpcError;
 use ipc_io::Source;
-use ipc_reader::{FileCursor, read_file_metadata};
+use laws_walk::{FileCursor, read_file_metadata};
 use same_fields::have_same_fields;
 use std::alloc::Global;
 

@@ -6,8 +6,7 @@ ghost use Rattle.arrow_arrays.specs.Parts.{fault_each, forest};
 ghost use Rattle.ipc_io.specs.Outside.{IsSize, SinkKept, SourceKept};
 ghost use Rattle.ipc_bodies.specs.Encodings.{text_of};
 ghost use Rattle.ipc_bodies.specs.Puts.{moved};
-ghost use Rattle.ipc_stream_writer.specs.Below.{counted};
-ghost use Rattle.ipc_stream_writer.specs.Calls.{Writes};
+ghost use Rattle.laws_walk.specs.Below.{counted, Writes};
 ghost use Rattle.ipc_concat.specs.Concat.{ConcatCause, EachKept, SourceCause};
 ghost use Rattle.ipc_concat.specs.Files.{AreUnread, BeginsWith, FileAdded, FilesAdded, HasFieldsOf, HasReadBlocks, Holds, IsGoing, IsReaderOf, IsStartOf, NextAdded, Start};
 ghost use Rattle.ipc_concat.specs.Opening.{AreOpen};
@@ -16,8 +15,7 @@ ghost use Rattle.ipc_concat.specs.Tables.{told};
 use arrow_arrays::RecordBatch;
 use arrow_spec::IpcError;
 use ipc_io::{Sink, Source};
-use ipc_reader::{FileCursor, FileMetadata};
-use ipc_stream_writer::StreamCore;
+use laws_walk::{FileCursor, FileMetadata, StreamCore};
 use std::alloc::Global;
 
 /// A stream to which batches are added: its writer, and how many batches and rows were written, each up to 2^128 - 1.

@@ -5,7 +5,7 @@ use Rattle.std.proofs.lemmas.List.{length-append}
 use Rattle.std.proofs.lemmas.List.Sums.{sum_by_push}
 use Rattle.arrow_spec.specs.declared.error.IpcError.{IpcError}
 use Rattle.arrow_spec.specs.Files.{TableBatch}
-use Rattle.ipc_reader.specs.declared.cursor.FileCursor.{FileCursor}
+use Rattle.laws_walk.specs.Below.{FileCursor}
 use Rattle.laws_walk.specs.Places.{Sending, meta_in}
 use Rattle.laws_walk.proofs.Cursors.{blocks_as}
 use Rattle.laws_walk.specs.declared.summary.Summary.{Summary}

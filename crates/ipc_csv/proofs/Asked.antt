@@ -15,12 +15,9 @@ use Rattle.arrow_types.specs.Schemas.{Keyed, fields_in}
 use Rattle.csv_texts.specs.Texts.{are_nested, printable, printed}
 use Rattle.csv_texts.proofs.Text.{text_of_read}
 use Rattle.ipc_bodies.specs.declared.encoding.Encoding.TheVariants.{Bytes}
-use Rattle.ipc_reader.specs.Below.{IsRefusal}
+use Rattle.laws_walk.specs.Below.{IsRefusal, FileCause, FileMetadata, FileSays, FooterFetched, MayProject, ProjectionInfo, WasRead, file_custom, meta_view, FileCursor, NotRead}
 use Rattle.ipc_io.specs.Outside.{Rose, Stands}
-use Rattle.ipc_reader.specs.Below.{FileCause, FileMetadata, FileSays, FooterFetched, MayProject, ProjectionInfo, WasRead, file_custom, meta_view}
-use Rattle.ipc_reader.proofs.Below.{file_width}
-use Rattle.ipc_reader.specs.declared.cursor.FileCursor.{FileCursor}
-use Rattle.ipc_reader.specs.declared.kept.KeptDictionaries.TheVariants.{NotRead}
+use Rattle.laws_walk.proofs.Below.{file_width}
 use Rattle.laws_transcode.proofs.Readings.{columns_refused as columns_refuse, custom_refused, meta_refused, on_err}
 use Rattle.laws_walk.specs.Fetching.{FetchesSome, FileFetched}
 use Rattle.laws_walk.specs.Places.{Sending, fields_in_request, schema_of_reader, walking}

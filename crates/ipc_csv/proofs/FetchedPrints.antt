@@ -1,6 +1,6 @@
 -- How many bytes are fetched of a file that is printed.
 use Rattle.std.proofs.Common.{◌≡◌, refl, subst, ℕ, List, Option, Some, None}
-use Rattle.ipc_reader.specs.declared.cursor.FileCursor.{FileCursor}
+use Rattle.laws_walk.specs.Below.{FileCursor}
 use Rattle.csv_rows.specs.declared.output.TextOut.{TextOut}
 use Rattle.laws_walk.specs.Fetching.{FetchesTo}
 use Rattle.laws_walk.specs.Places.{walking}

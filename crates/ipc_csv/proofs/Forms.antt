@@ -11,15 +11,12 @@ use Rattle.csv_texts.specs.Texts.{are_nested, batch_text, batches_text, cell_tex
 use Rattle.csv_texts.proofs.BareFields.{bare_forms, print_forms, same_batch, same_batches, same_header, same_nested}
 use Rattle.csv_rows.specs.Shown.{shown_cells, shown_names, shown_rows}
 use Rattle.csv_rows.specs.Values.{cell_at}
-use Rattle.ipc_reader.specs.Below.{kinds_of, table_of}
+use Rattle.laws_walk.specs.Below.{kinds_of, table_of, FileMetadata, HasFields, MayProject, FileCursor, schema_shown}
 use Rattle.ipc_read_laws.specs.PlainKinds.{plain_fields, plain_kind}
-use Rattle.ipc_reader.specs.Below.{FileMetadata, HasFields, MayProject}
-use Rattle.ipc_reader.specs.declared.cursor.FileCursor.{FileCursor}
 use Rattle.laws_transcode.specs.Files.{AreAsked}
 use Rattle.laws_walk.proofs.Below.{sent_plain}
 use Rattle.laws_walk.specs.Places.{Sending, fields_in_request, schema_of_reader, table_sent, walking}
 use Rattle.laws_walk.proofs.Requests.{shown_by}
-use Rattle.ipc_reader.specs.Below.{schema_shown}
 use Rattle.csv_rows.specs.Output.{header_of, rows_of}
 use Rattle.ipc_csv.specs.Printing.{text_so_far}
 

@@ -7,9 +7,7 @@ use Rattle.arrow_spec.specs.Files.{TableBatch, to_read}
 use Rattle.arrow_arrays.specs.Batches.{Batch}
 use Rattle.csv_texts.specs.Texts.{batch_text, batches_text, header_text}
 use Rattle.csv_texts.proofs.Text.{batches-append}
-use Rattle.ipc_reader.specs.Below.{table_of}
-use Rattle.ipc_reader.specs.Reads.{NextBatch}
-use Rattle.ipc_reader.specs.declared.cursor.FileCursor.{FileCursor}
+use Rattle.laws_walk.specs.Below.{table_of, NextBatch, FileCursor}
 use Rattle.csv_rows.specs.Output.{HasPut, PutCause, Puts, rows_of}
 use Rattle.csv_rows.specs.declared.output.TextOut.{TextOut}
 use Rattle.laws_walk.specs.Fetching.{FetchesTo}

@@ -9,7 +9,7 @@ use Rattle.arrow_spec.specs.Files.{Request, TableBatch}
 use Rattle.arrow_spec.specs.Readings.{Refuses, refusals}
 use Rattle.csv_texts.specs.Texts.{printed, table_text}
 use Rattle.ipc_io.specs.Outside.{AppendsPrefix}
-use Rattle.ipc_reader.specs.Below.{FileCause}
+use Rattle.laws_walk.specs.Below.{FileCause}
 use Rattle.laws_walk.specs.Places.{Sending, table_sent, walking}
 use Rattle.csv_rows.specs.Output.{PutCause}
 use Rattle.ipc_csv.specs.Printing.{CallCause, FileRefused, text_so_far}

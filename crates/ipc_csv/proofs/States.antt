@@ -5,8 +5,7 @@ use Rattle.arrow_spec.specs.Files.{TableBatch, file_reading, to_read}
 use Rattle.arrow_spec.specs.Readings.{Refuses, refusals}
 use Rattle.arrow_spec.proofs.Projection.{ok-place, on}
 use Rattle.csv_texts.specs.Texts.{printable, printed}
-use Rattle.ipc_reader.specs.Below.{file_custom}
-use Rattle.ipc_reader.specs.declared.cursor.FileCursor.{FileCursor}
+use Rattle.laws_walk.specs.Below.{file_custom, FileCursor}
 use Rattle.laws_walk.specs.Places.{Sending, Walked, meta_in, place_of, table_sent, walking}
 use Rattle.laws_walk.specs.Walks.{IsOpenFor, within}
 use Rattle.laws_walk.proofs.Places.{AreRefused, first_mean, open_within, whole_mean}

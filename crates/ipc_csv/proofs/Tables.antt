@@ -10,7 +10,7 @@ use Rattle.std.proofs.KnownBytes.{Appends-nil}
 use Rattle.csv_rows.specs.Writers.{text_of}
 use Rattle.csv_texts.specs.Texts.{header_text, printed}
 use Rattle.ipc_io.specs.Outside.{AppendsPrefix}
-use Rattle.ipc_reader.specs.declared.cursor.FileCursor.{FileCursor}
+use Rattle.laws_walk.specs.Below.{FileCursor}
 use Rattle.laws_walk.specs.Fetching.{FetchesSome, FetchesTo}
 use Rattle.laws_walk.specs.Places.{Sending, Walked, fields_in_request, meta_in, place_of, schema_of_reader, table_sent, walking}
 use Rattle.laws_walk.proofs.Begins.{none_so_far}

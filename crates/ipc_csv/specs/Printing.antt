@@ -8,11 +8,8 @@ use Rattle.arrow_spec.specs.Files.{Request, TableBatch, columns_right, to_read}
 use Rattle.arrow_spec.specs.Kinds.{width}
 use Rattle.arrow_spec.specs.Readings.{Refuses, refusals}
 use Rattle.csv_texts.specs.Texts.{batches_text, header_text, are_nested, printed}
-use Rattle.ipc_reader.specs.Below.{IsRefusal}
+use Rattle.laws_walk.specs.Below.{IsRefusal, FileMetadata, MayProject, ProjectionInfo, meta_view, FileCursor, NotRead}
 use Rattle.ipc_io.specs.Outside.{Rose}
-use Rattle.ipc_reader.specs.Below.{FileMetadata, MayProject, ProjectionInfo, meta_view}
-use Rattle.ipc_reader.specs.declared.cursor.FileCursor.{FileCursor}
-use Rattle.ipc_reader.specs.declared.kept.KeptDictionaries.TheVariants.{NotRead}
 use Rattle.laws_walk.specs.Places.{IsReadBy, Sending, Walked, fields_in_request, meta_in, place_of, walking}
 use Rattle.laws_walk.specs.declared.summary.Summary.{Summary}
 use Rattle.csv_rows.specs.Output.{HasPut}

@@ -4,10 +4,8 @@ ghost use Rattle.arrow_spec.specs.Meaning.{file_table};
 ghost use Rattle.arrow_spec.specs.declared.error.IpcError.TheVariants.{Memory};
 ghost use Rattle.csv_texts.specs.Texts.{printable};
 ghost use Rattle.ipc_io.specs.Outside.{SinkKept, SourceKept, Stands};
-ghost use Rattle.laws_walk.specs.Below.{columns_of};
-ghost use Rattle.ipc_reader.specs.Below.{asked, numbers_in};
+ghost use Rattle.laws_walk.specs.Below.{columns_of, asked, numbers_in, IsReadable};
 ghost use Rattle.laws_walk.specs.Fetching.{FileFetched};
-ghost use Rattle.ipc_reader.specs.Below.{IsReadable};
 ghost use Rattle.ipc_csv.specs.Printing.{CallCause, NotSelected, PrintsFile, Selected};
 ghost use Rattle.ipc_csv.specs.Prints.{AddsPart, PrintCause, Prints};
 
@@ -15,10 +13,10 @@ use crate::print::print_table;
 use arrow_spec::{Feature, IpcError};
 use csv_rows::are_nested;
 use ipc_io::{Sink, Source};
-use ipc_reader::{
-    FileCursor, FileMetadata, ProjectionInfo, check_columns, projection_of, read_file_metadata,
+use laws_walk::{
+    FileCursor, FileMetadata, ProjectionInfo, Summary, check_columns, projection_of,
+    read_file_metadata,
 };
-use laws_walk::Summary;
 use std::alloc::Global;
 
 /// The numbers of the columns that are asked for.

@@ -12,8 +12,7 @@ ghost use Rattle.ipc_csv.specs.Printing.{CallCause, IsPrintedBy, IsUnprinted, Pr
 use arrow_spec::IpcError;
 use csv_rows::TextOut;
 use ipc_io::{Sink, Source};
-use ipc_reader::{FileCursor, FileMetadata};
-use laws_walk::Summary;
+use laws_walk::{FileCursor, FileMetadata, Summary};
 use std::alloc::Global;
 
 /// How many record batches a file has.

@@ -1,3 +1,4 @@
+pub mod BelowNewDictionaries
 pub mod Below
 pub mod Blocks
 pub mod Footers

@@ -21,13 +21,8 @@ use Rattle.arrow_arrays.specs.Columns.{columns_of}
 use Rattle.arrow_arrays.specs.Parts.{Forest, forest, none, also}
 use Rattle.ipc_fields.specs.IpcFields.{fields_with, ids_of, metadata_of}
 use Rattle.schema_writer.specs.Serialized.{serialized, written}
-use Rattle.ipc_messages.specs.Below.{Moved, PutsPart, Sending, WriteOptions, columns_sent, held_by}
-use Rattle.ipc_messages.specs.Chunks.{found}
-use Rattle.ipc_messages.specs.Messages.{chunk_text}
-use Rattle.ipc_messages.specs.Schemas.{IsRefusedAs, stream_text}
-use Rattle.ipc_messages.specs.States.{is_new, is_started}
+use Rattle.ipc_file_writer.specs.Below.{Moved, PutsPart, Sending, WriteOptions, columns_sent, held_by, found, chunk_text, IsRefusedAs, stream_text, is_new, is_started, said_fields}
 use Rattle.laws_files.specs.Files.{file_end, table_of}
-use Rattle.ipc_file_writer.specs.Below.{said_fields}
 use Rattle.ipc_file_writer.specs.Calls.{HasFinished, HasWritten as WritesBatch, IsBegun, IsFresh, IsNotBegun, Starts, Finishes, RefusesMore, SuitsFile, Writes, ending_of, file_ids, file_schema, found_before, start_of}
 use Rattle.ipc_file_writer.specs.Ends.{file_ending, file_footer, file_start}
 use Rattle.ipc_file_writer.specs.Written.{HasNothing, cells_by, own_fields, table_by}

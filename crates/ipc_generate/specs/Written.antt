@@ -5,8 +5,7 @@ use Rattle.arrow_spec.specs.declared.error.IpcError.TheVariants.{Memory, TooLarg
 use Rattle.arrow_spec.specs.Files.{TableBatch}
 use Rattle.arrow_arrays.specs.Parts.{Forest, none, also}
 use Rattle.ipc_fields.specs.IpcFields.{Ids, ids, no_fields}
-use Rattle.ipc_file_writer.specs.Below.{Started, held_by}
-use Rattle.ipc_messages.specs.Below.{WriteOptions}
+use Rattle.ipc_file_writer.specs.Below.{Started, held_by, WriteOptions}
 use Rattle.ipc_file_writer.specs.Calls.{file_ids, file_schema}
 use Rattle.ipc_file_writer.specs.Written.{IsFile, cells_by}
 use Rattle.ipc_file_writer.specs.declared.file.FileCore.{FileCore}

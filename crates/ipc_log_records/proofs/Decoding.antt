@@ -24,10 +24,9 @@ use Rattle.ipc_fields.specs.Causes.{IsOfBytes}
 use Rattle.ipc_fields.specs.IpcFields.{fields_with, ids_of}
 use Rattle.ipc_record_log.specs.Logs.{invalid_log}
 use Rattle.ipc_stream_writer.specs.Below.{cells_of}
-use Rattle.ipc_streams.specs.Below.{FileCause}
-use Rattle.ipc_streams.specs.Starts.{start_view, stream_schema}
+use Rattle.ipc_append.specs.Below.{FileCause, start_view, stream_schema}
 use Rattle.laws_logs.specs.Tables.{IsRecordOf, dictionaries_from}
-use Rattle.laws_sent.specs.Below.{plain_fields}
+use Rattle.ipc_read_laws.specs.PlainKinds.{plain_fields}
 use Rattle.same_fields.proofs.OneKind.{kinds_through}
 use Rattle.ipc_log_records.specs.Decoded.{IsNoRecord, IsRecordRead, Unread}
 use Rattle.ipc_log_records.specs.LogSchemas.{WasSaid, log_fields}

@@ -12,9 +12,8 @@ use Rattle.arrow_spec.specs.Streams.{Framed, Reader, next_message, stream_batche
 use Rattle.arrow_spec.proofs.Projection.{some_meaning}
 use Rattle.arrow_spec.proofs.ReadPairs.{same_read, through}
 use Rattle.ipc_append.specs.Wholes.{HasTooMany, StopsBehind, reader_of, stops_here, stops_later}
-use Rattle.ipc_streams.specs.Starts.{Start, start_in}
-use Rattle.ipc_streams.specs.Steps.{Next, most_dictionaries, next_in}
-use Rattle.ipc_streams.proofs.StreamLaws.{begins_so}
+use Rattle.ipc_append.specs.Below.{Start, start_in, Next, most_dictionaries, next_in}
+use Rattle.ipc_append.proofs.Below.{begins_so}
 use Rattle.laws_logs.specs.Tables.{dictionaries_from}
 use Rattle.ipc_log_records.specs.Decoded.{IsNoRecord}
 use Rattle.ipc_log_records.proofs.Counted.{head_taken}

@@ -14,8 +14,8 @@ use Rattle.arrow_spec.proofs.RegularIds.{regular_numbered}
 use Rattle.ipc_log_records.proofs.ReadSchemas.{may_without, said_same}
 use Rattle.ipc_log_records.proofs.RegularSchemas.{may_regular}
 use Rattle.ipc_fields.specs.IpcFields.{Ids, fields_with}
-use Rattle.ipc_streams.specs.Starts.{Start, start_in}
-use Rattle.ipc_streams.proofs.Below.{plain_fields_with}
+use Rattle.ipc_append.specs.Below.{Start, start_in}
+use Rattle.ipc_read_laws.proofs.PlainTypes.{plain_fields_with}
 use Rattle.ipc_append.proofs.Below.{same_numbers}
 use Rattle.ipc_stream_writer.proofs.Below.{with_own}
 use Rattle.same_fields.proofs.BareKinds.{fields_with_bare}

@@ -14,9 +14,8 @@ use Rattle.arrow_spec.specs.Streams.{Framed, Reader, Step, next_message, stream_
 use Rattle.arrow_spec.proofs.Projection.{on}
 use Rattle.arrow_spec.proofs.ReadPairs.{same_read, through}
 use Rattle.arrow_spec.proofs.StreamFuel.{stream_fuel_is_enough}
-use Rattle.ipc_streams.specs.Steps.{Next, a_batch, batch_or, ended, has_room, next_in, no_message, step_within, waiting}
-use Rattle.ipc_streams.specs.Frames.{prefix_length}
-use Rattle.ipc_streams.proofs.NextBatches.{behind_dictionary, by_message, next_is, none_found, step_taken}
+use Rattle.ipc_append.specs.Below.{Next, a_batch, batch_or, ended, has_room, next_in, no_message, step_within, waiting, prefix_length}
+use Rattle.ipc_append.proofs.Below.{behind_dictionary, by_message, next_is, none_found, step_taken}
 use Rattle.laws_logs.specs.Tables.{counted_in, dictionaries_from}
 use Rattle.ipc_log_records.proofs.Stepped.{CountedBehind, StepOf, behind_less, counted_step, of_stream, step_of}
 

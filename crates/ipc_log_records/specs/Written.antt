@@ -16,7 +16,7 @@ use Rattle.ipc_record_log.specs.Logs.{invalid_log}
 use Rattle.ipc_stream_writer.specs.Below.{cells_of, chunk_text}
 use Rattle.ipc_stream_writer.specs.Calls.{HasBegun, HasFinished, HasWritten, IsFresh, SendCause, StartCause, SuitsStream}
 use Rattle.ipc_stream_writer.specs.declared.stream.StreamCore.{StreamCore}
-use Rattle.ipc_streams.specs.Below.{WriteOptions}
+use Rattle.ipc_append.specs.Below.{WriteOptions}
 use Rattle.laws_logs.specs.Tables.{dictionaries_from}
 
 -- a dictionary of several parts goes out as its first part and deltas

@@ -14,7 +14,7 @@ ghost use Rattle.ipc_fields.specs.Causes.{IsOfBytes};
 ghost use Rattle.ipc_record_log.specs.Logs.{invalid_log};
 ghost use Rattle.ipc_stream_writer.specs.Below.{cells_of};
 ghost use Rattle.laws_logs.specs.Tables.{IsRecordOf};
-ghost use Rattle.laws_sent.specs.Below.{plain_fields};
+ghost use Rattle.ipc_read_laws.specs.PlainKinds.{plain_fields};
 ghost use Rattle.ipc_log_records.specs.Decoded.{IsNoRecord, IsRecordRead, Unread};
 ghost use Rattle.ipc_log_records.specs.LogSchemas.{WasSaid, log_fields};
 
@@ -22,8 +22,7 @@ use crate::closed::{closed_dictionaries, told};
 use crate::memory::BytesFeed;
 use arrow_arrays::RecordBatch;
 use arrow_spec::{IpcError, OutOfSpecKind};
-use ipc_append::{WholeStream, read_whole};
-use laws_sent::types_have_no_ids;
+use ipc_append::{WholeStream, read_whole, types_have_no_ids};
 use std::alloc::Global;
 
 /// The most dictionary messages of a record.

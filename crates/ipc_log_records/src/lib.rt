@@ -10,6 +10,5 @@ mod passes;
 
 pub use decode::{are_bytes, batch_in, record_in};
 pub use encode::{first_record, record_of};
-pub use ipc_append::WholeStream;
-pub use ipc_messages::is_of_schema;
-pub use laws_sent::types_have_no_ids;
+pub use ipc_append::{WholeStream, types_have_no_ids};
+pub use ipc_stream_writer::is_of_schema;

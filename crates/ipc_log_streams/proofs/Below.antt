@@ -1,2 +1,2 @@
 -- What crates below say, handed on to those above.
-pub use Rattle.ipc_log_records.proofs.Decoding.{whole_said}
+pub use Rattle.ipc_tablelog.proofs.Below.{whole_said}

@@ -16,16 +16,10 @@ use Rattle.ipc_bodies.specs.Puts.{Moved, PutsPart}
 use Rattle.ipc_bodies.specs.declared.encoding.Encoding.{Encoding}
 use Rattle.ipc_concat.proofs.Keeping.{not_rose}
 use Rattle.ipc_io.specs.Outside.{Stands}
-use Rattle.ipc_stream_writer.specs.Below.{is_started}
-use Rattle.ipc_stream_writer.specs.Calls.{Finishes, HasFinished}
-use Rattle.ipc_stream_writer.specs.declared.stream.StreamCore.{StreamCore}
-use Rattle.ipc_stream_writer.proofs.Below.{refused_chosen}
+use Rattle.ipc_concat.specs.Below.{is_started, Finishes, HasFinished, StreamCore, IsOfPut, IsWriter}
+use Rattle.ipc_concat.proofs.Below.{refused_chosen, all_floats, Appends-text, of_put, part_behind, part_of_put, put_before, with_end}
 use Rattle.laws_logs.proofs.Lifting.{one_meaning}
-use Rattle.laws_walk.specs.Sends.{IsOfPut, IsWriter}
-use Rattle.laws_writers.proofs.Uses.{all_floats}
-use Rattle.laws_walk.proofs.Fronts.{Appends-text, of_put, part_behind, part_of_put, put_before}
-use Rattle.laws_walk.proofs.Nexts.{with_end}
-use Rattle.ipc_log_records.specs.LogSchemas.{WasSaid}
+use Rattle.ipc_tablelog.specs.Below.{WasSaid}
 use Rattle.ipc_tablelog.specs.TableLogs.{IsTableOf}
 use Rattle.ipc_log_streams.specs.Streams.{AddsLog, AddsPart, EndsPut, HasPut, IsFront, IsOfOpening, IsOfRead, IsReadable, IsSmallRefusal, IsStreamOf, NotBegun, PutCause, StopsPut, first_of, no_pairs}
 use Rattle.ipc_log_streams.proofs.Putting.{cause_before, put_as, stops_as, table_is, whole_is}

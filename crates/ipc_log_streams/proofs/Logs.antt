@@ -14,8 +14,7 @@ use Rattle.arrow_types.specs.Schemas.{Keyed, fields_in}
 use Rattle.arrow_arrays.specs.Batches.{Batch}
 use Rattle.arrow_arrays.specs.Columns.{columns_of}
 use Rattle.arrow_arrays.specs.Parts.{fault_each, forest}
-use Rattle.ipc_append.specs.Columns.{are_of, is_of}
-use Rattle.ipc_append.specs.declared.stream.WholeStream.{WholeStream}
+use Rattle.ipc_tablelog.specs.Below.{are_of, is_of, WholeStream, WasSaid, log_fields, HasBegunRecord, RecordCause, StreamCause}
 use Rattle.ipc_bodies.specs.declared.encoding.Encoding.TheVariants.{Bytes}
 use Rattle.ipc_concat.proofs.Walks.{stops, suits}
 use Rattle.ipc_fields.specs.IpcFields.{ids_of}
@@ -25,19 +24,13 @@ use Rattle.ipc_log_disk.specs.Crashes.{Elapses, Images}
 use Rattle.ipc_record_log.specs.Logs.{IsSettled, invalid_log}
 use Rattle.ipc_record_log.specs.Records.{log_records}
 use Rattle.ipc_record_log.specs.declared.span.Span.{Span}
-use Rattle.ipc_stream_writer.specs.Below.{cells_of}
-use Rattle.ipc_stream_writer.specs.declared.stream.StreamCore.{StreamCore}
-use Rattle.ipc_stream_writer.proofs.Below.{refused_chosen}
+use Rattle.ipc_concat.specs.Below.{cells_of, StreamCore, plain_fields, IsWriter}
+use Rattle.ipc_concat.proofs.Below.{refused_chosen, all_floats}
 use Rattle.laws_logs.specs.Tables.{MeansBeforeOrAfter, MeansFront, MeansLog, table_of, with_batch, with_batches}
 use Rattle.laws_logs.proofs.Lifting.{one_meaning}
-use Rattle.laws_sent.specs.Below.{plain_fields}
-use Rattle.laws_walk.specs.Sends.{IsWriter}
-use Rattle.laws_writers.proofs.Uses.{all_floats}
 use Rattle.same_fields.proofs.BareKinds.{fields_with_bare}
 use Rattle.same_fields.proofs.OneKind.{kinds_through}
-use Rattle.ipc_log_records.specs.LogSchemas.{WasSaid, log_fields}
-use Rattle.ipc_log_records.specs.Written.{HasBegunRecord, RecordCause, StreamCause}
-use Rattle.ipc_log_records.proofs.Schemas.{read_own, read_regular}
+use Rattle.ipc_tablelog.proofs.Below.{read_own, read_regular}
 use Rattle.ipc_tablelog.specs.TableLogs.{IsTableOf, KeepsTable}
 use Rattle.ipc_log_streams.specs.Appends.{HasAppended, IsBefore, IsBegun, IsOfRecord, IsOfWrite, LogRefused, MeansNext, NoLog, StopsAppend, StopsBatches, StopsEach, batches_of, fields_of, schema_of}
 use Rattle.ipc_log_streams.proofs.Putting.{take_next}

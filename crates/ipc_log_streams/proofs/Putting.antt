@@ -11,22 +11,16 @@ use Rattle.arrow_types.specs.Schemas.{Keyed, fields_in}
 use Rattle.arrow_arrays.specs.Batches.{Batch}
 use Rattle.arrow_arrays.specs.Columns.{columns_of}
 use Rattle.arrow_arrays.specs.Parts.{fault_each, forest}
-use Rattle.ipc_append.specs.Columns.{is_of}
+use Rattle.ipc_tablelog.specs.Below.{is_of, log_fields}
 use Rattle.ipc_bodies.specs.Encodings.{text_of}
 use Rattle.ipc_bodies.specs.Puts.{Moved, PutsPart}
 use Rattle.ipc_bodies.specs.declared.encoding.Encoding.{Encoding}
 use Rattle.ipc_concat.proofs.Writing.{NotWritten, going_on, not_written}
 use Rattle.ipc_fields.specs.Causes.{IsOfBytes}
 use Rattle.ipc_io.specs.Outside.{Rose}
-use Rattle.ipc_stream_writer.specs.Below.{cells_of, chunk_text}
-use Rattle.ipc_stream_writer.specs.Calls.{HasWritten, Writes}
-use Rattle.ipc_stream_writer.specs.Written.{IsWritten, table_with}
-use Rattle.ipc_stream_writer.specs.declared.stream.StreamCore.{StreamCore}
+use Rattle.ipc_concat.specs.Below.{cells_of, chunk_text, HasWritten, Writes, IsWritten, table_with, StreamCore, IsWriter}
 use Rattle.laws_logs.specs.Tables.{MeansLog, table_of}
-use Rattle.laws_walk.specs.Sends.{IsWriter}
-use Rattle.laws_walk.proofs.Fronts.{Appends-text, of_put, part_behind, put_before}
-use Rattle.laws_walk.proofs.Nexts.{with_batch}
-use Rattle.ipc_log_records.specs.LogSchemas.{log_fields}
+use Rattle.ipc_concat.proofs.Below.{Appends-text, of_put, part_behind, put_before, with_batch}
 use Rattle.ipc_tablelog.specs.TableLogs.{IsTableOf}
 use Rattle.ipc_log_streams.specs.Streams.{HasPut, IsFront, IsOfRead, PutCause, StopsPut, first_of, no_pairs}
 use Rattle.ipc_log_streams.proofs.Writers.{stream_as}

@@ -16,16 +16,12 @@ use Rattle.arrow_spec.proofs.NumberedFields.{numbered_may, uses_numbered}
 use Rattle.arrow_types.specs.Schemas.{Keyed, fields_in}
 use Rattle.ipc_fields.specs.IpcFields.{Ids, fields_with, have_shapes}
 use Rattle.ipc_concat.proofs.Fields.{chosen_bare}
-use Rattle.ipc_stream_writer.specs.Below.{SchemaIsSaid, all_representable, stream_text}
-use Rattle.ipc_streams.proofs.Below.{plain_fields_with}
-use Rattle.laws_sent.specs.Below.{IsNumbered, plain_fields}
-use Rattle.laws_sent.proofs.PlainFields.{same_numbers, same_representable}
-use Rattle.laws_sent.proofs.SayableFields.{can_be_said, fields_own, fields_representable, numberable}
-use Rattle.laws_walk.specs.Sends.{send_options}
-use Rattle.laws_writers.proofs.OwnFields.{floats_own}
-use Rattle.laws_writers.proofs.Uses.{all_floats}
+use Rattle.ipc_concat.specs.Below.{SchemaIsSaid, stream_text, plain_fields, send_options}
+use Rattle.ipc_fields.specs.Representable.{all_representable}
+use Rattle.ipc_concat.proofs.Below.{plain_fields_with, same_numbers, same_representable, can_be_said, fields_own, fields_representable, numberable, floats_own, all_floats}
+use Rattle.schema_writer.specs.Defaults.{IsNumbered}
 use Rattle.schema_writer.specs.Serialized.{serialized, written}
-use Rattle.ipc_log_records.specs.LogSchemas.{WasSaid, log_fields}
+use Rattle.ipc_tablelog.specs.Below.{WasSaid, log_fields}
 use Rattle.ipc_log_streams.specs.Streams.{no_pairs}
 
 -- ── its message ──

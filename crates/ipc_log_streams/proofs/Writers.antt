@@ -13,18 +13,13 @@ use Rattle.ipc_bodies.specs.Encodings.{text_of}
 use Rattle.ipc_bodies.specs.Puts.{Moved, NoneFalls, PutsPart}
 use Rattle.ipc_bodies.specs.declared.encoding.Encoding.{Encoding}
 use Rattle.ipc_fields.specs.IpcFields.{Ids, fields_with, ids_of, metadata_of}
-use Rattle.ipc_messages.specs.Schemas.{IsNoStart}
-use Rattle.ipc_stream_writer.specs.Below.{Options, SchemaIsSaid, StreamPairs, held_by, is_new, options_of, said_fields, stream_text}
-use Rattle.ipc_stream_writer.specs.Calls.{Finishes, HasBegun, IsFresh, StartCause, Starts}
-use Rattle.ipc_stream_writer.specs.Written.{IsWritten, table_with}
-use Rattle.ipc_stream_writer.specs.declared.stream.StreamCore.{StreamCore}
-use Rattle.ipc_stream_writer.proofs.Below.{schema_is_put}
+use Rattle.ipc_concat.specs.Below.{IsNoStart, Options, SchemaIsSaid, StreamPairs, held_by, is_new, options_of, said_fields, stream_text, Finishes, HasBegun, IsFresh, StartCause, Starts, IsWritten, table_with, StreamCore, plain_fields, IsWriter, send_options}
+use Rattle.ipc_concat.proofs.Below.{schema_is_put}
 use Rattle.ipc_write_laws.proofs.Messages.{messages_front_means}
 use Rattle.laws_logs.specs.Tables.{table_of}
-use Rattle.laws_sent.specs.Below.{IsNumbered, plain_fields}
-use Rattle.laws_walk.specs.Sends.{IsWriter, send_options}
-use Rattle.ipc_log_records.specs.LogSchemas.{WasSaid, log_fields}
-use Rattle.ipc_log_records.proofs.Schemas.{said_are}
+use Rattle.schema_writer.specs.Defaults.{IsNumbered}
+use Rattle.ipc_tablelog.specs.Below.{WasSaid, log_fields}
+use Rattle.ipc_tablelog.proofs.Below.{said_are}
 use Rattle.ipc_log_streams.specs.Streams.{HasPut, NotBegun, no_pairs}
 use Rattle.ipc_log_streams.proofs.Schemas.{are_representable, is_said, refused}
 

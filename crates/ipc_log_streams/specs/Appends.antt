@@ -7,15 +7,12 @@ use Rattle.arrow_spec.specs.Files.{ArrowTable, TableBatch}
 use Rattle.arrow_spec.specs.Kinds.{Fields}
 use Rattle.arrow_types.specs.Schemas.{Keyed}
 use Rattle.arrow_arrays.specs.Batches.{Batch}
-use Rattle.ipc_append.specs.Wholes.{table_read}
-use Rattle.ipc_append.specs.declared.stream.WholeStream.{WholeStream}
+use Rattle.ipc_tablelog.specs.Below.{table_read, WholeStream, log_fields, RecordCause}
 use Rattle.ipc_io.specs.Outside.{Rose}
 use Rattle.ipc_log_disk.specs.Crashes.{Images}
 use Rattle.ipc_record_log.specs.Logs.{invalid_log}
-use Rattle.ipc_stream_writer.specs.Below.{cells_of}
+use Rattle.ipc_concat.specs.Below.{cells_of}
 use Rattle.laws_logs.specs.Tables.{MeansLog, table_of, with_batches}
-use Rattle.ipc_log_records.specs.LogSchemas.{log_fields}
-use Rattle.ipc_log_records.specs.Written.{RecordCause}
 use Rattle.ipc_tablelog.specs.TableLogs.{IsTableOf}
 
 -- the fields and the batches of a stream

@@ -14,15 +14,10 @@ use Rattle.ipc_bodies.specs.Puts.{Moved, PutsPart}
 use Rattle.ipc_bodies.specs.declared.encoding.Encoding.{Encoding}
 use Rattle.ipc_io.specs.Outside.{AppendsPrefix, Rose}
 use Rattle.ipc_log_disk.specs.Below.{IsOfDisk}
-use Rattle.ipc_messages.specs.Schemas.{IsNoStart}
+use Rattle.ipc_concat.specs.Below.{IsNoStart, RefusesChunk, Sending, StreamPairs, cells_of, found_before, IsWritten, table_with, StreamCore, IsOfPut, send_options}
 use Rattle.ipc_record_log.specs.Logs.{invalid_log}
-use Rattle.ipc_stream_writer.specs.Below.{RefusesChunk, Sending, StreamPairs, cells_of}
-use Rattle.ipc_stream_writer.specs.Calls.{found_before}
-use Rattle.ipc_stream_writer.specs.Written.{IsWritten, table_with}
-use Rattle.ipc_stream_writer.specs.declared.stream.StreamCore.{StreamCore}
-use Rattle.laws_walk.specs.Sends.{IsOfPut, send_options}
 use Rattle.laws_logs.specs.Tables.{MeansLog, table_of}
-use Rattle.ipc_log_records.specs.LogSchemas.{WasSaid, log_fields}
+use Rattle.ipc_tablelog.specs.Below.{WasSaid, log_fields}
 
 -- ── what is put ──
 

@@ -2,13 +2,12 @@
 ghost use Rattle.std.specs.Prelude.{◌≡◌, ◌⊎◌, ◌≤◌, List, ℕ, [], IfErr, IfOk, IfSome, MatchResult, None, OnOk, Some, false, length, map, true};
 ghost use Rattle.arrow_spec.specs.Files.{ArrowTable};
 ghost use Rattle.arrow_types.specs.Schemas.{fields_in};
-ghost use Rattle.ipc_append.specs.Columns.{are_of};
+ghost use Rattle.ipc_tablelog.specs.Below.{are_of, WasSaid};
 ghost use Rattle.ipc_io.specs.Outside.{HasCause, IsSize};
 ghost use Rattle.ipc_log_disk.specs.Crashes.{Among, Elapses};
 ghost use Rattle.ipc_record_log.specs.Logs.{OnlyReads};
-ghost use Rattle.ipc_stream_writer.specs.Below.{cells_of};
+ghost use Rattle.ipc_concat.specs.Below.{cells_of};
 ghost use Rattle.laws_logs.specs.Tables.{MeansFront, MeansLog, with_batches};
-ghost use Rattle.ipc_log_records.specs.LogSchemas.{WasSaid};
 ghost use Rattle.ipc_tablelog.specs.TableLogs.{IsTableOf, KeepsTable};
 ghost use Rattle.ipc_log_streams.specs.Appends.{HasAppended, IsBegun, LogRefused, StopsAppend, StopsBatches, StopsEach, batches_of, fields_of, schema_of};
 
@@ -16,11 +15,10 @@ use crate::sound::is_sound;
 use arrow_arrays::RecordBatch;
 use arrow_spec::IpcError;
 use arrow_types::ArrowSchema;
-use ipc_append::WholeStream;
+use ipc_concat::types_have_no_ids;
 use ipc_io::{Failed, Refused};
 use ipc_log_disk::LogDisk;
-use ipc_log_records::types_have_no_ids;
-use ipc_tablelog::TableLog;
+use ipc_tablelog::{TableLog, WholeStream};
 use same_fields::have_same_fields;
 use std::alloc::Global;
 

@@ -6,7 +6,7 @@ mod put;
 mod sound;
 
 pub use append::append_to_log;
-pub use ipc_append::WholeStream;
-pub use ipc_log_records::are_bytes;
-pub use ipc_stream_writer::Encoding;
+pub use ipc_bodies::Encoding;
+pub use ipc_concat::concat_as;
+pub use ipc_tablelog::{WholeStream, are_bytes};
 pub use put::put_log_as;

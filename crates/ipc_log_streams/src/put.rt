@@ -7,18 +7,18 @@ ghost use Rattle.ipc_bodies.specs.Puts.{moved};
 ghost use Rattle.ipc_io.specs.Outside.{SinkKept, Stands};
 ghost use Rattle.ipc_log_disk.specs.Crashes.{Among};
 ghost use Rattle.ipc_record_log.specs.Logs.{OnlyReads};
-ghost use Rattle.laws_walk.specs.Sends.{IsWriter, send_options};
-ghost use Rattle.ipc_log_records.specs.LogSchemas.{WasSaid};
+ghost use Rattle.ipc_concat.specs.Below.{IsWriter, send_options};
+ghost use Rattle.ipc_tablelog.specs.Below.{WasSaid};
 ghost use Rattle.ipc_tablelog.specs.TableLogs.{IsTableOf};
 ghost use Rattle.ipc_log_streams.specs.Streams.{AddsLog, AddsPart, EndsPut, HasPut, IsReadable, IsSmallRefusal, IsStreamOf, KeepsBytes, NotBegun, PutCause, StopsPut};
 
 use crate::sound::is_sound;
 use arrow_spec::IpcError;
 use arrow_types::ArrowSchema;
+use ipc_bodies::Encoding;
+use ipc_concat::{StreamCore, WriteOptions, types_have_no_ids};
 use ipc_io::Sink;
 use ipc_log_disk::LogDisk;
-use ipc_log_records::types_have_no_ids;
-use ipc_stream_writer::{Encoding, StreamCore, WriteOptions};
 use ipc_tablelog::TableLog;
 use std::alloc::Global;
 

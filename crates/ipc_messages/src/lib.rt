@@ -18,6 +18,7 @@ mod schema;
 mod state;
 mod types;
 
+pub use arrow_arrays::RecordBatch;
 pub use batches::is_of_schema;
 pub use chunk::{encode_chunk, encode_chunk_amortized};
 pub use encoded_dictionaries::{encode_dictionary, encode_new_dictionaries};

@@ -1,5 +1,6 @@
 -- What crates below say, handed on to those above.
-pub use Rattle.ipc_files.proofs.Below.{beyond_is_not_sent, read_batch_sent, same_message, short_is_sent, short_then_sent, within_is_sent}
+pub use Rattle.ipc_files.proofs.Below.{beyond_is_not_sent, plain_fields_with, read_batch_sent, same_message, short_is_sent, short_then_sent}
+pub use Rattle.ipc_files.proofs.Below.{within_is_sent}
 pub use Rattle.ipc_files.proofs.BlockMessages.{batch_by_record}
 pub use Rattle.ipc_files.proofs.Errors.{file_cause, is_err}
 pub use Rattle.ipc_files.proofs.FetchedFiles.{batch_parts}

@@ -1,3 +1,4 @@
+pub mod Below
 pub mod Items
 pub mod Parts
 pub mod Prefixed

@@ -1,3 +1,4 @@
+pub mod Below
 pub mod Views
 pub mod Headers
 pub mod Prefixes

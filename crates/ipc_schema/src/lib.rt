@@ -26,4 +26,6 @@ pub use ipc_io::{
 pub use message::{BatchHeader, DictionaryMessage, Message, MessageHeader, RecordMessage};
 pub use prefix::{is_continuation, message_prefix, metadata_length};
 pub use schema_reader::{deserialize_schema, read_schema};
-pub use schema_writer::{default_ipc_fields, schema_message, schema_to_bytes, serialize_schema};
+pub use schema_writer::{
+    default_ipc_fields, message_node, schema_message, schema_to_bytes, serialize_schema,
+};

@@ -9,12 +9,11 @@ use Rattle.arrow_spec.specs.declared.error.IpcError.TheVariants.{Memory, WriteFa
 use Rattle.arrow_spec.specs.Readings.{is_absent}
 use Rattle.arrow_spec.specs.Streams.{end_mark}
 use Rattle.arrow_types.specs.Schemas.{Keyed, fields_in}
-use Rattle.arrow_arrays.specs.Batches.{Batch}
+use Rattle.ipc_messages.specs.Below.{Batch, IsKept, held_by, DictionaryTracker}
 use Rattle.ipc_fields.specs.IpcFields.{Ids, fields_with, ids_of, metadata_of}
 use Rattle.ipc_fields.specs.declared.ipc_field.IpcField.{IpcField}
 use Rattle.ipc_bodies.specs.Puts.{Moved, NoneFalls}
 use Rattle.ipc_bodies.specs.declared.encoding.Encoding.TheVariants.{Bytes}
-use Rattle.ipc_messages.specs.Below.{IsKept, held_by, DictionaryTracker}
 use Rattle.ipc_messages.specs.declared.puts.Stop.{Stop}
 use Rattle.ipc_messages.specs.declared.schema.StreamStart.{StreamStart}
 use Rattle.ipc_messages.specs.declared.state.WriterState.TheVariants.{Started}

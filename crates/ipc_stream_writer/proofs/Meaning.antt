@@ -13,12 +13,10 @@ use Rattle.arrow_spec.specs.WrittenSchemas.{CustomMayBeWritten}
 use Rattle.arrow_spec.specs.Sent.{schema_message}
 use Rattle.arrow_spec.specs.Streams.{closed, end_mark, stream_table, unended}
 use Rattle.arrow_types.specs.Schemas.{Keyed, fields_in}
-use Rattle.arrow_arrays.specs.Batches.{Batch}
-use Rattle.arrow_arrays.specs.Parts.{forest}
+use Rattle.ipc_messages.specs.Below.{Batch, forest, begun, columns_fault, columns_of, unless_fault, Sending, IsKept, held_by, options_of, WriteOptions}
 use Rattle.ipc_fields.specs.IpcFields.{fields_with, ids_of, metadata_of}
 use Rattle.ipc_fields.specs.declared.ipc_field.IpcField.{IpcField}
 use Rattle.ipc_bodies.specs.Puts.{Moved}
-use Rattle.ipc_messages.specs.Below.{begun, columns_fault, columns_of, unless_fault, Sending, IsKept, held_by, options_of, WriteOptions}
 use Rattle.ipc_write_laws.specs.Messages.{WrittenMessage, bytes_of, ended_stream, stream_so_far}
 use Rattle.ipc_write_laws.proofs.Messages.{messages_front_means, messages_stream_means}
 use Rattle.ipc_messages.specs.Messages.{chunk_text}

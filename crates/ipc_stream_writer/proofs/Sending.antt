@@ -3,12 +3,10 @@ use Rattle.std.proofs.Common.{◌≡◌, ◌⊎◌, inl, inr, ℕ, ◌+◌, ℤ,
 use Rattle.std.specs.Result.{IsErrAnd}
 use Rattle.arrow_spec.specs.declared.error.IpcError.{IpcError}
 use Rattle.arrow_spec.specs.declared.error.IpcError.TheVariants.{Memory}
-use Rattle.arrow_arrays.specs.Batches.{Batch}
-use Rattle.arrow_arrays.specs.Parts.{Parts, forest}
+use Rattle.ipc_messages.specs.Below.{Batch, Parts, forest, Sends as Found, undone, held_by, to_send, NewDictionaries, DictionaryTracker, ToEncode}
 use Rattle.ipc_fields.specs.IpcFields.{ids_of}
 use Rattle.ipc_fields.specs.declared.ipc_field.IpcField.{IpcField}
 use Rattle.ipc_bodies.specs.Puts.{Moved}
-use Rattle.ipc_messages.specs.Below.{Sends as Found, undone, held_by, to_send, NewDictionaries, DictionaryTracker, ToEncode}
 use Rattle.ipc_messages.specs.Chunks.{RefusesChunk}
 use Rattle.ipc_messages.proofs.ChunkSteps.{kept_again, stops_behind, stops_found}
 use Rattle.ipc_messages.specs.declared.puts.Stop.{Stop}

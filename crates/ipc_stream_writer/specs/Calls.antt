@@ -9,13 +9,11 @@ use Rattle.arrow_spec.specs.Files.{TableBatch}
 use Rattle.arrow_spec.specs.Regular.{regular}
 use Rattle.arrow_spec.specs.Streams.{end_mark}
 use Rattle.arrow_types.specs.Schemas.{Keyed, fields_in}
-use Rattle.arrow_arrays.specs.Batches.{Batch}
-use Rattle.arrow_arrays.specs.Parts.{forest}
+use Rattle.ipc_messages.specs.Below.{Batch, forest, Sending, ToSend, IsKept, held_by, options_of, WriteOptions}
 use Rattle.ipc_fields.specs.IpcFields.{Ids, fields_with, ids_of, metadata_of}
 use Rattle.ipc_bodies.specs.Puts.{Moved, NoneFalls, PutsPart}
 use Rattle.ipc_bodies.specs.declared.encoding.Encoding.{Encoding}
 use Rattle.ipc_bodies.specs.declared.encoding.Encoding.TheVariants.{Bytes}
-use Rattle.ipc_messages.specs.Below.{Sending, ToSend, IsKept, held_by, options_of, WriteOptions}
 use Rattle.ipc_messages.specs.Chunks.{MayBeSent, RefusesChunk, Stops, found}
 use Rattle.ipc_messages.specs.declared.state.WriterState.TheVariants.{New, Started, Finished, Failed}
 use Rattle.ipc_stream_writer.specs.declared.stream.StreamCore.{StreamCore}

@@ -12,15 +12,14 @@ ghost use Rattle.ipc_messages.specs.States.{is_started, state_behind};
 ghost use Rattle.ipc_messages.specs.declared.state.WriterState.TheVariants.{Started};
 
 use crate::stream::StreamCore;
-use arrow_arrays::RecordBatch;
 use arrow_spec::IpcError;
 use arrow_types::{ArrowSchema, Metadata};
 use ipc_bodies::Encoding;
 use ipc_fields::IpcField;
 use ipc_io::Sink;
 use ipc_messages::{
-    DictionaryTracker, Stop, StreamPairs, StreamStart, WriteOptions, WriterState, is_of_schema,
-    new_dictionaries, put_whole_as, send_chunk_as, stream_start,
+    DictionaryTracker, RecordBatch, Stop, StreamPairs, StreamStart, WriteOptions, WriterState,
+    is_of_schema, new_dictionaries, put_whole_as, send_chunk_as, stream_start,
 };
 use std::alloc::Global;
 

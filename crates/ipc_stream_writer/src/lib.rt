@@ -8,7 +8,7 @@ mod writer;
 pub use ipc_bodies::Encoding;
 pub use ipc_messages::{
     DictionaryTracker, NewDictionaries, ToEncode, WriteOptions, dictionaries_to_encode,
-    encode_chunk, encode_chunk_amortized, encode_dictionary, encode_new_dictionaries,
+    encode_chunk, encode_chunk_amortized, encode_dictionary, encode_new_dictionaries, is_of_schema,
     new_dictionaries,
 };
 pub use stream::StreamCore;

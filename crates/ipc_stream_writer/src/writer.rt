@@ -7,12 +7,11 @@ ghost use Rattle.ipc_stream_writer.specs.Calls.{Finishes, IsFresh, SetsMessagePa
 ghost use Rattle.ipc_messages.specs.Fields.{given_ids};
 
 use crate::stream::StreamCore;
-use arrow_arrays::RecordBatch;
 use arrow_spec::IpcError;
 use arrow_types::{ArrowSchema, Metadata};
 use ipc_fields::IpcField;
 use ipc_io::{Refused, Sink};
-use ipc_messages::WriteOptions;
+use ipc_messages::{RecordBatch, WriteOptions};
 use std::alloc::Global;
 
 /// A writer of record batches to a stream, with the sink that the bytes of the stream go into.

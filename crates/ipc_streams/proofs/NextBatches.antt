@@ -10,8 +10,7 @@ use Rattle.arrow_spec.specs.Readings.{Reading, Refuses, ◌>>=◌, refuse, refus
 use Rattle.arrow_spec.specs.Streams.{Framed, Reader, Step, next_message}
 use Rattle.arrow_spec.proofs.Projection.{on}
 use Rattle.arrow_arrays.specs.Batches.{Batch}
-use Rattle.ipc_read_laws.specs.Held.{Held, HoldsCells}
-use Rattle.ipc_files.specs.Below.{table_of}
+use Rattle.ipc_files.specs.Below.{Held, HoldsCells, table_of}
 use Rattle.ipc_files.proofs.BlockMessages.{refused_first}
 use Rattle.ipc_streams.specs.Frames.{GivesFront, prefix_length}
 use Rattle.ipc_streams.specs.Nexts.{GivesNext, GivesStep}

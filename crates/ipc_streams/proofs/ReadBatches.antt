@@ -20,10 +20,7 @@ use Rattle.arrow_arrays.specs.Parts.{Parts, cells_in}
 use Rattle.arrow_types.specs.Schemas.{Keyed}
 use Rattle.ipc_files.proofs.Below.{rising_asked, rising_refuses}
 use Rattle.ipc_fields.specs.IpcFields.{Ids, ids_of, metadata_of, schema_with}
-use Rattle.ipc_files.specs.Below.{dictionary_message_of, header_of, DictionaryMessage, ArePicked, AreAsked, batch_reading, chosen_read, columns_asked, table_of, AddsDictionary, dictionary_reading, message_of, bytes_in, Body, IsReordered, MayProject, ProjectionInfo}
-use Rattle.ipc_read_laws.specs.Batches.{columns_read}
-use Rattle.ipc_read_laws.specs.Held.{Held, HasKind, HoldsCells, HasKindOf, values_of_id}
-use Rattle.ipc_read_laws.specs.Projection.{are_columns, are_rising}
+use Rattle.ipc_files.specs.Below.{dictionary_message_of, header_of, DictionaryMessage, ArePicked, AreAsked, batch_reading, chosen_read, columns_asked, table_of, AddsDictionary, dictionary_reading, message_of, bytes_in, Body, IsReordered, MayProject, ProjectionInfo, columns_read, Held, HasKind, HoldsCells, HasKindOf, values_of_id, are_columns, are_rising}
 use Rattle.ipc_files.specs.Selections.{numbers_read}
 use Rattle.ipc_files.proofs.FileDictionaries.{uses_kept}
 use Rattle.ipc_files.proofs.InOrder.{right_of_projection}

@@ -5,11 +5,10 @@ use Rattle.arrow_spec.specs.Flat.{order_by}
 use Rattle.arrow_spec.specs.Kinds.{width}
 use Rattle.arrow_types.specs.Schemas.{fields_in}
 use Rattle.ipc_fields.specs.IpcFields.{ids_of}
-use Rattle.ipc_read_laws.specs.Held.{Held, HasFields, HasKinds, values_of_id}
-use Rattle.ipc_files.specs.Below.{are_column_kinds, is_column_kind}
+use Rattle.ipc_files.specs.Below.{Held, HasFields, HasKinds, values_of_id, are_column_kinds, is_column_kind}
 use Rattle.ipc_files.proofs.FieldCounts.{fields_counted}
 use Rattle.ipc_files.proofs.FieldWidths.{width_in, width_with}
-use Rattle.ipc_read_laws.proofs.HeldUses.{each_use, each_value, held_fields}
+use Rattle.ipc_files.proofs.Below.{each_use, each_value, held_fields}
 use Rattle.ipc_files.proofs.ReadColumns as columns
 use Rattle.ipc_files.proofs.ReadFiles.{order_as}
 use Rattle.ipc_streams.specs.Starts.{HoldsValues, IsReadable, stream_schema}

@@ -15,8 +15,7 @@ use Rattle.arrow_spec.specs.Schema.{Schema}
 use Rattle.arrow_spec.specs.Streams.{Reader, stream_batch, stream_dictionary}
 use Rattle.arrow_arrays.specs.Batches.{Batch}
 use Rattle.arrow_arrays.specs.Parts.{Forest}
-use Rattle.ipc_read_laws.specs.Held.{Held, HasKind, HoldsCells, HasKindOf, values_of_id}
-use Rattle.ipc_files.specs.Below.{held_in}
+use Rattle.ipc_files.specs.Below.{Held, HasKind, HoldsCells, HasKindOf, values_of_id, held_in}
 use Rattle.ipc_files.specs.FileViews.{FileCause}
 use Rattle.ipc_files.proofs.ReadFiles.{of_err}
 use Rattle.ipc_streams.specs.Feeds.{FeedKept}

@@ -15,8 +15,7 @@ use Rattle.arrow_spec.proofs.Projection.{on}
 use Rattle.arrow_arrays.specs.Batches.{Batch}
 use Rattle.ipc_fields.specs.Causes.{RefusesBytes}
 use Rattle.ipc_fields.proofs.Steps.{refuses}
-use Rattle.ipc_files.specs.Below.{DictionaryTables, dictionary_message, table_of, AddsDictionary}
-use Rattle.ipc_read_laws.specs.Held.{Held, HoldsCells}
+use Rattle.ipc_files.specs.Below.{DictionaryTables, dictionary_message, table_of, AddsDictionary, Held, HoldsCells}
 use Rattle.ipc_files.proofs.BlockMessages.{refused_first}
 use Rattle.ipc_streams.specs.Bodies.{GivesBody}
 use Rattle.ipc_streams.specs.Heads.{is_taken}

@@ -9,8 +9,7 @@ use Rattle.arrow_spec.specs.Features.{chosen_floats}
 use Rattle.arrow_spec.specs.Messages.{Message, message_of}
 use Rattle.arrow_arrays.specs.Batches.{Batch}
 use Rattle.arrow_types.specs.Schemas.{Keyed}
-use Rattle.ipc_read_laws.specs.Held.{Held, HoldsCells}
-use Rattle.ipc_files.specs.Below.{table_of, held_in}
+use Rattle.ipc_files.specs.Below.{Held, HoldsCells, table_of, held_in}
 use Rattle.ipc_files.specs.FileViews.{FileCause}
 use Rattle.ipc_streams.specs.Feeds.{FeedKept}
 use Rattle.ipc_streams.specs.Heads.{is_taken}

@@ -3,8 +3,7 @@ use Rattle.std.specs.Prelude.{◌≡◌, ℕ, List, [], length, None, Result, If
 use Rattle.arrow_spec.specs.declared.error.IpcError.{IpcError}
 use Rattle.arrow_spec.specs.Counts.{first_place}
 use Rattle.arrow_arrays.specs.Batches.{Batch}
-use Rattle.ipc_read_laws.specs.Batches.{columns_read}
-use Rattle.ipc_files.specs.Below.{table_of, AreAsked, MayProject}
+use Rattle.ipc_files.specs.Below.{columns_read, table_of, AreAsked, MayProject, Held}
 use Rattle.std.specs.Rc.{rc_value}
 use Rattle.arrow_spec.specs.Arrays.{Dictionaries}
 use Rattle.arrow_spec.specs.declared.message.MetadataVersion.{MetadataVersion}
@@ -13,7 +12,6 @@ use Rattle.arrow_spec.specs.Kinds.{Metadata}
 use Rattle.arrow_spec.specs.Messages.{BatchHeader, RecordMessage}
 use Rattle.arrow_spec.specs.Readings.{Gives, Reading}
 use Rattle.arrow_spec.specs.Streams.{Reader}
-use Rattle.ipc_read_laws.specs.Held.{Held}
 use Rattle.ipc_files.specs.Selections.{numbers_read, schema_shown}
 use Rattle.arrow_types.specs.Schemas.{Keyed}
 use Rattle.ipc_streams.specs.declared.columns.StreamColumns.{StreamColumns}

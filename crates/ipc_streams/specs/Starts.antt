@@ -11,8 +11,7 @@ use Rattle.arrow_spec.specs.Streams.{body_in, first_message, next_message, strea
 use Rattle.arrow_spec.specs.WrittenSchemas.{CustomMayBeWritten, IdsMayBeWritten, SchemaMayBeWritten}
 use Rattle.arrow_types.specs.Schemas.{fields_in}
 use Rattle.ipc_fields.specs.IpcFields.{have_shapes, ids_of, metadata_of, schema_view}
-use Rattle.ipc_files.specs.Below.{are_column_fields}
-use Rattle.ipc_read_laws.specs.Held.{HasKindOf, Held}
+use Rattle.ipc_files.specs.Below.{are_column_fields, HasKindOf, Held}
 use Rattle.std.specs.declared.alloc.Global.{Global}
 use Rattle.std.specs.declared.vec.Vec.{Vec}
 use Rattle.ipc_streams.specs.declared.metadata.Beginning.{Beginning}

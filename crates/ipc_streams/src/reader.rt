@@ -3,8 +3,7 @@ ghost use Rattle.std.specs.Prelude.{◌≡◌, ◌∷◌, ◌⊎◌, [], length,
 ghost use Rattle.std.specs.Rc.{rc_value};
 ghost use Rattle.arrow_spec.specs.declared.error.IpcError.TheVariants.{Memory};
 ghost use Rattle.arrow_spec.specs.Files.{columns_right};
-ghost use Rattle.ipc_files.specs.Below.{MayProject, numbers_in, held_in};
-ghost use Rattle.ipc_read_laws.specs.Held.{none_held};
+ghost use Rattle.ipc_files.specs.Below.{MayProject, numbers_in, held_in, none_held};
 ghost use Rattle.ipc_streams.specs.Nexts.{NextState};
 ghost use Rattle.ipc_streams.specs.Readers.{fields_shown};
 ghost use Rattle.ipc_streams.specs.Starts.{IsReadable};

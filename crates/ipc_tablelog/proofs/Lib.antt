@@ -1,3 +1,4 @@
+pub mod Below
 pub mod Records
 pub mod Logs
 pub mod Opening

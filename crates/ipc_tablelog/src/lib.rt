@@ -4,4 +4,5 @@
 mod open;
 mod table_log;
 
+pub use ipc_log_records::{WholeStream, are_bytes};
 pub use table_log::TableLog;

@@ -17,18 +17,12 @@ use Rattle.arrow_arrays.specs.Parts.{fault_each, forest}
 use Rattle.ipc_fields.specs.IpcFields.{Ids}
 use Rattle.ipc_append.specs.Columns.{are_of, is_of}
 use Rattle.ipc_io.specs.Outside.{SinkKept}
-use Rattle.laws_sent.specs.Below.{Moved, NoneFalls}
-use Rattle.laws_sent.proofs.Right.{columns_right}
-use Rattle.laws_writers.specs.Below.{arrays_sent}
-use Rattle.laws_writers.proofs.Apart.{columns_of_kinds}
-use Rattle.ipc_file_writer.specs.Below.{begun, cells_of, chunk_text, columns_fault, columns_of, held_by, is_started, options_of, unless_fault}
-use Rattle.ipc_file_writer.specs.Calls as writer
-use Rattle.ipc_file_writer.specs.Calls.{SendCause, SuitsFile, Writes, file_ids, file_schema, found_before}
-use Rattle.ipc_file_writer.specs.Written.{IsFile, cells_by}
-use Rattle.ipc_file_writer.specs.declared.file.FileCore.{FileCore}
-use Rattle.ipc_file_writer.proofs.Causes.{more_limit}
-use Rattle.ipc_streams.specs.Below.{WriteOptions, table_of}
-use Rattle.ipc_streams.specs.declared.metadata.StreamMetadata.{StreamMetadata}
+use Rattle.ipc_bodies.specs.Puts.{Moved, NoneFalls}
+use Rattle.laws_walk.proofs.Below.{columns_right}
+use Rattle.ipc_append.specs.Below.{arrays_sent, begun, columns_fault, held_by, options_of, unless_fault, SendCause, SuitsFile, Writes, file_ids, file_schema, found_before, IsFile, cells_by, FileCore, WriteOptions, StreamMetadata}
+use Rattle.ipc_append.proofs.Below.{columns_of_kinds, more_limit}
+use Rattle.laws_walk.specs.Below.{cells_of, chunk_text, columns_of, is_started, table_of}
+use Rattle.ipc_append.specs.Below.Calls as writer
 use Rattle.ipc_unify.specs.Below.{AreOver, Lists}
 use Rattle.ipc_to_file.specs.Writing.{IsFront, IsGoing, IsNext, StopsBatch, StopsFile, in_batch}
 use Rattle.ipc_to_file.proofs.Fields.{are_file_fields}

@@ -10,17 +10,11 @@ use Rattle.arrow_spec.specs.Readings.{IsAmong, refusals}
 use Rattle.arrow_types.specs.Schemas.{fields_in}
 use Rattle.arrow_arrays.specs.Batches.{Batch}
 use Rattle.ipc_fields.specs.IpcFields.{fields_with, metadata_of}
-use Rattle.laws_sent.specs.Below.{Moved, NoneFalls}
-use Rattle.ipc_file_writer.specs.Below.{SchemaIsSaid, cells_of, said_fields}
-use Rattle.ipc_file_writer.specs.Calls as writer
-use Rattle.ipc_file_writer.specs.Calls.{Finishes, ending_of, file_ids, file_schema}
-use Rattle.ipc_file_writer.specs.Ends.{file_ending}
-use Rattle.ipc_file_writer.specs.Written.{cells_by, table_by}
-use Rattle.ipc_file_writer.specs.declared.file.FileCore.{FileCore}
-use Rattle.ipc_file_writer.proofs.Causes.{end_too_large}
-use Rattle.ipc_streams.specs.Below.{table_of}
-use Rattle.ipc_streams.specs.Starts.{MayBeWritten, stream_schema}
-use Rattle.ipc_streams.specs.declared.metadata.StreamMetadata.{StreamMetadata}
+use Rattle.ipc_bodies.specs.Puts.{Moved, NoneFalls}
+use Rattle.laws_walk.specs.Below.{SchemaIsSaid, cells_of, said_fields, table_of}
+use Rattle.ipc_append.specs.Below.Calls as writer
+use Rattle.ipc_append.specs.Below.{Finishes, ending_of, file_ids, file_schema, file_ending, cells_by, table_by, FileCore, MayBeWritten, stream_schema, StreamMetadata}
+use Rattle.ipc_append.proofs.Below.{end_too_large}
 use Rattle.ipc_to_file.specs.Writing.{HasPut, IsEnded, IsFront, StopsFile, in_footer, table_of_stream}
 use Rattle.ipc_to_file.proofs.Fields.{are_file_fields, serialized_is}
 use Rattle.ipc_to_file.proofs.Puts.{part_counts, part_stops}

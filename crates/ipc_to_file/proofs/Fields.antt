@@ -17,18 +17,11 @@ use Rattle.arrow_spec.proofs.NumberedFields.{bare_numbered, numbered_may, uses_n
 use Rattle.arrow_types.specs.Schemas.{fields_in}
 use Rattle.ipc_fields.specs.IpcFields.{Ids, fields_with, have_shapes, ids_of}
 use Rattle.schema_writer.specs.Serialized.{serialized, written}
-use Rattle.laws_writers.specs.Below.{StreamPairs, all_representable, stream_text}
-use Rattle.laws_writers.specs.Written.{said_fields}
-use Rattle.laws_writers.proofs.Uses.{all_floats}
-use Rattle.laws_sent.specs.Below.{IsNumbered}
-use Rattle.laws_sent.proofs.PlainFields.{same_numbers, same_representable}
-use Rattle.laws_sent.proofs.SayableFields.{can_be_said, fields_own, fields_representable, numberable}
-use Rattle.ipc_read.proofs.ColumnIds.{chosen_floats_with}
-use Rattle.ipc_file_writer.specs.Below.{SchemaIsSaid}
-use Rattle.ipc_streams.proofs.Below.{plain_fields_with}
-use Rattle.ipc_streams.specs.Below.{WriteOptions}
-use Rattle.ipc_streams.specs.Starts.{MayBeWritten, stream_schema}
-use Rattle.ipc_streams.specs.declared.metadata.StreamMetadata.{StreamMetadata}
+use Rattle.laws_walk.specs.Below.{StreamPairs, stream_text, said_fields, SchemaIsSaid}
+use Rattle.ipc_fields.specs.Representable.{all_representable}
+use Rattle.ipc_append.proofs.Below.{all_floats, same_numbers, same_representable, can_be_said, fields_own, fields_representable, numberable, chosen_floats_with, plain_fields_with}
+use Rattle.schema_writer.specs.Defaults.{IsNumbered}
+use Rattle.ipc_append.specs.Below.{WriteOptions, MayBeWritten, stream_schema, StreamMetadata}
 
 -- what a file says of them
 pub record AreFileFields (m : StreamMetadata) (own : Ids) : Type 0 where

@@ -11,19 +11,12 @@ use Rattle.arrow_arrays.specs.Batches.{Batch}
 use Rattle.ipc_fields.specs.IpcFields.{fields_with, ids_of, metadata_of}
 use Rattle.ipc_fields.specs.declared.ipc_field.IpcSchema.{IpcSchema}
 use Rattle.ipc_io.specs.Outside.{SinkKept}
-use Rattle.laws_sent.specs.Below.{IsNumbered, Moved, NoneFalls, PutsPart}
-use Rattle.ipc_file_writer.specs.Below.{DictionaryTracker, SchemaIsSaid, held_by, is_new, is_started}
-use Rattle.ipc_file_writer.specs.Calls as writer
-use Rattle.ipc_file_writer.specs.Calls.{IsFresh, Starts, Stays, file_ids, file_schema, start_of, takes_pairs}
-use Rattle.ipc_file_writer.specs.declared.blocks.FileBlocks.{FileBlocks}
-use Rattle.ipc_file_writer.specs.declared.file.FileCore.{FileCore}
-use Rattle.ipc_file_writer.specs.declared.pairs.FilePairs.{FilePairs}
-use Rattle.ipc_file_writer.proofs.Below.{refused_chosen}
-use Rattle.ipc_file_writer.proofs.Causes.{start_cause}
-use Rattle.ipc_file_writer.specs.Ends.{file_start, no_pairs}
-use Rattle.ipc_streams.specs.Below.{WriteOptions}
-use Rattle.ipc_streams.specs.Starts.{MayBeWritten, stream_schema}
-use Rattle.ipc_streams.specs.declared.metadata.StreamMetadata.{StreamMetadata}
+use Rattle.schema_writer.specs.Defaults.{IsNumbered}
+use Rattle.ipc_bodies.specs.Puts.{Moved, NoneFalls, PutsPart}
+use Rattle.ipc_append.specs.Below.{DictionaryTracker, held_by, IsFresh, Starts, Stays, file_ids, file_schema, start_of, takes_pairs, FileBlocks, FileCore, FilePairs, file_start, no_pairs, WriteOptions, MayBeWritten, stream_schema, StreamMetadata}
+use Rattle.laws_walk.specs.Below.{SchemaIsSaid, is_new, is_started}
+use Rattle.ipc_append.specs.Below.Calls as writer
+use Rattle.ipc_append.proofs.Below.{refused_chosen, start_cause}
 use Rattle.ipc_to_file.specs.Writing.{HasBegun, IsFileOf, IsNewOf, OnlyPairs, StopsFile, file_options, in_schema}
 use Rattle.ipc_to_file.proofs.Fields.{are_file_fields, floats_are, message_cause}
 

@@ -11,9 +11,8 @@ use Rattle.arrow_spec.specs.Streams.{stream_reading, stream_table}
 use Rattle.arrow_arrays.specs.Batches.{Batch}
 use Rattle.ipc_bodies.specs.Puts.{Moved, NoneFalls, PutsText}
 use Rattle.ipc_io.specs.Outside.{Rose, Stands}
-use Rattle.ipc_streams.specs.Below.{FileCause}
-use Rattle.ipc_streams.specs.Starts.{IsReadable, MayBeWritten, stream_schema}
-use Rattle.ipc_streams.specs.declared.metadata.StreamMetadata.{StreamMetadata}
+use Rattle.laws_walk.specs.Below.{FileCause}
+use Rattle.ipc_append.specs.Below.{IsReadable, MayBeWritten, stream_schema, StreamMetadata}
 use Rattle.ipc_append.specs.Wholes.{IsWhole, RefusesStream, table_read}
 use Rattle.ipc_append.specs.declared.stream.WholeStream.{WholeStream}
 use Rattle.laws_walk.specs.Summaries.{IsSummary}

@@ -11,8 +11,8 @@ use Rattle.arrow_arrays.specs.CellCode.{Content}
 use Rattle.arrow_arrays.specs.Columns.{columns_of}
 use Rattle.arrow_arrays.specs.Parts.{Parts, cells_in, forest, kind_in}
 use Rattle.arrow_arrays.specs.SameBatches.{contents_in, holding_of}
-use Rattle.ipc_streams.specs.Below.{table_of}
-use Rattle.ipc_streams.specs.declared.metadata.StreamMetadata.{StreamMetadata}
+use Rattle.laws_walk.specs.Below.{table_of}
+use Rattle.ipc_append.specs.Below.{StreamMetadata}
 use Rattle.ipc_append.specs.Columns.{are_of}
 use Rattle.ipc_append.specs.Wholes.{table_read}
 use Rattle.ipc_append.specs.declared.stream.WholeStream.{WholeStream}

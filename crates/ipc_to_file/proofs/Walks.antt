@@ -18,10 +18,8 @@ use Rattle.arrow_arrays.specs.Parts.{Parts, Forest, leaf, nested, none, also, ce
 use Rattle.arrow_arrays.proofs.Sliced.{neither, top_sound}
 use Rattle.ipc_fields.specs.IpcFields.{Ids, fields_with, kind_with}
 use Rattle.ipc_fields.specs.Uses.{first_id, first_ids, id_under, other_ids}
-use Rattle.laws_writers.specs.Below.{Absent, Same, Options, Sending, allowed, are_same_cells, array_sent, arrays_sent, by_cells, delta_start, dictionary_sent, fixing, holding, is_indexed, message_of, parts_sent, rows_from, scoped, sending, standing, then_by}
-use Rattle.laws_writers.proofs.Apart.{PartsUnder, Under, children_under, same_dictionary, values_under_them}
-use Rattle.laws_sent.proofs.FieldKinds.{ids_split}
-use Rattle.laws_sent.proofs.Walks.{dictionary_ids}
+use Rattle.ipc_append.specs.Below.{Absent, Same, Options, Sending, allowed, are_same_cells, array_sent, arrays_sent, by_cells, delta_start, dictionary_sent, fixing, holding, is_indexed, message_of, parts_sent, rows_from, scoped, sending, standing, then_by}
+use Rattle.ipc_append.proofs.Below.{PartsUnder, Under, children_under, same_dictionary, values_under_them, ids_split, dictionary_ids}
 use Rattle.ipc_unify.specs.Below.{AreOver, IsOver, Lists, PartsAreOver}
 
 -- ── values that are held ──

@@ -6,9 +6,8 @@ use Rattle.arrow_spec.specs.declared.error.IpcError.{IpcError}
 use Rattle.arrow_spec.specs.Files.{TableBatch}
 use Rattle.arrow_arrays.specs.Batches.{Batch}
 use Rattle.arrow_arrays.specs.Parts.{forest}
-use Rattle.ipc_file_writer.specs.declared.file.FileCore.{FileCore}
-use Rattle.ipc_streams.specs.Below.{table_of}
-use Rattle.ipc_streams.specs.Starts.{MayBeWritten}
+use Rattle.ipc_append.specs.Below.{FileCore, MayBeWritten}
+use Rattle.laws_walk.specs.Below.{table_of}
 use Rattle.ipc_append.specs.declared.stream.WholeStream.{WholeStream}
 use Rattle.ipc_unify.specs.Below.{AreOver, Lists}
 use Rattle.ipc_to_file.specs.Writing.{HasBegun, IsEnded, IsGoing, IsNext, StopsFile, WritesAll, WritesFile}

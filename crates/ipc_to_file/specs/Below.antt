@@ -1,2 +1,2 @@
 -- What crates below say, handed on to those above.
-pub use Rattle.ipc_streams.specs.Feeds.{FeedKept}
+pub use Rattle.ipc_append.specs.Below.{FeedKept}

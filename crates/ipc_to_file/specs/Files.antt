@@ -9,7 +9,7 @@ use Rattle.arrow_spec.specs.Meaning.{file_table}
 use Rattle.arrow_spec.specs.Readings.{IsAmong}
 use Rattle.arrow_spec.specs.Streams.{stream_table}
 use Rattle.ipc_io.specs.Outside.{Rose}
-use Rattle.ipc_streams.specs.Starts.{stream_schema}
+use Rattle.ipc_append.specs.Below.{stream_schema}
 use Rattle.ipc_append.specs.Wholes.{HasTooMany, IsWhole, RefusesStream}
 use Rattle.ipc_append.specs.declared.stream.WholeStream.{WholeStream}
 use Rattle.laws_walk.specs.Summaries.{IsSummary}

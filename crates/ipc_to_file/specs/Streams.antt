@@ -6,8 +6,8 @@ use Rattle.arrow_spec.specs.declared.error.IpcError.TheVariants as errors
 use Rattle.arrow_types.specs.Schemas.{Keyed}
 use Rattle.arrow_arrays.specs.Parts.{forest}
 use Rattle.arrow_arrays.specs.SameBatches.{holding_of}
-use Rattle.ipc_streams.specs.Below.{FileCause}
-use Rattle.ipc_streams.specs.Starts.{IsReadable, MayBeWritten}
+use Rattle.laws_walk.specs.Below.{FileCause}
+use Rattle.ipc_append.specs.Below.{IsReadable, MayBeWritten}
 use Rattle.ipc_append.specs.Wholes.{IsWhole, RefusesStream}
 use Rattle.ipc_append.specs.declared.stream.WholeStream.{WholeStream}
 use Rattle.ipc_unify.specs.Below.{AreOver, Lists, has_large_keys, unified, united}

@@ -15,14 +15,9 @@ use Rattle.arrow_arrays.specs.Batches.{Batch}
 use Rattle.arrow_arrays.specs.Parts.{forest}
 use Rattle.ipc_fields.specs.IpcFields.{metadata_of}
 use Rattle.ipc_io.specs.Outside.{Rose}
-use Rattle.laws_sent.specs.Below.{IsNumbered}
-use Rattle.ipc_file_writer.specs.Below.{Sending, cells_of, held_by, is_new, is_started}
-use Rattle.ipc_file_writer.specs.Calls.{RefusesMore, ending_of, file_ids, file_schema, found_before, start_of}
-use Rattle.ipc_file_writer.specs.Written.{HasNothing, IsFile, cells_by}
-use Rattle.ipc_file_writer.specs.declared.file.FileCore.{FileCore}
-use Rattle.ipc_streams.specs.Below.{WriteOptions, table_of}
-use Rattle.ipc_streams.specs.Starts.{MayBeWritten, stream_schema}
-use Rattle.ipc_streams.specs.declared.metadata.StreamMetadata.{StreamMetadata}
+use Rattle.schema_writer.specs.Defaults.{IsNumbered}
+use Rattle.ipc_append.specs.Below.{Sending, held_by, RefusesMore, ending_of, file_ids, file_schema, found_before, start_of, HasNothing, IsFile, cells_by, FileCore, WriteOptions, MayBeWritten, stream_schema, StreamMetadata}
+use Rattle.laws_walk.specs.Below.{cells_of, is_new, is_started, table_of}
 use Rattle.ipc_append.specs.Columns.{is_of}
 use Rattle.ipc_append.specs.Wholes.{table_read}
 use Rattle.ipc_append.specs.declared.stream.WholeStream.{WholeStream}

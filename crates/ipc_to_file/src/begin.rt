@@ -3,16 +3,15 @@ ghost use Rattle.std.specs.Prelude.{◌≡◌, ◌≤◌, [], IfErr, IfOk, List,
 ghost use Rattle.arrow_arrays.specs.Batches.{Batch};
 ghost use Rattle.arrow_spec.specs.declared.error.IpcError.TheVariants.{Memory};
 ghost use Rattle.ipc_fields.specs.IpcFields.{metadata_of};
-ghost use Rattle.ipc_file_writer.specs.Below.{is_new};
+ghost use Rattle.laws_walk.specs.Below.{is_new};
 ghost use Rattle.ipc_io.specs.Outside.{SinkKept};
-ghost use Rattle.ipc_streams.specs.Starts.{IsReadable, MayBeWritten};
+ghost use Rattle.ipc_append.specs.Below.{IsReadable, MayBeWritten};
 ghost use Rattle.ipc_to_file.specs.Writing.{HasBegun, IsNewOf, OnlyPairs, StopsFile, file_options};
 
 use arrow_spec::IpcError;
 use arrow_types::Metadata;
-use ipc_file_writer::{FileCore, WriteOptions};
+use ipc_append::{FileCore, StreamMetadata, WriteOptions};
 use ipc_io::Sink;
-use ipc_streams::StreamMetadata;
 use std::alloc::Global;
 
 /// How the file is written: dictionaries that go on are written as deltas.

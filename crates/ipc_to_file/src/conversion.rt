@@ -5,7 +5,7 @@ ghost use Rattle.arrow_spec.specs.Streams.{stream_table};
 ghost use Rattle.ipc_bodies.specs.Encodings.{text_of};
 ghost use Rattle.ipc_bodies.specs.declared.encoding.Encoding.TheVariants.{HexText};
 ghost use Rattle.ipc_io.specs.Outside.{SinkKept, Stands};
-ghost use Rattle.ipc_streams.specs.Feeds.{FeedKept};
+ghost use Rattle.ipc_append.specs.Below.{FeedKept};
 ghost use Rattle.ipc_to_file.specs.Files.{IsRareRefusal, LeavesNone, MakesFile, PutCause, RefusesFile, ToFileCause};
 
 use crate::held::HeldFile;

@@ -2,16 +2,13 @@
 ghost use Rattle.std.specs.Prelude.{◌≡◌, IfErr, IfOk, IfSome, false};
 ghost use Rattle.std.specs.Rc.{rc_value};
 ghost use Rattle.ipc_append.specs.Wholes.{AllOf, GivesEach, GivesMore, IsWhole, RefusesStream, all_columns, batch_found};
-ghost use Rattle.ipc_streams.specs.Below.{FileCause};
-ghost use Rattle.ipc_streams.specs.Feeds.{FeedKept};
-ghost use Rattle.ipc_streams.specs.Readers.{IsReader};
-ghost use Rattle.ipc_streams.specs.Starts.{IsReadable, MayBeWritten, stream_schema};
+ghost use Rattle.laws_walk.specs.Below.{FileCause};
+ghost use Rattle.ipc_append.specs.Below.{FeedKept, IsReader, IsReadable, MayBeWritten, stream_schema};
 
 use arrow_arrays::RecordBatch;
 use arrow_spec::IpcError;
-use ipc_append::WholeStream;
+use ipc_append::{StreamMetadata, StreamReader, StreamState, WholeStream, read_stream_metadata};
 use ipc_io::Feed;
-use ipc_streams::{StreamMetadata, StreamReader, StreamState, read_stream_metadata};
 use std::alloc::Global;
 
 /// The record batch, where there is one.

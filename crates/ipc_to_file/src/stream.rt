@@ -1,7 +1,7 @@
 //! A stream that is read whole, and whose dictionaries are made one list each.
 ghost use Rattle.std.specs.Prelude.{◌≡◌, ◌⊎◌, IfErr, IfOk, IfSome};
 ghost use Rattle.arrow_spec.specs.declared.error.IpcError.TheVariants.{Memory, NotRepresentable};
-ghost use Rattle.ipc_streams.specs.Feeds.{FeedKept};
+ghost use Rattle.ipc_append.specs.Below.{FeedKept};
 ghost use Rattle.ipc_to_file.specs.Streams.{IsMadeOf, IsUnited, RefusesUnited, UnitedCause, has_large};
 
 use crate::read::read_stream;

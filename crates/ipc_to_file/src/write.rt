@@ -3,17 +3,15 @@ ghost use Rattle.std.specs.Prelude.{◌≡◌, ◌<◌, ◌++◌, ◌∷◌, [],
 ghost use Rattle.arrow_arrays.specs.Batches.{Batch};
 ghost use Rattle.arrow_arrays.specs.Parts.{forest};
 ghost use Rattle.ipc_io.specs.Outside.{SinkKept};
-ghost use Rattle.ipc_streams.specs.Below.{table_of};
-ghost use Rattle.ipc_streams.specs.Starts.{IsReadable, MayBeWritten};
-ghost use Rattle.ipc_streams.specs.declared.metadata.StreamMetadata.{StreamMetadata};
+ghost use Rattle.laws_walk.specs.Below.{table_of};
+ghost use Rattle.ipc_append.specs.Below.{IsReadable, MayBeWritten, StreamMetadata};
 ghost use Rattle.ipc_unify.specs.Below.{AreOver, Lists};
 ghost use Rattle.ipc_to_file.specs.Writing.{EndsFile, IsGoing, IsNext, StopsBatch, StopsFile, WritesAll, WritesFile};
 
 use crate::begin::begin_file;
 use arrow_arrays::RecordBatch;
 use arrow_spec::IpcError;
-use ipc_append::WholeStream;
-use ipc_file_writer::FileCore;
+use ipc_append::{FileCore, WholeStream};
 use ipc_io::Sink;
 use laws_walk::Summary;
 use std::alloc::Global;

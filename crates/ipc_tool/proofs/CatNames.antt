@@ -6,8 +6,7 @@ use Rattle.std.proofs.lemmas.List.{map-append, take_all, take_more}
 use Rattle.arrow_spec.specs.declared.error.IpcError.TheVariants as errors
 use Rattle.arrow_spec.specs.Words.{Held}
 use Rattle.ipc_io.specs.Outside.{Closes, IsHeld, Lacks, Rose, Stands}
-use Rattle.ipc_concat.specs.Concat.{AllStand, EachKept, OneRose}
-use Rattle.ipc_concat.specs.Tables.{told}
+use Rattle.ipc_log_streams.specs.Below.{AllStand, EachKept, OneRose, told}
 use Rattle.ipc_words.specs.Views.{text, texts}
 use Rattle.ipc_tool.specs.Commands.Cat.{AreHeld, NoneHasFailed, OneHasFailed, OpensNext, WhyNotOpened, first_name, held_under}
 use Rattle.ipc_tool.specs.Tasks.{IsMissing}

@@ -12,7 +12,7 @@ use Rattle.ipc_io.proofs.Known.{AppendsPrefix-after, Appends-kept_nil}
 use Rattle.ipc_bodies.specs.declared.encoding.Encoding.TheVariants.{Bytes, HexText}
 use Rattle.ipc_bodies.specs.Encodings.{text_of}
 use Rattle.ipc_round_trip.specs.Below.{Summary}
-use Rattle.ipc_concat.specs.Concat.{AddsPart, ConcatCause, Concatenates, IsSmallRefusal}
+use Rattle.ipc_log_streams.specs.Below.{AddsPart, ConcatCause, Concatenates, IsSmallRefusal}
 use Rattle.ipc_tool.specs.Commands.Cat.{AddsAll, AddsCat}
 use Rattle.ipc_tool.proofs.Adding.{IfErr-at}
 use Rattle.ipc_tool.proofs.CatNames.{by_told}

@@ -6,8 +6,7 @@ use Rattle.arrow_spec.specs.declared.error.IpcError.{IpcError}
 use Rattle.arrow_spec.specs.declared.error.IpcError.TheVariants as errors
 use Rattle.ipc_io.specs.Outside.{Lacks, Rose, Stands}
 use Rattle.ipc_bodies.specs.Encodings.{text_of}
-use Rattle.ipc_concat.specs.Concat.{AddsPart, AllStand, ConcatCause, EachKept, IsOfPut, IsSmallRefusal}
-use Rattle.ipc_concat.specs.Tables.{MeanTables, told}
+use Rattle.ipc_log_streams.specs.Below.{AddsPart, AllStand, ConcatCause, EachKept, IsOfPut, IsSmallRefusal, MeanTables, told}
 use Rattle.ipc_words.specs.Requests.{Cat}
 use Rattle.ipc_tool.specs.Commands.Stream.{encoding_of}
 use Rattle.ipc_tool.specs.Commands.Cat.{AddsAll, AddsCat, AreHeld, CatLeft, LeavesCat, MayCat, NoneHasFailed, OneHasFailed, WhyNotOpened, cat_task, first_name}

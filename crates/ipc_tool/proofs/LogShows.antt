@@ -11,7 +11,7 @@ use Rattle.arrow_spec.specs.Files.{ArrowTable}
 use Rattle.arrow_spec.specs.Words.{Held}
 use Rattle.ipc_bodies.specs.declared.encoding.Encoding.TheVariants.{Bytes, HexText}
 use Rattle.ipc_bodies.specs.Encodings.{text_of}
-use Rattle.ipc_concat.specs.Concat.{IsOfPut}
+use Rattle.ipc_log_streams.specs.Below.{IsOfPut, MeansLog}
 use Rattle.ipc_disk.specs.Places.{IsReplaced}
 use Rattle.ipc_io.specs.declared.outside.PutError.{PutError}
 use Rattle.ipc_io.specs.declared.outside.PutError.TheVariants as put
@@ -22,7 +22,6 @@ use Rattle.ipc_io.specs.Outside.{Closes, IsHeld, Lacks, Puts, PutHasCause, Rose,
 use Rattle.ipc_io.proofs.Known.{AppendsPrefix-after, Appends-kept_nil}
 use Rattle.ipc_log_disk.specs.Below.{IsOfDisk}
 use Rattle.ipc_log_disk.specs.Crashes.{Among, Images, Only, SameImages}
-use Rattle.ipc_log_streams.specs.Below.{MeansLog}
 use Rattle.ipc_log_streams.specs.Streams.{AddsLog, AddsPart, IsOfOpening, IsOfRead, IsReadable, IsSmallRefusal, KeepsBytes, PutCause}
 use Rattle.ipc_tool.specs.Commands.Append.{KeepsOthers, NotOpened}
 use Rattle.ipc_tool.specs.Commands.Log.{AddsShown, KeepsAll, KeepsShelf, LeavesShow, MayShow, ShowLeft, SurvivesAs, show_task}

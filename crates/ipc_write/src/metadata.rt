@@ -11,7 +11,7 @@ ghost use Rattle.ipc_write.specs.Metadata.{content_custom, content_node, content
 use arrow_flat::{BuildError, Node, Slot, finish};
 use arrow_spec::{FieldNode, IpcBuffer, IpcError};
 use arrow_types::Metadata;
-use schema_writer::message_node;
+use ipc_schema::message_node;
 use std::alloc::{AllocError, Global};
 
 /// With so many nodes or buffers, of 16 bytes each, the metadata is too large.

@@ -1,5 +1,7 @@
 -- What crates below say, handed on to those above.
-pub use Rattle.ipc_write.proofs.Below.{Agrees, chosen_with, join, means_under, plain_same, plain_with, split, uses_one}
+pub use Rattle.ipc_write.proofs.Below.{Agrees, all_written, both_none, carried_plain, chosen_with, each_use, each_value, fields_plain, form_plain}
+pub use Rattle.ipc_write.proofs.Below.{held_fields, holds_none, join, kind_under, means_under, parts_sound, plain_fields_with, plain_of, plain_same}
+pub use Rattle.ipc_write.proofs.Below.{plain_twice, plain_with, representable_is, split, uses_one, values_plain, width_plain}
 pub use Rattle.ipc_write.proofs.DictionaryValues.{first_rows}
 pub use Rattle.ipc_write.proofs.Meanings.{columns_mean, columns_under_are_of, may_little}
 pub use Rattle.ipc_write.proofs.PlannedMessages.{short_is_sent, short_then_sent}

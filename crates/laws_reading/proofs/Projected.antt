@@ -1,7 +1,7 @@
 -- Columns that were read for a projection, put in the order asked.
 use Rattle.std.proofs.Common.{refl, subst, sym}
-use Rattle.ipc_projection.specs.Places.{StandAt}
-use Rattle.ipc_projection.proofs.Projected.{applicable, applied_arrays, applied_schema}
+use Rattle.ipc_files.specs.Below.{StandAt}
+use Rattle.ipc_files.proofs.Below.{applicable, applied_arrays, applied_schema}
 use Rattle.laws_reading.specs.ProjectionLaws.{ProjectedBatchIsAsked, ProjectionMayBeApplied}
 
 pub projection_may_be_applied : ProjectionMayBeApplied

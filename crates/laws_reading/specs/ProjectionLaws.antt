@@ -4,10 +4,7 @@ use Rattle.std.specs.Rc.{rc_value}
 use Rattle.arrow_types.specs.Schemas.{Keyed}
 use Rattle.arrow_arrays.specs.Batches.{Batch}
 use Rattle.arrow_arrays.specs.Parts.{Parts}
-use Rattle.ipc_projection.specs.Below.{chosen}
-use Rattle.ipc_projection.specs.Places.{IsPermutation, StandAt}
-use Rattle.ipc_projection.specs.Projections.{IsProjection, IsReordered}
-use Rattle.ipc_projection.specs.declared.projection.ProjectionInfo.{ProjectionInfo}
+use Rattle.ipc_files.specs.Below.{chosen, IsPermutation, StandAt, IsProjection, IsReordered, ProjectionInfo}
 
 -- The map of a projection may put a batch of the fields that are read for it in order.
 abbrev pub ProjectionMayBeApplied : Type 0

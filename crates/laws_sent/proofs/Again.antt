@@ -7,8 +7,7 @@ use Rattle.arrow_spec.specs.declared.types.IntegerType.{IntegerType}
 use Rattle.arrow_spec.specs.Kinds as kind
 use Rattle.arrow_spec.specs.Kinds.{Kind, Fields, dictionary_count, numbered, numbered_kind, uses_in, uses_of}
 use Rattle.arrow_spec.specs.Arrays.{Dictionaries}
-use Rattle.arrow_arrays.specs.Heads.{indexed, listed, mapped, sized, structured, tagged, values_kind}
-use Rattle.arrow_arrays.specs.Parts.{Parts, Forest, leaf, nested, none, also}
+use Rattle.ipc_files.specs.Below.{indexed, listed, mapped, sized, structured, tagged, values_kind, Parts, Forest, leaf, nested, none, also}
 use Rattle.ipc_fields.specs.IpcFields.{Ids, fields_with, kind_with}
 use Rattle.ipc_fields.specs.Uses.{first_id, first_ids, id_under, other_ids}
 use Rattle.laws_writers.specs.Below.{Longer, Same, Options, Sending, array_sent, arrays_sent, fixing, then_by, standing, values_in}

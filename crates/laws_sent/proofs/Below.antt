@@ -1,2 +1,2 @@
 -- What crates below say, handed on to those above.
-pub use Rattle.ipc_read_laws.proofs.HeldUses.{each_use, held_fields}
+pub use Rattle.laws_writers.proofs.Below.{each_use, held_fields}

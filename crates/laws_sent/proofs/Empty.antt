@@ -22,20 +22,12 @@ use Rattle.arrow_buffers.specs.Layouts.{binary_size}
 use Rattle.arrow_buffers.specs.Variable.{Variable}
 use Rattle.arrow_types.specs.declared.physical.PhysicalType.{PhysicalType}
 use Rattle.arrow_types.specs.declared.physical.PhysicalType.TheVariants as physical
-use Rattle.arrow_arrays.specs.Carried.{is_carried, are_carried}
-use Rattle.arrow_arrays.specs.EmptyParts.{empty_forest, empty_leaf, empty_parts, empty_under}
-use Rattle.arrow_arrays.specs.Heads.{Head, indexed, joined, list_size, listed, mapped, run, sized, structured, tagged, whole}
-use Rattle.arrow_arrays.specs.LeafParts.{LeafParts, binary, fixed, numbers, text, leaf_part_of}
-use Rattle.arrow_arrays.specs.Nodes.{node_in, counts_in, counts_each}
-use Rattle.arrow_arrays.specs.Parts.{Parts, Forest, leaf, nested, none as no_parts, also, cells_in, fault_in, kind_in, rows_each}
-use Rattle.arrow_arrays.proofs.EmptyParts.{cells-empty, kind-empty, rows-empty, sound-empty}
+use Rattle.ipc_files.specs.Below.{is_carried, are_carried, empty_forest, empty_leaf, empty_parts, empty_under, Head, indexed, joined, list_size, listed, mapped, run, sized, structured, tagged, whole, LeafParts, binary, fixed, numbers, text, leaf_part_of, node_in, counts_in, counts_each, Parts, Forest, leaf, nested, none as no_parts, also, cells_in, fault_in, kind_in, rows_each, offset_bytes, offset_limit, HoldsEachAt, HoldsValuesAt, is_alike, Fit, FitEach, HeadFit, column_in, head_pieces, nodes_in, pieces_in, tree_nodes, tree_pieces, trees_nodes, trees_pieces, width_of_kind, with_kind, sent, trim, trim_each}
+use Rattle.ipc_files.proofs.Below.{cells-empty, kind-empty, rows-empty, sound-empty, means_under, may_little, first_rows}
 use Rattle.ipc_fields.proofs.SameKinds.{same_itself}
-use Rattle.ipc_files.specs.Below.{offset_bytes, offset_limit, HoldsEachAt, HoldsValuesAt, is_alike, Fit, FitEach, HeadFit, column_in, head_pieces, nodes_in, pieces_in, tree_nodes, tree_pieces, trees_nodes, trees_pieces, width_of_kind, with_kind, sent, trim, trim_each}
-use Rattle.ipc_read_laws.proofs.PlainTypes.{plain_twice}
-use Rattle.ipc_read_laws.specs.PlainKinds.{plain_kind, plain_fields}
-use Rattle.ipc_read_laws.proofs.PlainKinds.{carried_plain, width_plain}
+use Rattle.laws_writers.proofs.Below.{plain_twice, carried_plain, width_plain}
+use Rattle.laws_writers.specs.Below.{plain_kind, plain_fields}
 use Rattle.laws_transcode.specs.Below.{Means, IsKnown, Known}
-use Rattle.ipc_files.proofs.Below.{means_under, may_little, first_rows}
 use Rattle.laws_transcode.specs.Sending.{AllAreKnown, AreKnown, IsColumnOf}
 use Rattle.laws_sent.specs.Parts.{PartTree, columns_in}
 use Rattle.laws_sent.proofs.Lists.{all_both}

@@ -8,15 +8,9 @@ use Rattle.arrow_types.specs.Physical.{physical_of}
 use Rattle.arrow_types.specs.declared.physical.PhysicalType.{PhysicalType}
 use Rattle.arrow_types.specs.declared.physical.PhysicalType.TheVariants as physical
 use Rattle.arrow_buffers.specs.Layouts.{binary_size}
-use Rattle.arrow_arrays.specs.EmptyParts.{empty_forest, empty_leaf, empty_parts, empty_under}
-use Rattle.arrow_arrays.specs.Heads.{values_kind}
-use Rattle.arrow_arrays.specs.LeafParts.{leaf_cells_in}
-use Rattle.arrow_arrays.specs.Parts.{Parts, Forest, none, also, cells_in, kind_in}
-use Rattle.laws_writers.specs.Below.{is_indexed, values_in}
-use Rattle.ipc_read_laws.specs.Held.{Held, none_held}
-use Rattle.ipc_read_laws.specs.PartsRead.{parts_or_empty}
-use Rattle.ipc_read_laws.specs.PlainKinds.{plain_kind, plain_fields}
-use Rattle.ipc_read_laws.proofs.PlainTypes.{plain_twice}
+use Rattle.ipc_files.specs.Below.{empty_forest, empty_leaf, empty_parts, empty_under, values_kind, leaf_cells_in, Parts, Forest, none, also, cells_in, kind_in, Held}
+use Rattle.laws_writers.specs.Below.{is_indexed, values_in, none_held, parts_or_empty, plain_kind, plain_fields}
+use Rattle.laws_writers.proofs.Below.{plain_twice}
 use Rattle.laws_sent.specs.ReadUnder.{AreReadUnder, IsReadUnder}
 use Rattle.laws_sent.proofs.Forms.{bare_form, bare_forms}
 

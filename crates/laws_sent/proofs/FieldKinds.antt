@@ -3,17 +3,14 @@ use Rattle.std.proofs.Common.{◌≡◌, ℕ, ◌+◌, List, None, refl, sym, ap
 use Rattle.std.proofs.lemmas.Bool.{and_parts}
 use Rattle.arrow_spec.specs.Kinds as kind
 use Rattle.arrow_spec.specs.Kinds.{Kind, Fields, dictionary_count, numbered, numbered_kind}
-use Rattle.arrow_arrays.specs.Heads.{are_of, child_fields, indexed, listed, mapped, sized, structured, suits, tagged, values_kind}
-use Rattle.arrow_arrays.specs.Parts.{Parts, Forest, leaf, nested, none, fault_in, fault_each, kind_in, kinds_each}
-use Rattle.arrow_arrays.proofs.Sliced.{top_sound}
+use Rattle.ipc_files.specs.Below.{are_of, child_fields, indexed, listed, mapped, sized, structured, suits, tagged, values_kind, Parts, Forest, leaf, nested, none, fault_in, fault_each, kind_in, kinds_each, Held}
+use Rattle.ipc_files.proofs.Below.{top_sound}
 use Rattle.ipc_fields.specs.IpcFields.{Ids, fields_with, kind_with}
 use Rattle.ipc_fields.specs.IpcFields as fields
 use Rattle.ipc_fields.specs.Uses.{first_id, first_ids, other_ids}
 use Rattle.arrow_spec.proofs.Forms.{form, forms}
-use Rattle.laws_writers.specs.Below.{is_indexed, values_in}
-use Rattle.ipc_read_laws.specs.PlainKinds.{plain_kind, plain_fields}
-use Rattle.ipc_read_laws.proofs.PlainKinds.{fields_plain, values_plain}
-use Rattle.ipc_read_laws.specs.Held.{Held}
+use Rattle.laws_writers.specs.Below.{is_indexed, values_in, plain_kind, plain_fields}
+use Rattle.laws_writers.proofs.Below.{fields_plain, values_plain}
 use Rattle.laws_writers.proofs.Apart.{Under, children_under, fields_form}
 use Rattle.laws_sent.proofs.EmptyArrays.{HaveHeld}
 

@@ -7,11 +7,9 @@ use Rattle.arrow_spec.specs.Kinds as kind
 use Rattle.arrow_spec.specs.Kinds.{Kind, Fields, Use, uses_in, uses_of}
 use Rattle.arrow_spec.specs.Arrays.{Dictionaries}
 use Rattle.arrow_spec.specs.Sent.{dictionary_messages, nothing_sent, send_fields}
-use Rattle.arrow_arrays.specs.Carried.{is_carried, are_carried}
-use Rattle.arrow_arrays.specs.Parts.{Forest, rows_in}
+use Rattle.ipc_files.specs.Below.{is_carried, are_carried, Forest, rows_in}
 use Rattle.ipc_fields.specs.IpcFields.{Ids}
-use Rattle.laws_writers.specs.Below.{ToSend}
-use Rattle.ipc_read_laws.specs.PlainKinds.{plain_fields}
+use Rattle.laws_writers.specs.Below.{ToSend, plain_fields}
 use Rattle.laws_sent.specs.Parts.{PartTree}
 use Rattle.laws_writers.proofs.Apart.{columns_of_kinds}
 use Rattle.laws_sent.specs.DictionaryLaws.{AreFileColumns, FileDictionariesAreSent, sent_message}

@@ -10,10 +10,10 @@ use Rattle.arrow_spec.specs.Counts.{RecordBatch, Place, Written, after, first_pl
 use Rattle.arrow_spec.specs.Arrays.{offset, offset_width}
 use Rattle.arrow_spec.specs.Schema.{first_is_struct_of_two, is_struct_of_two}
 use Rattle.arrow_spec.specs.Sent.{also_written, no_source, own, parts_written, written, written_part}
-use Rattle.arrow_arrays.specs.Carried.{is_carried, are_carried}
+use Rattle.ipc_files.specs.Below.{is_carried, are_carried}
 use Rattle.arrow_spec.proofs.Forms.{form, forms}
-use Rattle.ipc_read_laws.proofs.PlainTypes.{form_plain, plain_twice}
-use Rattle.ipc_read_laws.specs.PlainKinds.{plain_kind, plain_fields}
+use Rattle.laws_writers.proofs.Below.{form_plain, plain_twice}
+use Rattle.laws_writers.specs.Below.{plain_kind, plain_fields}
 
 -- a kind without names, nullability, metadata and ids
 abbrev pub bare_form : Kind → Kind

@@ -5,15 +5,12 @@ use Rattle.arrow_spec.specs.Kinds as kind
 use Rattle.arrow_spec.specs.Kinds.{Kind, Fields, same}
 use Rattle.arrow_spec.specs.Cells.{Cell}
 use Rattle.arrow_spec.specs.Arrays.{Dictionaries, HeldDictionary, cells_before, found}
-use Rattle.arrow_arrays.specs.Heads.{joined}
-use Rattle.arrow_arrays.specs.Parts as parts
-use Rattle.arrow_arrays.specs.Parts.{Parts, Forest, also, cells_each, cells_in, fault_each, fault_in}
-use Rattle.arrow_arrays.proofs.Sliced.{neither}
+use Rattle.ipc_files.specs.Below.{joined, Parts, Forest, also, cells_each, cells_in, fault_each, fault_in, HasKind, Held, HoldsCells, parts_before, with_part}
+use Rattle.ipc_files.specs.Below.Parts as parts
+use Rattle.ipc_files.proofs.Below.{neither, holds_more}
 use Rattle.arrow_spec.proofs.SameIds.{id_self, id_true}
-use Rattle.ipc_read_laws.specs.Held.{AreValuesOf, HasFields, HasKind, HasKinds, Held, HoldsCells, HoldsFields, HoldsKinds}
-use Rattle.ipc_read_laws.proofs.Trees.{both_none}
-use Rattle.ipc_files.specs.Below.{parts_before, with_part}
-use Rattle.ipc_files.proofs.Below.{holds_more}
+use Rattle.laws_writers.specs.Below.{AreValuesOf, HasFields, HasKinds, HoldsFields, HoldsKinds}
+use Rattle.laws_writers.proofs.Below.{both_none}
 use Rattle.laws_sent.specs.PartLaws.{IsLast}
 
 -- under each id the parts are arrays

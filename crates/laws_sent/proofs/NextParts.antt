@@ -11,21 +11,15 @@ use Rattle.arrow_spec.specs.Kinds.{Fields, Kind, Metadata, Use, have_same_kinds,
 use Rattle.arrow_spec.specs.Counts.{Place, RecordBatch, after, first_place, magnitude}
 use Rattle.arrow_spec.specs.Arrays.{Dictionaries, found}
 use Rattle.arrow_spec.specs.Files.{block_body, fields_as_asked, fields_asked, record_batch_of, with_field_at}
-use Rattle.arrow_arrays.specs.Heads.{joined}
-use Rattle.arrow_arrays.specs.Parts as parts
-use Rattle.arrow_arrays.specs.Parts.{Parts, Forest, also, cells_each, forest, kind_in}
+use Rattle.ipc_files.specs.Below.{joined, Parts, Forest, also, cells_each, forest, kind_in, Held, HoldsCells, values_of_id, HoldsPart, parts_before, with_part}
+use Rattle.ipc_files.specs.Below.Parts as parts
 use Rattle.arrow_spec.proofs.SameIds.{id_true}
 use Rattle.ipc_fields.proofs.SameKinds.{same_itself}
-use Rattle.laws_writers.specs.Below.{columns_of}
-use Rattle.ipc_read_laws.specs.Batches.{columns_read}
-use Rattle.ipc_read_laws.specs.Held.{Held, HoldsCells, none_held, values_of_id}
-use Rattle.ipc_read_laws.specs.PartsRead.{parts_read}
-use Rattle.ipc_read_laws.specs.PlainKinds.{plain_fields, plain_kind}
+use Rattle.laws_writers.specs.Below.{columns_of, columns_read, none_held, parts_read, plain_fields, plain_kind}
 use Rattle.laws_transcode.specs.Files.{AreAsked, ArePicked}
-use Rattle.ipc_files.specs.Below.{HoldsPart, parts_before, with_part}
 use Rattle.laws_sent.specs.Parts.{PartTree}
 use Rattle.ipc_files.specs.FileDictionaries.{no_block, one_block}
-use Rattle.ipc_read_laws.proofs.HeldUses.{Agrees, uses_one}
+use Rattle.laws_writers.proofs.Below.{Agrees, uses_one}
 use Rattle.laws_sent.specs.PartLaws.{AreReadParts, ColumnsAreOfFields, ColumnsAreReadUnder, HeldPartsAreRead, IsLast, NextPartIsRead, NothingIsRead, OrderIsOfAsked}
 use Rattle.laws_sent.specs.ReadUnder.{AreReadUnder, EachIsReadUnder, IsReadUnder, held_if_any, held_of, parts_under}
 use Rattle.laws_sent.proofs.ReadParts.{block_said, no_parts, one_more_part, uses_asked}

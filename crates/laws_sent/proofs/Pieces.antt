@@ -6,19 +6,14 @@ use Rattle.std.proofs.lemmas.Bool.{and_from, and_parts}
 use Rattle.arrow_spec.specs.Flat.{little}
 use Rattle.arrow_spec.specs.Kinds.{Kind, Fields, Use, is_same_kind, same, uses_in}
 use Rattle.arrow_spec.specs.Arrays.{Dictionaries, HeldDictionary}
-use Rattle.arrow_arrays.specs.Carried.{is_carried}
-use Rattle.arrow_arrays.specs.Heads.{each_of}
-use Rattle.arrow_arrays.specs.Parts.{Parts, Forest, none, also, cells_in, fault_each, fault_in, kind_in, kinds_each, rows_in}
-use Rattle.arrow_arrays.proofs.EmptyParts.{kind-empty, rows-empty}
-use Rattle.arrow_arrays.proofs.Sliced.{neither}
+use Rattle.ipc_files.specs.Below.{is_carried, each_of, Parts, Forest, none, also, cells_in, fault_each, fault_in, kind_in, kinds_each, rows_in, column_in}
+use Rattle.ipc_files.proofs.Below.{kind-empty, rows-empty, neither}
 use Rattle.ipc_fields.specs.Uses.{use_as}
 use Rattle.arrow_spec.proofs.Forms.{form}
 use Rattle.arrow_spec.proofs.SameIds.{id_self, id_true}
 use Rattle.ipc_fields.proofs.SameKinds.{form_is_same, same_by_form}
-use Rattle.ipc_read_laws.specs.PartsRead.{parts_or_empty}
-use Rattle.ipc_read_laws.specs.PlainKinds.{plain_kind}
+use Rattle.laws_writers.specs.Below.{parts_or_empty, plain_kind}
 use Rattle.laws_transcode.specs.Below.{written_of}
-use Rattle.ipc_files.specs.Below.{column_in}
 use Rattle.laws_transcode.specs.Sending.{NoneReplaced, histories, histories_before, or_never_read, part_cells, part_written, read_under}
 use Rattle.laws_transcode.proofs.Histories.{IsBehind, none_lost}
 use Rattle.laws_sent.specs.Parts.{EachFilePart, PartTree, last_tree, part_behind}

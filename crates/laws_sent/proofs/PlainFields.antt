@@ -6,10 +6,9 @@ use Rattle.arrow_spec.specs.Kinds as kind
 use Rattle.arrow_spec.specs.Kinds.{Kind, Fields, none, field, dictionary_count, dictionary_counts, numbered, numbered_kind}
 use Rattle.arrow_spec.specs.Regular.{is_no_dictionary, is_size}
 use Rattle.arrow_types.specs.Schemas.{Keyed, fields_in}
-use Rattle.laws_writers.specs.Below.{all_representable, is_representable}
+use Rattle.laws_writers.specs.Below.{all_representable, is_representable, plain_fields, plain_kind}
 use Rattle.ipc_fields.specs.IpcFields.{Ids, no_fields, ids, fields_with, kind_with}
-use Rattle.ipc_read_laws.proofs.PlainTypes.{plain_fields_with}
-use Rattle.ipc_read_laws.specs.PlainKinds.{plain_fields, plain_kind}
+use Rattle.laws_writers.proofs.Below.{plain_fields_with}
 use Rattle.laws_transcode.specs.Files.{ArePicked, AreAsked}
 
 -- ── they are numbered alike ──

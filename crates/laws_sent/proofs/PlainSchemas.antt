@@ -4,9 +4,8 @@ use Rattle.std.specs.declared.alloc.Global.{Global}
 use Rattle.arrow_types.specs.KindOf.{child_of}
 use Rattle.arrow_types.specs.Schemas.{Keyed, fields_in, keyed}
 use Rattle.arrow_types.specs.declared.data_type.Field.{Field}
-use Rattle.ipc_read_laws.specs.PlainKinds.{plain_fields, plain_kind}
-use Rattle.ipc_read_laws.proofs.PlainTypes.{plain_of}
-use Rattle.laws_writers.proofs.Below.{kind_of_field}
+use Rattle.laws_writers.specs.Below.{plain_fields, plain_kind}
+use Rattle.laws_writers.proofs.Below.{plain_of, kind_of_field}
 
 field_plain : (f : Field) → plain_kind (child_of f).kind ≡ (child_of f).kind
 field_plain f = ap plain_kind (kind_of_field f) ∙ plain_of f.dtype ∙ sym (kind_of_field f)

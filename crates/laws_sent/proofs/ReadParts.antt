@@ -12,25 +12,16 @@ use Rattle.arrow_spec.specs.Arrays.{Dictionaries, HeldDictionary}
 use Rattle.arrow_spec.specs.Files.{FileBlock, Meta, block_body, dictionary_of, fields_asked, record_batch_of, with_field_at}
 use Rattle.arrow_spec.specs.Sent.{written}
 use Rattle.arrow_spec.proofs.Projection.{on}
-use Rattle.arrow_arrays.specs.Carried.{is_carried}
-use Rattle.arrow_arrays.specs.Nodes.{counts_in}
-use Rattle.arrow_arrays.specs.Parts.{Parts, kind_in}
+use Rattle.ipc_files.specs.Below.{is_carried, counts_in, Parts, kind_in, Held, HoldsCells, values_of_id, HoldsValuesAt, column_in, nodes_in, sent, is_column_kind, HoldsPart, parts_before}
 use Rattle.arrow_spec.proofs.SameIds.{id_true}
-use Rattle.ipc_read_laws.specs.Held.{HasKinds, Held, HoldsCells, HoldsKinds, values_of_id}
-use Rattle.ipc_read_laws.specs.PartsRead.{parts_read}
-use Rattle.ipc_read_laws.specs.PlainKinds.{plain_kind}
-use Rattle.ipc_read_laws.proofs.Keys.{holds_none}
-use Rattle.ipc_read_laws.proofs.TreesSound.{parts_sound}
-use Rattle.ipc_read_laws.proofs.TreesWritten.{all_written}
+use Rattle.laws_writers.specs.Below.{HasKinds, HoldsKinds, parts_read, plain_kind}
+use Rattle.laws_writers.proofs.Below.{holds_none, parts_sound, all_written, plain_twice, Agrees, each_use, each_value, join, plain_same, split, uses_one}
 use Rattle.laws_transcode.specs.Below.{written_of}
-use Rattle.ipc_files.specs.Below.{HoldsValuesAt, column_in, nodes_in, sent, is_column_kind, HoldsPart, parts_before}
 use Rattle.laws_transcode.proofs.Dictionaries.{none_replaced}
 use Rattle.laws_transcode.proofs.Numbers.{TablesHaveWidth, WrittenFits, array_fits, natural_small}
 use Rattle.ipc_files.proofs.Below.{read_values_at, column_written, column_carried}
-use Rattle.ipc_read_laws.proofs.PlainTypes.{plain_twice}
 use Rattle.laws_sent.specs.Parts.{EachFilePart, IsFilePart, IsOfValues, PartTree, part_behind}
 use Rattle.ipc_files.specs.FileDictionaries.{HoldsBlock, HoldsUses, block_dictionary, block_values}
-use Rattle.ipc_read_laws.proofs.HeldUses.{Agrees, each_use, each_value, join, plain_same, split, uses_one}
 use Rattle.ipc_files.proofs.ReadColumns.{values_read}
 use Rattle.laws_sent.specs.PartLaws.{IsLast, NoPartsAreRead, OneMorePartIsRead, PartsAreOfAsked}
 use Rattle.laws_sent.proofs.HeldParts.{AreSoundParts, kinds_sound, last_is, one_more_sound, part_cells}

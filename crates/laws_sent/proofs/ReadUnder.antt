@@ -9,22 +9,13 @@ use Rattle.arrow_spec.specs.Kinds.{Kind, Fields, Offsets, small, are_same_ids, h
 use Rattle.arrow_spec.specs.Counts.{RecordBatch, Place, after, inside, union_buffers}
 use Rattle.arrow_spec.specs.Sent.{dense_rows, offset_read}
 use Rattle.arrow_types.specs.Physical.{physical_of}
-use Rattle.arrow_arrays.specs.Heads.{values_kind}
-use Rattle.arrow_arrays.specs.EmptyParts.{empty_parts}
-use Rattle.arrow_arrays.specs.Parts as parts
-use Rattle.arrow_arrays.specs.Parts.{Parts, Forest, also, kind_in}
+use Rattle.ipc_files.specs.Below.{values_kind, empty_parts, Parts, Forest, also, kind_in, Held, is_alike}
+use Rattle.ipc_files.specs.Below.Parts as parts
 use Rattle.ipc_fields.proofs.KindSteps.{leaf_true}
 use Rattle.arrow_spec.proofs.SameIds.{id_true}
 use Rattle.ipc_fields.proofs.SameKinds.{same_itself, same_through}
-use Rattle.laws_writers.specs.Below.{values_in}
-use Rattle.ipc_read_laws.specs.Held.{Held}
-use Rattle.ipc_read_laws.specs.PartsRead.{forest_read, listed_read, parts_or_empty, parts_read, parts_under}
-use Rattle.ipc_read_laws.specs.PlainKinds.{plain_kind}
-use Rattle.ipc_read_laws.proofs.PlainKinds.{values_plain}
-use Rattle.ipc_read_laws.proofs.SoundLaws.{kind_under}
-use Rattle.ipc_files.specs.Below.{is_alike}
-use Rattle.ipc_read_laws.proofs.HeldUses.{plain_same}
-use Rattle.ipc_read_laws.proofs.PlainTypes.{plain_twice}
+use Rattle.laws_writers.specs.Below.{values_in, forest_read, listed_read, parts_or_empty, parts_read, parts_under, plain_kind}
+use Rattle.laws_writers.proofs.Below.{values_plain, kind_under, plain_same, plain_twice}
 use Rattle.laws_sent.specs.ReadUnder.{AreReadUnder, IsReadUnder}
 
 -- ── under a kind that is one with another ──

@@ -11,14 +11,13 @@ use Rattle.arrow_spec.specs.Readings.{Reading, is_absent, only_if, ◌>>=◌}
 use Rattle.arrow_spec.specs.Regular.{is_no_dictionary, is_size}
 use Rattle.arrow_spec.specs.Schema.{uses_agree}
 use Rattle.arrow_types.specs.Schemas.{Keyed, fields_in}
-use Rattle.arrow_arrays.specs.Parts.{Parts, forest, kind_in}
+use Rattle.ipc_files.specs.Below.{Parts, forest, kind_in, kinds_of}
 use Rattle.ipc_fields.specs.IpcFields.{Ids, fields_with, has_shape, have_shapes, is_encoded, kind_with}
 use Rattle.ipc_fields.specs.IpcFields as fields
 use Rattle.ipc_fields.specs.Uses.{id_under, use_as}
 use Rattle.arrow_spec.proofs.Forms.{form, forms}
 use Rattle.ipc_fields.proofs.SameKinds.{form_is_same, same_by_form, same_itself}
 use Rattle.laws_writers.specs.Below.{columns_of, all_representable, is_representable}
-use Rattle.ipc_files.specs.Below.{kinds_of}
 use Rattle.laws_sent.specs.DictionaryLaws.{ColumnsAreRight}
 
 -- ── kinds of one form ──

@@ -3,12 +3,10 @@ use Rattle.std.proofs.Common.{◌≡◌, ◌∙◌, ℕ, suc, ◌+◌, true, pos
 use Rattle.arrow_spec.specs.Kinds as kind
 use Rattle.arrow_spec.specs.Kinds.{Kind, Fields, dictionary_count, is_same_kind, numbered, numbered_kind}
 use Rattle.arrow_spec.specs.Arrays.{Dictionaries, found}
-use Rattle.arrow_arrays.specs.Heads.{child_fields, indexed, joined}
-use Rattle.arrow_arrays.specs.Parts.{Parts, Forest, leaf, nested, none, also, cells_each}
+use Rattle.ipc_files.specs.Below.{child_fields, indexed, joined, Parts, Forest, leaf, nested, none, also, cells_each, Begins, HoldsEachAt, HoldsValuesAt, dictionary_id, first_kind, other_fields}
 use Rattle.arrow_spec.proofs.Forms.{count_form, form, forms}
 use Rattle.ipc_fields.proofs.SameKinds.{form_is_same}
 use Rattle.laws_transcode.specs.Below.{Known}
-use Rattle.ipc_files.specs.Below.{Begins, HoldsEachAt, HoldsValuesAt, dictionary_id, first_kind, other_fields}
 use Rattle.laws_transcode.specs.Sending.{AllAreKnown, AreKnown}
 
 move : {A B : Type 0} → A ≡ B → A → B

@@ -10,13 +10,11 @@ use Rattle.arrow_spec.specs.Regular.{is_dictionary_id, is_no_dictionary, is_repr
 use Rattle.arrow_spec.specs.WrittenSchemas.{AreIds, AreStated, FieldsFit, IdsMayBeWritten, KindFits, Part, SchemaMayBeWritten, of_dictionary, of_extension, of_field, own_fields, own_kind}
 use Rattle.arrow_spec.proofs.ExtensionPairs.{own_same}
 use Rattle.arrow_spec.proofs.NumberedFields.{numbered_may}
-use Rattle.laws_writers.specs.Below.{all_representable, is_representable}
+use Rattle.laws_writers.specs.Below.{all_representable, is_representable, all_fit, fits_below}
 use Rattle.ipc_fields.specs.IpcFields.{is_encoded}
 use Rattle.ipc_fields.proofs.KindSteps.{ids_equal}
-use Rattle.ipc_read_laws.proofs.HeldUses.{split}
-use Rattle.schema_writer.specs.Defaults as defaults
-use Rattle.schema_writer.specs.Tables.{all_fit, fits_below}
-use Rattle.schema_writer.proofs.Saying.{representable_is}
+use Rattle.laws_writers.proofs.Below.{split, representable_is}
+use Rattle.laws_writers.specs.Below.Defaults as defaults
 
 -- ── their pairs are their own ──
 

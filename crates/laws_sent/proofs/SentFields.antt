@@ -6,9 +6,9 @@ use Rattle.arrow_spec.specs.Kinds.{Fields, Metadata, bare, numbered, uses_in, wi
 use Rattle.arrow_spec.specs.Schema.{uses_agree}
 use Rattle.arrow_spec.specs.WrittenSchemas.{SchemaMayBeWritten, own_fields}
 use Rattle.arrow_spec.proofs.NumberedFields.{bare_numbered, numbered_may, uses_numbered}
-use Rattle.arrow_arrays.specs.Carried.{are_carried}
+use Rattle.ipc_files.specs.Below.{are_carried}
 use Rattle.arrow_types.specs.Schemas.{Keyed, fields_in}
-use Rattle.laws_writers.specs.Below.{all_representable, SchemaIsSaid}
+use Rattle.laws_writers.specs.Below.{all_representable, SchemaIsSaid, plain_fields}
 use Rattle.ipc_fields.specs.IpcFields.{fields_with, ids_of}
 use Rattle.laws_transcode.specs.Files.{AreAsked, IsSendable, asked_schema}
 use Rattle.laws_transcode.proofs.AskedFloats.{floats_asked}
@@ -16,7 +16,6 @@ use Rattle.laws_transcode.proofs.AskedSchemas.{asked_sendable}
 use Rattle.ipc_files.proofs.Below.{fields_carried}
 use Rattle.ipc_files.specs.FileViews.{WasRead, meta_view}
 use Rattle.ipc_files.specs.declared.metadata.FileMetadata.{FileMetadata}
-use Rattle.ipc_read_laws.specs.PlainKinds.{plain_fields}
 use Rattle.laws_sent.specs.SchemaLaws.{FieldsAreSent}
 use Rattle.laws_sent.specs.SentFields.{AreReadable, fields_of}
 use Rattle.laws_sent.proofs.PlainFields.{asked_without_ids, same_representable, same_numbers, same_with}

@@ -19,11 +19,10 @@ use Rattle.arrow_spec.proofs.NextMessages.{length-layout}
 use Rattle.arrow_types.specs.Schemas.{Keyed, fields_in}
 use Rattle.ipc_fields.specs.IpcFields.{Ids, fields_with, have_shapes, metadata_of, no_fields}
 use Rattle.ipc_files.proofs.Below.{chosen_floats_with}
-use Rattle.schema_writer.specs.Serialized.{serialized, written}
+use Rattle.laws_writers.specs.Below.{serialized, written, begun_message, begun_metadata, features_checked, stream_text, StreamPairs}
 use Rattle.laws_transcode.specs.Files.{AreAsked}
 use Rattle.laws_transcode.proofs.AskedFloats.{floats_asked}
 use Rattle.ipc_files.specs.Below.{WriteOptions}
-use Rattle.laws_writers.specs.Below.{begun_message, begun_metadata, features_checked, stream_text, StreamPairs}
 use Rattle.laws_writers.proofs.Below.{features_free, text_is}
 use Rattle.laws_writers.proofs.Uses.{all_floats}
 use Rattle.ipc_files.specs.FileViews.{file_custom, meta_view}

@@ -9,9 +9,7 @@ use Rattle.arrow_spec.specs.Kinds.{Kind, Fields}
 use Rattle.arrow_spec.specs.Cells.{Cell}
 use Rattle.arrow_spec.specs.Arrays.{Dictionaries}
 use Rattle.arrow_types.specs.KindCode.{by_tree_itself}
-use Rattle.arrow_arrays.specs.CellCode.{content_eq, content_to}
-use Rattle.arrow_arrays.specs.Heads.{each_of, joined}
-use Rattle.arrow_arrays.specs.Parts.{Forest, cells_each, kinds_each}
+use Rattle.ipc_files.specs.Below.{content_eq, content_to, each_of, joined, Forest, cells_each, kinds_each}
 use Rattle.laws_writers.specs.Below.{Standing, Longer, Same, Other, are_same_cells, by_cells, standing}
 use Rattle.laws_transcode.specs.Sending.{histories, or_never_read, part_cells}
 use Rattle.laws_transcode.proofs.Histories.{IsBehind, cells_in, cells_never, grown}

@@ -8,9 +8,8 @@ use Rattle.arrow_spec.specs.declared.error.IpcError.TheVariants as errors
 use Rattle.arrow_spec.specs.declared.types.IntegerType.{IntegerType}
 use Rattle.arrow_spec.specs.Kinds as kind
 use Rattle.arrow_spec.specs.Kinds.{Kind, Fields, dictionary_count, dictionary_counts, numbered, numbered_kind, same}
-use Rattle.arrow_arrays.specs.Heads.{Head, are_of, child_fields, each_of, indexed, is_dictionary, listed, mapped, sized, structured, suits, tagged, values_kind}
-use Rattle.arrow_arrays.specs.Parts.{Parts, Forest, leaf, nested, none, also, fault_each, fault_in, kind_in, kinds_each, rows_in}
-use Rattle.arrow_arrays.proofs.Sliced.{neither, top_sound}
+use Rattle.ipc_files.specs.Below.{Head, are_of, child_fields, each_of, indexed, is_dictionary, listed, mapped, sized, structured, suits, tagged, values_kind, Parts, Forest, leaf, nested, none, also, fault_each, fault_in, kind_in, kinds_each, rows_in}
+use Rattle.ipc_files.proofs.Below.{neither, top_sound}
 use Rattle.ipc_fields.specs.IpcFields.{Ids, fields_with, kind_with}
 use Rattle.ipc_fields.specs.Uses.{first_id, first_ids, id_under, other_ids}
 use Rattle.arrow_spec.proofs.Forms.{form}

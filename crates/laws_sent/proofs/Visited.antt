@@ -5,7 +5,7 @@ use Rattle.arrow_spec.specs.Kinds.{Kind, Fields, none, field, dictionary_count, 
 use Rattle.arrow_spec.specs.Arrays.{Dictionaries}
 use Rattle.arrow_spec.specs.Sent.{sent_under}
 use Rattle.arrow_spec.specs.Sent as sent
-use Rattle.arrow_arrays.specs.Parts.{Forest}
+use Rattle.ipc_files.specs.Below.{Forest}
 use Rattle.arrow_spec.proofs.Forms.{form}
 use Rattle.laws_writers.specs.Below.{Sending}
 use Rattle.laws_transcode.proofs.Histories.{IsBehind, Precedes}

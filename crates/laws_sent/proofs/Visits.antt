@@ -12,10 +12,8 @@ use Rattle.arrow_spec.specs.Arrays.{Dictionaries}
 use Rattle.arrow_spec.specs.Readings.{is_absent}
 use Rattle.arrow_spec.specs.Sent as sent
 use Rattle.arrow_spec.specs.Sent.{Part, cell_count, counted, dictionary_message, or_one_empty, parts_before, parts_beyond, parts_of, parts_read, parts_to_send, send_dictionary, send_kind, send_parts, sent_under, with_message}
-use Rattle.arrow_arrays.specs.Carried.{is_carried}
-use Rattle.arrow_arrays.specs.Heads.{each_of}
-use Rattle.arrow_arrays.specs.Parts.{Parts, Forest, fault_each, fault_in, kinds_each, rows_in}
-use Rattle.arrow_arrays.proofs.Sliced.{length-cells}
+use Rattle.ipc_files.specs.Below.{is_carried, each_of, Parts, Forest, fault_each, fault_in, kinds_each, rows_in}
+use Rattle.ipc_files.proofs.Below.{length-cells}
 use Rattle.ipc_fields.specs.IpcFields.{Ids}
 use Rattle.ipc_fields.specs.Uses.{use_as}
 use Rattle.arrow_spec.proofs.Forms.{form}

@@ -9,15 +9,12 @@ use Rattle.arrow_spec.specs.Kinds.{Kind, Fields, Use, dictionary_count, dictiona
 use Rattle.arrow_spec.specs.Arrays.{Dictionaries}
 use Rattle.arrow_spec.specs.Sent as sent
 use Rattle.arrow_spec.specs.Sent.{send_dictionary, send_fields, send_kind}
-use Rattle.arrow_arrays.specs.Carried.{is_carried}
-use Rattle.arrow_arrays.specs.Heads.{Indexed, child_fields, each_of, indexed, is_dictionary, listed, mapped, sized, structured, tagged, values_kind}
-use Rattle.arrow_arrays.specs.Parts.{Parts, Forest, leaf, nested, none, also, fault_each, fault_in, kind_in, kinds_each}
-use Rattle.arrow_arrays.proofs.Sliced.{neither, top_sound}
+use Rattle.ipc_files.specs.Below.{is_carried, Indexed, child_fields, each_of, indexed, is_dictionary, listed, mapped, sized, structured, tagged, values_kind, Parts, Forest, leaf, nested, none, also, fault_each, fault_in, kind_in, kinds_each}
+use Rattle.ipc_files.proofs.Below.{neither, top_sound}
 use Rattle.ipc_fields.specs.IpcFields.{Ids, fields_with, kind_with}
 use Rattle.ipc_fields.specs.Uses.{first_id, first_ids, id_under, other_ids, use_as}
 use Rattle.arrow_spec.proofs.Forms.{form, forms}
-use Rattle.laws_writers.specs.Below.{Options, Sending, array_sent, arrays_sent, then_by, is_indexed, values_in}
-use Rattle.ipc_read_laws.specs.PlainKinds.{plain_fields}
+use Rattle.laws_writers.specs.Below.{Options, Sending, array_sent, arrays_sent, then_by, is_indexed, values_in, plain_fields}
 use Rattle.laws_sent.specs.Parts.{PartTree}
 use Rattle.laws_writers.proofs.Apart.{Under}
 use Rattle.laws_sent.specs.ReadUnder.{held_of}

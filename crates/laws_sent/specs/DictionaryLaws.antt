@@ -5,14 +5,10 @@ use Rattle.arrow_spec.specs.declared.error.IpcError.TheVariants.{DictionaryRepla
 use Rattle.arrow_spec.specs.Arrays.{Dictionaries}
 use Rattle.arrow_spec.specs.Kinds.{Fields, have_same_kinds, numbered, uses_in}
 use Rattle.arrow_spec.specs.Schema.{uses_agree}
-use Rattle.arrow_arrays.specs.Carried.{are_carried}
-use Rattle.arrow_arrays.specs.Parts.{Forest, fault_each, rows_in}
+use Rattle.ipc_files.specs.Below.{are_carried, Forest, fault_each, rows_in, Held, values_message}
 use Rattle.ipc_fields.specs.IpcFields.{Ids, fields_with, have_shapes}
-use Rattle.laws_writers.specs.Below.{columns_fault, columns_of, Options, Sending, ToSend, arrays_sent, all_representable}
+use Rattle.laws_writers.specs.Below.{columns_fault, columns_of, Options, Sending, ToSend, arrays_sent, all_representable, plain_fields}
 use Rattle.arrow_spec.specs.Sent.{SentMessage, dictionary_messages}
-use Rattle.ipc_read_laws.specs.Held.{Held}
-use Rattle.ipc_read_laws.specs.PlainKinds.{plain_fields}
-use Rattle.ipc_files.specs.Below.{values_message}
 use Rattle.laws_sent.specs.Parts.{AreFileParts, PartTree}
 use Rattle.laws_sent.specs.ReadUnder.{AreReadInOrder, AreReadUnder, held_of}
 

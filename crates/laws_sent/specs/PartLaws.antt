@@ -1,22 +1,15 @@
 -- What holds of the parts of a file's dictionaries as they are read. Each statement is the contract of a public function without a body (src/lib.rt).
 use Rattle.std.specs.Prelude.{◌≡◌, ℕ, List, [], ◌∷◌, ◌++◌, Option, None, Ok, IfSome, true, ℤ}
-use Rattle.arrow_spec.specs.Kinds.{Fields, uses_in}
+use Rattle.arrow_spec.specs.Kinds.{Fields, uses_in, have_same_kinds}
 use Rattle.arrow_spec.specs.Schema.{uses_agree}
 use Rattle.arrow_spec.specs.Arrays.{Dictionaries, HeldDictionary}
 use Rattle.arrow_spec.specs.Files.{FileBlock, Meta, fields_as_asked}
-use Rattle.arrow_arrays.specs.Parts as parts
-use Rattle.arrow_arrays.specs.Parts.{Parts, Forest, also, fault_each}
-use Rattle.ipc_read_laws.specs.Held.{Held, HoldsCells, none_held}
-use Rattle.ipc_files.specs.Below.{are_column_fields}
+use Rattle.ipc_files.specs.Below.Parts as parts
+use Rattle.ipc_files.specs.Below.{Parts, Forest, also, fault_each, Held, HoldsCells, are_column_fields, are_carried, forest}
+use Rattle.laws_writers.specs.Below.{none_held, columns_of, columns_read, plain_fields}
 use Rattle.laws_sent.specs.Parts.{AreFileParts, PartTree}
 use Rattle.ipc_files.specs.FileDictionaries.{AreHeld, HoldsBlock, HoldsUses, block_values}
 use Rattle.arrow_spec.specs.Counts.{RecordBatch, first_place}
-use Rattle.arrow_spec.specs.Kinds.{have_same_kinds}
-use Rattle.arrow_arrays.specs.Carried.{are_carried}
-use Rattle.arrow_arrays.specs.Parts.{forest}
-use Rattle.laws_writers.specs.Below.{columns_of}
-use Rattle.ipc_read_laws.specs.Batches.{columns_read}
-use Rattle.ipc_read_laws.specs.PlainKinds.{plain_fields}
 use Rattle.laws_transcode.specs.Files.{AreAsked}
 use Rattle.laws_sent.specs.ReadUnder.{AreReadInOrder, AreReadUnder, held_of}
 

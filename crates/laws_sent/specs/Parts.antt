@@ -6,12 +6,9 @@ use Rattle.arrow_spec.specs.Kinds as kind
 use Rattle.arrow_spec.specs.Kinds.{Kind, Fields, numbered_kind, same, uses_in}
 use Rattle.arrow_spec.specs.Arrays.{Dictionaries, HeldDictionary}
 use Rattle.arrow_spec.specs.Bodies.{NodeFits}
-use Rattle.arrow_arrays.specs.EmptyParts.{empty_parts}
-use Rattle.arrow_arrays.specs.Nodes.{counts_in}
-use Rattle.arrow_arrays.specs.Parts.{Parts, cells_in, fault_in, kind_in, rows_in}
-use Rattle.ipc_read_laws.specs.PlainKinds.{plain_kind}
+use Rattle.ipc_files.specs.Below.{empty_parts, counts_in, Parts, cells_in, fault_in, kind_in, rows_in, HoldsValuesAt, is_alike, column_in, nodes_in, with_kind, sent}
+use Rattle.laws_writers.specs.Below.{plain_kind}
 use Rattle.laws_transcode.specs.Below.{IsKnown, Known, written_of}
-use Rattle.ipc_files.specs.Below.{HoldsValuesAt, is_alike, column_in, nodes_in, with_kind, sent}
 use Rattle.laws_transcode.specs.Sending.{AreKnown, Columns, NoneReplaced}
 
 -- a part: its dictionary's id in the file, and its values

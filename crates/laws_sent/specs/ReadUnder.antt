@@ -3,12 +3,8 @@ use Rattle.std.specs.Prelude.{◌≡◌, ℤ, List, [], ◌∷◌, ◌++◌, tru
 use Rattle.std.specs.List.{AllByRecursion}
 use Rattle.arrow_spec.specs.Kinds as kind
 use Rattle.arrow_spec.specs.Kinds.{Kind, Fields, same, uses_in}
-use Rattle.arrow_arrays.specs.Heads.{values_kind}
-use Rattle.arrow_arrays.specs.Parts.{Parts, Forest, none, also, kind_in}
-use Rattle.laws_writers.specs.Below.{is_indexed, values_in}
-use Rattle.ipc_read_laws.specs.Held.{Held}
-use Rattle.ipc_read_laws.specs.PartsRead.{parts_or_empty}
-use Rattle.ipc_files.specs.Below.{is_alike}
+use Rattle.ipc_files.specs.Below.{values_kind, Parts, Forest, none, also, kind_in, Held, is_alike}
+use Rattle.laws_writers.specs.Below.{is_indexed, values_in, parts_or_empty}
 use Rattle.laws_sent.specs.Parts.{PartTree}
 
 -- the parts under an id, in order

@@ -12,10 +12,9 @@ use Rattle.arrow_spec.specs.Readings.{◌>>=◌, IsAmong, Reading, refusals, unl
 use Rattle.arrow_spec.specs.Sent.{SentMessage, may_be_sent, stream_schema}
 use Rattle.arrow_types.specs.Schemas.{Keyed, fields_in}
 use Rattle.ipc_fields.specs.IpcFields.{Ids, metadata_of}
-use Rattle.schema_writer.specs.Defaults.{IsNumbered}
+use Rattle.laws_writers.specs.Below.{IsNumbered, stream_text, StreamPairs}
 use Rattle.laws_transcode.specs.Files.{AreAsked, IsSentFile}
 use Rattle.ipc_files.specs.Below.{WriteOptions}
-use Rattle.laws_writers.specs.Below.{stream_text, StreamPairs}
 use Rattle.ipc_files.specs.FileViews.{FileSays, WasRead, file_custom, meta_view}
 use Rattle.ipc_files.specs.declared.metadata.FileMetadata.{FileMetadata}
 use Rattle.laws_sent.specs.SentFields.{AreReadable, AreSentFields, fields_of}

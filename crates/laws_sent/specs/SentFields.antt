@@ -5,9 +5,8 @@ use Rattle.arrow_spec.specs.Files.{Meta, fields_as_asked}
 use Rattle.arrow_spec.specs.Kinds.{Fields, bare, numbered, uses_in}
 use Rattle.arrow_spec.specs.Schema.{uses_agree}
 use Rattle.arrow_types.specs.Schemas.{Keyed, fields_in}
-use Rattle.laws_writers.specs.Below.{all_representable, SchemaIsSaid}
+use Rattle.laws_writers.specs.Below.{all_representable, SchemaIsSaid, plain_fields}
 use Rattle.ipc_fields.specs.IpcFields.{Ids, fields_with, have_shapes}
-use Rattle.ipc_read_laws.specs.PlainKinds.{plain_fields}
 use Rattle.laws_writers.specs.Written.{said_fields}
 use Rattle.ipc_files.specs.FileViews.{meta_view}
 use Rattle.ipc_files.specs.declared.metadata.FileMetadata.{FileMetadata}

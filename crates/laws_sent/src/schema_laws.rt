@@ -1,7 +1,7 @@
 //! The schema of a stream that a file's columns are sent as. The contract of a function without arguments is a law, proved in `proofs/`.
 ghost use Rattle.std.specs.Prelude.{◌≡◌};
 ghost use Rattle.arrow_types.specs.Schemas.{fields_in};
-ghost use Rattle.ipc_read_laws.specs.PlainKinds.{plain_fields};
+ghost use Rattle.laws_writers.specs.Below.{plain_fields};
 ghost use Rattle.laws_sent.specs.SchemaLaws.{BegunAreReadable, BegunIsSent, FieldsAreSent, MessageIsSent, RefusedAsFile, UnreadAreRefused};
 
 use arrow_types::ArrowSchema;

@@ -6,6 +6,10 @@ ghost use Rattle.laws_walk.specs.Laws.{WalkIsFile};
 
 mod summary;
 
+pub use ipc_reader::{
+    FileCursor, FileMetadata, ProjectionInfo, check_columns, projection_of, read_file_metadata,
+};
+pub use ipc_stream_writer::{StreamCore, WriteOptions};
 pub use laws_sent::types_have_no_ids;
 pub use summary::Summary;
 

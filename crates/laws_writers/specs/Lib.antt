@@ -1,3 +1,4 @@
+pub mod BelowProjection
 pub mod Below
 pub mod Heard
 pub mod StreamLaws

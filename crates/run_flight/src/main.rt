@@ -5,7 +5,7 @@
 
 mod messages;
 
-use arrow_ipc::io::MemorySource;
+use ipc_io::MemorySource;
 use messages::messages_of;
 use std::alloc::{AllocError, Global};
 use std::io::Read;

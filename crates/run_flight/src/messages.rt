@@ -1,8 +1,9 @@
 //! The messages that a flight hands over of a file, framed one behind another.
-use arrow_ipc::io::MemorySource;
-use arrow_ipc::io::ipc::IpcError;
-use arrow_ipc::io::ipc::read::{FlightStreamProducer, read_message_header};
-use arrow_ipc::io::ipc::write::{EncodedData, message_to_bytes};
+use arrow_spec::IpcError;
+use ipc_flight::{EncodedData, FlightStreamProducer};
+use ipc_io::MemorySource;
+use ipc_schema::read_message_header;
+use ipc_write::message_to_bytes;
 use std::alloc::Global;
 
 /// A file's messages as they come.

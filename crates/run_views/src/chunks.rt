@@ -1,8 +1,8 @@
 //! The chunks of a file.
 use crate::rows::show_rows;
-use arrow_ipc::io::ipc::IpcError;
-use arrow_ipc::io::ipc::read::read_file_metadata;
-use arrow_ipc::mmap::{ArrayView, ChunkView, LentSource, mmap_checked, mmap_dictionaries_checked};
+use arrow_spec::IpcError;
+use ipc_files::read_file_metadata;
+use ipc_mmap::{ArrayView, ChunkView, LentSource, mmap_checked, mmap_dictionaries_checked};
 
 /// The lines of a column.
 fn show_column(rt: &HostRuntime, number: usize, column: &ArrayView<'_>) -> Result<(), IpcError> {

@@ -4,8 +4,8 @@ ghost use Rattle.view_types.specs.Spans.{has_spans, is_union};
 ghost use Rattle.view_types.specs.Views.{layout_of, rows_of, IsRow};
 ghost use Rattle.view_types.specs.declared.layout.Layout.TheVariants.{Struct};
 
-use arrow_ipc::io::ipc::IpcError;
-use arrow_ipc::mmap::{ArrayView, Layout};
+use arrow_spec::IpcError;
+use ipc_mmap::{ArrayView, Layout};
 
 /// The hex text of some bytes, and its line.
 fn show_bytes(

@@ -7,10 +7,7 @@ use Rattle.arrow_spec.specs.Streams.{closed}
 use Rattle.arrow_spec.specs.Words.{Held}
 use Rattle.ipc_io.specs.Outside.{AppendsPrefix, IsHeld, Rose}
 use Rattle.ipc_bodies.specs.Encodings.{text_of}
-use Rattle.ipc_concat.specs.Concat.{AddsPart, AreJoined, IsOfPut}
-use Rattle.ipc_concat.specs.Opening.{AreOpen, StopsOpening, StopsStart}
-use Rattle.ipc_concat.specs.Stopping.{IsFront, StopsBehind}
-use Rattle.ipc_concat.specs.Tables.{MeanTables, told}
+use Rattle.ipc_log_streams.specs.Below.{AddsPart, AreJoined, IsOfPut, AreOpen, StopsOpening, StopsStart, IsFront, StopsBehind, MeanTables, told}
 use Rattle.ipc_words.specs.Requests.{Cat}
 use Rattle.ipc_tool.specs.Commands.Stream.{encoding_of, shown_as}
 use Rattle.ipc_tool.specs.Outside.{Outside}

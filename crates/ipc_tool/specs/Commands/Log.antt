@@ -12,9 +12,8 @@ use Rattle.ipc_io.specs.Outside.{AppendsPrefix, IsHeld, Rose}
 use Rattle.ipc_bodies.specs.Encodings.{text_of}
 use Rattle.ipc_log_disk.specs.Crashes.{Images, SameImages}
 use Rattle.ipc_log_streams.specs.Appends.{IsBefore, StopsAppend, batches_of, fields_of}
-use Rattle.ipc_log_streams.specs.Below.{MeansFront, MeansLog, invalid_log, with_batches}
+use Rattle.ipc_log_streams.specs.Below.{MeansFront, MeansLog, invalid_log, with_batches, IsOfPut}
 use Rattle.ipc_log_streams.specs.Streams.{AddsLog, AddsPart, BatchIsLarge, IsReadable, RefusesSchema}
-use Rattle.ipc_concat.specs.Concat.{IsOfPut}
 use Rattle.ipc_words.specs.Requests.{Log}
 use Rattle.ipc_tool.specs.Commands.Append.{AddsCount, CountRefused, IsReadStream, KeepsOthers, NotOpened, StopsAtInput, count_text}
 use Rattle.ipc_tool.specs.Commands.Stream.{encoding_of, shown_as}

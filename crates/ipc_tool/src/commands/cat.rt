@@ -1,8 +1,7 @@
 //! cat [--raw] NAME..: files of the same fields as one stream.
 ghost use Rattle.std.specs.Prelude.{◌≡◌, ◌<◌, ◌≤◌, Any, IfErr, IfOk, IfSome, OnOk, length, map};
 ghost use Rattle.ipc_io.specs.Outside.{Lacks, Rose, SinkKept, Stands};
-ghost use Rattle.ipc_concat.specs.Concat.{AllStand, ConcatCause, EachKept, IsSmallRefusal};
-ghost use Rattle.ipc_concat.specs.Tables.{MeanTables, told};
+ghost use Rattle.ipc_log_streams.specs.Below.{AllStand, ConcatCause, EachKept, IsSmallRefusal, MeanTables, told};
 ghost use Rattle.ipc_words.specs.Views.{cat_view, texts};
 ghost use Rattle.ipc_tool.specs.Commands.Cat.{AddsAll, AddsCat, AreHeld, NoneHasFailed, OneHasFailed, OpensNext, WhyNotOpened, cat_task};
 ghost use Rattle.ipc_tool.specs.Outside.{outside_of};
@@ -11,9 +10,9 @@ ghost use Rattle.ipc_tool.specs.Tasks.{Does};
 use crate::refusal::Refusal;
 use arrow_spec::IpcError;
 use ipc_bodies::Encoding;
-use ipc_concat::concat_as;
 use ipc_disk::PlaceShelf;
 use ipc_io::{Feed, Shelf, Sink, Source};
+use ipc_log_streams::concat_as;
 use ipc_words::Cat;
 use std::alloc::{AllocFailed, Global};
 

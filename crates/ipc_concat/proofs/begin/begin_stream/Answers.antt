@@ -2,9 +2,8 @@ use Rattle.std.proofs.Common.{◌≡◌, None, Ok, Err, refl, ◌∙◌, subst}
 use Rattle.arrow_types.specs.Schemas.{fields_in}
 use Rattle.ipc_bodies.specs.Encodings.{text_of}
 use Rattle.ipc_bodies.specs.Puts.{moved}
-use Rattle.ipc_reader.proofs.Below.{is_err}
-use Rattle.laws_walk.specs.Below.{plain_fields}
-use Rattle.ipc_stream_writer.specs.Calls.{Starts}
+use Rattle.laws_walk.proofs.Below.{is_err}
+use Rattle.laws_walk.specs.Below.{plain_fields, Starts}
 use Rattle.laws_walk.specs.Sends.{IsNewWriter}
 use Rattle.ipc_concat.proofs.Beginning.{has_begun, has_not_begun, memory_begins, start_cause, writer_so}
 use Rattle.ipc_concat.proofs.Ending.{with_cause}

@@ -2,7 +2,7 @@ use Rattle.std.proofs.Common.{◌≡◌, ◌<◌, Ok, Err, map, length, refl, sy
 use Rattle.std.specs.Prelude.{IfErr, IfOk, IfSome}
 use Rattle.ipc_bodies.specs.Encodings.{text_of}
 use Rattle.ipc_io.proofs.Kept.{sink_kept_on}
-use Rattle.ipc_reader.proofs.Below.{is_err}
+use Rattle.laws_walk.proofs.Below.{is_err}
 use Rattle.ipc_concat.specs.Begins.{Joins}
 use Rattle.ipc_concat.specs.Concat.{AddsPart, ConcatCause, IsSmallRefusal}
 use Rattle.ipc_concat.specs.Files.{AreAlike, AreUnread}

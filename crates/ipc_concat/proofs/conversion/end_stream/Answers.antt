@@ -1,6 +1,6 @@
 use Rattle.std.proofs.Common.{◌≡◌, Err, refl}
 use Rattle.ipc_bodies.specs.Puts.{moved}
-use Rattle.ipc_reader.proofs.Below.{is_err}
+use Rattle.laws_walk.proofs.Below.{is_err}
 use Rattle.ipc_concat.proofs.Ending.{end_cause, ends_badly, ends_well, with_cause}
 use Rattle.ipc_concat.proofs.conversion.end_stream.Goals as goal
 

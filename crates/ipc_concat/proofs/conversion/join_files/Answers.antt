@@ -1,5 +1,5 @@
 use Rattle.std.proofs.Common.{◌≡◌, ◌≤◌, Ok, Err, get_or, map, sym, ◌∙◌, arith}
-use Rattle.ipc_reader.proofs.Below.{is_err}
+use Rattle.laws_walk.proofs.Below.{is_err}
 use Rattle.ipc_concat.proofs.AllFiles.{files_cause}
 use Rattle.ipc_concat.proofs.Beginning.{going_so, schema_so}
 use Rattle.ipc_concat.proofs.Joins.{all_joined, fields_so, first_unread, not_added, not_begun, putting_cause, putting_causes, some_added}

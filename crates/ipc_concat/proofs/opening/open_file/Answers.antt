@@ -2,8 +2,8 @@ use Rattle.std.proofs.Common.{◌≡◌, None, Err, length, refl, subst, sym}
 use Rattle.std.specs.Prelude.{IfSome}
 use Rattle.std.specs.Rc.{rc_value}
 use Rattle.ipc_io.specs.Outside.{IsSize}
-use Rattle.ipc_reader.specs.Below.{FileMetadata, FileSays, WasRead, file_custom, meta_view}
-use Rattle.ipc_reader.proofs.Below.{is_err}
+use Rattle.laws_walk.specs.Below.{FileMetadata, FileSays, WasRead, file_custom, meta_view}
+use Rattle.laws_walk.proofs.Below.{is_err}
 use Rattle.ipc_concat.proofs.Opened.{cursor_cause, cursor_refused, file_refused, none_projected}
 use Rattle.ipc_concat.proofs.opening.open_file.Goals as goal
 

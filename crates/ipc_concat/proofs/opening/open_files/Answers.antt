@@ -1,6 +1,6 @@
 use Rattle.std.proofs.Common.{◌≡◌, ◌∙◌, Err, refl, sym, true≢false, subst, ap, arith}
 use Rattle.arrow_spec.specs.declared.error.IpcError.TheVariants as errors
-use Rattle.ipc_reader.proofs.Below.{is_err}
+use Rattle.laws_walk.proofs.Below.{is_err}
 use Rattle.ipc_concat.specs.Files.{FitsFirst, FitsKinds}
 use Rattle.ipc_concat.proofs.Keeping.{kept_itself}
 use Rattle.ipc_concat.proofs.OpenCalls.{alike_with, all_opened, kept_with, not_fitting, open_cause, opened_with, push_fails, read_fails, rose_with}

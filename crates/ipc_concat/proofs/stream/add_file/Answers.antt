@@ -1,7 +1,7 @@
 use Rattle.std.proofs.Common.{◌≡◌, ◌∙◌, Err, length, refl, ap, arith}
 use Rattle.ipc_io.proofs.Kept.{sink_kept_on, source_kept_on}
-use Rattle.ipc_reader.proofs.Below.{is_err}
-use Rattle.ipc_reader.specs.Below.{FileMetadata}
+use Rattle.laws_walk.proofs.Below.{is_err}
+use Rattle.laws_walk.specs.Below.{FileMetadata}
 use Rattle.ipc_concat.proofs.Files.{cause_before, file_done, file_stopped, none_so_far, one_more, reader_on}
 use Rattle.ipc_concat.proofs.stream.add_file.Goals as goal
 

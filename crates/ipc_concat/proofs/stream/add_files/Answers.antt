@@ -1,6 +1,6 @@
 use Rattle.std.proofs.Common.{◌≡◌, ◌∙◌, ◌<◌, Err, length, map, get_or, refl, arith, add-one}
 use Rattle.ipc_io.proofs.Kept.{sink_kept_on}
-use Rattle.ipc_reader.proofs.Below.{is_err}
+use Rattle.laws_walk.proofs.Below.{is_err}
 use Rattle.ipc_concat.proofs.AllFiles.{all_so_far, files_cause, more_so_far, none_so_far, stopped_so}
 use Rattle.ipc_concat.proofs.Files.{drop_more, drop_set, same_at}
 use Rattle.ipc_concat.proofs.Joining.{unread_length}

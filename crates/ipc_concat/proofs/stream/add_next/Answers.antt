@@ -1,8 +1,8 @@
 use Rattle.std.proofs.Common.{◌≡◌, Some, Ok, Err, refl, subst}
 use Rattle.ipc_bodies.specs.Encodings.{text_of}
 use Rattle.ipc_bodies.specs.Puts.{moved}
-use Rattle.ipc_reader.proofs.Below.{is_err}
-use Rattle.ipc_reader.specs.Reads.{NextBatch}
+use Rattle.laws_walk.proofs.Below.{is_err}
+use Rattle.laws_walk.specs.Below.{NextBatch}
 use Rattle.ipc_concat.proofs.Adding.{next_cause, next_done, next_none, next_refused, read_fails}
 use Rattle.ipc_concat.proofs.Writing.{still_going, writes_keep, writes_stay}
 use Rattle.ipc_concat.proofs.stream.add_next.Goals as goal

@@ -1,9 +1,8 @@
 use Rattle.std.proofs.Common.{◌≡◌, ◌∙◌, List, Err, IfErr, true, false, sym, ap, subst}
 use Rattle.arrow_types.specs.Schemas.{Keyed, fields_in}
-use Rattle.laws_walk.specs.Below.{columns_of}
+use Rattle.laws_walk.specs.Below.{columns_of, asked}
 use Rattle.csv_texts.specs.Texts.{are_nested}
-use Rattle.ipc_reader.proofs.Below.{is_err}
-use Rattle.ipc_reader.specs.Below.{asked}
+use Rattle.laws_walk.proofs.Below.{is_err}
 use Rattle.laws_walk.specs.Places.{schema_of_reader}
 use Rattle.laws_walk.proofs.FetchedFiles.{file_by_footer}
 use Rattle.ipc_csv.specs.Printing.{CallCause, Selected}

@@ -1,9 +1,8 @@
 use Rattle.std.proofs.Common.{◌≡◌, Ok, Err, IfErr, length, refl, sym, subst}
 use Rattle.std.specs.Rc.{rc_value}
 use Rattle.arrow_spec.specs.Files.{columns_right}
-use Rattle.laws_walk.specs.Below.{columns_of}
-use Rattle.ipc_reader.proofs.Below.{is_err, right_of_file}
-use Rattle.ipc_reader.specs.Below.{numbers_in}
+use Rattle.laws_walk.specs.Below.{columns_of, numbers_in}
+use Rattle.laws_walk.proofs.Below.{is_err, right_of_file}
 use Rattle.ipc_csv.specs.Printing.{NotSelected}
 use Rattle.ipc_csv.proofs.Asked.{selected_of, wrong_columns_of}
 use Rattle.ipc_csv.proofs.conversion.selection.Goals as goal

@@ -1,5 +1,4 @@
-use Rattle.laws_walk.specs.Below.{columns_of}
-use Rattle.ipc_reader.specs.Below.{asked}
+use Rattle.laws_walk.specs.Below.{columns_of, asked}
 use Rattle.ipc_csv.proofs.Asked.{cause_of, complete_by_cause, part_of, whole_of}
 use Rattle.ipc_csv.proofs.conversion.to_csv.Goals as goal
 

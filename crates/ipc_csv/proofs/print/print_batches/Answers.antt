@@ -1,6 +1,6 @@
 use Rattle.std.proofs.Common.{◌<◌, IfSome, ◌≡◌, ℕ, Option, Ok, Err, ◌+◌, ◌^◌, ◌∙◌, sym, ap, subst, arith}
 use Rattle.ipc_io.proofs.Kept.{sink_kept_on, source_kept_on}
-use Rattle.ipc_reader.proofs.Below.{is_err}
+use Rattle.laws_walk.proofs.Below.{is_err}
 use Rattle.laws_walk.specs.declared.summary.Summary.{Summary}
 use Rattle.ipc_csv.specs.Printing.{PrintsNext}
 use Rattle.ipc_csv.proofs.AllPrints.{PrintedSome, no_more, one_more, refused}

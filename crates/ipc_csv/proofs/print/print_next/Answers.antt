@@ -1,6 +1,6 @@
 use Rattle.std.proofs.Common.{◌≡◌, Some, Ok, Err, IfErr, sym, subst}
-use Rattle.ipc_reader.proofs.Below.{is_err}
-use Rattle.ipc_reader.specs.Reads.{NextBatch}
+use Rattle.laws_walk.proofs.Below.{is_err}
+use Rattle.laws_walk.specs.Below.{NextBatch}
 use Rattle.ipc_csv.specs.Printing.{CallCause}
 use Rattle.ipc_csv.proofs.Nexts.{next_fetches, next_none, next_not_printed, next_printed, next_refused}
 use Rattle.ipc_csv.proofs.Refusals.{put_cause, read_cause}

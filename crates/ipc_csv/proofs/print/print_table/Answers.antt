@@ -2,7 +2,7 @@ use Rattle.std.proofs.Common.{◌≡◌, ◌∙◌, List, Err, IfErr, refl, sym,
 use Rattle.arrow_types.specs.Schemas.{Keyed}
 use Rattle.arrow_spec.specs.declared.error.IpcError.TheVariants.{Memory}
 use Rattle.ipc_io.specs.Outside.{AppendsPrefix}
-use Rattle.ipc_reader.proofs.Below.{is_err}
+use Rattle.laws_walk.proofs.Below.{is_err}
 use Rattle.laws_walk.specs.Places.{schema_of_reader}
 use Rattle.csv_rows.specs.Output.{HasPut, header_of}
 use Rattle.ipc_csv.specs.Printing.{CallCause}

@@ -1,7 +1,7 @@
 use Rattle.std.proofs.Common.{◌≡◌, List, subst}
 use Rattle.std.proofs.lemmas.Result.{IfOk-weaker}
 use Rattle.arrow_types.specs.Schemas.{Keyed, fields_in}
-use Rattle.laws_sent.specs.Below.{plain_fields}
+use Rattle.ipc_read_laws.specs.PlainKinds.{plain_fields}
 use Rattle.ipc_log_records.proofs.Decoding.{none_one, not_one, one_kinds, one_read}
 use Rattle.ipc_log_records.proofs.Writing.{handed, if_err}
 use Rattle.ipc_log_records.proofs.decode.batch_in.Goals as goal

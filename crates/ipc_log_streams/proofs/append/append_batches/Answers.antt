@@ -1,10 +1,9 @@
 use Rattle.std.proofs.Common.{◌≡◌, ◌∙◌, List, arith, ap, inl, map, refl, subst, sym, take, ⊎_elim}
 use Rattle.arrow_spec.specs.Files.{ArrowTable}
 use Rattle.arrow_types.specs.Schemas.{Keyed, fields_in}
-use Rattle.ipc_stream_writer.specs.Below.{cells_of}
+use Rattle.ipc_concat.specs.Below.{cells_of, plain_fields}
 use Rattle.laws_logs.specs.Tables.{with_batch, with_batches}
-use Rattle.laws_sent.specs.Below.{plain_fields}
-use Rattle.ipc_log_records.proofs.Writing.{handed}
+use Rattle.ipc_tablelog.proofs.Below.{handed}
 use Rattle.ipc_record_log.proofs.ReadOn.{elapses_on}
 use Rattle.ipc_tablelog.specs.TableLogs.{IsTableOf, KeepsTable}
 use Rattle.ipc_log_streams.proofs.Logs.{all_so_far, cause_as, item_at, keeps_so, next_front, none_so_far, none_yet, one_more, stops_at}

@@ -1,7 +1,7 @@
 use Rattle.std.proofs.Common.{◌≡◌, ◌≤◌, List, ℕ, false, map, take}
 use Rattle.arrow_spec.specs.Files.{ArrowTable}
 use Rattle.ipc_log_disk.specs.Crashes.{Elapses}
-use Rattle.ipc_stream_writer.specs.Below.{cells_of}
+use Rattle.ipc_concat.specs.Below.{cells_of}
 use Rattle.laws_logs.specs.Tables.{MeansFront, with_batches}
 use Rattle.ipc_tablelog.specs.TableLogs.{IsTableOf}
 use Rattle.ipc_log_streams.proofs.append.append_batches.Given as goal

@@ -1,11 +1,11 @@
 use Rattle.std.proofs.Common.{◌≡◌, ◌∙◌, inl, inr, map, refl, subst, sym, true}
 use Rattle.arrow_types.specs.Schemas.{fields_in}
-use Rattle.ipc_append.specs.Columns.{are_of}
-use Rattle.ipc_stream_writer.specs.Below.{cells_of}
+use Rattle.ipc_tablelog.specs.Below.{are_of}
+use Rattle.ipc_concat.specs.Below.{cells_of}
 use Rattle.laws_logs.specs.Tables.{MeansFront, with_batches}
 use Rattle.ipc_tablelog.specs.TableLogs.{KeepsTable}
 use Rattle.ipc_tablelog.proofs.Logs.{on_ok}
-use Rattle.ipc_log_records.proofs.Writing.{if_err}
+use Rattle.ipc_tablelog.proofs.Below.{if_err}
 use Rattle.ipc_log_streams.specs.Appends.{StopsBatches}
 use Rattle.ipc_log_streams.proofs.Logs.{fields_as, kinds_as, kinds_so, none_yet, not_same, other_so, same_so, still}
 use Rattle.ipc_log_streams.proofs.append.append_each.Goals as goal

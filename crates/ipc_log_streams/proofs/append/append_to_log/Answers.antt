@@ -1,6 +1,6 @@
 use Rattle.std.proofs.Common.{◌∙◌, inl, inr, subst, sym, ⊎_elim}
 use Rattle.std.specs.Prelude.{IfErr, IfSome, OnOk}
-use Rattle.ipc_log_records.specs.LogSchemas.{WasSaid}
+use Rattle.ipc_tablelog.specs.Below.{WasSaid}
 use Rattle.ipc_log_streams.specs.Appends.{HasAppended, LogRefused, StopsAppend, batches_of, fields_of}
 use Rattle.ipc_log_streams.proofs.Logs.{done_if, front_so, not_begun, stops_if}
 use Rattle.ipc_log_streams.proofs.append.append_to_log.Goals as goal

@@ -3,9 +3,8 @@ use Rattle.std.proofs.lemmas.Result.{IfOk-weaker}
 use Rattle.arrow_types.specs.Schemas.{fields_in}
 use Rattle.ipc_io.specs.Outside.{IsSize}
 use Rattle.laws_logs.specs.Tables.{table_of}
-use Rattle.ipc_log_records.specs.LogSchemas.{WasSaid, log_fields}
-use Rattle.ipc_log_records.proofs.Schemas.{read_regular}
-use Rattle.ipc_log_records.proofs.Writing.{if_err}
+use Rattle.ipc_tablelog.specs.Below.{WasSaid, log_fields}
+use Rattle.ipc_tablelog.proofs.Below.{read_regular, if_err}
 use Rattle.ipc_record_log.proofs.ReadOn.{elapses_on}
 use Rattle.ipc_tablelog.proofs.Logs.{since_on}
 use Rattle.ipc_log_streams.specs.Appends.{NoLog}

@@ -1,8 +1,8 @@
 use Rattle.std.proofs.Common.{Ok, Err, inl, subst}
 use Rattle.std.proofs.KnownBytes.{Keeps-refl}
 use Rattle.ipc_bodies.specs.Puts.{moved}
-use Rattle.ipc_stream_writer.specs.Calls.{IsFresh}
-use Rattle.ipc_log_records.proofs.Writing.{handed}
+use Rattle.ipc_concat.specs.Below.{IsFresh}
+use Rattle.ipc_tablelog.proofs.Below.{handed}
 use Rattle.ipc_log_streams.specs.Streams.{NotBegun}
 use Rattle.ipc_log_streams.proofs.Writers.{begun_put, not_begun, starts_keep, writer_of}
 use Rattle.ipc_log_streams.proofs.put.begin.Goals as goal

@@ -1,7 +1,7 @@
 use Rattle.std.proofs.Common.{Ok, Err}
 use Rattle.ipc_bodies.specs.Puts.{moved}
 use Rattle.ipc_concat.proofs.Writing.{writes_keep}
-use Rattle.ipc_log_records.proofs.Writing.{handed}
+use Rattle.ipc_tablelog.proofs.Below.{handed}
 use Rattle.ipc_log_streams.proofs.Putting.{next_cause, next_put, next_stopped, next_writer, not_read, read_cause}
 use Rattle.ipc_log_streams.proofs.put.put_batch.Goals as goal
 

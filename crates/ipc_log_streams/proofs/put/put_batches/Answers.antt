@@ -1,6 +1,6 @@
 use Rattle.std.proofs.Common.{◌∙◌, arith, ap, length, refl, sym}
 use Rattle.ipc_io.proofs.Kept.{sink_kept_on}
-use Rattle.ipc_log_records.proofs.Writing.{handed}
+use Rattle.ipc_tablelog.proofs.Below.{handed}
 use Rattle.ipc_record_log.proofs.ReadOn.{reads_on}
 use Rattle.ipc_tablelog.proofs.Opening.{nothing_read, same_on}
 use Rattle.ipc_log_streams.proofs.Putting.{all_put, cause_before, put_as, stops_as, stops_before, table_on, writer_as}

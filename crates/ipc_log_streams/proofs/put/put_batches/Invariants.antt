@@ -2,7 +2,7 @@ use Rattle.std.proofs.Common.{◌≡◌, [], List, Option, ℕ, take}
 use Rattle.arrow_spec.specs.Files.{ArrowTable}
 use Rattle.ipc_io.specs.Outside.{SinkKept}
 use Rattle.ipc_record_log.specs.Logs.{OnlyReads}
-use Rattle.laws_walk.specs.Sends.{IsWriter}
+use Rattle.ipc_concat.specs.Below.{IsWriter}
 use Rattle.ipc_tablelog.specs.TableLogs.{IsTableOf}
 use Rattle.ipc_log_streams.specs.Streams.{HasPut}
 use Rattle.ipc_log_streams.proofs.put.put_batches.Given as goal

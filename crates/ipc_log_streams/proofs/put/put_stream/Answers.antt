@@ -3,8 +3,8 @@ use Rattle.arrow_types.specs.Schemas.{Keyed}
 use Rattle.ipc_bodies.specs.Puts.{moved}
 use Rattle.ipc_concat.proofs.Beginning.{going_so}
 use Rattle.ipc_io.proofs.Kept.{sink_kept_on}
-use Rattle.ipc_log_records.specs.LogSchemas.{WasSaid}
-use Rattle.ipc_log_records.proofs.Writing.{handed}
+use Rattle.ipc_tablelog.specs.Below.{WasSaid}
+use Rattle.ipc_tablelog.proofs.Below.{handed}
 use Rattle.ipc_tablelog.proofs.Opening.{nothing_read}
 use Rattle.ipc_log_streams.specs.Streams.{NotBegun}
 use Rattle.ipc_log_streams.proofs.Ending.{batches_part, begin_cause, cause_of, log_part, log_whole, none_added}

@@ -1,6 +1,6 @@
 use Rattle.std.proofs.Common.{Err, Ok}
 use Rattle.ipc_append.proofs.Handed.{refused}
-use Rattle.laws_sent.specs.Below.{moved}
+use Rattle.ipc_bodies.specs.Puts.{moved}
 use Rattle.ipc_to_file.proofs.Puts.{begun, memory_stops, not_begun, sink_same, start_counts}
 use Rattle.ipc_to_file.proofs.begin.begin_file.Goals as goal
 

@@ -1,8 +1,7 @@
 use Rattle.std.proofs.Common.{◌∙◌, None, ap, subst}
 use Rattle.std.specs.Rc.{rc_value}
-use Rattle.ipc_file_writer.specs.Below.{is_new}
-use Rattle.ipc_file_writer.specs.Calls.{IsFresh}
-use Rattle.ipc_file_writer.specs.declared.pairs.FilePairs.{FilePairs}
+use Rattle.laws_walk.specs.Below.{is_new}
+use Rattle.ipc_append.specs.Below.{IsFresh, FilePairs}
 use Rattle.ipc_to_file.proofs.Puts.{new_of}
 use Rattle.ipc_to_file.proofs.begin.new_core.Goals as goal
 

@@ -1,5 +1,5 @@
 use Rattle.ipc_append.proofs.Handed.{refused}
-use Rattle.laws_sent.specs.Below.{moved}
+use Rattle.ipc_bodies.specs.Puts.{moved}
 use Rattle.ipc_to_file.proofs.Puts.{sink_same}
 use Rattle.ipc_to_file.proofs.Refusals.{put_added, put_cause, put_counts}
 use Rattle.ipc_to_file.proofs.conversion.put_hex_text.Goals as goal

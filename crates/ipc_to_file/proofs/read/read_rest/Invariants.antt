@@ -1,4 +1,4 @@
-use Rattle.ipc_streams.specs.Feeds.{FeedKept}
+use Rattle.ipc_append.specs.Below.{FeedKept}
 use Rattle.ipc_append.proofs.WholeSteps.{AreFront}
 use Rattle.ipc_to_file.proofs.read.read_rest.Given as goal
 

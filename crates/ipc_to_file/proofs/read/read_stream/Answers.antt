@@ -1,6 +1,6 @@
 use Rattle.ipc_append.proofs.Handed.{refused}
 use Rattle.ipc_append.proofs.WholeSteps.{batches_stop, has_kinds, is_whole, kept_since, start_stops}
-use Rattle.ipc_streams.proofs.TakenCalls.{cause_since}
+use Rattle.ipc_append.proofs.Below.{cause_since}
 use Rattle.ipc_to_file.proofs.read.read_stream.Goals as goal
 
 pub returns-in_err-metadata-clause-refused : goal.returns-in_err-metadata-clause-refused

@@ -1,6 +1,6 @@
 use Rattle.std.proofs.Common.{Err, Ok}
 use Rattle.ipc_append.proofs.Handed.{handed}
-use Rattle.laws_sent.specs.Below.{moved}
+use Rattle.ipc_bodies.specs.Puts.{moved}
 use Rattle.ipc_to_file.specs.Writing.{EndsFile}
 use Rattle.ipc_to_file.proofs.Ends.{ended, finish_counts, not_ended}
 use Rattle.ipc_to_file.proofs.write.end_file.Goals as goal

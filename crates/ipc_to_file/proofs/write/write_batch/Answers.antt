@@ -1,6 +1,6 @@
 use Rattle.std.proofs.Common.{Err, None, Ok}
 use Rattle.ipc_append.proofs.Handed.{refused}
-use Rattle.laws_sent.specs.Below.{moved}
+use Rattle.ipc_bodies.specs.Puts.{moved}
 use Rattle.ipc_to_file.proofs.Batches.{going, not_ok, stops, write_counts}
 use Rattle.ipc_to_file.proofs.write.write_batch.Goals as goal
 

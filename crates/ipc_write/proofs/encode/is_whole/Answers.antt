@@ -1,7 +1,7 @@
 use Rattle.std.proofs.Common.{◌∙◌, [], ap, sym, subst}
 use Rattle.arrow_spec.specs.WrittenSchemas.{Ascend}
 use Rattle.ipc_fields.specs.IpcFields.{metadata_in}
-use Rattle.schema_writer.proofs.Texts.{map_ascends}
+use Rattle.ipc_schema.proofs.Below.{map_ascends}
 use Rattle.ipc_write.proofs.encode.is_whole.Goals as goal
 
 pub returns-in-None : goal.returns-in-None

@@ -1,7 +1,6 @@
 use Rattle.std.proofs.Common.{Ok, refl, ◌∙◌, ap}
-use Rattle.arrow_arrays.specs.PartsOf.{all_parts_of}
+use Rattle.ipc_messages.specs.Below.{all_parts_of, held_by, DictionaryTracker}
 use Rattle.ipc_bodies.specs.Encodings.{text_of}
-use Rattle.ipc_messages.specs.Below.{held_by, DictionaryTracker}
 use Rattle.ipc_messages.proofs.Putting.{untouched}
 use Rattle.ipc_messages.proofs.Finding.{found_in}
 use Rattle.ipc_stream_writer.proofs.Sending.{not_found, not_sent, was_sent}

@@ -5,10 +5,9 @@ use Rattle.arrow_spec.specs.Features.{chosen_floats}
 use Rattle.arrow_spec.specs.Schema.{Schema}
 use Rattle.arrow_types.specs.Schemas.{fields_in}
 use Rattle.ipc_fields.specs.IpcFields.{ids_of}
-use Rattle.ipc_files.specs.Below.{are_column_kinds, Answers}
-use Rattle.ipc_read_laws.specs.Projection.{are_rising, columns_of}
+use Rattle.ipc_files.specs.Below.{are_column_kinds, Answers, are_rising, columns_of}
 use Rattle.ipc_files.specs.Selections.{numbers_read}
-use Rattle.ipc_read_laws.proofs.ChosenFloats.{chosen_with}
+use Rattle.ipc_files.proofs.Below.{chosen_with}
 use Rattle.ipc_files.proofs.InOrder.{floats_asked, made_rising}
 use Rattle.ipc_streams.specs.Starts.{stream_schema}
 use Rattle.ipc_streams.proofs.StreamSchemas.{may_read}

@@ -1,8 +1,7 @@
 use Rattle.std.proofs.Common.{◌≡◌, ◌∙◌, ap, length, subst, sym, true}
 use Rattle.std.specs.Rc.{rc_value}
 use Rattle.arrow_spec.specs.Schema.{Schema}
-use Rattle.ipc_files.specs.Below.{held_in, Body, header_of}
-use Rattle.ipc_read_laws.specs.Projection.{are_columns, are_rising, columns_of}
+use Rattle.ipc_files.specs.Below.{held_in, Body, header_of, are_columns, are_rising, columns_of}
 use Rattle.ipc_files.proofs.InOrder.{made_range, made_rising}
 use Rattle.ipc_streams.specs.Starts.{stream_schema}
 use Rattle.ipc_streams.proofs.ReadBatches.{rising_read, under_held}

@@ -1,7 +1,6 @@
 use Rattle.arrow_spec.specs.Arrays.{Dictionaries}
 use Rattle.arrow_spec.specs.Streams.{Reader}
-use Rattle.ipc_read_laws.specs.Held.{HoldsCells}
-use Rattle.ipc_files.specs.Below.{held_in}
+use Rattle.ipc_files.specs.Below.{HoldsCells, held_in}
 use Rattle.ipc_streams.specs.Nexts.{KeepsColumns}
 use Rattle.ipc_streams.specs.Readers.{IsReader}
 use Rattle.ipc_streams.proofs.NextBatches.{Reached}

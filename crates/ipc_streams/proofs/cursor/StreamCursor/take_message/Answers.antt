@@ -3,8 +3,7 @@ use Rattle.arrow_spec.specs.declared.error.IpcError.TheVariants.{TooMany}
 use Rattle.arrow_spec.specs.declared.error.Counted.TheVariants as counted
 use Rattle.arrow_spec.specs.Readings.{Refuses, refusals}
 use Rattle.arrow_spec.specs.Streams.{stream_batch, stream_dictionary}
-use Rattle.ipc_files.specs.Below.{held_in}
-use Rattle.ipc_read_laws.specs.Held.{HoldsCells}
+use Rattle.ipc_files.specs.Below.{held_in, HoldsCells}
 use Rattle.ipc_files.proofs.Errors.{is_err}
 use Rattle.ipc_files.proofs.ReadBatches.{kinds_cause}
 use Rattle.ipc_streams.specs.Steps.{step_within}
