@@ -12,12 +12,13 @@ use Rattle.arrow_spec.specs.Kinds.{have_same_kinds}
 use Rattle.arrow_types.specs.Schemas.{Keyed, fields_in}
 use Rattle.arrow_arrays.specs.Batches.{Batch}
 use Rattle.arrow_arrays.specs.Parts.{fault_each, forest}
+use Rattle.arrow_arrays.specs.Columns.{columns_of}
 use Rattle.ipc_io.specs.Outside.{Rose}
 use Rattle.ipc_bodies.specs.Encodings.{text_of}
 use Rattle.ipc_bodies.specs.Puts.{Moved, PutsPart}
 use Rattle.laws_walk.proofs.Below.{kinds_of_schema}
 use Rattle.same_fields.proofs.OneKind.{kinds_through}
-use Rattle.laws_walk.specs.Below.{FileCause, FileMetadata, HasFields, file_block, meta_view, schema_shown, table_of, NextBatch, FileCursor, cells_of, chunk_text, columns_of, counted, WriteFailed, Writes}
+use Rattle.laws_walk.specs.Below.{FileCause, FileMetadata, HasFields, file_block, meta_view, schema_shown, table_of, NextBatch, FileCursor, cells_of, chunk_text, counted, WriteFailed, Writes}
 use Rattle.laws_walk.specs.Places.{IsReadBy, Walked, place_of, walking}
 use Rattle.laws_walk.proofs.Cursors.{answered, next_none as none_walked, next_refused as walk_refused, read_on, reads_too}
 use Rattle.laws_walk.proofs.Fronts.{of_put, part_behind}

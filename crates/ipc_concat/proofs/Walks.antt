@@ -9,10 +9,11 @@ use Rattle.arrow_types.specs.Schemas.{Keyed, fields_in}
 use Rattle.arrow_arrays.specs.Batches.{Batch}
 use Rattle.arrow_arrays.specs.Heads.{indexed}
 use Rattle.arrow_arrays.specs.Parts.{Forest, Parts, also, fault_each, forest, leaf, nested, none, rows_in}
+use Rattle.arrow_arrays.specs.Columns.{columns_of}
 use Rattle.ipc_fields.specs.IpcFields.{Ids, ids_of}
 use Rattle.ipc_fields.specs.Uses.{first_id, first_ids, other_ids}
 use Rattle.ipc_dictionaries.specs.NewDictionaries.{array_sent, dictionary_sent, has_several, holding, parts_sent, scoped, then_by, Options, Sending, ToSend, arrays_sent}
-use Rattle.laws_walk.specs.Below.{Plans, WriteOptions, RefusesChunk, RefusesOne, Stops, columns_of, SuitsStream, found_before, StreamCore}
+use Rattle.laws_walk.specs.Below.{Plans, WriteOptions, RefusesChunk, RefusesOne, Stops, SuitsStream, found_before, StreamCore}
 use Rattle.ipc_dictionaries.specs.Batches.{begun}
 use Rattle.ipc_dictionaries.specs.Columns.{columns_fault, unless_fault}
 use Rattle.ipc_dictionaries.specs.Walks.{options_of}

@@ -11,11 +11,12 @@ use Rattle.arrow_spec.specs.Kinds.{have_same_kinds}
 use Rattle.arrow_types.specs.Schemas.{Keyed, fields_in}
 use Rattle.arrow_arrays.specs.Batches.{Batch}
 use Rattle.arrow_arrays.specs.Parts.{fault_each, forest}
+use Rattle.arrow_arrays.specs.Columns.{columns_of}
 use Rattle.ipc_io.specs.Outside.{Rose}
 use Rattle.ipc_bodies.specs.Encodings.{text_of}
 use Rattle.ipc_bodies.specs.Puts.{Moved, NoneFalls, PutsPart}
 use Rattle.ipc_bodies.specs.declared.encoding.Encoding.{Encoding}
-use Rattle.laws_walk.specs.Below.{StreamPairs, cells_of, chunk_text, columns_of, counted, is_started, HasWritten, LeavesAll, Stays, WriteCause, WriteFailed, Writes, table_with, StreamCore}
+use Rattle.laws_walk.specs.Below.{StreamPairs, cells_of, chunk_text, counted, is_started, HasWritten, LeavesAll, Stays, WriteCause, WriteFailed, Writes, table_with, StreamCore}
 use Rattle.laws_walk.specs.Sends.{IsWriter}
 use Rattle.laws_walk.proofs.Fronts.{Appends-text}
 use Rattle.ipc_concat.specs.Concat.{CauseOf}

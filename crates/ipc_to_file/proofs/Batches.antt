@@ -14,6 +14,7 @@ use Rattle.arrow_spec.specs.Kinds.{have_same_kinds}
 use Rattle.arrow_types.specs.Schemas.{fields_in}
 use Rattle.arrow_arrays.specs.Batches.{Batch}
 use Rattle.arrow_arrays.specs.Parts.{fault_each, forest}
+use Rattle.arrow_arrays.specs.Columns.{columns_of}
 use Rattle.ipc_fields.specs.IpcFields.{Ids}
 use Rattle.ipc_append.specs.Columns.{are_of, is_of}
 use Rattle.ipc_io.specs.Outside.{SinkKept}
@@ -21,7 +22,7 @@ use Rattle.ipc_bodies.specs.Puts.{Moved, NoneFalls}
 use Rattle.laws_walk.proofs.Below.{columns_right}
 use Rattle.ipc_append.specs.Below.{arrays_sent, begun, columns_fault, held_by, options_of, unless_fault, SendCause, SuitsFile, Writes, file_ids, file_schema, found_before, IsFile, cells_by, FileCore, WriteOptions, StreamMetadata}
 use Rattle.ipc_append.proofs.Below.{columns_of_kinds, more_limit}
-use Rattle.laws_walk.specs.Below.{cells_of, chunk_text, columns_of, is_started, table_of}
+use Rattle.laws_walk.specs.Below.{cells_of, chunk_text, is_started, table_of}
 use Rattle.ipc_append.specs.Below.Calls as writer
 use Rattle.ipc_unify.specs.Below.{AreOver, Lists}
 use Rattle.ipc_to_file.specs.Writing.{IsFront, IsGoing, IsNext, StopsBatch, StopsFile, in_batch}
