@@ -1,5 +1,5 @@
 """Makes files of random streams by the program: each says what its stream says, as the model reads both, and its dictionaries have the parts
-that the model finds for them; made a stream again it means that too, and the file of that stream stands as it was: python3 drive_file.py
+that the model finds for them; made a stream again it means that too, and so does the file of that stream: python3 drive_file.py
 PROGRAM COUNT SEED. Prints what differs, and how many cases had which status; the status is 0 where nothing does."""
 import subprocess
 import sys
@@ -50,9 +50,8 @@ def again_differs(program, folder, case):
     reason = misread(read_written_stream, (folder / "stream2").read_bytes(), case.contents)
     if reason:
         return "the stream of the file", reason
-    if run(program, folder, "file", "--raw", "stream2").stdout != (folder / "file").read_bytes():
-        return ("the file once more",)
-    return None
+    once_more = file_differs(run(program, folder, "file", "--raw", "stream2").stdout, case)
+    return once_more and ("the file once more", *once_more)
 
 
 def differs(program, folder, statuses, r):
