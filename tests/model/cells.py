@@ -7,6 +7,8 @@ from reading import Batch, Contents
 
 # a message of a dictionary's values, whether it goes on with those before it, and its values
 Message = namedtuple("Message", "id is_delta values")
+# how many rows of a batch are read, and which of them are sent
+Rows = namedtuple("Rows", "read sent")
 
 SIGNED = ("int", "decimal", "date", "time", "timestamp", "duration")
 
@@ -81,15 +83,27 @@ def batch_of(rows, pairs, arrays, messages):
     return Batch(rows, pairs or {}, [cells_of(array, messages) for array in arrays])
 
 
-def cut(contents, columns, limit):
-    """What is sent of a file's contents in the columns asked for and up to a limit of rows, with ids that count from 0."""
-    chosen = range(len(contents.fields)) if columns is None else columns
-    batches, left = [], limit
-    for rows, pairs, cells in contents.batches:
-        read = rows if left is None else min(rows, left)
+def rows_up_to(contents, limit):
+    """The rows of each batch up to a limit."""
+    rows, left = [], limit
+    for batch in contents.batches:
+        read = batch.rows if left is None else min(batch.rows, left)
+        rows.append(Rows(read, range(read)))
         left = None if left is None else left - read
-        batches.append(Batch(read, pairs, [cells[i][:read] for i in chosen]))
+    return rows
+
+
+def kept(contents, columns, rows):
+    """What is sent of a file's contents in the columns asked for, of each batch in some rows, or none of it, with ids that count from 0."""
+    chosen = range(len(contents.fields)) if columns is None else columns
+    batches = [Batch(len(of.sent), batch.pairs, [[batch.columns[i][row] for row in of.sent] for i in chosen])
+               for batch, of in zip(contents.batches, rows) if of is not None]
     return Contents("little", schemas.numbered([contents.fields[i] for i in chosen]), contents.pairs, contents.own, batches)
+
+
+def cut(contents, columns, limit):
+    """What is sent in the columns asked for and up to a limit of rows."""
+    return kept(contents, columns, rows_up_to(contents, limit))
 
 
 # ── what differs ──

@@ -197,7 +197,7 @@ def random_file(r, version):
     heading, messages = random_heading(r, kinds, "little", version), random_messages(r, taken)
     batches = fuzz_nested.Batches(r, kinds, "little", version)
     for _ in range(r.choice([1, 1, 2])):
-        batches.add(messages, [], None)
+        batches.add(messages)
     return heading, kinds, taken, messages, batches
 
 

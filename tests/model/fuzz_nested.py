@@ -40,22 +40,29 @@ def file_of(heading, batches, dictionaries=()):
 
 
 class Batches:
-    """Random batches of columns of some kinds, as a file has them and as its stream does, and what they say."""
+    """Random batches of columns of some kinds, as a file has them, and what they say."""
 
     def __init__(self, r, kinds, order, version):
         self.r, self.kinds, self.order, self.version = r, kinds, order, version
-        self.held, self.sent, self.said = [], [], []
+        self.held, self.arrays, self.said = [], [], []
 
-    def add(self, messages, chosen, left):
-        """A batch more, under the dictionaries of some messages. Answers how many of its rows are sent."""
+    def add(self, messages):
+        """A batch more, under the dictionaries of some messages."""
         r, rows, pairs = self.r, self.r.choice([0, 1, 2, 3, 9]), random_pairs(self.r)
         arrays = [random_array(r, kind, rows) for kind in self.kinds]
         held = [column for array in arrays for column in array.held(r, self.order, self.version)]
         self.held.append(held_batch(r, rows, held, self.version, pairs))
+        self.arrays.append(arrays)
         self.said.append(cells.batch_of(rows, pairs, arrays, messages))
-        read = rows if left is None else min(rows, left)
-        self.sent += arrow.batch(read, [c for i in chosen for c in arrays[i].sent(read, 0, read, True)], pairs=pairs or None)
-        return read
+
+    def sent(self, chosen, rows):
+        """The messages of some columns and rows of each batch, or of none of it."""
+        parts = []
+        for arrays, said, of in zip(self.arrays, self.said, rows):
+            if of is not None:
+                columns = [c for i in chosen for c in arrays[i].taken(of.read, of.sent).written(True)]
+                parts += arrow.batch(len(of.sent), columns, pairs=said.pairs or None)
+        return parts
 
 
 def asked_columns(asked):
@@ -63,17 +70,18 @@ def asked_columns(asked):
 
 
 def made(r, asked, kinds, heading, messages, held_messages, sent_dictionaries):
-    """The case of a file of these kinds and messages, of which the messages before the stream's first batch are given."""
-    columns, left = asked_columns(asked), asked.limit
+    """The case of a file of these kinds and messages, of which the messages before the stream's first batch are given. What is asked tells
+    the rows of each batch by a call of its own, or up to a limit."""
+    columns = asked_columns(asked)
     chosen = range(len(kinds)) if columns is None else columns
     batches = Batches(r, kinds, heading.order, heading.version)
     for _ in range(r.choice([0, 1, 1, 2, 3])):
-        read = batches.add(messages, chosen, left)
-        left = None if left is None else left - read
+        batches.add(messages)
     contents = Contents(heading.order, heading.fields, heading.pairs, heading.own or {}, batches.said)
-    sent = cells.cut(contents, columns, asked.limit)
+    rows = asked.rows(contents) if "rows" in asked else cells.rows_up_to(contents, asked.limit)
+    sent = cells.kept(contents, columns, rows)
     head = arrow.message(1, schemas.schema_table(sent.fields, sent.pairs), 0, pairs=sent.own or None)
-    stream = [head, *(sent_dictionaries(chosen) if batches.said else []), *batches.sent, arrow.END]
+    stream = [head, *(sent_dictionaries(chosen) if sent.batches else []), *batches.sent(chosen, rows), arrow.END]
     return Case(file_of(heading, batches.held, held_messages), b"".join(stream), contents)
 
 

@@ -72,7 +72,7 @@ class Array:
 
     def held(self, r, order, version=4):
         """Its columns in preorder, as messages of a metadata version have them: 4 is V5, and 3 V4, in which unions have a validity."""
-        pieces = self.held_pieces(r, order)
+        pieces = self.held_pieces(order)
         if self.kind[0] == "union" and version < 4:
             pieces = [garbage(r, r.choice([0, 1, 8]))] + pieces
         own = Column(self.rows, self.stated(r), pieces, self.views())
@@ -89,7 +89,7 @@ class Array:
     def views(self):
         return len(self.parts["buffers"]) if "buffers" in self.parts else None
 
-    def held_pieces(self, r, order):
+    def held_pieces(self, order):
         name = self.kind[0]
         if name == "null":
             return []
@@ -119,17 +119,60 @@ class Array:
 
     def sent(self, read, begin, count, is_top=False):
         """The columns of count rows from one on, of an array that was read for so many rows."""
-        name = self.kind[0]
-        rows = range(begin, begin + count)
-        nulls = count if name == "null" else sum(1 for i in rows if self.flags is not None and not self.flags[i])
-        pieces, below = self.sent_top(count) if is_top and "buffers" in self.parts else self.sent_pieces(read, begin, count)
-        views = None
-        if "buffers" in self.parts:
-            views = len(pieces) - 1
-        if name not in ("null", "union"):
-            has_validity = read > 0 and self.flags is not None
-            pieces = [bits([self.flags[i] for i in rows]) if has_validity else b""] + pieces
-        return [Column(count, nulls, pieces, views)] + below
+        return self.taken(read, range(begin, begin + count)).written(is_top)
+
+    def taken(self, read, rows):
+        """The array of some rows, in their order, of one that was read for so many: their values as they are held, null or not."""
+        flags = None if read == 0 or self.flags is None else [self.flags[i] for i in rows]
+        return Array(self.kind, len(rows), flags, **self.taken_parts(read, rows))
+
+    def taken_parts(self, read, rows):
+        name, parts = self.kind[0], self.parts
+        if name == "union":
+            return self.taken_union(read, rows)
+        if name == "struct":
+            return {"children": [child.taken(read, rows) for child in self.children]}
+        if name == "fixed_list":
+            size = self.kind[1]
+            return {"children": [self.children[0].taken(size * read, [size * i + j for i in rows for j in range(size)])]}
+        if "offsets" in parts:
+            return self.taken_runs(read, rows)
+        if "buffers" in parts:
+            return {"views": [parts["views"][i] for i in rows], "buffers": parts["buffers"] if read else []}
+        if name == "boolean":
+            return {"values": [parts["values"][i] for i in rows]}
+        if name == "null":
+            return {}
+        width = parts["width"]
+        return {"data": b"".join(parts["data"][width * i:width * (i + 1)] for i in rows), "width": width}
+
+    def taken_runs(self, read, rows):
+        """What stands between offsets, of lists and of byte strings, from 0 on."""
+        held, offsets = self.parts["offsets"] if read else [0], [0]
+        for i in rows:
+            offsets.append(offsets[-1] + held[i + 1] - held[i])
+        if self.children:
+            items = [j for i in rows for j in range(held[i], held[i + 1])]
+            return {"offsets": offsets, "children": [self.children[0].taken(held[read], items)]}
+        return {"offsets": offsets, "data": b"".join(self.parts["data"][held[i]:held[i + 1]] for i in rows)}
+
+    def taken_union(self, read, rows):
+        """The children of a dense union stay whole, as they were read."""
+        types, places = [self.parts["types"][i] for i in rows], self.parts["places"]
+        if places is None:
+            return {"types": types, "places": None, "children": [child.taken(read, rows) for child in self.children]}
+        whole = [child.rows if read else 0 for child in self.children]
+        children = [child.taken(count, range(count)) for child, count in zip(self.children, whole)]
+        return {"types": types, "places": [places[i] for i in rows], "children": children}
+
+    def written(self, is_top=False):
+        """The columns of an array that is held in memory, as they are sent."""
+        nulls = self.rows if self.kind[0] == "null" else 0 if self.flags is None else self.flags.count(False)
+        pieces = self.held_pieces("little")
+        if is_top and "buffers" in self.parts:
+            pieces[1:] = self.laid_pieces()
+        views = len(pieces) - 2 if "buffers" in self.parts else None
+        return [Column(self.rows, nulls, pieces, views)] + [c for child in self.children for c in child.written()]
 
     def viewed(self, row):
         """The bytes that a view tells."""
@@ -140,50 +183,12 @@ class Array:
         number, at = struct.unpack_from("<II", view, 8)
         return buffers[number][at:at + length]
 
-    def sent_top(self, count):
-        """Views that are a column of the batch."""
+    def laid_pieces(self):
+        """Views that are a column of the batch, and their buffers."""
         flags = self.flags
-        values = [self.viewed(i) if flags is None or flags[i] else b"" for i in range(count)]
-        views, buffers = sent_views(values, flags, self.parts["views"][:count], self.parts["buffers"])
-        return [views, *buffers], []
-
-    def sent_pieces(self, read, begin, count):
-        name, parts = self.kind[0], self.parts
-        end = begin + count
-        if name == "null":
-            return [], []
-        if name == "union":
-            return self.sent_union(read, begin, count)
-        if name in ("list", "large_list", "map"):
-            offsets = parts["offsets"] if read else [0]
-            first, last = offsets[begin], offsets[end]
-            pattern = "<q" if name == "large_list" else "<i"
-            part = pack(pattern, [o - first for o in offsets[begin:end + 1]])
-            return [part], self.children[0].sent(offsets[read], first, last - first)
-        if name == "fixed_list":
-            size = self.kind[1]
-            return [], self.children[0].sent(size * read, size * begin, size * count)
-        if name == "struct":
-            return [], [c for child in self.children for c in child.sent(read, begin, count)]
-        if "offsets" in parts:
-            offsets = parts["offsets"] if read else [0]
-            pattern = "<q" if name.startswith("large") else "<i"
-            return [pack(pattern, [o - offsets[begin] for o in offsets[begin:end + 1]]), parts["data"][offsets[begin]:offsets[end]]], []
-        if "buffers" in parts:
-            return [b"".join(parts["views"][begin:end])] + (parts["buffers"] if read else []), []
-        if name == "boolean":
-            return [bits(parts["values"][begin:end])], []
-        width = parts["width"]
-        return [parts["data"][width * begin:width * end]], []
-
-    def sent_union(self, read, begin, count):
-        end = begin + count
-        types = bytes(self.parts["types"][begin:end])
-        if self.parts["places"] is None:
-            return [types], [c for child in self.children for c in child.sent(read, begin, count)]
-        whole = [child.rows if read else 0 for child in self.children]
-        below = [c for child, rows in zip(self.children, whole) for c in child.sent(rows, 0, rows)]
-        return [types, pack("<i", self.parts["places"][begin:end])], below
+        values = [self.viewed(i) if flags is None or flags[i] else b"" for i in range(self.rows)]
+        views, buffers = sent_views(values, flags, self.parts["views"], self.parts["buffers"])
+        return [views, *buffers]
 
 
 def pack(pattern, numbers):

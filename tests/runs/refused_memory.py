@@ -110,8 +110,9 @@ def run_all(runs):
         runs.refuse_each(["cat", TARGET, TARGET], b"", content, len(content))
         below = len(b"".join(case.file[:-2]))
         runs.refuse_each(["append", TARGET], hex_line(case), content, below)
-
-
+    for case, wanted in ((cases.THREE, "0>=2"), (cases.NUMBERS, "4!=0"), (cases.STRINGS, "7>10")):
+        content = file_of(case)
+        runs.refuse_each(["scan", wanted, TARGET], b"", content, len(content))
     runs.refuse_each(["gen", "0"], b"", b"", 0)
 
 

@@ -1,6 +1,6 @@
 """Fails each call that the real program makes of the system, one after the other, and kills it at each: system_faults.py PROGRAM
 
-`strace` (Debian's package) makes a call fail, or kills the program in it. For `stream`, `schema` and `rows` of a named file, `stream` of
+`strace` (Debian's package) makes a call fail, or kills the program in it. For `stream`, `scan`, `schema` and `rows` of a named file, `stream` of
 standard input, and `append`: whatever call fails, the status is that of its device or 0, its note is the one line, and standard output has a
 part of what it has otherwise. Behind every run of `append`, failed or killed, the bytes of the target below its last block's end stand, and
 until it is cut all of them; a disk that fills up behind the cut (a limit on the file's size) is status 12. Standard input that comes byte by
@@ -22,6 +22,7 @@ import arrow  # noqa: E402
 from cases import THREE  # noqa: E402
 
 FILE = b"".join(THREE.file)
+SECOND_ROW = [arrow.numbers("<i", [2]), arrow.variable("<i", [b"yz"]), arrow.numbers("<q", [20])]
 STREAM = b"".join(THREE.stream).hex().encode() + b"\n"
 NOTES = {0: b"", 11: b"refused 11 ReadFault\n", 12: b"refused 12 WriteFault\n", 13: b"refused 13 Memory\n", 17: b"refused 17 NoName\n"}
 CALL = re.compile(r"^(?:\d+ +)?(\w+)\(")
@@ -130,6 +131,7 @@ def main():
     appended = runs.run(["append", TARGET], STREAM, None)[3]
     fail_each(runs, ["stream", TARGET], b"", STREAM, FILE)
     fail_each(runs, ["stream", "--raw", TARGET], b"", raw, FILE)
+    fail_each(runs, ["scan", "0>=2", "--raw", TARGET], b"", b"".join(arrow.stream_parts(THREE.fields, [arrow.batch(1, SECOND_ROW)])), FILE)
     fail_each(runs, ["rows", TARGET], b"", b"2\n", FILE)
     fail_each(runs, ["schema", TARGET], b"", b'little\n"a" int32\n"b" utf8\n"c" int64\n', FILE)
     fail_each(runs, ["stream"], FILE.hex().encode(), STREAM, FILE)

@@ -4,6 +4,7 @@
 pub mod array;
 pub mod bitmap;
 pub mod buffer;
+pub mod compute;
 pub mod datatypes;
 pub mod io;
 pub mod mmap;

@@ -59,7 +59,7 @@ hex_refused e wants wants' content r old new h = told content _ _ (λ b s p. hex
 pub raw_refused : (e : IpcError) (wants wants' : ℕ) (content : Option (List ℕ)) (r : Request) (old new : Option (List ℕ)) → IfSome content (λ b. AddsPart e wants wants' b r (text_of Bytes) old new) → IfSome content (λ b. AddsStreamPart e wants wants' b r true old new)
 raw_refused e wants wants' content r old new h = told content _ _ (λ b s p. raw_part e wants wants' b r old new p) h
 
-rose_later : (a b c : ℕ) → a ≤ b → Rose b c → Rose a c
+pub rose_later : (a b c : ℕ) → a ≤ b → Rose b c → Rose a c
 rose_later a b c h r = omega arith
 
 after_stream : (e : PutError) (faults faults' before wants wants' : ℕ) (b : List ℕ) (r : Request) (old mid new : Option (List ℕ)) → before ≤ wants → PutHasCause faults faults' wants wants' (Err e) → AddsStream b r (text_of HexText) old mid → Puts mid new (Err e) (10 ∷ []) → AddsStreamPart (put_error e) before wants' b r false old new

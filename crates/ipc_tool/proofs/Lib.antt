@@ -14,5 +14,6 @@ pub mod FileTexts
 pub mod Front
 pub mod GenSteps
 pub mod Noting
+pub mod ScanPuts
 pub mod Tasks
 pub mod Words

@@ -12,6 +12,7 @@ mod file;
 mod generate;
 mod log;
 mod rows;
+mod scan;
 mod schema;
 mod stream;
 
@@ -54,5 +55,6 @@ pub(crate) fn perform<H: VaultShelf, I: Feed, W: Sink>(
         Request::Log(log) => log_target(alloc, shelf, input, output, log),
         Request::Csv(csv) => of_file(alloc, shelf, input, output, csv, csv.name),
         Request::File(file) => of_file(alloc, shelf, input, output, file, file.name),
+        Request::Scan(scan) => of_file(alloc, shelf, input, output, scan, scan.name),
     }
 }

@@ -10,4 +10,5 @@ mod WorkedCsv
 mod WorkedFile
 mod WorkedGen
 mod WorkedLog
+mod WorkedScan
 mod WorkedWords

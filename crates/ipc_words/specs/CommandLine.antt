@@ -42,6 +42,9 @@ name = word (codes "NAME")
 abbrev pub names : Rule
 names = needed_words (codes "NAME")
 
+abbrev pub filter : Rule
+filter = needed_word (codes "FILTER")
+
 abbrev pub target : Rule
 target = needed_word (codes "TARGET")
 

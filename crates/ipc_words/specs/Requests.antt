@@ -7,7 +7,9 @@ use Rattle.clap.specs.Simple.{App, Shape, new_shape, subcommand_of}
 use Rattle.clap.specs.Faults.{fault_of}
 use Rattle.clap.specs.Kinds.{Kinds}
 use Rattle.ipc_words.specs.CommandLine as line
+use Rattle.ipc_words.specs.Filters.{filter_of}
 use Rattle.ipc_words.specs.Numbers.{decimal_of, numbers_of}
+use Rattle.filter_types.specs.declared.filter.Filter.{Filter}
 
 -- stream [--columns LIST] [--limit N] [--raw] [NAME]
 pub record Stream : Type 0 where
@@ -29,6 +31,16 @@ pub record Cat : Type 0 where
 
 -- file [--raw] [NAME]
 pub record File : Type 0 where
+  -- as bytes, else as hex text
+  pub raw : Bool
+  -- the input where there is none
+  pub name : Option Text
+
+-- scan FILTER [--columns LIST] [--raw] [NAME]
+pub record Scan : Type 0 where
+  pub filter : Filter
+  -- all of them where there is none
+  pub columns : Option (List ℕ)
   -- as bytes, else as hex text
   pub raw : Bool
   -- the input where there is none
@@ -64,6 +76,7 @@ pub data Request : Type 0 where
   gen : ℕ → Request
   cat : Cat → Request
   file : File → Request
+  scan : Scan → Request
   csv : Csv → Request
   log : Log → Request
 
@@ -104,6 +117,10 @@ one_or_more (text ∷ others) = Some (text ∷ others)
 -- NAME.., where `-` is a name like any other
 abbrev pub names_in : List Row → Option (List Text)
 names_in found = option_and_then one_or_more (all_of (codes "NAME") found)
+
+-- FILTER
+abbrev pub filter_in : List Row → Option Filter
+filter_in found = option_and_then filter_of (first_of (codes "FILTER") found)
 
 -- TARGET, where `-` is a name like any other
 abbrev pub target_in : List Row → Option Text
@@ -175,6 +192,18 @@ file_entry = record {
   asks = λ found. Some (file (record { raw = raw_in found; name = name_in found }));
 }
 
+abbrev pub scan_entry : Entry
+scan_entry = record {
+  name = codes "scan";
+  rules = line.filter ∷ line.columns ∷ line.raw ∷ line.name ∷ [];
+  asks = λ found. option_and_then (λ filter. option_map (λ columns. scan (record {
+    filter = filter;
+    columns = columns;
+    raw = raw_in found;
+    name = name_in found;
+  })) (columns_in found)) (filter_in found);
+}
+
 abbrev pub csv_entry : Entry
 csv_entry = record {
   name = codes "csv";
@@ -207,6 +236,7 @@ commands =
     gen_entry ∷
     cat_entry ∷
     file_entry ∷
+    scan_entry ∷
     csv_entry ∷
     log_entry ∷
     []

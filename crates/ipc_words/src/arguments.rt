@@ -1,5 +1,5 @@
 //! The options of the commands and their words by place, as `clap` is told of them.
-ghost use Rattle.ipc_words.specs.CommandLine.{append, columns, limit, name, names, number, raw, target};
+ghost use Rattle.ipc_words.specs.CommandLine.{append, columns, filter, limit, name, names, number, raw, target};
 ghost use Rattle.ipc_words.specs.Commands.{IsArg};
 
 use clap::{Arg, ArgAction};
@@ -62,6 +62,15 @@ pub(crate) fn names_words<'a>(alloc: Global) -> Arg<'a>
         .required(true)
         .action(ArgAction::Append)
         .help("The files, one or more, in the order of their batches")
+}
+
+/// FILTER
+pub(crate) fn filter_word<'a>(alloc: Global) -> Arg<'a>
+    ensures { IsArg filter result }
+{
+    Arg::new(alloc, "FILTER").required(true).help(
+        "A column's number, one of = != < <= > >=, and a number, in one word",
+    )
 }
 
 /// TARGET, with what it is told to be

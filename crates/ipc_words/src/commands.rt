@@ -3,19 +3,20 @@ ghost use Rattle.std.specs.Prelude.{◌≡◌, ◌∷◌, [], IfOk, IfErr, List,
 ghost use Rattle.clap.specs.Walk.{rows_of};
 ghost use Rattle.clap.specs.Words.{found_of};
 ghost use Rattle.ipc_words.specs.Commands.{HasCommands, IsCommand, Reads, asked_of};
-ghost use Rattle.ipc_words.specs.Requests.{Entry, append_entry, asked_by, cat_entry, command_line, csv_entry, file_entry, gen_entry, log_entry, rows_entry, schema_entry, stream_entry};
+ghost use Rattle.ipc_words.specs.Requests.{Entry, append_entry, asked_by, cat_entry, command_line, csv_entry, file_entry, gen_entry, log_entry, rows_entry, scan_entry, schema_entry, stream_entry};
 ghost use Rattle.ipc_words.specs.Views.{request_view};
 ghost use Rattle.ipc_words.specs.declared.words_error.WordsError.TheVariants.{NoRequest};
 
 use crate::arguments::{
-    append_flag, columns_option, limit_option, name_word, names_words, number_word, raw_flag,
-    target_word,
+    append_flag, columns_option, filter_word, limit_option, name_word, names_words, number_word,
+    raw_flag, target_word,
 };
 use crate::found::{
-    is_flag_in, read_columns, read_limit, read_name, read_names, read_number, read_target,
+    is_flag_in, read_columns, read_filter_word, read_limit, read_name, read_names, read_number,
+    read_target,
 };
 use crate::help::statuses;
-use crate::requests::{Cat, Csv, File, Log, Request, Stream};
+use crate::requests::{Cat, Csv, File, Log, Request, Scan, Stream};
 use crate::words_error::WordsError;
 use clap::{ArgMatches, Command};
 use std::alloc::{AllocError, Global};
@@ -151,6 +152,35 @@ pub(crate) fn read_file<'a>(found: &ArgMatches<'a>) -> Request<'a>
     })
 }
 
+fn scan_command<'a>(alloc: Global) -> Result<Command<'a>, AllocError>
+    ensures { IfOk result (IsCommand scan_entry) }
+{
+    Command::new(alloc, "scan")
+        .about("Writes the rows of a file that pass a filter, as a stream")
+        .arg(filter_word(alloc))?
+        .arg(columns_option(alloc))?
+        .arg(raw_flag(alloc))?
+        .arg(name_word(alloc))
+}
+
+/// scan FILTER [--columns LIST] [--raw] [NAME]
+pub(crate) fn read_scan<'a>(
+    alloc: Global,
+    found: &ArgMatches<'a>,
+) -> Result<Request<'a>, WordsError>
+    ensures asked { IfOk result (λ r. asked_of scan_entry found.now ≡ Some (request_view r)) }
+    ensures refused { IfErr result (λ e. e ≡ NoRequest → asked_of scan_entry found.now ≡ None) }
+{
+    let filter = read_filter_word(found)?;
+    let columns = read_columns(alloc, found)?;
+    Ok(Request::Scan(Scan {
+        filter,
+        columns,
+        raw: is_flag_in(found, "raw"),
+        name: read_name(found),
+    }))
+}
+
 fn csv_command<'a>(alloc: Global) -> Result<Command<'a>, AllocError>
     ensures { IfOk result (IsCommand csv_entry) }
 {
@@ -238,6 +268,7 @@ pub(crate) fn program<'a>(alloc: Global) -> Result<Command<'a>, AllocError>
     program = with_command(program, gen_command(alloc));
     program = with_command(program, cat_command(alloc));
     program = with_command(program, file_command(alloc));
+    program = with_command(program, scan_command(alloc));
     program = with_command(program, csv_command(alloc));
     program = with_command(program, log_command(alloc));
     program
@@ -260,6 +291,7 @@ pub(crate) fn read_command<'a>(
         "gen" => read_gen(found),
         "cat" => read_cat(alloc, found),
         "file" => Ok(read_file(found)),
+        "scan" => read_scan(alloc, found),
         "csv" => read_csv(alloc, found),
         "log" => read_log(found),
         _ => Err(WordsError::NoRequest),

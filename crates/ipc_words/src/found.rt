@@ -2,13 +2,15 @@
 ghost use Rattle.std.specs.Prelude.{◌≡◌, ◌<◌, IfOk, IfErr, Some, None, length, option_map};
 ghost use Rattle.clap.specs.Walk.{all_of, first_of, rows_of};
 ghost use Rattle.clap.specs.Words.{found_of};
-ghost use Rattle.ipc_words.specs.Requests.{columns_in, is_on, limit_in, name_in, names_in, number_in, target_in};
+ghost use Rattle.ipc_words.specs.Requests.{columns_in, filter_in, is_on, limit_in, name_in, names_in, number_in, target_in};
 ghost use Rattle.ipc_words.specs.Views.{lent_texts, numbers, text, texts};
 ghost use Rattle.ipc_words.specs.declared.words_error.WordsError.TheVariants.{NoRequest};
 
+use crate::filter_words::read_filter;
 use crate::numbers::{read_decimal, read_numbers};
 use crate::words_error::WordsError;
 use clap::ArgMatches;
+use filter_types::Filter;
 use std::alloc::Global;
 
 // The first value under an id.
@@ -74,6 +76,20 @@ pub(crate) fn read_number(found: &ArgMatches<'_>) -> Result<u64, WordsError>
     match text_in(found, "N") {
         Some(text) => match read_decimal(text.as_bytes()) {
             Some(number) => Ok(number),
+            None => Err(WordsError::NoRequest),
+        },
+        None => Err(WordsError::NoRequest),
+    }
+}
+
+/// FILTER
+pub(crate) fn read_filter_word(found: &ArgMatches<'_>) -> Result<Filter, WordsError>
+    ensures asked { IfOk result (λ r. filter_in (rows_of (found_of found.now)) ≡ Some r) }
+    ensures refused { IfErr result (λ e. e ≡ NoRequest → filter_in (rows_of (found_of found.now)) ≡ None) }
+{
+    match text_in(found, "FILTER") {
+        Some(text) => match read_filter(text.as_bytes()) {
+            Some(filter) => Ok(filter),
             None => Err(WordsError::NoRequest),
         },
         None => Err(WordsError::NoRequest),

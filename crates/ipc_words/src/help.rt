@@ -19,7 +19,7 @@ The status is 0 where all was written. Each other one has a line on standard err
    2  Unsupported, by its name   a feature that is not supported
    3  TooDeep                    fields that are nested too deep
    4  TooMany                    too many fields, pairs or dictionaries
-   5  Projection                 a number of LIST is no column, or stands in it twice
+   5  Projection                 a number of LIST or FILTER is no column, or one of LIST stands there twice
    6  TooLarge                   what is written would pass a limit of the format
    7  SchemaMismatch             fields that are not the same
    8  DictionaryReplaced         other values under the id of a dictionary

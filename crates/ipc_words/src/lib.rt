@@ -3,6 +3,7 @@
 
 mod arguments;
 mod commands;
+mod filter_words;
 mod found;
 mod help;
 mod numbers;
@@ -10,7 +11,8 @@ mod requests;
 mod words;
 mod words_error;
 
+pub use filter_types::{Filter, FilterOp};
 pub use help::help_text;
-pub use requests::{Cat, Csv, File, Log, Request, Stream};
+pub use requests::{Cat, Csv, File, Log, Request, Scan, Stream};
 pub use words::read_words;
 pub use words_error::WordsError;

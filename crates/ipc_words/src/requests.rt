@@ -1,6 +1,8 @@
 //! What words may ask for.
 ghost use Rattle.std.specs.Prelude.{◌<◌, length};
 
+use filter_types::Filter;
+
 /// stream [--columns LIST] [--limit N] [--raw] [NAME]
 #[derive(Debug, Drop, PartialEq, Eq)]
 pub struct Stream<'a> {
@@ -30,6 +32,19 @@ pub struct File<'a> {
     /// Whether the file is put as it is, and not as hex text.
     pub raw: bool,
     /// The name of the stream, or the input.
+    pub name: Option<&'a str>,
+}
+
+/// scan FILTER [--columns LIST] [--raw] [NAME]
+#[derive(Debug, Drop, PartialEq, Eq)]
+pub struct Scan<'a> {
+    /// Which rows.
+    pub filter: Filter,
+    /// The columns, or all of them.
+    pub columns: Option<Vec<usize>>,
+    /// Whether the stream is put as it is, and not as hex text.
+    pub raw: bool,
+    /// The name of the file, or the input.
     pub name: Option<&'a str>,
 }
 
@@ -72,6 +87,8 @@ pub enum Request<'a> {
     Cat(Cat<'a>),
     /// A stream as a file.
     File(File<'a>),
+    /// The rows of a file that a filter passes, as a stream.
+    Scan(Scan<'a>),
     /// The rows of a file as CSV.
     Csv(Csv<'a>),
     /// The table of a log, or batches at its end.

@@ -1,7 +1,7 @@
 //! Uses of `arrow_ipc`, by words, of which one command may stand behind another:
 //!
 //! - `show`, as without any word, shows ten uses, of an Arrow file on standard input;
-//! - `columns`, `dictionary`, `filter`, `grow`, `join`, `log` and `merge` show uses of arrays and batches that are made in memory;
+//! - `columns`, `dictionary`, `filter`, `grow`, `join`, `log`, `merge` and `scan` show uses of arrays and batches that are made in memory;
 //! - `file-again FROM TO` and `stream-again FROM TO` write a file or a stream that they read, and `send FROM TO` a file as a stream;
 //! - `look NAME` and `read NAME` count the rows of a file in memory, by views and by arrays, `sum-views NAME` and `sum-arrays NAME` add up its first column, and `load NAME` does neither;
 //! - `write-file NAME BATCHES ROWS` and `write-stream NAME BATCHES ROWS` write numbers, and `append NAME BATCHES ROWS` behind the batches of a file.
@@ -23,6 +23,7 @@ mod merge_streams;
 mod numbers;
 mod read_column;
 mod read_stream;
+mod scan_file;
 mod show;
 mod show_made;
 mod sum_lent;
@@ -97,7 +98,7 @@ fn do_word<'a>(
             show_uses(rt)?;
             Ok(words)
         }
-        "columns" | "dictionary" | "filter" | "grow" | "join" | "log" | "merge" => {
+        "columns" | "dictionary" | "filter" | "grow" | "join" | "log" | "merge" | "scan" => {
             show_use(rt, word)?;
             Ok(words)
         }

@@ -8,6 +8,7 @@ use crate::filter_stream::kept;
 use crate::log_service::{batches_behind_crash, new_log, run_once};
 use crate::merge_streams::merged;
 use crate::read_stream::first_height;
+use crate::scan_file::rows_at_least;
 use crate::write_file::file_of_numbers;
 use crate::write_stream::stream_of_numbers;
 use arrow_ipc::io::ipc::IpcError;
@@ -71,6 +72,14 @@ fn show_joined(rt: &HostRuntime, alloc: Global) -> Result<(), IpcError> {
     Ok(())
 }
 
+fn show_scanned(rt: &HostRuntime, alloc: Global) -> Result<(), IpcError> {
+    let file = bytes_in(alloc, &file_of_numbers(alloc, &[1, 3, 5])?)?;
+    let mut source = MemorySource::new(file, Vec::new(alloc), Vec::new(alloc));
+    let length = rows_at_least(alloc, &mut source, 3)?.bytes().len();
+    let _ = println!(rt; "a stream of {length} bytes of the rows that are at least 3");
+    Ok(())
+}
+
 fn show(rt: &HostRuntime, alloc: Global, word: &str) -> Result<(), IpcError> {
     match word {
         "columns" => show_cities(rt, &cities(alloc)?),
@@ -79,6 +88,7 @@ fn show(rt: &HostRuntime, alloc: Global, word: &str) -> Result<(), IpcError> {
         "join" => show_joined(rt, alloc),
         "log" => show_log(rt, alloc),
         "merge" => show_merged(rt, alloc),
+        "scan" => show_scanned(rt, alloc),
         _ => show_colours(rt, alloc),
     }
 }

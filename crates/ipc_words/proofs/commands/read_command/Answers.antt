@@ -31,6 +31,10 @@ pub returns-in-file-clause-asked : goal.returns-in-file-clause-asked
 unfolding asked_by commands
 returns-in-file-clause-asked c = rw c.in-file.is c.read_file.ensures
 
+pub returns-in-scan : goal.returns-in-scan
+unfolding asked_by commands
+returns-in-scan c = record { asked = rw c.in-scan.is c.read_scan.ensures.asked; refused = rw c.in-scan.is c.read_scan.ensures.refused }
+
 pub returns-in-csv : goal.returns-in-csv
 unfolding asked_by commands
 returns-in-csv c = record { asked = rw c.in-csv.is c.read_csv.ensures.asked; refused = rw c.in-csv.is c.read_csv.ensures.refused }

@@ -1,0 +1,5 @@
+pub mod Rows
+pub mod Runs
+pub mod Offsets
+pub mod Taken
+pub mod Laws

@@ -1,0 +1,13 @@
+//! Rows of arrays of any kind: those that are marked, and those at some numbers.
+#![tactic(auto)]
+
+mod bits;
+mod bytes;
+mod keys;
+mod leaves;
+mod offsets;
+mod rows;
+mod runs;
+mod trees;
+
+pub use rows::{filter, take};

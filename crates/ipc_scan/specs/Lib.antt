@@ -1,0 +1,4 @@
+pub mod Below
+pub mod Messages
+pub mod Columns
+pub mod Sends

@@ -1,0 +1,2 @@
+-- What crates below say, handed on to those above.
+pub use Rattle.laws_sent.proofs.NextParts.{held_parts}

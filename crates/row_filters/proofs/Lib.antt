@@ -1,0 +1,2 @@
+mod NoNumbers
+mod Marked
