@@ -71,6 +71,7 @@ def damaged_columns():
         if found:
             at, more, name = found.groups()
             yield f"one_column {at}={more}", edited(known["one_column"], (int(at), bytes.fromhex(more))), name
+    yield "2^62 lists of 2147483647 nulls each", bytes_in("worked.cases", "made.cases")["lists_of_nulls"], "NodeLength"
 
 
 def damaged_values():

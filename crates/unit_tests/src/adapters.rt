@@ -1,6 +1,6 @@
 //! The outside over readers and writers.
 use ipc_schema::{Failed, Feed, PutError, Sink};
-use ipc_tool::{InputFeed, OutputSink};
+use ipc_system::{InputFeed, OutputSink};
 use std::alloc::Global;
 use std::io::{self, ErrorKind, Read, Write};
 use std::test::Fail;

@@ -1,10 +1,9 @@
-//! The texts of errors, of refusals, and of what devices answer.
+//! The texts of errors, and of what devices answer.
 use arrow_arrays::BatchError;
 use arrow_buffers::ArrayError;
 use arrow_flat::BuildError;
 use arrow_spec::{Counted, Feature, FlatError, IpcError, OutOfSpecKind};
 use ipc_schema::{Failed, PutError, ShelfError};
-use ipc_tool::Refusal;
 use std::alloc::Global;
 use std::fmt::Display;
 
@@ -245,21 +244,6 @@ const OF_BUILDING: &[(BuildError, &str)] = &[
     (BuildError::Memory, "out of memory"),
 ];
 
-const REFUSALS: &[(Refusal, &str)] = &[
-    (
-        Refusal::Ipc(IpcError::OutOfSpec(OutOfSpecKind::InvalidFooter)),
-        "out of specification: InvalidFooter",
-    ),
-    (Refusal::Ipc(IpcError::Memory), "out of memory"),
-    (Refusal::Words, "the words are no request"),
-    (Refusal::NotHex, "the input is no hex text"),
-    (
-        Refusal::InputTooLong,
-        "the input is longer than 134,217,728 bytes",
-    ),
-    (Refusal::NoName, "nothing stands under the name"),
-];
-
 const OF_SINKS: &[(PutError, &str)] = &[
     (PutError::Failed, "the device failed"),
     (PutError::Memory, "out of memory"),
@@ -307,8 +291,7 @@ fn what_makes_no_value(rt: HostRuntime) {
 }
 
 #[test]
-fn refusals_and_devices_that_fail(rt: HostRuntime) {
-    assert!(rt; have_texts(rt.alloc(), REFUSALS));
+fn devices_that_fail(rt: HostRuntime) {
     assert!(rt; have_texts(rt.alloc(), &[(Failed, "the device failed")]));
     assert!(rt; have_texts(rt.alloc(), OF_SINKS));
     assert!(rt; have_texts(rt.alloc(), OF_SHELVES));

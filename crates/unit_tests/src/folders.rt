@@ -1,7 +1,7 @@
 //! The shelf over a folder.
 use ipc_disk::{Disk, PlaceShelf};
 use ipc_schema::{Got, Shelf, ShelfError, Source};
-use ipc_tool::FolderShelf;
+use ipc_system::FolderShelf;
 use std::fs;
 use std::test::Fail;
 

@@ -3,6 +3,9 @@
 //! file by its name. Or the text of help or of the version.
 #![tactic(auto)]
 
+#[cfg(test)]
+mod refusal_texts;
+
 ghost use Rattle.std.specs.Process.{exit_status};
 ghost use Rattle.ipc_tool.specs.CommandLine.{IsStatus};
 
