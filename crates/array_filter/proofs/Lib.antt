@@ -4,6 +4,7 @@ pub mod Pieces
 pub mod Cells
 pub mod Between
 pub mod RunLaws
+mod MarkedRuns
 pub mod OffsetRuns
 pub mod RunSteps
 pub mod LeafTaken

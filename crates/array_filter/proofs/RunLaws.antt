@@ -1,16 +1,15 @@
 -- Runs of rows: one more row, one more run, and how far they reach.
-use Rattle.std.proofs.Common.{◌≡◌, ◌∙◌, sym, refl, ap, subst, arith, ℕ, zero, suc, ◌+◌, ◌*◌, ◌<◌, ◌≤◌, List, [], ◌∷◌, ◌++◌, length, take, drop, get_or, Bool, true, false, append_assoc, append-nil, length-append}
-use Rattle.std.specs.Prelude.{if◌then◌else◌}
+use Rattle.std.proofs.Common.{◌≡◌, ◌∙◌, sym, ap, subst, arith, ℕ, zero, suc, ◌+◌, ◌*◌, ◌<◌, ◌≤◌, List, [], ◌∷◌, ◌++◌, length, take, drop, get_or, append_assoc, append-nil, length-append}
 use Rattle.std.specs.List.{flat_map}
 use Rattle.std.proofs.lemmas.Grind.{flat_map-append}
-use Rattle.std.proofs.lemmas.List.{get_or_default, drop_more, drop-drop, take_more, length-take-le}
+use Rattle.std.proofs.lemmas.List.{get_or_default, drop_more, drop-drop, take_more}
 use Rattle.std.proofs.Math.Nat.{mul-add, mul-suc, mul-le-mul_left}
 use Rattle.std.proofs.Math.Seq.{take-add}
 use Rattle.arrow_spec.specs.Needed.{numbers_from}
 use Rattle.arrow_buffers.specs.Rows.{part}
 use Rattle.arrow_buffers.specs.Leaf.{fixed_row}
 use Rattle.array_filter.specs.declared.runs.Run.{Run}
-use Rattle.array_filter.specs.Rows.{AreBelow, Rise, marked_from, taken}
+use Rattle.array_filter.specs.Rows.{AreBelow, Rise, taken}
 use Rattle.array_filter.specs.Runs.{AreWithin, Climb, rows_in_runs, rows_of}
 use Rattle.array_filter.proofs.Lists.{all_append, below_run, length-numbers, run_taken, taken-append}
 use Rattle.array_filter.proofs.Marked.{rising_below}
@@ -136,23 +135,6 @@ next_row rows low k n d h lt =
 pub climb_higher : (low : ℕ) (runs : List Run) (m n : ℕ) → Climb low runs m → m ≤ n → Climb low runs n
 climb_higher low [] m n h k = omega arith
 climb_higher low (r ∷ runs) m n h k = (h.0, climb_higher (r.from + r.count) runs m n h.1 k)
-
--- ── marks ──
-
-pub marked_more : (i : ℕ) (marks : List Bool) (b : Bool) → marked_from i (marks ++ b ∷ []) ≡ marked_from i marks ++ (if b then (i + length marks) ∷ [] else [])
-marked_more i [] true = ap (λ k. k ∷ []) (omega arith)
-marked_more i [] false = refl
-marked_more i (true ∷ marks) b =
-    let e : suc i + length marks ≡ i + suc (length marks) = omega arith in
-    ap (λ ks. i ∷ ks) (marked_more (suc i) marks b ∙ ap (λ n. marked_from (suc i) marks ++ (if b then n ∷ [] else [])) e)
-marked_more i (false ∷ marks) b =
-    let e : suc i + length marks ≡ i + suc (length marks) = omega arith in
-    marked_more (suc i) marks b ∙ ap (λ n. marked_from (suc i) marks ++ (if b then n ∷ [] else [])) e
-
-pub marked_next : (marks : List Bool) (i : ℕ) (d : Bool) → i < length marks → marked_from 0 (take (i + 1) marks) ≡ marked_from 0 (take i marks) ++ (if get_or marks i d then i ∷ [] else [])
-marked_next marks i d h =
-    let long : 0 + length (take i marks) ≡ i = omega (arith, length-take-le i marks (omega arith)) in
-    ap (marked_from 0) (take_more marks i d h) ∙ marked_more 0 (take i marks) (get_or marks i d) ∙ ap (λ k. marked_from 0 (take i marks) ++ (if get_or marks i d then k ∷ [] else [])) long
 
 -- ── what stands in the rows ──
 

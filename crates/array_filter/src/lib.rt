@@ -11,3 +11,5 @@ mod runs;
 mod trees;
 
 pub use rows::{filter, take};
+pub use runs::{Run, runs_of_marks};
+pub use trees::take_runs;

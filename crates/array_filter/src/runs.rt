@@ -1,5 +1,6 @@
 //! Runs of rows.
-ghost use Rattle.std.specs.Prelude.{◌≡◌, ◌+◌, ◌^◌, ◌<◌, ◌≤◌, ◌++◌, [], ◌∷◌, length, IfOk, OnOk, if◌then◌else◌};
+ghost use Rattle.std.specs.Prelude.{◌≡◌, ◌+◌, ◌^◌, ◌<◌, ◌≤◌, ◌++◌, [], ◌∷◌, length, drop, get_or, true, false, None, IfOk, IfSome, OnOk};
+ghost use Rattle.arrow_spec.specs.Needed.{numbers_from};
 ghost use Rattle.array_filter.specs.Rows.{Rise, marked_from};
 ghost use Rattle.array_filter.specs.Runs.{Climb, rows_in_runs, rows_of};
 
@@ -56,28 +57,52 @@ fn add_row(runs: &mut Vec<Run>, row: usize) -> Result<(), AllocError>
     }
 }
 
-/// Adds a row where it is marked.
-fn add_marked(runs: &mut Vec<Run>, row: usize, is_marked: bool) -> Result<(), AllocError>
-    requires climb { Climb 0 runs.old.items row }
-    requires small { row + 1 < 2 ^ 64 }
-    ensures rows { OnOk result (rows_in_runs runs.new.items ≡ rows_in_runs runs.old.items ++ (if is_marked then row ∷ [] else [])) }
-    ensures climb { OnOk result (Climb 0 runs.new.items (row + 1)) }
+/// How many marked rows stand one behind another from one on.
+fn run_length(marks: &[bool], from: usize) -> usize
+    requires below { from < length marks.now }
+    requires marked { get_or marks.now from false ≡ true }
+    ensures rows { marked_from from (drop from marks.now) ≡ numbers_from from result ++ marked_from (from + result) (drop (from + result) marks.now) }
+    ensures some { 0 < result }
+    ensures within { from + result ≤ length marks.now }
 {
-    if is_marked {
-        add_row(runs, row)
-    } else {
-        Ok(())
+    let held = marks.len() - from;
+    for count in 1..held {
+        if !marks[from + count] {
+            return count;
+        }
     }
+    held
+}
+
+/// The first run of marked rows from a row on.
+fn next_run(marks: &[bool], low: usize) -> Option<Run>
+    ensures rows { IfSome result (λ r. marked_from low (drop low marks.now) ≡ rows_of r ++ marked_from (r.from + r.count) (drop (r.from + r.count) marks.now)) }
+    ensures above { IfSome result (λ r. low ≤ r.from) }
+    ensures some { IfSome result (λ r. 0 < r.count) }
+    ensures within { IfSome result (λ r. r.from + r.count ≤ length marks.now) }
+    ensures none { result ≡ None → marked_from low (drop low marks.now) ≡ [] }
+{
+    for from in low..marks.len() {
+        if marks[from] {
+            return Some(Run {
+                from,
+                count: run_length(marks, from),
+            });
+        }
+    }
+    None
 }
 
 /// The runs of the rows that are marked.
-pub(crate) fn runs_of_marks(alloc: Global, marks: &[bool]) -> Result<Vec<Run>, AllocError>
+pub fn runs_of_marks(alloc: Global, marks: &[bool]) -> Result<Vec<Run>, AllocError>
     ensures rows { IfOk result (λ v. rows_in_runs v.items ≡ marked_from 0 marks.now) }
     ensures climb { IfOk result (λ v. Climb 0 v.items (length marks.now)) }
 {
     let mut runs = Vec::new(alloc);
-    for i in 0..marks.len() {
-        add_marked(&mut runs, i, marks[i])?;
+    let mut low = 0;
+    while let Some(next) = next_run(marks, low) {
+        runs.push(next)?;
+        low = next.from + next.count;
     }
     Ok(runs)
 }

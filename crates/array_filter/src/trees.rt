@@ -27,9 +27,9 @@ use arrow_buffers::{ArrayError, Bitmap, Buffer};
 use arrow_types::ArrowDataType;
 use std::alloc::{AllocError, Global};
 
-/// The rows of runs.
+/// The rows of runs, each as `filter` keeps it. Runs that were made once of marks (`runs_of_marks`) serve each array of as many rows.
 #[cycle(take)]
-pub(crate) fn take_runs(alloc: Global, array: &Array, runs: &[Run]) -> Result<Array, AllocError>
+pub fn take_runs(alloc: Global, array: &Array, runs: &[Run]) -> Result<Array, AllocError>
     requires { Climb 0 runs.now (rows_in (parts_of array.now)) }
     ensures { IfOk result (λ a. parts_of a ≡ rows_taken (rows_in_runs runs.now) (parts_of array.now)) }
 {

@@ -8,7 +8,7 @@ ghost use Rattle.array_filter.specs.Taken.{rows_taken};
 ghost use Rattle.laws_scan.specs.Filtered.{any_marked, marked_count};
 ghost use Rattle.laws_scan.specs.Reads.{KeepsRows};
 
-use array_filter::filter;
+use array_filter::{runs_of_marks, take_runs};
 use arrow_arrays::{Array, RecordBatch};
 use std::alloc::{AllocError, Global};
 
@@ -37,14 +37,15 @@ fn marked_count(marks: &[bool]) -> usize
     count
 }
 
-/// The marked rows of some arrays.
+/// The marked rows of some arrays, whose runs are made once.
 fn keep_each(alloc: Global, arrays: &[Array], marks: &[bool]) -> Result<Vec<Array>, AllocError>
     requires { have_rows (length marks.now) (all_parts_of arrays.now) ≡ true }
     ensures { IfOk result (λ v. all_parts_of v.items ≡ map (rows_taken (marked_from 0 marks.now)) (all_parts_of arrays.now)) }
 {
+    let runs = runs_of_marks(alloc, marks)?;
     let mut kept = Vec::new(alloc);
     for array in arrays {
-        kept.push(filter(alloc, array, marks)?)?;
+        kept.push(take_runs(alloc, array, runs.as_slice())?)?;
     }
     Ok(kept)
 }

@@ -1,2 +1,3 @@
 mod NoNumbers
 mod Marked
+mod Compared

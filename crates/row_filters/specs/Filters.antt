@@ -1,5 +1,5 @@
 -- Which rows meet a filter.
-use Rattle.std.specs.Prelude.{ℕ, zero, suc, List, Bool, true, false, map, slice_get}
+use Rattle.std.specs.Prelude.{ℕ, zero, suc, ℤ, pos, List, Bool, true, false, map, slice_get}
 use Rattle.std.specs.Ordering.{int_cmp}
 use Rattle.arrow_spec.specs.Arrays.{cell_or_null}
 use Rattle.arrow_spec.specs.Cells as cells
@@ -14,6 +14,11 @@ use Rattle.filter_types.specs.declared.filter.Filter.{Filter}
 abbrev pub meets : Filter → Cell → Bool
 meets f (cells.number z) = holds f.op (int_cmp z f.number)
 meets f x = false
+
+-- the number that a cell holds, or 0
+abbrev pub number_in : Cell → ℤ
+number_in (cells.number z) = z
+number_in x = pos 0
 
 -- the marks of a column's rows
 abbrev pub marks_of : Filter → List Cell → List Bool
