@@ -10,7 +10,7 @@ use crate::layout::{Layout, Range};
 use crate::numbers::{integer_at, is_bit_set, width_of};
 use crate::parts::part_of;
 use crate::view::ArrayView;
-use std::str::from_utf8;
+use std::str::from_utf8_unchecked;
 
 impl<'a> ArrayView<'a> {
     /// The truth value of a row.
@@ -83,7 +83,7 @@ impl<'a> ArrayView<'a> {
         part_of(self.parts.input, range)
     }
 
-    /// The text of a row of texts. Its bytes are looked at once more.
+    /// The text of a row of texts. Its bytes were looked at when the view was made, and are not again.
     #[tactic(auto, using(crate::proofs::Utf8::texts))]
     pub fn text(&self, row: usize) -> &'a str
         requires layout { has_text (layout_of self.now) ≡ true }
@@ -91,10 +91,8 @@ impl<'a> ArrayView<'a> {
         ensures cell { cell_of self.now row ≡ cells.text result.now }
         ensures stands { result.now ≡ take (length result.now) (drop (place_of self.now row) (input_of self.now)) }
     {
-        match from_utf8(self.bytes(row)) {
-            Ok(text) => text,
-            Err(_) => unreachable!(),
-        }
+        let bytes = self.bytes(row);
+        unsafe { from_utf8_unchecked(bytes) }
     }
 
     /// Where the bytes of a row's value stand in the input: of a truth value the byte that holds its bit, of a short view inside the view.
