@@ -34,7 +34,6 @@ typedef struct {
     unsigned count;
 } Batch;
 
-static int file;
 static uint64_t file_size;
 
 static void refuse(const char *why) {
@@ -48,22 +47,7 @@ static void need(int holds, const char *what) {
 
 /* Bytes of the file and of the output. */
 
-static Bytes fetch(uint64_t at, uint64_t length) {
-    need(length <= file_size && at <= file_size - length, "range");
-    Bytes bytes = {malloc(length ? length : 1), length};
-    need(bytes.at != NULL, "memory");
-    for (uint64_t done = 0; done < length;) {
-        ssize_t count = pread(file, bytes.at + done, length - done, at + done);
-        need(count > 0, "read");
-        done += count;
-    }
-    return bytes;
-}
-
-/* How a buffer is taken. */
-static Bytes (*take)(uint64_t at, uint64_t length) = fetch;
-
-static void put(const uint8_t *bytes, uint64_t length) {
+static void put_bytes(const uint8_t *bytes, uint64_t length) {
     for (uint64_t done = 0; done < length;) {
         uint64_t most = length - done < PIECE ? length - done : PIECE;
         ssize_t count = write(1, bytes + done, most);
@@ -71,6 +55,39 @@ static void put(const uint8_t *bytes, uint64_t length) {
         done += count;
     }
 }
+
+#ifdef HEX_TEXT
+#include "plain_hex.h"
+#else
+static int file;
+
+static void read_at(uint8_t *to, uint64_t at, uint64_t length) {
+    for (uint64_t done = 0; done < length;) {
+        ssize_t count = pread(file, to + done, length - done, at + done);
+        need(count > 0, "read");
+        done += count;
+    }
+}
+
+static void put(const uint8_t *bytes, uint64_t length) { put_bytes(bytes, length); }
+
+static void open_bytes(const char *name) {
+    struct stat told;
+    need((file = open(name, O_RDONLY)) >= 0 && fstat(file, &told) == 0, "open");
+    file_size = told.st_size;
+}
+#endif
+
+static Bytes fetch(uint64_t at, uint64_t length) {
+    need(length <= file_size && at <= file_size - length, "range");
+    Bytes bytes = {malloc(length ? length : 1), length};
+    need(bytes.at != NULL, "memory");
+    read_at(bytes.at, at, length);
+    return bytes;
+}
+
+/* How a buffer is taken. */
+static Bytes (*take)(uint64_t at, uint64_t length) = fetch;
 
 /* Flatbuffers: tables, and slots that are looked at within their bytes. */
 
@@ -108,9 +125,7 @@ static uint64_t items(Bytes in, uint64_t table, unsigned index, unsigned width, 
 
 /* Opens a file and gives its footer. */
 static Bytes open_file(const char *name) {
-    struct stat told;
-    need((file = open(name, O_RDONLY)) >= 0 && fstat(file, &told) == 0, "open");
-    file_size = told.st_size;
+    open_bytes(name);
     need(file_size >= 10, "size");
     Bytes trailer = fetch(file_size - 10, 10);
     need(memcmp(trailer.at + 4, "ARROW1", 6) == 0, "magic");
