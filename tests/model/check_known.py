@@ -8,11 +8,13 @@ import arrow
 import laid_by_hand
 import schema_reading
 import schemas
+import write_cat
 from arrow import Column
 from case_lines import bytes_in
 from cases import ALL
-from cells import difference, plain
+from cells import Message, difference, plain
 from flat_reading import Damaged, root
+from fuzz_dictionaries import Sending
 from layout import Structs, Table, Value, lay, number
 from nested import Array
 from reading import Batch, Contents, read_file, read_stream
@@ -204,3 +206,78 @@ for what, data in LEFT.items():
     assert not is_refused(read_file, data) and is_refused(read_written_file, data), what
 assert is_refused(read_written_stream, stream_of("OLDER_SCHEMA", "OLDER_ONE_NULL", "OLDER_END")), "prefixes of four bytes"
 print("and those that no writer here leaves")
+
+# ── what is sent of dictionaries behind those that were sent: messages by hand ──
+
+
+def array(kind, parts):
+    """Parts of texts, of lists of bytes, or of keys."""
+    ends = [[sum(map(len, part[:i])) for i in range(len(part) + 1)] for part in parts]
+    if kind == ("utf8",):
+        return [Array(kind, len(part), None, offsets=of, data=b"".join(part)) for part, of in zip(parts, ends)]
+    bytes_ = [Array(("int8",), of[-1], None, data=b"".join(part), width=1) for part, of in zip(parts, ends)]
+    return [Array(kind, len(part), None, offsets=of, children=[child]) for part, of, child in zip(parts, ends, bytes_)]
+
+
+def messages_of(id, arrays):
+    return [Message(id, i > 0, values) for i, values in enumerate(arrays)]
+
+
+def sent_behind(kind, held, found):
+    """What is sent of the values of keys behind others, as one dictionary each."""
+    sending, column = Sending(), ("dictionary", "int8", False, 7, kind)
+    sending.send(messages_of(7, held), [column])
+    return sending.send(messages_of(7, found), [column])
+
+
+def put(*messages):
+    return [part for message in messages for part in message]
+
+
+X, Y, Z = b"x", b"y", b"z"
+TEXTS, XY, values = ("utf8",), [[X, Y]], write_cat.values
+SENT = [(XY, XY, []), (XY, [[X], [Y]], []), ([[X], [Y]], XY, []), ([], [[]], []),
+        (XY, [[X, Y], [Z]], [values(0, [Z], True)]), ([[X]], [[X, Y], [], [Z]], [values(0, [Y], True), values(0, [Z], True)]),
+        ([[]], XY, [values(0, [X, Y], True)]), ([], [[X], [Y]], [values(0, [X], True), values(0, [Y], True)]),
+        (XY, [[X]], [values(0, [X])]), (XY, [], [values(0, [])]), (XY, [[], [Y], [], [X]], [values(0, []), values(0, [Y], True), values(0, [X], True)])]
+for held, found, wanted in SENT:
+    assert sent_behind(TEXTS, array(TEXTS, held), array(TEXTS, found)) == put(*wanted), (held, found)
+
+
+def delta(*columns):
+    header, body = arrow.batch_tables(columns[0].rows, columns)
+    return arrow.message(2, Table(None, header, number(1, True)), len(body)), body
+
+
+LISTS, LONG = ("list", ("int8",)), [b"the first long text", b"the second long text"]
+wanted = delta(Column(2, 0, [b"", struct.pack("<3i", 0, 1, 3)]), Column(3, 0, [b"", b"xyz"]))
+assert sent_behind(LISTS, array(LISTS, [[b"ab"]]), array(LISTS, [[b"ab", b"x", b"yz"]])) == put(wanted)
+views = [arrow.view(LONG[0], 0, 0), arrow.view(LONG[1], 0, len(LONG[0]))]
+held, found = [Array(("utf8_view",), n, None, views=views[:n], buffers=[b"".join(LONG)]) for n in (1, 2)]
+assert sent_behind(("utf8_view",), [held], [found]) == put(delta(Column(1, 0, [b"", views[1], b"".join(LONG)], 1)))
+held, found = [Array(("int8",), n, [True, False, True][:n], data=b"\1\2\3"[:n], width=1) for n in (2, 3)]
+assert sent_behind(("int8",), [held], [found]) == put(delta(Column(1, 0, [b"\1", b"\3"])))
+
+INNER = ("dictionary", "int8", False, 9, TEXTS)
+OUTER = ("dictionary", "int8", False, 5, ("struct", INNER))
+
+
+def nested(texts, *keys):
+    """Structs of keys, a part each, behind texts."""
+    parts = [Array(("struct", INNER), len(of), None, children=[Array(INNER, len(of), None, data=bytes(of), width=1)]) for of in keys]
+    return [*messages_of(9, array(TEXTS, texts)), *messages_of(5, parts)]
+
+
+def structs(keys, is_delta=False):
+    header, body = arrow.batch_tables(len(keys), [Column(len(keys), 0, [b""]), arrow.numbers("<b", keys)])
+    return arrow.message(2, Table(None, header, number(1, is_delta)), len(body)), body
+
+
+sending = Sending()
+NEXT = [(nested(XY, [1, 0]), [values(1, [X, Y]), structs([1, 0])]), (nested([[Y, X]], [0, 1]), []),
+        (nested([[X, Y, Z]], [1, 0, 2]), [values(1, [Z], True), structs([2], True)]),
+        (nested([[Z]], [0], [0]), [values(1, [Z]), structs([0]), structs([0], True)]),
+        ([], [values(1, []), structs([])]), (nested(XY, [0], [1]), [values(1, [X, Y], True), structs([0], True), structs([1], True)])]
+for messages, wanted in NEXT:
+    assert sending.send(messages, [OUTER]) == put(*wanted), wanted
+print("and sends of dictionaries what is new")

@@ -5,11 +5,11 @@ from collections import namedtuple
 import arrow
 import fuzz_nested
 import schemas
-from cells import Message, batch_of, parts_of, values_of
-from fuzz_dictionaries import (dictionaries_in, held_message, no_rows, random_kinds, random_messages, with_children)
+from cells import Message, batch_of, cells_of, parts_of
+from fuzz_dictionaries import Sending, dictionaries_in, held_message, random_kinds, random_messages, with_children
 from fuzz_fields import random_heading, random_pairs
 from fuzz_nested import file_of, held_batch
-from nested import Array, children_of, random_array
+from nested import Array, children_of, part_of, random_array
 from reading import Contents
 
 # a file, how many messages it has beside the schema, a stream, the status of appending it, what the file says behind that, how many batches
@@ -19,25 +19,7 @@ Case = namedtuple("Case", "file begun stream status contents added whole")
 SAME_FIELDS, OTHER_FIELDS, OTHER_VALUES = 0, 7, 8
 
 
-# ── parts of arrays, and arrays under other ids ──
-
-
-def part_of(array, begin, count):
-    """So many rows of an array, from one on."""
-    name, parts, end = array.kind[0], dict(array.parts), begin + count
-    if name == "fixed_list":
-        parts["children"] = [part_of(child, array.kind[1] * begin, array.kind[1] * count) for child in array.children]
-    elif name == "struct" or name == "union" and parts["places"] is None:
-        parts["children"] = [part_of(child, begin, count) for child in array.children]
-    if "offsets" in parts:
-        parts["offsets"] = parts["offsets"][begin:end + 1]
-    elif "width" in parts:
-        parts["data"] = parts["data"][parts["width"] * begin:parts["width"] * end]
-    for key in ("types", "places", "views", "values"):
-        if parts.get(key) is not None:
-            parts[key] = parts[key][begin:end]
-    flags = array.flags[begin:end] if array.flags is not None and count > 0 else None
-    return Array(array.kind, count, flags, **parts)
+# ── arrays under other ids ──
 
 
 def renamed(kind, ids):
@@ -58,32 +40,18 @@ class Replaced(Exception):
     """Other values under an id of the file."""
 
 
-class Held:
+class Held(Sending):
     """The cells that stand under the file's ids, and the messages that are written behind its own."""
 
     def __init__(self, messages):
-        self.cells = {message.id: values_of(messages, message.id) for message in messages}
-        self.messages = []
+        super().__init__()
+        self.parts = {message.id: [cells_of(*part) for part in parts_of(messages, message.id)] for message in messages}
 
-    def take(self, messages, kind, file_kind):
-        """Takes the dictionaries of a kind of the stream, behind some of its messages."""
-        for own, filed in zip(dictionaries_in(kind), dictionaries_in(file_kind)):
-            self.take_one(messages, own, filed)
-
-    def take_one(self, messages, own, filed):
-        id, parts = filed[3], parts_of(messages, own[3]) or [(no_rows(own[4]), [])]
-        cells, old = values_of(messages, own[3]), self.cells.get(id)
-        if old is not None and cells[:len(old)] != old:
+    def begun(self, id, kind, parts):
+        count = super().begun(id, kind, parts)
+        if count is None and id in self.parts:
             raise Replaced
-        passed, known, is_begun = 0, len(old or []), old is not None
-        for part, before in parts:
-            first = min(max(known - passed, 0), part.rows)
-            passed += part.rows
-            if first < part.rows or not is_begun:
-                self.take(before, own[4], filed[4])
-                self.messages.append(Message(id, is_begun, part_of(part, first, part.rows - first)))
-                is_begun = True
-        self.cells[id] = cells
+        return count
 
 
 # ── streams ──
@@ -167,13 +135,17 @@ def say_more(stream, taken, ids):
             stream.is_replaced = True
 
 
+def random_ids(r, taken):
+    """For each id another one or the same."""
+    names = r.sample(sorted({*taken, *range(5), -2, 2**33}), len(taken)) if r.random() < 0.6 else list(taken)
+    return dict(zip(taken, names))
+
+
 def random_stream(r, kinds, taken, messages, version):
     """A stream of a file's kinds, under ids of its own or the same."""
-    names = r.sample(sorted({*taken, *range(5), -2, 2**33}), len(taken)) if r.random() < 0.6 else list(taken)
-    ids = dict(zip(taken, names))
-    order = r.choice(["little", "little", "big"]) if "view" not in repr(kinds) else "little"
-    stream = Stream(r, [renamed(kind, ids) for kind in kinds], order, version)
-    r.cells = dict.fromkeys(names, 0)
+    ids = random_ids(r, taken)
+    stream = Stream(r, [renamed(kind, ids) for kind in kinds], fuzz_nested.order_of(r, kinds), version)
+    r.cells = dict.fromkeys(ids.values(), 0)
     say_values(stream, messages, taken, ids)
     for _ in range(r.choice([0, 1, 1, 2])):
         say_more(stream, taken, ids)

@@ -3,11 +3,11 @@ order, with their streams, as cases for `rt try --cases FOLDER -- stream WORDS`:
 as for fuzz_nested.py."""
 import arrow
 import fuzz_nested
-from cells import Message, parts_of
+from cells import Message, cells_of, parts_of
 from fuzz import held_tables
 from fuzz_fields import random_heading, random_pairs
 from layout import Table, number
-from nested import Array, children_of, layout_of, random_array, random_kind
+from nested import Array, children_of, layout_of, part_of, random_array, random_kind
 
 INDEXES = ["int8", "int16", "int32", "int64", "uint8", "uint16", "uint32", "uint64"]
 
@@ -107,33 +107,50 @@ def held_message(r, message, order, version):
 
 
 class Sending:
-    """The parts that were sent, and how many cells of each new id."""
+    """The cells of the parts that stand under each id, and the messages that are written of dictionaries: what goes on with them as deltas,
+    and what does not anew."""
 
     def __init__(self):
-        self.parts, self.counts = [], {}
+        self.parts, self.messages = {}, []
 
-    def send_kind(self, messages, kind, at):
-        """What is needed of a kind that was read behind some messages, with ids from a number on."""
-        for d in dictionaries_in(kind):
-            self.send_dictionary(messages, d, at)
-            at += 1 + count_of(d[4])
+    def send(self, messages, kinds):
+        """The bytes of what is written of some columns' dictionaries, behind some messages, under ids that count from 0."""
+        begun, at = len(self.messages), 0
+        for kind in kinds:
+            self.take(messages, kind, numbered(kind, at))
+            at += count_of(kind)
+        return [part for message in self.messages[begun:] for part in sent_message(message)]
 
-    def send_dictionary(self, messages, kind, at):
-        _, _, _, id, values = kind
-        read = parts_of(messages, id) or [(no_rows(values), [])]
-        sent, passed = self.counts.get(at), 0
-        is_delta = sent is not None
-        for i, (part, under) in enumerate(read):
-            passed += part.rows
-            if (sent is None and i == 0) or passed > (sent or 0) and part.rows > 0:
-                self.send_kind(under, values, at + 1)
-                self.send_part(at, is_delta, part)
+    def take(self, messages, kind, under):
+        """Takes the dictionaries of a kind, as they are behind some messages, under the ids of another."""
+        for own, other in zip(dictionaries_in(kind), dictionaries_in(under)):
+            self.take_one(messages, own, other)
+
+    def take_one(self, messages, own, under):
+        id, read = under[3], parts_of(messages, own[3]) or [(no_rows(own[4]), [])]
+        parts = [cells_of(*part) for part in read]
+        count = self.begun(id, own[4], parts)
+        is_delta, left = count is not None, count or 0
+        for part, before in read:
+            first = min(left, part.rows)
+            left -= first
+            if first < part.rows or not is_delta:
+                self.take(before, own[4], under[4])
+                self.messages.append(Message(id, is_delta, part_of(part, first, part.rows - first)))
                 is_delta = True
-        self.counts[at] = passed
+        self.parts[id] = parts
 
-    def send_part(self, at, is_delta, part):
-        header, body = arrow.batch_tables(part.rows, part.sent(part.rows, 0, part.rows))
-        self.parts += arrow.message(2, Table(number(8, at), header, number(1, is_delta)), len(body)), body
+    def begun(self, id, kind, parts):
+        """How many cells stand under an id that the parts of a dictionary go on with, or None where these are written anew."""
+        held = sum(self.parts[id], []) if id in self.parts else None
+        return len(held) if held is not None and sum(parts, [])[:len(held)] == held else None
+
+
+def sent_message(message):
+    """A message of values, and its body, as it is sent."""
+    values = message.values
+    header, body = arrow.batch_tables(values.rows, values.sent(values.rows, 0, values.rows))
+    return arrow.message(2, Table(number(8, message.id), header, number(1, message.is_delta)), len(body)), body
 
 
 def no_rows(kind):
@@ -174,15 +191,8 @@ def case(r, asked):
     kinds, taken = random_kinds(r, count, asked.unions, order, getattr(asked, "shares", True), getattr(asked, "levels", 2))
     heading, messages = random_heading(r, kinds, order, version), random_messages(r, taken)
 
-    def sent_dictionaries(chosen):
-        sending, at = Sending(), 0
-        for i in chosen:
-            sending.send_kind(messages, kinds[i], at)
-            at += count_of(kinds[i])
-        return sending.parts
-
     held = [held_message(r, message, order, version) for message in messages]
-    return fuzz_nested.made(r, asked, kinds, heading, messages, held, sent_dictionaries)
+    return fuzz_nested.made(r, asked, kinds, heading, messages, held, lambda chosen: Sending().send(messages, [kinds[i] for i in chosen]))
 
 
 if __name__ == "__main__":

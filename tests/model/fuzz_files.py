@@ -4,11 +4,12 @@ from collections import namedtuple
 
 import arrow
 import fuzz_appends
+import fuzz_nested
 import schemas
 from cells import cells_of, parts_of
 from fuzz_dictionaries import count_of, dictionaries_in, random_kinds
 from fuzz_fields import random_heading
-from nested import random_array
+from nested import part_of, random_array
 from reading import Contents
 
 # a stream, what it says as a file, and the cells of the parts of each dictionary of the file, in order
@@ -76,14 +77,14 @@ def say_some(stream, taken, chance):
         held = parts_of(stream.messages, id)
         if held and not dictionaries_in(taken[id]) and r.random() < 0.4:
             for i, (part, _) in enumerate(held):
-                stream.say(id, i > 0, fuzz_appends.part_of(part, 0, r.choice([part.rows, part.rows, r.randint(0, part.rows)])))
+                stream.say(id, i > 0, part_of(part, 0, r.choice([part.rows, part.rows, r.randint(0, part.rows)])))
         else:
             stream.say(id, bool(held) and r.random() < 0.5, random_array(r, taken[id], r.choice([0, 1, 1, 2, 5])))
 
 
 def case(r):
     kinds, taken = random_kinds(r, r.choice([1, 1, 2, 3]), True, "little", r.choice([True, False]), r.choice([1, 2]))
-    order = r.choice(["little", "little", "big"]) if "view" not in repr(kinds) else "little"
+    order = fuzz_nested.order_of(r, kinds)
     heading = random_heading(r, kinds, order, r.choice([4, 4, 3]))
     stream = fuzz_appends.Stream(r, kinds, order, heading.version)
     r.cells = dict.fromkeys(taken, 0)

@@ -90,6 +90,11 @@ def random_order(r):
     return r.choice(["little", "little", "big"]), r.choice([4, 4, 3])
 
 
+def order_of(r, kinds):
+    """A byte order of some kinds, which is little-endian where a view is among them."""
+    return r.choice(["little", "little", "big"]) if "view" not in repr(kinds) else "little"
+
+
 def case(r, asked):
     order, version = random_order(r)
     count = max(asked_columns(asked) or [0]) + 1 + r.choice([0, 0, 1, 2])

@@ -191,6 +191,24 @@ class Array:
         return [views, *buffers]
 
 
+def part_of(array, begin, count):
+    """So many rows of an array, from one on."""
+    name, parts, end = array.kind[0], dict(array.parts), begin + count
+    if name == "fixed_list":
+        parts["children"] = [part_of(child, array.kind[1] * begin, array.kind[1] * count) for child in array.children]
+    elif name == "struct" or name == "union" and parts["places"] is None:
+        parts["children"] = [part_of(child, begin, count) for child in array.children]
+    if "offsets" in parts:
+        parts["offsets"] = parts["offsets"][begin:end + 1]
+    elif "width" in parts:
+        parts["data"] = parts["data"][parts["width"] * begin:parts["width"] * end]
+    for key in ("types", "places", "views", "values"):
+        if parts.get(key) is not None:
+            parts[key] = parts[key][begin:end]
+    flags = array.flags[begin:end] if array.flags is not None and count > 0 else None
+    return Array(array.kind, count, flags, **parts)
+
+
 def pack(pattern, numbers):
     return b"".join(struct.pack(pattern, n) for n in numbers)
 

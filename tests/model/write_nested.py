@@ -93,11 +93,9 @@ def made(kind, seed, order, version):
     held = [held_message(r, message, order, version)[:2] for message in messages]
     batch = held_batch(r, ROWS, array.held(r, order, version), version, None)
     file = file_of(Heading(order, version, [field], {}, None, None), [batch], held)
-    sending = Sending()
-    sending.send_kind(messages, kind, 0)
     sent = arrow.batch(ROWS, array.sent(ROWS, 0, ROWS, True))
     table = schemas.schema_table(schemas.numbered([field]), {})
-    stream = [arrow.message(1, table, 0), *sending.parts, *sent, arrow.END]
+    stream = [arrow.message(1, table, 0), *Sending().send(messages, [kind]), *sent, arrow.END]
     return file, b"".join(stream)
 
 

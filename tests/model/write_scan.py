@@ -12,7 +12,7 @@ from arrow import Column
 from case_lines import DATA, bytes_in, bytes_lines, sum_of
 from cells import Message
 from filters import Filter
-from fuzz_dictionaries import Sending, count_of, held_message, random_messages
+from fuzz_dictionaries import Sending, held_message, random_messages
 from fuzz_fields import Heading
 from fuzz_nested import file_of, held_batch
 from nested import Array, random_array
@@ -42,11 +42,9 @@ class Scanned:
         """The stream of a scan, and the rows of each batch that it has."""
         rows, chosen = filters.rows_that_meet(self.contents, wanted), range(len(self.kinds)) if columns is None else columns
         sent = cells.kept(self.contents, columns, rows)
-        parts, sending, at = [arrow.message(1, schemas.schema_table(sent.fields, {}), 0)], Sending(), 0
-        for i in chosen if sent.batches else []:
-            sending.send_kind(self.messages, self.kinds[i], at)
-            at += count_of(self.kinds[i])
-        parts += sending.parts
+        parts = [arrow.message(1, schemas.schema_table(sent.fields, {}), 0)]
+        if sent.batches:
+            parts += Sending().send(self.messages, [self.kinds[i] for i in chosen])
         for arrays, of in zip(self.batches, rows):
             if of is not None:
                 parts += arrow.batch(len(of.sent), [c for i in chosen for c in arrays[i].taken(of.read, of.sent).written(True)])

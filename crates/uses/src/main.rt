@@ -4,7 +4,8 @@
 //! - `columns`, `dictionary`, `filter`, `grow`, `join`, `log`, `merge` and `scan` show uses of arrays and batches that are made in memory;
 //! - `file-again FROM TO` and `stream-again FROM TO` write a file or a stream that they read, and `send FROM TO` a file as a stream;
 //! - `look NAME` and `read NAME` count the rows of a file in memory, by views and by arrays, `sum-views NAME` and `sum-arrays NAME` add up its first column, and `load NAME` does neither;
-//! - `write-file NAME BATCHES ROWS` and `write-stream NAME BATCHES ROWS` write numbers, and `append NAME BATCHES ROWS` behind the batches of a file.
+//! - `write-file NAME BATCHES ROWS` and `write-stream NAME BATCHES ROWS` write numbers, and `append NAME BATCHES ROWS` behind the batches of a file;
+//! - `read-log NAME BATCH COUNT` opens a log once, reads a batch by its number so many times, and prints the rows of all.
 #![tactic(auto)]
 
 mod again;
@@ -18,6 +19,7 @@ mod files_to_stream;
 mod filter_stream;
 mod flight;
 mod lent;
+mod log_batch;
 mod log_service;
 mod merge_streams;
 mod numbers;
@@ -34,6 +36,7 @@ mod write_stream;
 
 use again::write_again;
 use lent::count_file;
+use log_batch::read_log;
 use numbers::write_numbers;
 use show::show_uses;
 use show_made::show_use;
@@ -87,6 +90,15 @@ fn do_numbers<'a>(
     Ok(behind)
 }
 
+/// Reads a batch of a log, by a name, the batch's number and how many times, and gives the words behind them.
+fn do_log<'a>(rt: &HostRuntime, words: &'a [String]) -> Result<&'a [String], &'static str> {
+    let [name, batch, count, behind @ ..] = words else {
+        return Err("a name, the number of a batch, and how many times");
+    };
+    read_log(rt, name, number(batch)?, number(count)?)?;
+    Ok(behind)
+}
+
 /// Does what a word asks for, and gives the words behind those that it takes.
 fn do_word<'a>(
     rt: &HostRuntime,
@@ -105,6 +117,7 @@ fn do_word<'a>(
         "file-again" | "stream-again" | "send" => do_again(rt, word, words),
         "load" | "look" | "read" | "sum-views" | "sum-arrays" => do_count(rt, word, words),
         "write-file" | "write-stream" | "append" => do_numbers(rt, word, words),
+        "read-log" => do_log(rt, words),
         _ => Err("no such word"),
     }
 }
