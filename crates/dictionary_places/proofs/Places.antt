@@ -1,20 +1,19 @@
 -- The rows of several parts, one by one.
-use Rattle.std.proofs.Common.{◌≡◌, ◌∙◌, ℕ, zero, suc, ◌+◌, ◌-◌, ◌<◌, ◌≤◌, List, [], ◌∷◌, ◌++◌, None, length, take, get_or, Bool, IsTrue, ◌↔◌, true, false, refl, sym, ap, subst, arith, inl, inr, ◌⊎◌, append-nil, append_assoc, length-append}
+use Rattle.std.proofs.Common.{◌≡◌, ◌∙◌, ℕ, zero, suc, ◌+◌, ◌-◌, ◌<◌, ◌≤◌, List, [], ◌∷◌, ◌++◌, None, length, take, drop, get_or, Bool, IsTrue, ◌↔◌, true, false, refl, sym, ap, subst, arith, inl, inr, ◌⊎◌, append-nil, append_assoc, length-append}
 use Rattle.std.specs.Prelude.{nat_le}
 use Rattle.std.proofs.lemmas.Bool.Decides.{leb_tells}
-use Rattle.std.proofs.lemmas.List.{get_or-append-add, get_or_append_left, length-take-le, take_more}
-use Rattle.std.proofs.Math.Seq.{drop-cons}
+use Rattle.std.proofs.lemmas.List.{ext_get_or, get_or-append-add, get_or-drop, get_or-take, get_or_append_left, length-take-le, take_more}
 use Rattle.arrow_spec.specs.Arrays.{from_on}
 use Rattle.arrow_spec.specs.Cells.{Cell, null}
-use Rattle.arrow_buffers.proofs.Parts.{length-from_on}
-use Rattle.arrow_buffers.specs.Rows.{part}
+use Rattle.same_rows.proofs.Below.{length-from_on, length-part}
+use Rattle.same_rows.specs.Below.{part}
 use Rattle.arrow_arrays.specs.Parts.{cells_in, fault_each, fault_in, rows_in}
 use Rattle.arrow_arrays.specs.PartsOf.{forest_of, parts_of}
 use Rattle.arrow_arrays.specs.declared.array.Array.{Array}
 use Rattle.arrow_arrays.proofs.Forests.{one_more_sound}
 use Rattle.arrow_arrays.proofs.Sliced.{length-cells, neither}
 use Rattle.laws_unify.specs.Over.{values_of}
-use Rattle.dictionary_places.specs.Places.{AreRows, place, places_from}
+use Rattle.dictionary_places.specs.Places.{AreRows, AreSame, place, places_from}
 use Rattle.dictionary_places.specs.declared.rows.Place.{Place}
 
 -- one item more
@@ -68,10 +67,10 @@ rows_count xs places r = ap length r.are ∙ count_places 0 xs r.sound
 
 -- ── a row ──
 
--- a place is one of an array's rows, and its cell the one of all rows there
+-- a place is one of an array's rows, and its cell and those behind it in the array stand among all rows from there on
 pub record RowThere (xs : List Array) (i : ℕ) (p : Place) (x : Array) : Type 0 where
   pub below : p.row < rows_in (parts_of x)
-  pub cell : get_or (values_of (forest_of xs)) i null ≡ get_or (cells_in (parts_of x)) p.row null
+  pub onward : (k : ℕ) → p.row + k < rows_in (parts_of x) → get_or (values_of (forest_of xs)) (i + k) null ≡ get_or (cells_in (parts_of x)) (p.row + k) null
   pub sound : fault_in (parts_of x) ≡ None
 
 record FoundAt (k : ℕ) (xs : List Array) (i : ℕ) (p : Place) : Type 0 where
@@ -103,23 +102,23 @@ found k (x ∷ xs) i d f h = by (leb_tells (suc i) (rows_in (parts_of x))) (neit
         let cells : length (cells_in (parts_of x)) ≡ rows = length-cells (parts_of x) s.0 in
         let zero_on : 0 + i ≡ i = omega arith in
         let at : get_or (first ++ others) i d ≡ place k i = get_or_append_left first others d i (omega (arith, own, lt)) ∙ get-from_on (place k) 0 rows i d lt ∙ ap (place k) zero_on in
-        let here : RowThere (x ∷ xs) i (place k i) x = record { below = lt; cell = get_or_append_left (cells_in (parts_of x)) (values_of (forest_of xs)) null i (omega (arith, cells, lt)); sound = s.0 } in
+        let here : RowThere (x ∷ xs) i (place k i) x = record { below = lt; onward = λ m below. get_or_append_left (cells_in (parts_of x)) (values_of (forest_of xs)) null (i + m) (omega (arith, cells, below)); sound = s.0 } in
         subst (λ p. FoundAt k (x ∷ xs) i p) (sym at) (record { number = 0; part_is = omega arith; inside = omega arith; there = λ y e. subst (λ z. RowThere (x ∷ xs) i (place k i) z) (sym e) here })
     by (inr t) s again =
         let ge : rows ≤ i = omega (arith, t.1) in
         let cells : length (cells_in (parts_of x)) ≡ rows = length-cells (parts_of x) s.0 in
         let e1 : length first + (i - rows) ≡ i = omega (arith, own, ge) in
-        let e2 : length (cells_in (parts_of x)) + (i - rows) ≡ i = omega (arith, cells, ge) in
         let at : get_or (first ++ others) i d ≡ get_or others (i - rows) d = ap (λ n. get_or (first ++ others) n d) (sym e1) ∙ get_or-append-add first others (i - rows) d in
         let n = length-append first others in
         let f = again (i - rows) s.1 (omega (arith, h, n, own, ge)) in
-        let cell : get_or (cells_in (parts_of x) ++ values_of (forest_of xs)) i null ≡ get_or (values_of (forest_of xs)) (i - rows) null =
-        ap (λ n. get_or (cells_in (parts_of x) ++ values_of (forest_of xs)) n null) (sym e2) ∙ get_or-append-add (cells_in (parts_of x)) (values_of (forest_of xs)) (i - rows) null in
+        let later : (n : ℕ) → get_or (cells_in (parts_of x) ++ values_of (forest_of xs)) (i + n) null ≡ get_or (values_of (forest_of xs)) (i - rows + n) null =
+        λ n. (let e2 : i + n ≡ length (cells_in (parts_of x)) + (i - rows + n) = omega (arith, cells, ge) in
+        ap (λ m. get_or (cells_in (parts_of x) ++ values_of (forest_of xs)) m null) e2 ∙ get_or-append-add (cells_in (parts_of x)) (values_of (forest_of xs)) (i - rows + n) null) in
         subst (λ p. FoundAt k (x ∷ xs) i p) (sym at) (record {
           number = suc f.number;
           part_is = omega (arith, f.part_is);
           inside = omega (arith, f.inside);
-          there = λ y e. (let r = f.there y e in record { below = r.below; cell = cell ∙ r.cell; sound = r.sound });
+          there = λ y e. (let r = f.there y e in record { below = r.below; onward = λ n below. later n ∙ r.onward n below; sound = r.sound });
         })
 
 -- a place that is one of the rows'
@@ -135,21 +134,33 @@ row_at xs places i d r h =
     let part_is : (get_or (places_from 0 xs) i d).part ≡ f.number = f.part_is ∙ zero_on in
     subst (λ ps. IsRow xs i (get_or ps i d)) (sym r.are) (record { inside = omega (arith, part_is, f.inside); there = λ x e. f.there x (e ∙ ap (λ k. get_or xs k x) part_is) })
 
--- one row of an array
-pub one_row : (xs : List Cell) (r : ℕ) → r < length xs → part r 1 xs ≡ get_or xs r null ∷ []
-one_row xs r h = ap (take 1) (drop-cons xs r null h)
+-- ── rows of one part ──
 
--- two rows hold the same where their cells are one
+get_part : (xs : List Cell) (o n k : ℕ) → k < n → get_or (part o n xs) k null ≡ get_or xs (o + k) null
+get_part xs o n k h = get_or-take n (drop o xs) k null h ∙ get_or-drop o xs k null
+
+-- rows of two parts are the same where their cells are so one by one
+pub same_run : (r : Bool) (xs ys : List Array) (i j n : ℕ) (p q : Place) (x y : Array) → RowThere xs i p x → RowThere ys j q y → p.row + n ≤ rows_in (parts_of x) → q.row + n ≤ rows_in (parts_of y)
+    → (IsTrue r ↔ (part p.row n (cells_in (parts_of x)) ≡ part q.row n (cells_in (parts_of y)))) → IsTrue r ↔ AreSame (values_of (forest_of xs)) i (values_of (forest_of ys)) j n
+same_run r xs ys i j n p q x y a b l m h =
+    let us = cells_in (parts_of x) in
+    let vs = cells_in (parts_of y) in
+    let here : length (part p.row n us) ≡ n = length-part us p.row n (omega (arith, l, length-cells (parts_of x) a.sound)) in
+    let there : length (part q.row n vs) ≡ n = length-part vs q.row n (omega (arith, m, length-cells (parts_of y) b.sound)) in (
+      λ t k lt. a.onward k (omega (arith, lt, l)) ∙ sym (get_part us p.row n k lt) ∙ ap (λ cs. get_or cs k null) (h.0 t) ∙ get_part vs q.row n k lt ∙ sym (b.onward k (omega (arith, lt, m))),
+      λ s. h.1 (ext_get_or null (part p.row n us) (part q.row n vs) (here ∙ sym there) (λ k lt.
+          let below : k < n = omega (arith, here, lt) in
+          get_part us p.row n k below ∙ sym (a.onward k (omega (arith, below, l))) ∙ s k below ∙ b.onward k (omega (arith, below, m)) ∙ sym (get_part vs q.row n k below))),
+    )
+
+-- so are two single rows
 pub same_rows : (r : Bool) (xs ys : List Array) (i j : ℕ) (p q : Place) (x y : Array) → RowThere xs i p x → RowThere ys j q y → (IsTrue r ↔ (part p.row 1 (cells_in (parts_of x)) ≡ part q.row 1 (cells_in (parts_of y))))
     → IsTrue r ↔ (get_or (values_of (forest_of xs)) i null ≡ get_or (values_of (forest_of ys)) j null)
 same_rows r xs ys i j p q x y a b h =
-    let m : p.row < length (cells_in (parts_of x)) = omega (arith, a.below, length-cells (parts_of x) a.sound) in
-    let n : q.row < length (cells_in (parts_of y)) = omega (arith, b.below, length-cells (parts_of y) b.sound) in
-    let u = one_row (cells_in (parts_of x)) p.row m in
-    let v = one_row (cells_in (parts_of y)) q.row n in (
-      λ t. (let both : get_or (cells_in (parts_of x)) p.row null ∷ [] ≡ get_or (cells_in (parts_of y)) q.row null ∷ [] = sym u ∙ h.0 t ∙ v in
-          let heads : get_or (cells_in (parts_of x)) p.row null ≡ get_or (cells_in (parts_of y)) q.row null = cc in a.cell ∙ heads ∙ sym b.cell),
-      λ e. h.1 (u ∙ ap (λ z. z ∷ []) (sym a.cell ∙ e ∙ b.cell) ∙ sym v),
+    let run = same_run r xs ys i j 1 p q x y a b (omega (arith, a.below)) (omega (arith, b.below)) h in
+    let first : (us vs : List Cell) (k : ℕ) → k < 1 → get_or us i null ≡ get_or vs j null → get_or us (i + k) null ≡ get_or vs (j + k) null = λ us vs k lt e. ap (λ m. get_or us m null) (omega arith) ∙ e ∙ ap (λ m. get_or vs m null) (omega arith) in (
+      λ t. ap (λ m. get_or (values_of (forest_of xs)) m null) (omega arith) ∙ run.0 t 0 (omega arith) ∙ ap (λ m. get_or (values_of (forest_of ys)) m null) (omega arith),
+      λ e. run.1 (λ k lt. first (values_of (forest_of xs)) (values_of (forest_of ys)) k lt e),
     )
 
 -- ── all rows ──

@@ -6,6 +6,7 @@ use Rattle.std.specs.Prelude.{nat_le}
 use Rattle.std.proofs.Common.{subst}
 use Rattle.std.proofs.lemmas.Bool.Decides.{leb_tells}
 use Rattle.laws_unify.specs.Lists.{agree, fit}
+use Rattle.dictionary_places.specs.Places.{AreSame, SomeDiffers}
 use Rattle.dictionary_places.specs.Shifts.{AreShifts, IsShift, Survives}
 use Rattle.arrow_spec.specs.Cells.{Cell, null}
 use Rattle.laws_unify.specs.Over.{is_same_cell}
@@ -150,9 +151,21 @@ fits_early u v at i inside within whole s none =
 pub fits_nothing : (u v : List Cell) → length v ≡ 0 → 0 ≡ fit is_same_cell u v
 fits_nothing u v h = fits u v 0 (omega arith) (λ j below short. absurd (omega (arith, h, short))) (λ e below t. absurd (omega (arith, below)))
 
--- one item that differs
-pub differ_at : (xs v : List Cell) (j : ℕ) → j < length xs → j < length v → (get_or xs j null ≡ get_or v j null → ⊥) → agree is_same_cell xs v ≡ false
-differ_at xs v j below short h = differs_there (agree is_same_cell xs v) (λ a. h (agree_all xs v a j below short))
+-- some items that differ
+pub differ_within : (u v : List Cell) (at j n : ℕ) → at + j + n ≤ length u → j + n ≤ length v → SomeDiffers u (at + j) v j n → agree is_same_cell (drop at u) v ≡ false
+differ_within u v at j n inside short h = differs_there (agree is_same_cell (drop at u) v) (λ a. h (λ k lt.
+    let below : j + k < length (drop at u) = omega (arith, lt, inside, length-drop at u) in
+    ap (λ m. get_or u m null) (omega arith) ∙ sym (get_or-drop at u (j + k) null) ∙ agree_all (drop at u) v a (j + k) below (omega (arith, lt, short))))
+
+-- a run of items more
+pub same_on : (u v : List Cell) (at j n : ℕ) → AreSame u at v 0 j → AreSame u (at + j) v j n → AreSame u at v 0 (j + n)
+same_on u v at j n front run k lt = by (leb_tells (suc k) j)
+  where
+    by : ((nat_le (suc k) j ≡ true) × (suc k ≤ j)) ⊎ ((nat_le (suc k) j ≡ false) × (j < suc k)) → get_or u (at + k) null ≡ get_or v (0 + k) null
+    by (inl h) = front k h.1
+    by (inr h) =
+        let ge = h.1 in
+        ap (λ m. get_or u m null) (omega (arith, ge)) ∙ run (k - j) (omega (arith, ge, lt)) ∙ ap (λ m. get_or v m null) (omega (arith, ge))
 
 -- the shift of one item more
 pub shift_more : (v : List Cell) (xs new : List ℕ) (i d : ℕ) → length xs ≡ i → AreShifts v xs → IsShift v i d → new ≡ xs ++ d ∷ [] → AreShifts v new

@@ -5,7 +5,7 @@ ghost use Rattle.dictionary_places.specs.Below.{is_same_cell};
 ghost use Rattle.dictionary_places.specs.Places.{HaveRows, values_in};
 ghost use Rattle.dictionary_places.specs.Shifts.{AreShifts, IsNext, Survives};
 
-use crate::rows::{Rows, is_same_row};
+use crate::rows::{Rows, is_same_row, same_run};
 use std::alloc::{AllocError, Global};
 
 /// Whether rows from one on agree with others as far as both go.
@@ -16,9 +16,11 @@ pub(crate) fn agree_from(u: Rows, at: usize, v: Rows) -> bool
     ensures { result ≡ agree is_same_cell (drop at (values_in u.entry)) (values_in v.entry) }
 {
     let count = v.places.len().min(u.places.len() - at);
-    for j in 0..count {
-        if !is_same_row(u, at + j, v, j) {
-            return false;
+    let mut j = 0;
+    while j < count {
+        match same_run(u, at + j, v, j, count - j) {
+            Some(rows) => j += rows,
+            None => return false,
         }
     }
     true

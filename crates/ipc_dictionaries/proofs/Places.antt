@@ -3,7 +3,7 @@ use Rattle.std.proofs.Common.{◌≡◌, ℕ, ◌+◌, ◌≤◌, ◌<◌, ◌++
 use Rattle.std.proofs.lemmas.List.{at_drop_more, at_drop_all, take_more, drop_at, drop_all, take-append-drop}
 use Rattle.arrow_spec.specs.Cells.{Cell}
 use Rattle.arrow_spec.specs.Kinds.{null}
-use Rattle.arrow_buffers.specs.Rows.{part}
+use Rattle.same_rows.specs.Below.{part}
 use Rattle.arrow_arrays.specs.CellCode.{content_eq_told}
 use Rattle.arrow_arrays.specs.Parts.{cells_in}
 use Rattle.arrow_arrays.specs.PartsOf.{parts_of}

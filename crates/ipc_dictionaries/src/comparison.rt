@@ -7,8 +7,9 @@ ghost use Rattle.arrow_arrays.specs.Parts.{cells_in, kinds_each, rows_each};
 ghost use Rattle.arrow_arrays.specs.PartsOf.{parts_of, forest_of};
 ghost use Rattle.ipc_dictionaries.specs.Standing.{all_cells, cells_from, IsPlace, standing, by_cells, allowed, delta_start};
 
-use arrow_arrays::{Array, are_of_type, have_same_rows};
+use arrow_arrays::{Array, are_of_type};
 use arrow_types::ArrowDataType;
+use same_rows::have_same_rows;
 
 /// How values stand to those that are held under their id.
 #[derive(Clone, Copy)]

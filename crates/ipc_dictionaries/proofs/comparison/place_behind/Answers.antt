@@ -1,7 +1,7 @@
 use Rattle.std.proofs.Common.{◌≡◌, ◌≢◌, ℕ, ◌+◌, ◌-◌, min, ◌≤◌, ◌<◌, ◌++◌, length, take, drop, get_or, refl, sym, ap, ◌∙◌, arith, true≢false}
 use Rattle.std.proofs.lemmas.List.{take_all}
-use Rattle.arrow_buffers.specs.Rows.{part}
-use Rattle.arrow_buffers.proofs.Parts.{length-part}
+use Rattle.same_rows.specs.Below.{part}
+use Rattle.same_rows.proofs.Below.{length-part}
 use Rattle.arrow_arrays.specs.Parts.{rows_in, cells_in, rows_each}
 use Rattle.arrow_arrays.specs.PartsOf.{parts_of, forest_of}
 use Rattle.arrow_arrays.proofs.UnionPlaces.{rows_under_at}

@@ -1,0 +1,3 @@
+pub mod SameBytes
+pub mod SameOffsets
+pub mod Below

@@ -1,0 +1,2 @@
+-- What crates below say, handed on to those above.
+pub use Rattle.arrow_buffers.specs.Rows.{part}
