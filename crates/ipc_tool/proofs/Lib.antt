@@ -6,7 +6,6 @@ pub mod LogShows
 pub mod CatNames
 pub mod CatPuts
 pub mod CatSteps
-pub mod Decoding
 pub mod Digits
 pub mod FileSteps
 pub mod FileTasks

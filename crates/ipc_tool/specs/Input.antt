@@ -1,16 +1,11 @@
 -- Hex text that is read from an input, and when reading it is refused.
-use Rattle.std.specs.Prelude.{◌≡◌, ℕ, ◌^◌, ◌<◌, ◌≤◌, List, length, not, ⊤, Option, None, IfSome}
-use Rattle.std.specs.List.{filter}
+use Rattle.std.specs.Prelude.{◌≡◌, ℕ, ◌^◌, ◌<◌, ◌≤◌, List, length, ⊤, Option, None, IfSome}
 use Rattle.std.specs.Io.KnownBytes.{Consumes, IsAtEnd}
 use Rattle.arrow_spec.specs.declared.error.IpcError.TheVariants as errors
-use Rattle.arrow_spec.specs.Words.{bytes_of_hex, is_white}
+use Rattle.arrow_spec.specs.Words.{bytes_of_hex}
 use Rattle.ipc_io.specs.Outside.{Rose}
 use Rattle.ipc_tool.specs.declared.refusal.Refusal.{Refusal}
 use Rattle.ipc_tool.specs.declared.refusal.Refusal.TheVariants.{Ipc, NotHex, InputTooLong}
-
--- a text without its white space
-abbrev pub no_white : List ℕ → List ℕ
-no_white text = filter (λ c. not (is_white c)) text
 
 -- more than 2 ^ 27 bytes were taken
 abbrev pub TakesTooMany : Option (List ℕ) → Option (List ℕ) → Type 0

@@ -1,6 +1,5 @@
 pub mod Refusal
 pub mod Input
-pub mod Decoding
 pub mod Outside
 pub mod Notes
 pub mod Tasks

@@ -2,11 +2,11 @@
 ghost use Rattle.std.specs.Prelude.{◌≡◌, ◌<◌, ◌≤◌, ◌^◌, length, OnOk, IfOk, IfErr, IfSome, Some};
 ghost use Rattle.std.specs.Io.KnownBytes.{IsAtEnd};
 ghost use Rattle.arrow_spec.specs.Words.{bytes_of_hex};
-ghost use Rattle.ipc_tool.specs.Decoding.{Follows};
-ghost use Rattle.ipc_tool.specs.Input.{ReadCause, HexCause, no_white};
+ghost use Rattle.hex_input.specs.Decoding.{Follows, no_white};
+ghost use Rattle.ipc_tool.specs.Input.{ReadCause, HexCause};
 
-use crate::decoder::Decoder;
 use crate::refusal::Refusal;
+use hex_input::Decoder;
 use ipc_io::Feed;
 use std::alloc::{AllocError, Global};
 

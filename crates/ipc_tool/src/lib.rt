@@ -3,7 +3,6 @@
 
 mod command_line;
 mod commands;
-mod decoder;
 mod file_job;
 mod input;
 mod note;

@@ -4,7 +4,7 @@ use Rattle.ipc_tool.proofs.input.decode_feed.Given as goal
 
 abbrev pub invariant-pieces : goal.invariant-pieces
 invariant-pieces g l = record {
-  taken : Taken (g.I.Feed.rest l.fn.input) (g.I.Feed.rest l.input) l.taken l.decoder.bytes.items l.decoder.waiting l.decoder.spoiled;
+  taken : Taken (g.I.Feed.rest l.fn.input) (g.I.Feed.rest l.input) l.taken l.decoder;
   short : l.taken ≤ 2 ^ 27;
   reads : g.I.Feed.faults l.fn.input ≤ g.I.Feed.faults l.input;
 }

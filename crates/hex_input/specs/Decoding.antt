@@ -1,14 +1,13 @@
 -- Hex digits that are decoded as they come: what is held of those that came.
-use Rattle.std.specs.Prelude.{◌≡◌, ℕ, List, ◌++◌, Bool, true, false, Option, Result, Ok, Err, option_to_list}
-use Rattle.std.specs.List.{AllPass}
+use Rattle.std.specs.Prelude.{◌≡◌, ℕ, List, ◌++◌, Bool, true, false, not, Option, Ok, option_to_list}
+use Rattle.std.specs.List.{AllPass, filter}
+use Rattle.arrow_spec.specs.Words.{is_white}
 use Rattle.hex.specs.Hex.{decode_of, is_hex_digit}
-use Rattle.hex.specs.declared.error.FromHexError.{FromHexError}
-use Rattle.ipc_tool.specs.declared.decoder.Decoder.{Decoder}
+use Rattle.hex_input.specs.declared.decoder.Decoder.{Decoder}
 
--- what digits decode to stands behind the bytes, or it is told that they do not decode
-abbrev pub Decodes : Result (List ℕ) FromHexError → Bool → List ℕ → List ℕ → Type 0
-Decodes (Ok more) good old new = (good ≡ true) × (new ≡ old ++ more)
-Decodes (Err e) good old new = good ≡ false
+-- a text without its white space
+abbrev pub no_white : List ℕ → List ℕ
+no_white text = filter (λ c. not (is_white c)) text
 
 -- bytes that decoded, a digit that waits, and whether something came that is no digit, of the digits that came
 pub record Held (bytes : List ℕ) (waiting : Option ℕ) (spoiled : Bool) (digits : List ℕ) : Type 0 where
