@@ -3,7 +3,7 @@ use Rattle.arrow_arrays.specs.Parts.{cells_in}
 use Rattle.arrow_arrays.specs.PartsOf.{parts_of}
 use Rattle.row_filters.specs.Filters.{marks_of}
 use Rattle.row_filters.proofs.Marked.{all_marks, next_mark}
-use Rattle.row_filters.proofs.marks.row_marks.Goals as goal
+use Rattle.row_filters.proofs.marks.each_mark.Goals as goal
 
 pub loop-row-preserved : goal.loop-row-preserved
 loop-row-preserved c =
