@@ -1,4 +1,4 @@
-use Rattle.std.proofs.Common.{◌∙◌, ◌<◌, ◌≤◌, ◌+◌, ◌-◌, length, get_or, drop, sym, ap, arith}
+use Rattle.std.proofs.Common.{◌∙◌, ◌-◌, get_or, drop, sym, ap, arith}
 use Rattle.std.proofs.lemmas.List.{get_or-drop, length-drop}
 use Rattle.arrow_spec.specs.Cells.{null}
 use Rattle.dictionary_places.specs.Places.{values_in}
