@@ -3,6 +3,7 @@ pub mod Handed
 pub mod StreamKinds
 pub mod StreamRefusals
 pub mod WholeSteps
+pub mod WholeArrays
 pub mod EncodeSteps
 pub mod PrepareSteps
 pub mod PutSteps

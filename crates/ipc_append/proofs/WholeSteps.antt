@@ -12,10 +12,13 @@ use Rattle.arrow_spec.specs.Readings.{Refuses, refusals}
 use Rattle.arrow_spec.specs.Schema.{Schema}
 use Rattle.arrow_spec.specs.Streams.{Reader, stream_reading}
 use Rattle.arrow_arrays.specs.Batches.{Batch}
+use Rattle.arrow_arrays.specs.Parts.{Parts}
 use Rattle.arrow_types.specs.Schemas.{Keyed, fields_in}
 use Rattle.ipc_append.proofs.Handed.{handed}
-use Rattle.ipc_streams.specs.Below.{FileCause, HasFields, schema_shown, MayProject, ProjectionInfo, table_of, held_in, HoldsCells, none_held}
+use Rattle.ipc_streams.specs.Below.{FileCause, HasFields, schema_shown, MayProject, ProjectionInfo, table_of, Held, held_in, HoldsCells, none_held}
 use Rattle.ipc_streams.proofs.Below.{holds_none}
+use Rattle.ipc_streams.specs.Arrays.{NextArrays, StreamArrays, arrays_of}
+use Rattle.ipc_streams.specs.Arrays as steps
 use Rattle.ipc_streams.specs.Feeds.{FeedKept}
 use Rattle.ipc_streams.specs.Nexts.{GivesNext, NextState, answer_of}
 use Rattle.ipc_streams.specs.Readers.{IsReader, fields_shown}
@@ -28,7 +31,7 @@ use Rattle.ipc_streams.specs.declared.state.StreamState.{StreamState}
 use Rattle.ipc_streams.specs.declared.state.StreamState.TheVariants as states
 use Rattle.ipc_streams.proofs.StreamLaws.{nexts_are_the_stream}
 use Rattle.ipc_streams.proofs.TakenCalls.{cause_since}
-use Rattle.ipc_append.specs.Wholes.{AllOf, EachGiven, FailsBehind, GivesEach, GivesMore, IsWhole, NextGiven, RefusesStream, StopsBehind, all_columns, batch_found, reader_of, stops_here, stops_later}
+use Rattle.ipc_append.specs.Wholes.{AllOf, ArraysGiven, EachGiven, FailsBehind, GivesEach, GivesMore, IsWhole, NextGiven, RefusesStream, StopsBehind, all_columns, batch_found, reader_of, stops_here, stops_later}
 use Rattle.ipc_append.specs.Columns.{are_of}
 use Rattle.same_fields.proofs.BareKinds.{fields_with_bare}
 use Rattle.ipc_append.proofs.StreamKinds.{batches_of}
@@ -46,6 +49,7 @@ module _ {F : Type 0} (rest_of : F → Option (List ℕ)) (faults_of : F → ℕ
   pub next_ends : NextState rest_of faults_of references_of f f' c c' None → GivesMore (rest_of f) (rest_of f') c c' (Ok None)
   next_ends n = record {
     gives = λ d h. told None (rest_of f) (Ok None) d (λ b g. none_left g.2) (n.gives going (all_columns c.columns) d all h);
+    arrays = λ d h. n.arrays going (all_columns c.columns) d all h;
     fields = tt;
     more = tt;
     columns = n.columns;
@@ -54,12 +58,14 @@ module _ {F : Type 0} (rest_of : F → Option (List ℕ)) (faults_of : F → ℕ
   pub next_state : (state : StreamState) → NextState rest_of faults_of references_of f f' c c' (Some (Ok state)) → GivesMore (rest_of f) (rest_of f') c c' (Ok (batch_found state))
   next_state states.Waiting n = record {
     gives = λ d h. told (Some (Ok states.Waiting)) (rest_of f) (Ok None) d (λ b g. none_yet g.2) (n.gives going (all_columns c.columns) d all h);
+    arrays = λ d h. n.arrays going (all_columns c.columns) d all h;
     fields = tt;
     more = tt;
     columns = n.columns;
   }
   next_state (states.Some x) n = record {
     gives = λ d h. told (Some (Ok (states.Some x))) (rest_of f) (Ok (Some x)) d (λ b g. g) (n.gives going (all_columns c.columns) d all h);
+    arrays = λ d h. n.arrays going (all_columns c.columns) d all h;
     fields = n.schema (all_columns c.columns) all;
     more = n.is_finished;
     columns = n.columns;
@@ -68,6 +74,7 @@ module _ {F : Type 0} (rest_of : F → Option (List ℕ)) (faults_of : F → ℕ
   pub next_refused : (e : IpcError) → NextState rest_of faults_of references_of f f' c c' (Some (Err e)) → GivesMore (rest_of f) (rest_of f') c c' (Err e)
   next_refused e n = record {
     gives = λ d h. told (Some (Err e)) (rest_of f) (Err e) d (λ b g. g) (n.gives going (all_columns c.columns) d all h);
+    arrays = λ d h. tt;
     fields = tt;
     more = tt;
     columns = n.columns;
@@ -82,16 +89,17 @@ module _ {F : Type 0} (rest_of : F → Option (List ℕ)) (faults_of : F → ℕ
 -- ── the batches so far ──
 
 -- the batches that were read stand in front, and the others behind them
-pub record IsBehind (s : Reader) (d : Dictionaries) (b : List ℕ) (rest' : Option (List ℕ)) (c' : StreamCursor) (xs : List Batch) : Type 0 where
+pub record IsBehind (s : Reader) (d : Dictionaries) (h : Held) (b : List ℕ) (rest' : Option (List ℕ)) (c' : StreamCursor) (xs : List Batch) : Type 0 where
   pub dictionaries : Dictionaries
   pub bytes : List ℕ
   pub told : rest' ≡ Some bytes
   pub holds : HoldsCells dictionaries (held_in c'.dictionaries)
   pub nexts : (ys : List TableBatch) → Nexts s dictionaries bytes ys → Nexts s d b (map table_of xs ++ ys)
   pub stops : (e : IpcError) (ys : List TableBatch) → StopsBehind s e dictionaries bytes ys → StopsBehind s e d b (map table_of xs ++ ys)
+  pub arrays : (ys : List (List Parts)) → StreamArrays s (held_in c'.dictionaries) bytes ys → StreamArrays s h b (arrays_of xs ++ ys)
 
 pub record AreFront (rest rest' : Option (List ℕ)) (c c' : StreamCursor) (xs : List Batch) : Type 0 where
-  pub reached : (d : Dictionaries) → HoldsCells d (held_in c.dictionaries) → IfSome rest (λ b. IsBehind (all_columns c.columns) d b rest' c' xs)
+  pub reached : (d : Dictionaries) → HoldsCells d (held_in c.dictionaries) → IfSome rest (λ b. IsBehind (all_columns c.columns) d (held_in c.dictionaries) b rest' c' xs)
   pub fields : All (λ (x : Batch). HasFields x (fields_shown c.columns)) xs
   pub columns : c'.columns ≡ c.columns
   pub more : c'.is_finished ≡ false
@@ -99,19 +107,27 @@ pub record AreFront (rest rest' : Option (List ℕ)) (c c' : StreamCursor) (xs :
 pub none_read : (rest : Option (List ℕ)) (c : StreamCursor) → c.is_finished ≡ false → AreFront rest rest c c []
 none_read rest c going = record { reached = by rest; fields = λ k x h. absurd (omega arith); columns = refl; more = going }
   where
-    by : (o : Option (List ℕ)) (d : Dictionaries) → HoldsCells d (held_in c.dictionaries) → IfSome o (λ b. IsBehind (all_columns c.columns) d b o c [])
+    by : (o : Option (List ℕ)) (d : Dictionaries) → HoldsCells d (held_in c.dictionaries) → IfSome o (λ b. IsBehind (all_columns c.columns) d (held_in c.dictionaries) b o c [])
     by None d h = tt
-    by (Some b) d h = record { dictionaries = d; bytes = b; told = refl; holds = h; nexts = λ ys n. n; stops = λ e ys n. n }
+    by (Some b) d h = record { dictionaries = d; bytes = b; told = refl; holds = h; nexts = λ ys n. n; stops = λ e ys n. n; arrays = λ ys n. n }
 
 front_more : (xs : List Batch) (x : Batch) (ys : List TableBatch) → map table_of xs ++ (table_of x ∷ ys) ≡ map table_of (xs ++ x ∷ []) ++ ys
 front_more [] x ys = refl
 front_more (z ∷ zs) x ys = ap (λ (t : List TableBatch). table_of z ∷ t) (front_more zs x ys)
 
+arrays_more : (xs : List Batch) (x : Batch) (ys : List (List Parts)) → arrays_of xs ++ (x.arrays ∷ ys) ≡ arrays_of (xs ++ x ∷ []) ++ ys
+arrays_more [] x ys = refl
+arrays_more (z ∷ zs) x ys = ap (λ (t : List (List Parts)). z.arrays ∷ t) (arrays_more zs x ys)
+
 -- one batch more
-behind_more : (s : Reader) (d : Dictionaries) (b : List ℕ) (mid : Option (List ℕ)) (c' c'' : StreamCursor) (rest' : Option (List ℕ)) (xs : List Batch) (x : Batch) → IsBehind s d b mid c' xs
-    → ((e : Dictionaries) → HoldsCells e (held_in c'.dictionaries) → IfSome mid (λ bytes. NextGiven s e bytes rest' c'' (Ok (Some x)))) → IsBehind s d b rest' c'' (xs ++ x ∷ [])
-behind_more s d b mid c' c'' rest' xs x i next =
+behind_more : (s : Reader) (d : Dictionaries) (h : Held) (b : List ℕ) (mid : Option (List ℕ)) (c' c'' : StreamCursor) (rest' : Option (List ℕ)) (xs : List Batch) (x : Batch) → IsBehind s d h b mid c' xs
+    → ((e : Dictionaries) → HoldsCells e (held_in c'.dictionaries) → IfSome mid (λ bytes. NextGiven s e bytes rest' c'' (Ok (Some x))))
+    → ((e : Dictionaries) → HoldsCells e (held_in c'.dictionaries) → IfSome mid (λ bytes. ArraysGiven s (held_in c'.dictionaries) bytes rest' (held_in c''.dictionaries) (Some x))) → IsBehind s d h b rest' c'' (xs ++ x ∷ [])
+behind_more s d h b mid c' c'' rest' xs x i next arrays =
     let here : NextGiven s i.dictionaries i.bytes rest' c'' (Ok (Some x)) = subst (λ o. IfSome o (λ bytes. NextGiven s i.dictionaries bytes rest' c'' (Ok (Some x)))) i.told (next i.dictionaries i.holds) in
+    let parts : ArraysGiven s (held_in c'.dictionaries) i.bytes rest' (held_in c''.dictionaries) (Some x) = subst (λ o. IfSome o (λ bytes. ArraysGiven s (held_in c'.dictionaries) bytes rest' (held_in c''.dictionaries) (Some x))) i.told (arrays i.dictionaries i.holds) in
+    let both : Some parts.0 ≡ Some here.1 = sym parts.1 ∙ here.3 in
+    let one : parts.0 ≡ here.1 = cc in
     record {
       dictionaries = here.0;
       bytes = here.1;
@@ -119,6 +135,7 @@ behind_more s d b mid c' c'' rest' xs x i next =
       holds = here.4;
       nexts = λ ys n. subst (Nexts s d b) (front_more xs x ys) (i.nexts (table_of x ∷ ys) (one_more here.2 n));
       stops = λ e ys n. subst (StopsBehind s e d b) (front_more xs x ys) (i.stops e (table_of x ∷ ys) (stops_later here.2 n));
+      arrays = λ ys n. subst (StreamArrays s h b) (arrays_more xs x ys) (i.arrays (x.arrays ∷ ys) (steps.one_more parts.2 (subst (λ r. StreamArrays s (held_in c''.dictionaries) r ys) (sym one) n)));
     }
 
 pub one_read : (rest mid rest' : Option (List ℕ)) (c c' c'' : StreamCursor) (xs : List Batch) (x : Batch) → AreFront rest mid c c' xs → GivesMore mid rest' c' c'' (Ok (Some x)) → AreFront rest rest' c c'' (xs ++ x ∷ [])
@@ -129,15 +146,23 @@ one_read rest mid rest' c c' c'' xs x a g = record {
   more = g.more;
 }
   where
-    by : (o : Option (List ℕ)) (d : Dictionaries) → IfSome o (λ b. IsBehind (all_columns c.columns) d b mid c' xs) → IfSome o (λ b. IsBehind (all_columns c.columns) d b rest' c'' (xs ++ x ∷ []))
+    by : (o : Option (List ℕ)) (d : Dictionaries) → IfSome o (λ b. IsBehind (all_columns c.columns) d (held_in c.dictionaries) b mid c' xs) → IfSome o (λ b. IsBehind (all_columns c.columns) d (held_in c.dictionaries) b rest' c'' (xs ++ x ∷ []))
     by None d i = tt
-    by (Some b) d i = behind_more (all_columns c.columns) d b mid c' c'' rest' xs x i (λ e k. subst (λ (s : StreamColumns). IfSome mid (λ bytes. NextGiven (all_columns s) e bytes rest' c'' (Ok (Some x)))) a.columns (g.gives e k))
+    by (Some b) d i = behind_more (all_columns c.columns) d (held_in c.dictionaries) b mid c' c'' rest' xs x i (λ e k. subst (λ (s : StreamColumns). IfSome mid (λ bytes. NextGiven (all_columns s) e bytes rest' c'' (Ok (Some x)))) a.columns (g.gives e k))
+        (λ e k. subst (λ (s : StreamColumns). IfSome mid (λ bytes. ArraysGiven (all_columns s) (held_in c'.dictionaries) bytes rest' (held_in c''.dictionaries) (Some x))) a.columns (g.arrays e k))
 
 -- nothing more
 pub all_read : (rest mid rest' : Option (List ℕ)) (c c' c'' : StreamCursor) (v : Vec Batch Global) → AreFront rest mid c c' v.items → GivesMore mid rest' c' c'' (Ok None) → GivesEach rest c (Ok v)
-all_read rest mid rest' c c' c'' v a g = record { gives = λ d h. by rest d (a.reached d h); fields = a.fields }
+all_read rest mid rest' c c' c'' v a g = record { gives = λ d h. by rest d (a.reached d h); arrays = λ d h. arrays_by rest d (a.reached d h); fields = a.fields }
   where
-    by : (o : Option (List ℕ)) (d : Dictionaries) → IfSome o (λ b. IsBehind (all_columns c.columns) d b mid c' v.items) → IfSome o (λ b. EachGiven (all_columns c.columns) d b (Ok v))
+    arrays_by : (o : Option (List ℕ)) (d : Dictionaries) → IfSome o (λ b. IsBehind (all_columns c.columns) d (held_in c.dictionaries) b mid c' v.items) → IfSome o (λ b. StreamArrays (all_columns c.columns) (held_in c.dictionaries) b (arrays_of v.items))
+    arrays_by None d i = tt
+    arrays_by (Some b) d i =
+        let next : IfSome mid (λ bytes. NextArrays (all_columns c.columns) (held_in c'.dictionaries) bytes (held_in c''.dictionaries) None) = subst (λ (s : StreamColumns). IfSome mid (λ bytes. NextArrays (all_columns s) (held_in c'.dictionaries) bytes (held_in c''.dictionaries) None)) a.columns (g.arrays i.dictionaries i.holds) in
+        let here : NextArrays (all_columns c.columns) (held_in c'.dictionaries) i.bytes (held_in c''.dictionaries) None = subst (λ o. IfSome o (λ bytes. NextArrays (all_columns c.columns) (held_in c'.dictionaries) bytes (held_in c''.dictionaries) None)) i.told next in
+        subst (StreamArrays (all_columns c.columns) (held_in c.dictionaries) b) (append-nil (arrays_of v.items)) (i.arrays [] (steps.none_left here))
+
+    by : (o : Option (List ℕ)) (d : Dictionaries) → IfSome o (λ b. IsBehind (all_columns c.columns) d (held_in c.dictionaries) b mid c' v.items) → IfSome o (λ b. EachGiven (all_columns c.columns) d b (Ok v))
     by None d i = tt
     by (Some b) d i =
         let next : IfSome mid (λ bytes. Nexts (all_columns c.columns) i.dictionaries bytes []) = subst (λ (s : StreamColumns). IfSome mid (λ bytes. Nexts (all_columns s) i.dictionaries bytes [])) a.columns (g.gives i.dictionaries i.holds) in
@@ -146,9 +171,9 @@ all_read rest mid rest' c c' c'' v a g = record { gives = λ d h. by rest d (a.r
 
 -- or a refusal
 pub read_stops : (rest mid rest' : Option (List ℕ)) (c c' c'' : StreamCursor) (xs : List Batch) (e : IpcError) → AreFront rest mid c c' xs → GivesMore mid rest' c' c'' (Err e) → GivesEach rest c (Err e)
-read_stops rest mid rest' c c' c'' xs e a g = record { gives = λ d h. by rest d (a.reached d h); fields = tt }
+read_stops rest mid rest' c c' c'' xs e a g = record { gives = λ d h. by rest d (a.reached d h); arrays = λ d h. tt; fields = tt }
   where
-    by : (o : Option (List ℕ)) (d : Dictionaries) → IfSome o (λ b. IsBehind (all_columns c.columns) d b mid c' xs) → IfSome o (λ b. EachGiven (all_columns c.columns) d b (Err e))
+    by : (o : Option (List ℕ)) (d : Dictionaries) → IfSome o (λ b. IsBehind (all_columns c.columns) d (held_in c.dictionaries) b mid c' xs) → IfSome o (λ b. EachGiven (all_columns c.columns) d b (Err e))
     by None d i = tt
     by (Some b) d i =
         let next : IfSome mid (λ bytes. Refuses e (refusals (next_in most_dictionaries (all_columns c.columns) i.dictionaries bytes))) =
@@ -161,7 +186,7 @@ read_refused rest mid rest' c c' c'' xs e r is a g = handed (λ x. GivesEach res
 
 -- want of memory comes anywhere
 pub memory_wanted : (rest : Option (List ℕ)) (c : StreamCursor) → GivesEach rest c (Err Memory)
-memory_wanted rest c = record { gives = λ d h. by rest d; fields = tt }
+memory_wanted rest c = record { gives = λ d h. by rest d; arrays = λ d h. tt; fields = tt }
   where
     by : (o : Option (List ℕ)) (d : Dictionaries) → IfSome o (λ b. EachGiven (all_columns c.columns) d b (Err Memory))
     by None d = tt
@@ -183,6 +208,8 @@ pub all_of : (rest : Option (List ℕ)) (m : StreamMetadata) (c : StreamCursor) 
     → GivesEach rest c result → AllOf rest (stream_schema m) (rc_value m.schema) result
 all_of rest m c result is p none g = record {
   gives = subst (λ (x : StreamMetadata). IfSome rest (λ b. EachGiven (reader_of (stream_schema x)) [] b result)) is (g.gives [] (subst (HoldsCells []) (sym none) holds_none));
+  arrays = subst (λ (x : StreamMetadata). IfOk result (λ v. IfSome rest (λ b. StreamArrays (reader_of (stream_schema x)) none_held b (arrays_of v.items)))) is
+      (subst (λ (h : Held). IfOk result (λ v. IfSome rest (λ b. StreamArrays (all_columns c.columns) h b (arrays_of v.items)))) none (g.arrays [] (subst (HoldsCells []) (sym none) holds_none)));
   fields = subst (λ (s : List Keyed). IfOk result (λ v. All (λ (x : Batch). HasFields x s) v.items)) (shown_is ∙ ap (λ (x : StreamMetadata). rc_value x.schema) is) g.fields;
 }
   where
@@ -195,7 +222,7 @@ not_refused e n (inl h) = h
 not_refused e n (inr h) = cc
 
 pub wanted_of : (rest : Option (List ℕ)) (schema : Schema) (s : List Keyed) (e : IpcError) → e ≡ Memory → AllOf rest schema s (Err e)
-wanted_of rest schema s e is = record { gives = by rest; fields = tt }
+wanted_of rest schema s e is = record { gives = by rest; arrays = tt; fields = tt }
   where
     by : (o : Option (List ℕ)) → IfSome o (λ b. EachGiven (reader_of schema) [] b (Err e))
     by None = tt
@@ -214,7 +241,14 @@ is_whole (Some b) mid m copy s v kinds start same a =
     let schema : stream_schema copy ≡ stream_schema m = ap (λ (x : Start). x.schema) same in
     let behind : IfSome mid (λ bytes. Nexts (reader_of (stream_schema m)) [] bytes (map table_of v.items)) = subst (λ (x : Schema). IfSome mid (λ bytes. Nexts (reader_of x) [] bytes (map table_of v.items))) schema a.gives in
     let nexts : Nexts (reader_of (stream_schema m)) [] start.0 (map table_of v.items) = subst (λ o. IfSome o (λ bytes. Nexts (reader_of (stream_schema m)) [] bytes (map table_of v.items))) start.2 behind in
-    record { rest = start.0; begun = start.1; nexts = nexts; table = nexts_are_the_stream b None (start_view m) start.0 (map table_of v.items) start.1 refl nexts }
+    let parts : IfSome mid (λ bytes. StreamArrays (reader_of (stream_schema m)) none_held bytes (arrays_of v.items)) = subst (λ (x : Schema). IfSome mid (λ bytes. StreamArrays (reader_of x) none_held bytes (arrays_of v.items))) schema a.arrays in
+    record {
+      rest = start.0;
+      begun = start.1;
+      nexts = nexts;
+      table = nexts_are_the_stream b None (start_view m) start.0 (map table_of v.items) start.1 refl nexts;
+      arrays = subst (λ o. IfSome o (λ bytes. StreamArrays (reader_of (stream_schema m)) none_held bytes (arrays_of v.items))) start.2 parts;
+    }
 
 pub has_fields : (m copy : StreamMetadata) (rest : Option (List ℕ)) (schema : Schema) (v : Vec Batch Global) → start_view copy ≡ start_view m → AllOf rest schema (rc_value copy.schema) (Ok v) → All (λ (x : Batch). bare (fields_in x.schema) ≡ bare (stream_schema m).fields) v.items
 has_fields m copy rest schema v same a k d h =

@@ -14,6 +14,8 @@ pub use Rattle.ipc_file_writer.specs.declared.pairs.FilePairs.{FilePairs}
 pub use Rattle.ipc_file_writer.specs.Ends.{no_pairs}
 pub use Rattle.ipc_streams.specs.declared.metadata.StreamMetadata.{StreamMetadata}
 pub use Rattle.ipc_streams.specs.Starts.{IsReadable, MayBeWritten, Start, start_view, stream_schema}
+pub use Rattle.ipc_streams.specs.Arrays.{arrays_of}
+pub use Rattle.ipc_streams.specs.Below.{plain_fields, plain_kind}
 pub use Rattle.ipc_streams.specs.Feeds.{FeedKept}
 pub use Rattle.ipc_streams.specs.Readers.{IsReader}
 pub use Rattle.ipc_file_writer.specs.BelowNewDictionaries.{message_of}

@@ -14,7 +14,8 @@ use Rattle.arrow_spec.specs.Streams.{Reader, stream_reading, stream_table}
 use Rattle.arrow_arrays.specs.Batches.{Batch}
 use Rattle.arrow_types.specs.Schemas.{Keyed}
 use Rattle.ipc_fields.specs.IpcFields.{metadata_of}
-use Rattle.ipc_streams.specs.Below.{FileCause, table_of, held_in, HoldsCells, HasFields}
+use Rattle.ipc_streams.specs.Below.{FileCause, table_of, Held, held_in, HoldsCells, HasFields, none_held}
+use Rattle.ipc_streams.specs.Arrays.{NextArrays, StreamArrays, arrays_of}
 use Rattle.ipc_streams.specs.Feeds.{FeedKept}
 use Rattle.ipc_streams.specs.Readers.{fields_shown}
 use Rattle.ipc_streams.specs.Starts.{Start, start_in, start_view, stream_schema}
@@ -68,12 +69,13 @@ table_read s = record {
   batches = map table_of s.batches.items;
 }
 
--- it begins with the schema message, the batches stand behind it up to its end, and they are those of the table that it means
+-- it begins with the schema message, the batches stand behind it up to its end, and they are those of the table that it means; their arrays are those that the messages say
 pub record IsWhole (b : List ℕ) (s : WholeStream) : Type 0 where
   pub rest : List ℕ
   pub begun : start_in b ≡ Ok (start_view s.metadata, rest)
   pub nexts : Nexts (reader_of (stream_schema s.metadata)) [] rest (map table_of s.batches.items)
   pub table : stream_table b None ≡ Some (table_read s)
+  pub arrays : StreamArrays (reader_of (stream_schema s.metadata)) none_held rest (arrays_of s.batches.items)
 
 -- ── the batches that are left ──
 
@@ -94,9 +96,16 @@ NextGiven s d b rest' c' (Ok (Some x)) = (e : Dictionaries) × (rest : List ℕ)
 NextGiven s d b rest' c' (Ok None) = Nexts s d b []
 NextGiven s d b rest' c' (Err e) = Refuses e (refusals (next_in most_dictionaries s d b))
 
+-- its arrays, or none at the end, under what is held
+abbrev pub ArraysGiven : Reader → Held → List ℕ → Option (List ℕ) → Held → Option Batch → Type 0
+ArraysGiven s h b rest' h' None = NextArrays s h b h' None
+ArraysGiven s h b rest' h' (Some x) = (rest : List ℕ) × (rest' ≡ Some rest) × NextArrays s h b h' (Some (record { arrays = x.arrays; rest = rest }))
+
 -- the same, by what the reader holds of dictionaries; it keeps its columns
 pub record GivesMore (rest rest' : Option (List ℕ)) (c c' : StreamCursor) (result : Result (Option Batch) IpcError) : Type 0 where
   pub gives : (d : Dictionaries) → HoldsCells d (held_in c.dictionaries) → IfSome rest (λ b. NextGiven (all_columns c.columns) d b rest' c' result)
+  pub arrays : (d : Dictionaries) → HoldsCells d (held_in c.dictionaries)
+      → IfOk result (λ o. IfSome rest (λ b. ArraysGiven (all_columns c.columns) (held_in c.dictionaries) b rest' (held_in c'.dictionaries) o))
   pub fields : IfOk result (λ o. IfSome o (λ x. HasFields x (fields_shown c.columns)))
   pub more : IfOk result (λ o. IfSome o (λ x. c'.is_finished ≡ false))
   pub columns : c'.columns ≡ c.columns
@@ -108,9 +117,12 @@ EachGiven s d b (Err e) = (xs : List TableBatch) × StopsBehind s e d b xs
 
 pub record GivesEach (rest : Option (List ℕ)) (c : StreamCursor) (result : Result (Vec Batch Global) IpcError) : Type 0 where
   pub gives : (d : Dictionaries) → HoldsCells d (held_in c.dictionaries) → IfSome rest (λ b. EachGiven (all_columns c.columns) d b result)
+  pub arrays : (d : Dictionaries) → HoldsCells d (held_in c.dictionaries)
+      → IfOk result (λ v. IfSome rest (λ b. StreamArrays (all_columns c.columns) (held_in c.dictionaries) b (arrays_of v.items)))
   pub fields : IfOk result (λ v. All (λ x. HasFields x (fields_shown c.columns)) v.items)
 
 -- all batches behind a schema message
 pub record AllOf (rest : Option (List ℕ)) (schema : Schema) (shown : List Keyed) (result : Result (Vec Batch Global) IpcError) : Type 0 where
   pub gives : IfSome rest (λ b. EachGiven (reader_of schema) [] b result)
+  pub arrays : IfOk result (λ v. IfSome rest (λ b. StreamArrays (reader_of schema) none_held b (arrays_of v.items)))
   pub fields : IfOk result (λ v. All (λ x. HasFields x shown) v.items)

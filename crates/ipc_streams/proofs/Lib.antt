@@ -4,11 +4,15 @@ pub mod Handed
 pub mod HeadsRead
 pub mod StreamSchemas
 pub mod ReadBatches
+pub mod ReadArrays
 pub mod Fronts
 pub mod ReadStarts
 pub mod ReadHeads
 pub mod TakenSteps
 pub mod TakenMessages
+pub mod TakenArrays
 pub mod TakenCalls
 pub mod NextBatches
+pub mod NextStates
+pub mod ArraysOnce
 pub mod StreamLaws

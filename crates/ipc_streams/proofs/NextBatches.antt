@@ -12,7 +12,9 @@ use Rattle.arrow_spec.proofs.Projection.{on}
 use Rattle.arrow_arrays.specs.Batches.{Batch}
 use Rattle.ipc_files.specs.Below.{Held, HoldsCells, table_of}
 use Rattle.ipc_files.proofs.BlockMessages.{refused_first}
-use Rattle.ipc_streams.specs.Frames.{GivesFront, prefix_length}
+use Rattle.ipc_streams.specs.Arrays.{BatchArrays, GivesArrays, LeavesArrays, NextArrays}
+use Rattle.ipc_streams.specs.Arrays as steps
+use Rattle.ipc_streams.specs.Frames.{GivesFront, IsFront, prefix_length}
 use Rattle.ipc_streams.specs.Nexts.{GivesNext, GivesStep}
 use Rattle.ipc_streams.specs.Steps.{Next, a_batch, batch_or, ended, most_dictionaries, next_in, no_message, step_within, waiting}
 use Rattle.ipc_streams.specs.declared.frame.Frame.{Frame}
@@ -63,29 +65,41 @@ dictionary_found left s d e b rest f is taken = step_taken (suc left) s d b f (r
 
 -- ── what is reached ──
 
--- what stands next behind the messages that were taken is what stood next before them
-pub record IsReached (s : Reader) (reading : Reading Next) (rest : Option (List ℕ)) (h : Held) (left : ℕ) : Type 0 where
+-- what stands next behind the messages that were taken is what stood next before them, with its arrays
+pub record IsReached (s : Reader) (reading : Reading Next) (old : Held) (b : List ℕ) (rest : Option (List ℕ)) (h : Held) (left : ℕ) : Type 0 where
   pub dictionaries : Dictionaries
   pub bytes : List ℕ
   pub told : rest ≡ Some bytes
   pub holds : HoldsCells dictionaries h
   pub same : reading ≡ next_in left s dictionaries bytes
+  pub arrays : (h' : Held) (o : Option BatchArrays) → NextArrays s h bytes h' o → NextArrays s old b h' o
 
-abbrev pub Reached : Option (List ℕ) → Reader → Dictionaries → Option (List ℕ) → Held → ℕ → Type 0
-Reached rest s d mid h left = IfSome rest (λ b. IsReached s (next_in most_dictionaries s d b) mid h left)
+abbrev pub Reached : Option (List ℕ) → Reader → Dictionaries → Held → Option (List ℕ) → Held → ℕ → Type 0
+Reached rest s d old mid h left = IfSome rest (λ b. IsReached s (next_in most_dictionaries s d b) old b mid h left)
 
-pub none_taken : (rest : Option (List ℕ)) (s : Reader) (d : Dictionaries) (h : Held) → HoldsCells d h → Reached rest s d rest h most_dictionaries
+pub none_taken : (rest : Option (List ℕ)) (s : Reader) (d : Dictionaries) (h : Held) → HoldsCells d h → Reached rest s d h rest h most_dictionaries
 none_taken None s d h holds = tt
-none_taken (Some b) s d h holds = record { dictionaries = d; bytes = b; told = refl; holds = holds; same = refl }
+none_taken (Some b) s d h holds = record { dictionaries = d; bytes = b; told = refl; holds = holds; same = refl; arrays = λ h' o n. n }
 
 -- what is answered there, where bytes are told
 abbrev pub NextGiven : Option (List ℕ) → Reader → Dictionaries → Option (List ℕ) → Held → Result (Option StreamState) IpcError → Type 0
 NextGiven rest s d rest' h result = IfSome rest (λ b. GivesNext rest' h result (next_in most_dictionaries s d b))
 
-given_by : (rest : Option (List ℕ)) (s : Reader) (d : Dictionaries) (mid rest' : Option (List ℕ)) (h h' : Held) (left : ℕ) (result : Result (Option StreamState) IpcError) → Reached rest s d mid h left
+given_by : (rest : Option (List ℕ)) (s : Reader) (d : Dictionaries) (old : Held) (mid rest' : Option (List ℕ)) (h h' : Held) (left : ℕ) (result : Result (Option StreamState) IpcError) → Reached rest s d old mid h left
     → ((e : Dictionaries) (b : List ℕ) → mid ≡ Some b → HoldsCells e h → GivesNext rest' h' result (next_in left s e b)) → NextGiven rest s d rest' h' result
-given_by None s d mid rest' h h' left result reached k = tt
-given_by (Some b) s d mid rest' h h' left result reached k = subst (GivesNext rest' h' result) (sym reached.same) (k reached.dictionaries reached.bytes reached.told reached.holds)
+given_by None s d old mid rest' h h' left result reached k = tt
+given_by (Some b) s d old mid rest' h h' left result reached k = subst (GivesNext rest' h' result) (sym reached.same) (k reached.dictionaries reached.bytes reached.told reached.holds)
+
+-- and its arrays
+arrays_on : (s : Reader) (old h h' : Held) (b bytes : List ℕ) (rest' : Option (List ℕ)) (o : Option StreamState) → ((k : Held) (p : Option BatchArrays) → NextArrays s h bytes k p → NextArrays s old b k p) → GivesArrays s h bytes rest' h' o → GivesArrays s old b rest' h' o
+arrays_on s old h h' b bytes rest' None on n = on h' None n
+arrays_on s old h h' b bytes rest' (Some states.Waiting) on n = on h' None n
+arrays_on s old h h' b bytes rest' (Some (states.Some x)) on n = (n.0, n.1, on h' (Some (record { arrays = x.arrays; rest = n.0 })) n.2)
+
+arrays_by : (rest : Option (List ℕ)) (s : Reader) (d : Dictionaries) (old : Held) (mid rest' : Option (List ℕ)) (h h' : Held) (left : ℕ) (o : Option StreamState) → Reached rest s d old mid h left
+    → ((e : Dictionaries) (b : List ℕ) → mid ≡ Some b → HoldsCells e h → GivesArrays s h b rest' h' o) → IfSome rest (λ b. GivesArrays s old b rest' h' o)
+arrays_by None s d old mid rest' h h' left o reached k = tt
+arrays_by (Some b) s d old mid rest' h h' left o reached k = arrays_on s old h h' b reached.bytes rest' o reached.arrays (k reached.dictionaries reached.bytes reached.told reached.holds)
 
 short : (d : Dictionaries) (b : List ℕ) → nat_lt (length b) 4 ≡ true → no_message d b ≡ record { found = waiting; dictionaries = d; rest = [] }
 short d b h = ap (λ (t : Bool). if t then record { found = waiting; dictionaries = d; rest = [] } else record { found = ended; dictionaries = d; rest = drop (prefix_length b) b }) h
@@ -93,19 +107,29 @@ short d b h = ap (λ (t : Bool). if t then record { found = waiting; dictionarie
 long : (d : Dictionaries) (b : List ℕ) → nat_lt (length b) 4 ≡ false → no_message d b ≡ record { found = ended; dictionaries = d; rest = drop (prefix_length b) b }
 long d b h = ap (λ (t : Bool). if t then record { found = waiting; dictionaries = d; rest = [] } else record { found = ended; dictionaries = d; rest = drop (prefix_length b) b }) h
 
-pub next_waits : (rest : Option (List ℕ)) (s : Reader) (d : Dictionaries) (mid rest' : Option (List ℕ)) (h : Held) (left : ℕ) (frame : Frame) → frame ≡ frames.Waiting → Reached rest s d mid h left → GivesFront mid rest' (Ok frame) → NextGiven rest s d rest' h (Ok (Some states.Waiting))
-next_waits rest s d mid rest' h left frame is reached front = given_by rest s d mid rest' h h left (Ok (Some states.Waiting)) reached (λ e b told holds.
+pub next_waits : (rest : Option (List ℕ)) (s : Reader) (d : Dictionaries) (old : Held) (mid rest' : Option (List ℕ)) (h : Held) (left : ℕ) (frame : Frame) → frame ≡ frames.Waiting → Reached rest s d old mid h left → GivesFront mid rest' (Ok frame) → NextGiven rest s d rest' h (Ok (Some states.Waiting))
+next_waits rest s d old mid rest' h left frame is reached front = given_by rest s d old mid rest' h h left (Ok (Some states.Waiting)) reached (λ e b told holds.
     let here = subst (λ f. GivesFront (Some b) rest' (Ok f)) is (subst (λ o. GivesFront o rest' (Ok frame)) told front) in
     (e, [], none_found left s e b here.0 ∙ ap (λ n. Ok n) (short e b here.1), here.2, holds))
 
-pub next_ends : (rest : Option (List ℕ)) (s : Reader) (d : Dictionaries) (mid rest' : Option (List ℕ)) (h : Held) (left : ℕ) (frame : Frame) → frame ≡ frames.Ended → Reached rest s d mid h left → GivesFront mid rest' (Ok frame) → NextGiven rest s d rest' h (Ok None)
-next_ends rest s d mid rest' h left frame is reached front = given_by rest s d mid rest' h h left (Ok None) reached (λ e b told holds.
+pub next_ends : (rest : Option (List ℕ)) (s : Reader) (d : Dictionaries) (old : Held) (mid rest' : Option (List ℕ)) (h : Held) (left : ℕ) (frame : Frame) → frame ≡ frames.Ended → Reached rest s d old mid h left → GivesFront mid rest' (Ok frame) → NextGiven rest s d rest' h (Ok None)
+next_ends rest s d old mid rest' h left frame is reached front = given_by rest s d old mid rest' h h left (Ok None) reached (λ e b told holds.
     let here = subst (λ f. GivesFront (Some b) rest' (Ok f)) is (subst (λ o. GivesFront o rest' (Ok frame)) told front) in
     (e, drop (prefix_length b) b, none_found left s e b here.0 ∙ ap (λ n. Ok n) (long e b here.1), here.2, holds))
 
-pub next_not_framed : (rest : Option (List ℕ)) (s : Reader) (d : Dictionaries) (mid rest' : Option (List ℕ)) (h h' : Held) (left : ℕ) (result : Result (Option StreamState) IpcError) (e : IpcError) → result ≡ Err e → Reached rest s d mid h left → GivesFront mid rest' (Err e) → NextGiven rest s d rest' h' result
-next_not_framed rest s d mid rest' h h' left result e is reached front =
-    subst (NextGiven rest s d rest' h') (sym is) (given_by rest s d mid rest' h h' left (Err e) reached (λ ds b told holds. message_refuses left s ds b e (subst (λ o. GivesFront o rest' (Err e)) told front)))
+-- no message stands there
+none_stands : (mid rest' : Option (List ℕ)) (b : List ℕ) (frame known : Frame) → frame ≡ known → mid ≡ Some b → GivesFront mid rest' (Ok frame) → IsFront b rest' known
+none_stands mid rest' b frame known is told front = subst (λ f. GivesFront (Some b) rest' (Ok f)) is (subst (λ o. GivesFront o rest' (Ok frame)) told front)
+
+pub arrays_wait : (rest : Option (List ℕ)) (s : Reader) (d : Dictionaries) (old : Held) (mid rest' : Option (List ℕ)) (h : Held) (left : ℕ) (frame : Frame) → frame ≡ frames.Waiting → Reached rest s d old mid h left → GivesFront mid rest' (Ok frame) → IfSome rest (λ b. GivesArrays s old b rest' h (Some states.Waiting))
+arrays_wait rest s d old mid rest' h left frame is reached front = arrays_by rest s d old mid rest' h h left (Some states.Waiting) reached (λ e b told holds. steps.no_message (none_stands mid rest' b frame frames.Waiting is told front).0)
+
+pub arrays_end : (rest : Option (List ℕ)) (s : Reader) (d : Dictionaries) (old : Held) (mid rest' : Option (List ℕ)) (h : Held) (left : ℕ) (frame : Frame) → frame ≡ frames.Ended → Reached rest s d old mid h left → GivesFront mid rest' (Ok frame) → IfSome rest (λ b. GivesArrays s old b rest' h None)
+arrays_end rest s d old mid rest' h left frame is reached front = arrays_by rest s d old mid rest' h h left None reached (λ e b told holds. steps.no_message (none_stands mid rest' b frame frames.Ended is told front).0)
+
+pub next_not_framed : (rest : Option (List ℕ)) (s : Reader) (d : Dictionaries) (old : Held) (mid rest' : Option (List ℕ)) (h h' : Held) (left : ℕ) (result : Result (Option StreamState) IpcError) (e : IpcError) → result ≡ Err e → Reached rest s d old mid h left → GivesFront mid rest' (Err e) → NextGiven rest s d rest' h' result
+next_not_framed rest s d old mid rest' h h' left result e is reached front =
+    subst (NextGiven rest s d rest' h') (sym is) (given_by rest s d old mid rest' h h' left (Err e) reached (λ ds b told holds. message_refuses left s ds b e (subst (λ o. GivesFront o rest' (Err e)) told front)))
 
 -- what a message leaves, whatever was read of the dictionaries that are held
 abbrev pub StepGiven : Reader → Option (List ℕ) → Option (List ℕ) → Held → Held → ℕ → List ℕ → Result (Option Batch) IpcError → Type 0
@@ -116,26 +140,44 @@ step_at : (s : Reader) (mid rest' : Option (List ℕ)) (h h' : Held) (left : ℕ
 step_at s mid rest' h h' left metadata v result d behind given same told holds =
     subst (λ x. GivesStep rest' h' result (step_within left s d (framed x behind))) same (subst (λ o. IfSome o (λ b. GivesStep rest' h' result (step_within left s d (framed metadata b)))) told (given d holds))
 
-pub next_refused : (rest : Option (List ℕ)) (s : Reader) (d : Dictionaries) (mid mid' rest' : Option (List ℕ)) (h h' : Held) (left : ℕ) (frame : Frame) (v : Vec ℕ Global) (metadata : List ℕ) (result : Result (Option StreamState) IpcError) (e : IpcError) → result ≡ Err e → Reached rest s d mid h left → frame ≡ frames.Message v → GivesFront mid mid' (Ok frame) → metadata ≡ v.items
+pub next_refused : (rest : Option (List ℕ)) (s : Reader) (d : Dictionaries) (old : Held) (mid mid' rest' : Option (List ℕ)) (h h' : Held) (left : ℕ) (frame : Frame) (v : Vec ℕ Global) (metadata : List ℕ) (result : Result (Option StreamState) IpcError) (e : IpcError) → result ≡ Err e → Reached rest s d old mid h left → frame ≡ frames.Message v → GivesFront mid mid' (Ok frame) → metadata ≡ v.items
     → StepGiven s mid' rest' h h' left metadata (Err e) → NextGiven rest s d rest' h' result
-next_refused rest s d mid mid' rest' h h' left frame v metadata result e is reached framed_is front same given =
-    subst (NextGiven rest s d rest' h') (sym is) (given_by rest s d mid rest' h h' left (Err e) reached (λ ds b told holds.
+next_refused rest s d old mid mid' rest' h h' left frame v metadata result e is reached framed_is front same given =
+    subst (NextGiven rest s d rest' h') (sym is) (given_by rest s d old mid rest' h h' left (Err e) reached (λ ds b told holds.
     let here = subst (λ f. GivesFront (Some b) mid' (Ok f)) framed_is (subst (λ o. GivesFront o mid' (Ok frame)) told front) in
     step_refuses left s ds b (framed v.items here.0) e here.1 (step_at s mid' rest' h h' left metadata v (Err e) ds here.0 given same here.2 holds)))
 
-pub next_batch : (rest : Option (List ℕ)) (s : Reader) (d : Dictionaries) (mid mid' rest' : Option (List ℕ)) (h h' : Held) (left : ℕ) (frame : Frame) (v : Vec ℕ Global) (metadata : List ℕ) (x : Batch) → Reached rest s d mid h left → frame ≡ frames.Message v → GivesFront mid mid' (Ok frame) → metadata ≡ v.items
+pub next_batch : (rest : Option (List ℕ)) (s : Reader) (d : Dictionaries) (old : Held) (mid mid' rest' : Option (List ℕ)) (h h' : Held) (left : ℕ) (frame : Frame) (v : Vec ℕ Global) (metadata : List ℕ) (x : Batch) → Reached rest s d old mid h left → frame ≡ frames.Message v → GivesFront mid mid' (Ok frame) → metadata ≡ v.items
     → (taken : Option Batch) → taken ≡ Some x → StepGiven s mid' rest' h h' left metadata (Ok taken) → NextGiven rest s d rest' h' (Ok (Some (states.Some x)))
-next_batch rest s d mid mid' rest' h h' left frame v metadata x reached framed_is front same taken taken_is given = given_by rest s d mid rest' h h' left (Ok (Some (states.Some x))) reached (λ ds b told holds.
+next_batch rest s d old mid mid' rest' h h' left frame v metadata x reached framed_is front same taken taken_is given = given_by rest s d old mid rest' h h' left (Ok (Some (states.Some x))) reached (λ ds b told holds.
     let here = subst (λ f. GivesFront (Some b) mid' (Ok f)) framed_is (subst (λ o. GivesFront o mid' (Ok frame)) told front) in
     let step = step_at s mid' rest' h h' left metadata v (Ok (Some x)) ds here.0 (subst (λ o. StepGiven s mid' rest' h h' left metadata (Ok o)) taken_is given) same here.2 holds in
     (step.0, step.1, batch_found left s ds step.0 b step.1 (framed v.items here.0) (table_of x) here.1 step.2, step.3, step.4))
 
-pub next_reached : (rest : Option (List ℕ)) (s : Reader) (d : Dictionaries) (mid mid' rest' : Option (List ℕ)) (h h' : Held) (left more : ℕ) (frame : Frame) (v : Vec ℕ Global) (metadata : List ℕ) → left ≡ suc more → Reached rest s d mid h left → frame ≡ frames.Message v → GivesFront mid mid' (Ok frame) → metadata ≡ v.items
-    → (taken : Option Batch) → taken ≡ None → StepGiven s mid' rest' h h' left metadata (Ok taken) → Reached rest s d rest' h' more
-next_reached None s d mid mid' rest' h h' left more frame v metadata one reached framed_is front same taken taken_is given = tt
-next_reached (Some b) s d mid mid' rest' h h' left more frame v metadata one reached framed_is front same taken taken_is given =
+-- what a message leaves of arrays, whatever was read of the dictionaries that are held
+abbrev pub StepLeaves : Reader → Option (List ℕ) → Option (List ℕ) → Held → Held → List ℕ → Option Batch → Type 0
+StepLeaves s mid rest' h h' metadata o = (d : Dictionaries) → HoldsCells d h → IfSome mid (λ b. LeavesArrays s h (framed metadata b) rest' h' o)
+
+leaves_at : (s : Reader) (mid rest' : Option (List ℕ)) (h h' : Held) (metadata : List ℕ) (v : Vec ℕ Global) (o : Option Batch) (d : Dictionaries) (behind : List ℕ) → StepLeaves s mid rest' h h' metadata o → metadata ≡ v.items → mid ≡ Some behind → HoldsCells d h → LeavesArrays s h (framed v.items behind) rest' h' o
+leaves_at s mid rest' h h' metadata v o d behind leaves same told holds =
+    subst (λ x. LeavesArrays s h (framed x behind) rest' h' o) same (subst (λ q. IfSome q (λ b. LeavesArrays s h (framed metadata b) rest' h' o)) told (leaves d holds))
+
+pub arrays_batch : (rest : Option (List ℕ)) (s : Reader) (d : Dictionaries) (old : Held) (mid mid' rest' : Option (List ℕ)) (h h' : Held) (left : ℕ) (frame : Frame) (v : Vec ℕ Global) (metadata : List ℕ) (x : Batch) → Reached rest s d old mid h left → frame ≡ frames.Message v → GivesFront mid mid' (Ok frame) → metadata ≡ v.items
+    → (taken : Option Batch) → taken ≡ Some x → StepLeaves s mid' rest' h h' metadata taken → IfSome rest (λ b. GivesArrays s old b rest' h' (Some (states.Some x)))
+arrays_batch rest s d old mid mid' rest' h h' left frame v metadata x reached framed_is front same taken taken_is leaves = arrays_by rest s d old mid rest' h h' left (Some (states.Some x)) reached (λ ds b told holds.
+    let here = none_stands mid mid' b frame (frames.Message v) framed_is told front in
+    let step = leaves_at s mid' rest' h h' metadata v (Some x) ds here.0 (subst (λ o. StepLeaves s mid' rest' h h' metadata o) taken_is leaves) same here.2 holds in
+    (step.0, step.1, steps.a_batch here.1 step.2))
+
+pub next_reached : (rest : Option (List ℕ)) (s : Reader) (d : Dictionaries) (old : Held) (mid mid' rest' : Option (List ℕ)) (h h' : Held) (left more : ℕ) (frame : Frame) (v : Vec ℕ Global) (metadata : List ℕ) → left ≡ suc more → Reached rest s d old mid h left → frame ≡ frames.Message v → GivesFront mid mid' (Ok frame) → metadata ≡ v.items
+    → (taken : Option Batch) → taken ≡ None → StepGiven s mid' rest' h h' left metadata (Ok taken) → StepLeaves s mid' rest' h h' metadata taken → Reached rest s d old rest' h' more
+next_reached None s d old mid mid' rest' h h' left more frame v metadata one reached framed_is front same taken taken_is given leaves = tt
+next_reached (Some b) s d old mid mid' rest' h h' left more frame v metadata one reached framed_is front same taken taken_is given leaves =
     let here = subst (λ f. GivesFront (Some reached.bytes) mid' (Ok f)) framed_is (subst (λ o. GivesFront o mid' (Ok frame)) reached.told front) in
     let step = step_at s mid' rest' h h' left metadata v (Ok None) reached.dictionaries here.0 (subst (λ o. StepGiven s mid' rest' h h' left metadata (Ok o)) taken_is given) same here.2 reached.holds in
+    let left_of = leaves_at s mid' rest' h h' metadata v None reached.dictionaries here.0 (subst (λ o. StepLeaves s mid' rest' h h' metadata o) taken_is leaves) same here.2 reached.holds in
+    let both : Some left_of.0 ≡ Some step.1 = sym left_of.1 ∙ step.3 in
+    let one_rest : left_of.0 ≡ step.1 = cc in
     record {
       dictionaries = step.0;
       bytes = step.1;
@@ -143,4 +185,5 @@ next_reached (Some b) s d mid mid' rest' h h' left more frame v metadata one rea
       holds = step.4;
       same = reached.same ∙ ap (λ n. next_in n s reached.dictionaries reached.bytes) one
           ∙ dictionary_found more s reached.dictionaries step.0 reached.bytes step.1 (framed v.items here.0) here.1 (ap (λ n. step_within n s reached.dictionaries (framed v.items here.0)) (sym one) ∙ step.2);
+      arrays = λ k o n. reached.arrays k o (steps.a_dictionary here.1 left_of.2 (subst (λ r. NextArrays s h' r k o) (sym one_rest) n));
     }

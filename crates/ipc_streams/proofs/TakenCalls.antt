@@ -53,6 +53,7 @@ module _ {F : Type 0} (rest_of : F → Option (List ℕ)) (faults_of : F → ℕ
       → TakesBatch rest_of faults_of references_of f f' c c' metadata count result
   batch_not_taken count result e is same cause kept refused = record {
     gives = λ s d m reads holds floats found tag body. given_err (rest_of f) (λ b r. GivesBatch (drop count b) (rest_of f') r (stream_batch s d (framed metadata b) m)) result e is (λ b told. refused s d m b reads holds floats found tag body told);
+    arrays = λ s d m reads holds floats found tag body. no_value result e _ is;
     dictionaries = same;
     schema = λ s reads. no_value result e _ is;
     cause = of_err result e _ is cause;
@@ -64,6 +65,7 @@ module _ {F : Type 0} (rest_of : F → Option (List ℕ)) (faults_of : F → ℕ
       → TakesDictionary rest_of faults_of references_of f f' c c' metadata count result
   values_not_taken count result e is cause kept refused = record {
     gives = λ s d m reads holds found tag body. given_err (rest_of f) (λ b r. GivesValues d (drop count b) (rest_of f') (held_in c'.dictionaries) r (stream_dictionary s d (framed metadata b) m)) result e is (λ b told. refused s d m b reads holds found tag body told);
+    held = λ s d m reads holds found tag body. no_value result e _ is;
     cause = of_err result e _ is cause;
     kept = kept;
   }
@@ -73,6 +75,7 @@ module _ {F : Type 0} (rest_of : F → Option (List ℕ)) (faults_of : F → ℕ
       → TakesMessage rest_of faults_of references_of f f' c c' metadata left result
   message_not_taken left result e is cause kept refused = record {
     gives = λ s d reads holds. given_err (rest_of f) (λ b r. GivesStep (rest_of f') (held_in c'.dictionaries) r (step_within left s d (framed metadata b))) result e is (λ b told. refused s d b reads holds told);
+    arrays = λ s d reads holds. no_value result e _ is;
     room = λ none. let no : Err e ≡ Ok None = sym is ∙ none in cc;
     schema = λ s reads. no_value result e _ is;
     cause = of_err result e _ is cause;

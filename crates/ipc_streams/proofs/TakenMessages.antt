@@ -44,7 +44,7 @@ given_at (Some c) P b is h = let same : c ≡ b = cc in subst P same h
 abbrev pub framed : List ℕ → List ℕ → Framed
 framed metadata b = record { metadata = metadata; behind = b }
 
-body_found : (metadata b : List ℕ) (m : Message) (count : ℕ) (body : HeldBody) (rest rest' : Option (List ℕ)) → rest ≡ Some b → m.body ≡ count → GivesBody rest rest' count (Ok body) → body_in (framed metadata b) m ≡ Ok body.bytes.items
+pub body_found : (metadata b : List ℕ) (m : Message) (count : ℕ) (body : HeldBody) (rest rest' : Option (List ℕ)) → rest ≡ Some b → m.body ≡ count → GivesBody rest rest' count (Ok body) → body_in (framed metadata b) m ≡ Ok body.bytes.items
 unfolding body_in bind
 body_found metadata b m count body rest rest' is same gives =
     let here : GivesBody (Some b) rest' count (Ok body) = subst (λ o. GivesBody o rest' count (Ok body)) is gives in

@@ -7,6 +7,9 @@ use Rattle.arrow_spec.specs.Files.{TableBatch, columns_right, fields_as_asked}
 use Rattle.arrow_spec.specs.Kinds.{bare, width}
 use Rattle.arrow_spec.specs.Readings.{◌>>=◌, Reading}
 use Rattle.arrow_spec.specs.Streams.{Reader, stream_batches, stream_table}
+use Rattle.arrow_arrays.specs.Parts.{Parts}
+use Rattle.ipc_files.specs.Below.{Held}
+use Rattle.ipc_streams.specs.Arrays.{StreamArrays}
 use Rattle.ipc_streams.specs.Starts.{Start, start_in}
 use Rattle.ipc_streams.specs.Steps.{Found, Next, Nexts, a_batch, ended, most_dictionaries, next_in, waiting}
 
@@ -34,3 +37,7 @@ NextsAreTheStream = (b : List ℕ) (columns : Option (List ℕ)) (start : Start)
       fields = bare (fields_as_asked columns start.schema.fields);
       batches = xs;
     })
+
+-- the arrays of a stream's batches are told by its bytes and by what is held before them
+abbrev pub ArraysAreOfTheStream : Type 0
+ArraysAreOfTheStream = (s : Reader) (h : Held) (b : List ℕ) (xs ys : List (List Parts)) → StreamArrays s h b xs → StreamArrays s h b ys → xs ≡ ys

@@ -7,5 +7,6 @@ pub mod Starts
 pub mod Heads
 pub mod Readers
 pub mod States
+pub mod Arrays
 pub mod Nexts
 pub mod Laws

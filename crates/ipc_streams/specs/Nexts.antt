@@ -11,6 +11,7 @@ use Rattle.arrow_arrays.specs.Batches.{Batch}
 use Rattle.arrow_types.specs.Schemas.{Keyed}
 use Rattle.ipc_files.specs.Below.{Held, HoldsCells, table_of, held_in}
 use Rattle.ipc_files.specs.FileViews.{FileCause}
+use Rattle.ipc_streams.specs.Arrays.{GivesArrays, LeavesArrays, MessageLeaves}
 use Rattle.ipc_streams.specs.Feeds.{FeedKept}
 use Rattle.ipc_streams.specs.Heads.{is_taken}
 use Rattle.ipc_files.specs.Selections.{HasFields}
@@ -89,6 +90,11 @@ module _ {F : Type 0} (rest_of : F → Option (List ℕ)) (faults_of : F → ℕ
         → message_of metadata is_taken ≡ Ok m → nat_eq m.tag 2 ≡ true → m.body ≡ count
         → IfSome (rest_of f) (λ b. GivesValues d (drop count b) (rest_of f') (held_in c'.dictionaries) result
         (stream_dictionary s d (record { metadata = metadata; behind = b }) m))
+    -- its array is held as its tables and its body say it under what was held before
+    pub held : (s : Reader) (d : Dictionaries) (m : Message) → IsReader c.columns s → HoldsCells d (held_in c.dictionaries)
+        → message_of metadata is_taken ≡ Ok m → nat_eq m.tag 2 ≡ true → m.body ≡ count
+        → IfOk result (λ _. IfSome (rest_of f) (λ b. MessageLeaves s (held_in c.dictionaries) (record { metadata = metadata; behind = b })
+        (held_in c'.dictionaries) None (drop count b)))
     pub cause : IfErr result (λ e. FileCause e (faults_of f) (faults_of f'))
     pub kept : KeepsColumns
 
@@ -97,6 +103,11 @@ module _ {F : Type 0} (rest_of : F → Option (List ℕ)) (faults_of : F → ℕ
     pub gives : (s : Reader) (d : Dictionaries) (m : Message) → IsReader c.columns s → HoldsCells d (held_in c.dictionaries)
         → chosen_floats s.columns s.schema.fields 0 ≡ [] → message_of metadata is_taken ≡ Ok m → nat_eq m.tag 2 ≡ false → m.body ≡ count
         → IfSome (rest_of f) (λ b. GivesBatch (drop count b) (rest_of f') result (stream_batch s d (record { metadata = metadata; behind = b }) m))
+    -- its arrays are those that its tables and its body say under what is held
+    pub arrays : (s : Reader) (d : Dictionaries) (m : Message) → IsReader c.columns s → HoldsCells d (held_in c.dictionaries)
+        → chosen_floats s.columns s.schema.fields 0 ≡ [] → message_of metadata is_taken ≡ Ok m → nat_eq m.tag 2 ≡ false → m.body ≡ count
+        → IfOk result (λ x. IfSome (rest_of f) (λ b. MessageLeaves s (held_in c.dictionaries) (record { metadata = metadata; behind = b })
+        (held_in c'.dictionaries) (Some x.arrays) (drop count b)))
     pub dictionaries : c'.dictionaries ≡ c.dictionaries
     pub schema : (s : Reader) → IsReader c.columns s → IfOk result (λ x. HasFields x (fields_shown c.columns))
     pub cause : IfErr result (λ e. FileCause e (faults_of f) (faults_of f'))
@@ -106,6 +117,9 @@ module _ {F : Type 0} (rest_of : F → Option (List ℕ)) (faults_of : F → ℕ
   pub record TakesMessage (metadata : List ℕ) (left : ℕ) (result : Result (Option Batch) IpcError) : Type 0 where
     pub gives : (s : Reader) (d : Dictionaries) → IsReader c.columns s → HoldsCells d (held_in c.dictionaries)
         → IfSome (rest_of f) (λ b. GivesStep (rest_of f') (held_in c'.dictionaries) result (step_within left s d (record { metadata = metadata; behind = b })))
+    -- what is held, and the batch's arrays, are as the message says
+    pub arrays : (s : Reader) (d : Dictionaries) → IsReader c.columns s → HoldsCells d (held_in c.dictionaries)
+        → IfOk result (λ o. IfSome (rest_of f) (λ b. LeavesArrays s (held_in c.dictionaries) (record { metadata = metadata; behind = b }) (rest_of f') (held_in c'.dictionaries) o))
     pub room : result ≡ Ok None → 0 < left
     pub schema : (s : Reader) → IsReader c.columns s → IfOk result (λ o. IfSome o (λ x. HasFields x (fields_shown c.columns)))
     pub cause : IfErr result (λ e. FileCause e (faults_of f) (faults_of f'))
@@ -115,6 +129,9 @@ module _ {F : Type 0} (rest_of : F → Option (List ℕ)) (faults_of : F → ℕ
   pub record ReadsNext (result : Result (Option StreamState) IpcError) : Type 0 where
     pub gives : (s : Reader) (d : Dictionaries) → IsReader c.columns s → HoldsCells d (held_in c.dictionaries)
         → IfSome (rest_of f) (λ b. GivesNext (rest_of f') (held_in c'.dictionaries) result (next_in most_dictionaries s d b))
+    -- what is held, and the batch's arrays, are as the messages up to it say
+    pub arrays : (s : Reader) (d : Dictionaries) → IsReader c.columns s → HoldsCells d (held_in c.dictionaries)
+        → IfOk result (λ o. IfSome (rest_of f) (λ b. GivesArrays s (held_in c.dictionaries) b (rest_of f') (held_in c'.dictionaries) o))
     pub schema : (s : Reader) → IsReader c.columns s → IfOk result (λ o. HasSchemaIfAny o (fields_shown c.columns))
     pub cause : IfErr result (λ e. FileCause e (faults_of f) (faults_of f'))
     pub kept : KeepsColumns
@@ -126,6 +143,9 @@ module _ {F : Type 0} (rest_of : F → Option (List ℕ)) (faults_of : F → ℕ
     -- before, it is what stands next by the bytes that are left and the dictionaries whose cells are held, or a refusal of its
     pub gives : c.is_finished ≡ false → (s : Reader) (d : Dictionaries) → IsReader c.columns s → HoldsCells d (held_in c.dictionaries)
         → IfSome (rest_of f) (λ b. GivesNext (rest_of f') (held_in c'.dictionaries) (answer_of result) (next_in most_dictionaries s d b))
+    -- what is held, and the batch's arrays, are as the messages up to it say under what was held before
+    pub arrays : c.is_finished ≡ false → (s : Reader) (d : Dictionaries) → IsReader c.columns s → HoldsCells d (held_in c.dictionaries)
+        → IfOk (answer_of result) (λ o. IfSome (rest_of f) (λ b. GivesArrays s (held_in c.dictionaries) b (rest_of f') (held_in c'.dictionaries) o))
     pub schema : (s : Reader) → IsReader c.columns s → IfSome result (λ r. IfOk r (λ state. HasSchema state (fields_shown c.columns)))
     pub is_finished : c'.is_finished ≡ is_last result
     pub columns : c'.columns ≡ c.columns

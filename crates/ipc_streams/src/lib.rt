@@ -18,7 +18,7 @@ pub use ipc_files::{
     Dictionaries, FileMetadata, check_columns, custom_metadata_of, read_file_dictionaries,
     read_file_metadata,
 };
-pub use laws::{a_next_is_of_the_stream, nexts_are_the_stream};
+pub use laws::{a_next_is_of_the_stream, arrays_are_of_the_stream, nexts_are_the_stream};
 pub use metadata::{StreamMetadata, read_stream_metadata};
 pub use reader::StreamReader;
 pub use state::StreamState;

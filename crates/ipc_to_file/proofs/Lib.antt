@@ -7,3 +7,4 @@ pub mod Wholes
 pub mod Tables
 pub mod Refusals
 pub mod Feeds
+pub mod LargeKeys

@@ -2,3 +2,4 @@ pub mod Below
 pub mod Streams
 pub mod Files
 pub mod Writing
+pub mod Laws

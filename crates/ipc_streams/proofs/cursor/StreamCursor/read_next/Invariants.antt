@@ -8,7 +8,7 @@ use Rattle.ipc_streams.proofs.cursor.StreamCursor.read_next.Given as goal
 
 abbrev pub invariant-messages : goal.invariant-messages
 invariant-messages g l = record {
-  reached : (s : Reader) (d : Dictionaries) → IsReader l.fn.self.columns s → HoldsCells d (held_in l.fn.self.dictionaries) → Reached (g.F.Feed.rest l.fn.feed) s d (g.F.Feed.rest l.feed) (held_in l.self.dictionaries) l.left;
+  reached : (s : Reader) (d : Dictionaries) → IsReader l.fn.self.columns s → HoldsCells d (held_in l.fn.self.dictionaries) → Reached (g.F.Feed.rest l.fn.feed) s d (held_in l.fn.self.dictionaries) (g.F.Feed.rest l.feed) (held_in l.self.dictionaries) l.left;
   kept : KeepsColumns g.F.Feed.rest g.F.Feed.faults g.F.Feed.references l.fn.feed l.feed l.fn.self l.self;
 }
 

@@ -1,4 +1,4 @@
-use Rattle.std.proofs.Common.{◌≡◌, ◌∙◌, Err, ap, refl, rules}
+use Rattle.std.proofs.Common.{◌≡◌, Err, ap, refl, rules}
 use Rattle.ipc_fields.specs.IpcFields.{metadata_of}
 use Rattle.arrow_arrays.specs.Batches.{Batch}
 use Rattle.ipc_files.specs.Below.{table_of, held_in}
@@ -7,6 +7,7 @@ use Rattle.ipc_files.proofs.Errors.{is_err}
 use Rattle.ipc_streams.specs.Starts.{stream_schema}
 use Rattle.ipc_streams.proofs.Handed.{decoded_cause, of_bytes}
 use Rattle.ipc_files.proofs.ShownFields.{with_pairs}
+use Rattle.ipc_streams.proofs.TakenArrays.{rows_leave}
 use Rattle.ipc_streams.proofs.TakenCalls.{batch_not_taken, values_told}
 use Rattle.ipc_streams.proofs.TakenMessages.{given_ok, header_refused, pairs_refused, rows_cut, rows_given, rows_refused}
 use Rattle.ipc_streams.proofs.cursor.StreamCursor.take_batch.Goals as goal
@@ -49,6 +50,9 @@ pub returns : goal.returns
 returns g c = record {
   gives = λ s d m reads holds floats found tag body. given_ok (g.F.Feed.rest c.args.feed.now) _ (λ b told.
       rows_given s d c.args.bytes.now b m found tag (message_of c.in_ok-message.message) (metadata_of c.in_ok-pairs.pairs) c.args.count c.in_ok-body.body c.in_ok-batch.batch c.with_optional_metadata.result _ _ c.in_ok-message.ensures.gives c.in_ok-pairs.ensures.gives told body c.in_ok-body.ensures.gives (c.in_ok-batch.ensures.gives s d reads holds floats) (ap table_of c.with_optional_metadata.ensures));
+  arrays = λ s d m reads holds floats found tag body.
+      rows_leave s (held_in c.args.self.now.dictionaries) c.args.bytes.now m c.args.count c.in_ok-body.body (g.F.Feed.rest c.args.feed.now) _ found body c.in_ok-body.ensures.gives (message_of c.in_ok-message.message) c.in_ok-batch.batch c.with_optional_metadata.result tag c.in_ok-message.ensures.gives
+      (ap (λ (b : Batch). b.arrays) c.with_optional_metadata.ensures) (c.in_ok-batch.ensures.arrays s d reads holds floats);
   dictionaries = refl;
   schema = λ s reads. with_pairs c.in_ok-batch.batch c.with_optional_metadata.result _ (ap (λ (b : Batch). b.schema) c.with_optional_metadata.ensures) (ap (λ (b : Batch). b.arrays) c.with_optional_metadata.ensures) (c.in_ok-batch.ensures.schema s reads);
   cause = tt;

@@ -1,4 +1,4 @@
-use Rattle.std.proofs.Common.{◌≡◌, ◌∙◌, ◌<◌, Err, arith, false, refl, rules, subst, sym, true}
+use Rattle.std.proofs.Common.{◌≡◌, ◌∙◌, ◌<◌, Err, None, Some, arith, false, refl, rules, subst, sym, true}
 use Rattle.arrow_spec.specs.declared.error.IpcError.TheVariants.{TooMany}
 use Rattle.arrow_spec.specs.declared.error.Counted.TheVariants as counted
 use Rattle.arrow_spec.specs.Readings.{Refuses, refusals}
@@ -8,6 +8,7 @@ use Rattle.ipc_files.proofs.Errors.{is_err}
 use Rattle.ipc_files.proofs.ReadBatches.{kinds_cause}
 use Rattle.ipc_streams.specs.Steps.{step_within}
 use Rattle.ipc_streams.proofs.Handed.{decoded_cause}
+use Rattle.ipc_streams.proofs.TakenArrays.{behind_batch, behind_values, leaves_behind}
 use Rattle.ipc_streams.proofs.TakenCalls.{message_not_taken}
 use Rattle.ipc_streams.proofs.TakenMessages.{batch_refuses, framed, given_at, given_ok, step_of_batch, step_of_values, values_refuse}
 use Rattle.ipc_streams.proofs.TakenSteps.{floats_refuse, head_has, head_refuses, no_room}
@@ -45,6 +46,9 @@ returns-then-not-head g c =
       gives = λ s d reads holds. given_ok (g.F.Feed.rest c.args.feed.now) _ (λ b told.
           step_of_batch c.args.left s d c.args.bytes.now b h.message c.in_ok-head.head.body _ _ c.in_ok-batch.batch (c.in_ok-check.ensures.exact s reads).ok.0 h.is (h.dictionary ∙ no) h.body (subst (λ m. HoldsCells d (held_in m)) (sym c.in_ok-batch.ensures.dictionaries) holds)
           (given_at (g.F.Feed.rest c.args.feed.now) _ b told (c.in_ok-batch.ensures.gives s d h.message reads holds (c.in_ok-check.ensures.exact s reads).ok.0 h.is (h.dictionary ∙ no) h.body)));
+      arrays = λ s d reads holds. leaves_behind s _ _ c.args.bytes.now c.in_ok-head.head.body (g.F.Feed.rest c.args.feed.now) _ (Some c.in_ok-batch.batch)
+          (behind_batch s d c.args.bytes.now h.message c.in_ok-head.head.body (g.F.Feed.rest c.args.feed.now) _ c.in_ok-batch.batch (c.in_ok-batch.ensures.gives s d h.message reads holds (c.in_ok-check.ensures.exact s reads).ok.0 h.is (h.dictionary ∙ no) h.body))
+          (c.in_ok-batch.ensures.arrays s d h.message reads holds (c.in_ok-check.ensures.exact s reads).ok.0 h.is (h.dictionary ∙ no) h.body);
       room = λ none. cc;
       schema = λ s reads. c.in_ok-batch.ensures.schema s reads;
       cause = tt;
@@ -78,6 +82,9 @@ returns g c =
       gives = λ s d reads holds. given_ok (g.F.Feed.rest c.args.feed.now) _ (λ b told.
           step_of_values c.args.left s d c.args.bytes.now b h.message c.in_ok-head.head.body _ _ tt (c.in_ok-check.ensures.exact s reads).ok.0 h.is (h.dictionary ∙ yes) h.body more
           (given_at (g.F.Feed.rest c.args.feed.now) _ b told (c.in_ok-take_dictionary.ensures.gives s d h.message reads holds h.is (h.dictionary ∙ yes) h.body)));
+      arrays = λ s d reads holds. leaves_behind s _ _ c.args.bytes.now c.in_ok-head.head.body (g.F.Feed.rest c.args.feed.now) _ None
+          (behind_values s d c.args.bytes.now h.message c.in_ok-head.head.body (g.F.Feed.rest c.args.feed.now) _ _ tt (c.in_ok-take_dictionary.ensures.gives s d h.message reads holds h.is (h.dictionary ∙ yes) h.body))
+          (c.in_ok-take_dictionary.ensures.held s d h.message reads holds h.is (h.dictionary ∙ yes) h.body);
       room = λ none. more;
       schema = λ s reads. tt;
       cause = tt;
