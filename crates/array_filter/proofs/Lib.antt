@@ -7,6 +7,7 @@ pub mod RunLaws
 mod MarkedRuns
 pub mod OffsetRuns
 pub mod RunSteps
+mod Whole
 pub mod LeafTaken
 pub mod HeadTaken
 pub mod TreeTaken

@@ -5,7 +5,7 @@ ghost use Rattle.arrow_buffers.specs.Rows.{has_rows, part};
 ghost use Rattle.array_filter.specs.Rows.{taken};
 ghost use Rattle.array_filter.specs.Runs.{Climb, rows_in_runs};
 
-use crate::runs::Run;
+use crate::runs::{Run, is_one};
 use arrow_buffers::Bitmap;
 use std::alloc::{AllocError, Global};
 
@@ -27,11 +27,14 @@ fn push_bits(
     Ok(())
 }
 
-/// The bits at the rows of runs.
+/// The bits at the rows of runs, which share the memory where one run has all.
 pub(crate) fn take_bits(alloc: Global, bits: &Bitmap, runs: &[Run]) -> Result<Bitmap, AllocError>
     requires { Climb 0 runs.now (length bits.now) }
     ensures { IfOk result (λ b. b ≡ taken (rows_in_runs runs.now) bits.now) }
 {
+    if is_one(runs, bits.len()) {
+        return bits.try_clone();
+    }
     let mut taken = Vec::new(alloc);
     for run in runs {
         push_bits(&mut taken, bits, run.from, run.count)?;

@@ -11,7 +11,7 @@ ghost use Rattle.array_filter.specs.Runs.{Climb, rows_in_runs};
 ghost use Rattle.array_filter.specs.Taken.{fixed_taken, leaf_rows_taken, leaf_taken, rows_taken, variable_taken, views_taken};
 
 use crate::bits::{take_bits, take_validity};
-use crate::bytes::{take_bytes, take_items};
+use crate::bytes::{take_items, take_rows};
 use crate::offsets::take_offsets;
 use crate::runs::{Run, row_count};
 use arrow_arrays::Array;
@@ -82,9 +82,9 @@ fn take_fixed(
     requires { Climb 0 runs.now (fixed_rows array.now) }
     ensures { IfOk result (λ a. a ≡ fixed_taken (rows_in_runs runs.now) array.now) }
 {
-    let bytes = take_bytes(alloc, array.values().as_slice(), array.size(), runs)?;
-    let values = Buffer::from_bytes(bytes)?;
-    let validity = take_validity(alloc, array.validity(), array.len(), runs)?;
+    let held = array.len();
+    let values = take_rows(alloc, array.values(), array.size(), held, runs)?;
+    let validity = take_validity(alloc, array.validity(), held, runs)?;
     let dtype = array.dtype().try_clone(alloc)?;
     match FixedSizeBinaryArray::try_new(dtype, values, validity) {
         Ok(taken) => Ok(taken),
@@ -102,9 +102,9 @@ fn take_variable<O: Offset, V: ViewType>(
     ensures { IfOk result (λ a. a ≡ variable_taken (rows_in_runs runs.now) array.now) }
 {
     let held = array.len();
-    let bytes = array.values().as_slice();
-    let (offsets, items) = take_offsets(alloc, array.offsets(), bytes.len(), runs)?;
-    let values = Buffer::from_bytes(take_bytes(alloc, bytes, 1, items.as_slice())?)?;
+    let limit = array.values().len();
+    let (offsets, items) = take_offsets(alloc, array.offsets(), limit, runs)?;
+    let values = take_rows(alloc, array.values(), 1, limit, items.as_slice())?;
     let validity = take_validity(alloc, array.validity(), held, runs)?;
     let dtype = array.dtype().try_clone(alloc)?;
     match VariableArray::try_new(dtype, offsets, values, validity) {
@@ -134,8 +134,7 @@ fn take_views<V: ViewType>(
     ensures { IfOk result (λ a. a ≡ views_taken (rows_in_runs runs.now) array.now) }
 {
     let held = array.len();
-    let bytes = take_bytes(alloc, array.views().as_slice(), VIEW_SIZE, runs)?;
-    let views = Buffer::from_bytes(bytes)?;
+    let views = take_rows(alloc, array.views(), VIEW_SIZE, held, runs)?;
     let buffers = clone_buffers(alloc, array.data_buffers())?;
     let validity = take_validity(alloc, array.validity(), held, runs)?;
     let dtype = array.dtype().try_clone(alloc)?;

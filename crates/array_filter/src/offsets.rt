@@ -5,7 +5,7 @@ ghost use Rattle.arrow_buffers.specs.Variable.{are_offsets, place_at, variable_r
 ghost use Rattle.array_filter.specs.Runs.{Climb, rows_in_runs, rows_of};
 ghost use Rattle.array_filter.specs.Offsets.{ends_on, items_taken, offsets_taken, row_length};
 
-use crate::runs::Run;
+use crate::runs::{Run, is_one};
 use arrow_buffers::Buffer;
 use arrow_types::Offset;
 use std::alloc::{AllocError, Global};
@@ -120,6 +120,24 @@ fn items_of_runs<O: Offset>(
     Ok(items)
 }
 
+/// The offsets of the rows of runs, which share the memory where one run has all and the first is 0.
+fn offsets_from_0<O: Offset>(
+    alloc: Global,
+    offsets: &Buffer<O>,
+    limit: usize,
+    runs: &[Run],
+) -> Result<Buffer<O>, AllocError>
+    requires rise { are_offsets (map O.number offsets.now) limit ≡ true }
+    requires climb { Climb 0 runs.now (variable_rows (map O.number offsets.now)) }
+    ensures { IfOk result (λ b. map O.number b ≡ offsets_taken (rows_in_runs runs.now) (map O.number offsets.now)) }
+{
+    let rows = offsets.len() - 1;
+    if is_one(runs, rows) && place_in(offsets, 0, limit) == 0 {
+        return offsets.try_clone();
+    }
+    Buffer::from_vec(offsets_of_runs(alloc, offsets, limit, runs)?)
+}
+
 /// The offsets of the rows of runs, and the runs of the items between them.
 pub(crate) fn take_offsets<O: Offset>(
     alloc: Global,
@@ -133,7 +151,7 @@ pub(crate) fn take_offsets<O: Offset>(
     ensures items { IfOk result (λ r. rows_in_runs r.1.items ≡ items_taken (rows_in_runs runs.now) (map O.number offsets.now)) }
     ensures climb { IfOk result (λ r. Climb 0 r.1.items limit) }
 {
-    let taken = Buffer::from_vec(offsets_of_runs(alloc, offsets, limit, runs)?)?;
+    let taken = offsets_from_0(alloc, offsets, limit, runs)?;
     let items = items_of_runs(alloc, offsets, limit, runs)?;
     Ok((taken, items))
 }

@@ -12,8 +12,9 @@ use std::alloc::{AllocError, Global};
 
 /// The rows of an array that are marked, in order, null rows with what they hold (Arrow Columnar Format, "Physical Memory Layout").
 /// There is a mark for each row. The buffers of views, the children of dense unions and the parts of dictionaries are shared with the
-/// array; all else is copied, rows that stand one behind another together. It takes the memory of the rows that are kept, and for each
-/// run of them two numbers at each level of the array's tree. The call goes as deep as that tree.
+/// array, and so is each buffer all of whose items are kept; all else is copied, rows that stand one behind another together. It takes
+/// the memory of the rows that are kept, and for each run of them two numbers at each level of the array's tree. The call goes as deep as
+/// that tree.
 pub fn filter(alloc: Global, array: &Array, marks: &[bool]) -> Result<Array, AllocError>
     requires { length marks.now ≡ rows_in (parts_of array.now) }
     ensures parts { IfOk result (λ a. parts_of a ≡ rows_taken (marked_from 0 marks.now) (parts_of array.now)) }

@@ -136,3 +136,10 @@ pub(crate) fn row_count(runs: &[Run], held: usize) -> usize
     }
     count
 }
+
+/// Whether there is one run, which has so many rows from the first on.
+pub(crate) fn is_one(runs: &[Run], count: usize) -> bool
+    ensures { result ≡ true → runs.now ≡ record { from = 0; count = count } ∷ [] }
+{
+    runs.len() == 1 && runs[0].from == 0 && runs[0].count == count
+}

@@ -15,7 +15,7 @@ ghost use Rattle.ipc_concat.specs.Tables.{told};
 use arrow_arrays::RecordBatch;
 use arrow_spec::IpcError;
 use ipc_io::{Sink, Source};
-use laws_walk::{FileCursor, FileMetadata, StreamCore};
+use laws_walk::{FileCursor, StreamCore, batch_count};
 use std::alloc::Global;
 
 /// A stream to which batches are added: its writer, and how many batches and rows were written, each up to 2^128 - 1.
@@ -71,13 +71,6 @@ fn add_next<S: Source, W: Sink>(
             stream.write(sink, &batch)
         }
     }
-}
-
-/// How many record batches a file has.
-fn batch_count(file: &FileMetadata) -> usize
-    ensures { result ≡ length file.now.blocks.items }
-{
-    file.blocks.len()
 }
 
 /// Adds all record batches of a file.

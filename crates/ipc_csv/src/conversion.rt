@@ -4,7 +4,7 @@ ghost use Rattle.arrow_spec.specs.Meaning.{file_table};
 ghost use Rattle.arrow_spec.specs.declared.error.IpcError.TheVariants.{Memory};
 ghost use Rattle.csv_texts.specs.Texts.{printable};
 ghost use Rattle.ipc_io.specs.Outside.{SinkKept, SourceKept, Stands};
-ghost use Rattle.laws_walk.specs.Below.{columns_of, asked, numbers_in, IsReadable};
+ghost use Rattle.laws_walk.specs.Below.{columns_of, asked, IsReadable};
 ghost use Rattle.laws_walk.specs.Fetching.{FileFetched};
 ghost use Rattle.ipc_csv.specs.Printing.{CallCause, NotSelected, PrintsFile, Selected};
 ghost use Rattle.ipc_csv.specs.Prints.{AddsPart, PrintCause, Prints};
@@ -14,21 +14,10 @@ use arrow_spec::{Feature, IpcError};
 use csv_rows::are_nested;
 use ipc_io::{Sink, Source};
 use laws_walk::{
-    FileCursor, FileMetadata, ProjectionInfo, Summary, check_columns, projection_of,
+    FileCursor, FileMetadata, ProjectionInfo, Summary, check_columns, numbers_asked, projection_of,
     read_file_metadata,
 };
 use std::alloc::Global;
-
-/// The numbers of the columns that are asked for.
-fn numbers(alloc: Global, columns: Option<&[usize]>) -> Result<Option<Vec<usize>>, IpcError>
-    ensures same { IfOk result (λ n. numbers_in n ≡ columns_of columns.entry) }
-    ensures err { IfErr result (λ e. e ≡ Memory) }
-{
-    match columns {
-        None => Ok(None),
-        Some(columns) => Ok(Some(columns.to_vec(alloc)?)),
-    }
-}
 
 /// What is read for the columns that are asked for.
 fn selection(
@@ -40,7 +29,7 @@ fn selection(
     ensures selected { IfOk result (Selected file.now (columns_of columns.entry)) }
     ensures refused { IfErr result (λ e. NotSelected e file.now (columns_of columns.entry)) }
 {
-    let numbers = numbers(alloc, columns)?;
+    let numbers = numbers_asked(alloc, columns)?;
     let projection = projection_of(alloc, &file.schema, numbers)?;
     check_columns(file, projection.as_ref())?;
     Ok(projection)

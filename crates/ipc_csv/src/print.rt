@@ -12,16 +12,8 @@ ghost use Rattle.ipc_csv.specs.Printing.{CallCause, IsPrintedBy, IsUnprinted, Pr
 use arrow_spec::IpcError;
 use csv_rows::TextOut;
 use ipc_io::{Sink, Source};
-use laws_walk::{FileCursor, FileMetadata, Summary};
+use laws_walk::{FileCursor, Summary, batch_count};
 use std::alloc::Global;
-
-/// How many record batches a file has.
-fn batch_count(file: &FileMetadata) -> usize
-    ensures count { result ≡ length file.now.blocks.items }
-    ensures few { result < 2 ^ 63 }
-{
-    file.blocks.len()
-}
 
 /// Reads the next record batch, if there is one, and prints it. It answers how many rows the batch has.
 fn print_next<S: Source, W: Sink>(

@@ -22,11 +22,13 @@ use ipc_schema::{
 };
 use std::alloc::Global;
 
-/// The message of a record batch and its pairs, none where there are none.
+/// The message of a record batch of a block, and its pairs.
 #[derive(Drop)]
-pub(crate) struct BlockMessage {
-    pub(crate) message: RecordMessage,
-    pub(crate) custom_metadata: Option<Metadata>,
+pub struct BlockMessage {
+    /// The message without its pairs.
+    pub message: RecordMessage,
+    /// Its pairs, none where there are none.
+    pub custom_metadata: Option<Metadata>,
 }
 
 /// Where the metadata begins behind a place, and its length, in a message whose prefix and metadata take `size` bytes
@@ -115,7 +117,7 @@ fn fetch_metadata<S: Source>(
 /// `OutOfSpec(UnexpectedNegativeInteger)` where a number of the block is negative, `OutOfSpec(BlockRange)` where it passes
 /// the end of the file, `OutOfSpec` with the kind of the part that is not as the format says, `Unsupported(Version)`, `TooMany(Pairs)`, `ReadFault` and `Memory`.
 #[tactic(auto, using(crate::proofs::FetchedFiles::message_fetched))]
-pub(crate) fn read_block_message<S: Source>(
+pub fn read_block_message<S: Source>(
     alloc: Global,
     source: &mut S,
     block: &Block,

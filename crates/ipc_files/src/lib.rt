@@ -11,7 +11,7 @@ mod ordered;
 mod row_counts;
 
 pub use batch::{read_batch, read_block};
-pub use block::read_block_header;
+pub use block::{BlockMessage, read_block_header, read_block_message};
 pub use dictionaries::{read_dictionary_block, read_file_dictionaries};
 pub use ipc_projection::{
     ProjectionInfo, ProjectionIter, ProjectionResult, apply_projection, prepare_projection,

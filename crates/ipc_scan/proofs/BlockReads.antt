@@ -10,10 +10,10 @@ use Rattle.arrow_spec.proofs.Projection.{on}
 use Rattle.arrow_arrays.specs.Batches.{Batch}
 use Rattle.arrow_arrays.specs.Parts.{kind_in}
 use Rattle.arrow_types.specs.Schemas.{Keyed}
-use Rattle.ipc_schema.specs.Footers.{IsNatural}
+use Rattle.ipc_files.specs.Below.{IsNatural}
 use Rattle.ipc_files.specs.Blocks.{asked_under}
 use Rattle.ipc_files.specs.Fetching.{MessageFetched}
-use Rattle.ipc_files.specs.FileBlocks.{GivesIn, PairedMessage, block_by, block_record, file_block, given}
+use Rattle.ipc_files.specs.FileBlocks.{BlockIn, PairedMessage, block_by, block_record, file_block, given, paired_of}
 use Rattle.ipc_files.specs.FileViews.{meta_view}
 use Rattle.ipc_files.specs.Requests.{asked}
 use Rattle.ipc_files.specs.Selections.{HasFields, schema_shown}
@@ -33,9 +33,9 @@ use Rattle.laws_scan.specs.Filtered.{any_marked, marked_batch}
 use Rattle.laws_scan.specs.Reads.{KeepsRows, ReadsBlock}
 use Rattle.laws_scan.specs.Scan.{block_marks, filter_alone, marked_fits, marked_rows, only_where, scan_block, scan_cost}
 use Rattle.ipc_scan.specs.Columns.{BuffersFetched}
-use Rattle.ipc_scan.specs.Messages.{IsMessage, paired}
+use Rattle.ipc_scan.specs.Messages.{IsMessage}
 use Rattle.ipc_scan.specs.Sends.{BlockFetchedBy, BlockScanned}
-use Rattle.ipc_scan.specs.declared.message.BlockMessage.{BlockMessage}
+use Rattle.ipc_files.specs.declared.block.BlockMessage.{BlockMessage}
 use Rattle.ipc_scan.specs.declared.scanner.Scanner.{Scanner}
 use Rattle.ipc_scan.proofs.BlockColumns.{ChoosesIn, TestsIn}
 use Rattle.ipc_scan.proofs.FetchedBlocks.{front_within, tests_within, whole_within}
@@ -61,18 +61,18 @@ module _ (f : Filter) (b : List ℕ) (a : Asked) (block : FileBlock) (e : IpcErr
 -- ── the message ──
 
 -- where it was read no number of the block is negative
-pub is_message : (content : Option (List ℕ)) (block : Block) (m : BlockMessage) → GivesIn content paired (Ok m) (λ b. given block (block_record b)) → IsMessage content block (paired m)
+pub is_message : (content : Option (List ℕ)) (block : Block) (m : BlockMessage) → BlockIn content block (Ok m) → IsMessage content block (paired_of m)
 is_message None block m h = tt
-is_message (Some b) block m h = let r = given_reads block (block_record b) (paired m) h in (r.is, r.read)
+is_message (Some b) block m h = let r = given_reads block (block_record b) (paired_of m) h in (r.is, r.read)
 
 -- ── a call that reads a block ──
 
 -- the block of a number of the file
 module _ (content : Option (List ℕ)) (s : Scanner) (h : Held) (n : ℕ) (block : Block) (less : n < length s.reader.metadata.blocks.items) (at : block ≡ get_or s.reader.metadata.blocks.items n block) where
-  pub message_fails : (result : Result (Option Batch) IpcError) (e : IpcError) → result ≡ Err e → All IsNatural s.reader.metadata.blocks.items → GivesIn content paired (Err e) (λ b. given block (block_record b)) → BlockScanned content s h n result
+  pub message_fails : (result : Result (Option Batch) IpcError) (e : IpcError) → result ≡ Err e → All IsNatural s.reader.metadata.blocks.items → BlockIn content block (Err e) → BlockScanned content s h n result
   message_fails result e is natural refused = by content refused
     where
-      by : (w : Option (List ℕ)) → GivesIn w paired (Err e) (λ b. given block (block_record b)) → BlockScanned w s h n result
+      by : (w : Option (List ℕ)) → BlockIn w block (Err e) → BlockScanned w s h n result
       by None r = tt
       by (Some b) r = λ d found columns holds there may.
           let a : Asked = asked_under b (meta_view s.reader.metadata) d (asked columns None) in

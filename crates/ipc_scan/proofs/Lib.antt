@@ -1,4 +1,3 @@
-mod Messages
 mod Marks
 mod KeptRows
 mod TestedColumns

@@ -9,7 +9,7 @@ ghost use Rattle.laws_walk.specs.Below.{columns_of};
 use crate::send::scan_file;
 use arrow_spec::IpcError;
 use ipc_bodies::Encoding;
-use ipc_schema::{Sink, Source};
+use ipc_io::{Sink, Source};
 use laws_walk::Summary;
 use row_filters::Filter;
 use std::alloc::Global;

@@ -3,9 +3,7 @@
 
 mod columns;
 mod conversion;
-mod fetch;
 mod keep;
-mod message;
 mod scanner;
 mod send;
 

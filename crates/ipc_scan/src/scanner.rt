@@ -14,11 +14,13 @@ ghost use Rattle.ipc_scan.specs.Sends.{BlockFetchedBy, BlockScanned, IsScanner, 
 
 use crate::columns::{MessageAt, read_chosen, read_marks};
 use crate::keep::{any_marked, keep_rows};
-use crate::message::read_block_message;
 use arrow_arrays::RecordBatch;
 use arrow_spec::{Feature, IpcError};
 use arrow_types::ArrowSchema;
-use ipc_files::{Dictionaries, FileMetadata, ProjectionInfo, Source, check_columns, projection_of};
+use ipc_files::{
+    Dictionaries, FileMetadata, ProjectionInfo, Source, check_columns, projection_of,
+    read_block_message,
+};
 use laws_walk::FileCursor;
 use row_filters::{Filter, are_numbers};
 use std::alloc::Global;

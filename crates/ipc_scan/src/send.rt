@@ -1,54 +1,26 @@
 //! A file's blocks, read one after another for the rows that meet a filter, and these written to a stream.
 ghost use Rattle.std.specs.Prelude.{◌≡◌, ◌≤◌, ◌<◌, ◌^◌, List, ℕ, IfErr, IfOk, IfSome, length};
-ghost use Rattle.arrow_spec.specs.declared.error.IpcError.TheVariants.{Memory};
 ghost use Rattle.arrow_spec.specs.Files.{TableBatch};
 ghost use Rattle.ipc_files.specs.FileDictionaries.{HoldsUses};
 ghost use Rattle.ipc_io.specs.Outside.{IsSize, SinkKept, SourceKept};
 ghost use Rattle.ipc_files.specs.FileViews.{file_custom, meta_view};
-ghost use Rattle.ipc_files.specs.Below.{held_in, numbers_in};
+ghost use Rattle.ipc_files.specs.Below.{held_in};
 ghost use Rattle.laws_scan.specs.Below.{HoldsFile};
 ghost use Rattle.laws_scan.specs.Scans.{ScanFetched, scanned};
 ghost use Rattle.laws_walk.specs.Below.{columns_of};
 ghost use Rattle.laws_walk.specs.Fetching.{FetchesSome};
 ghost use Rattle.laws_walk.specs.Places.{Sending, schema_of_reader};
-ghost use Rattle.laws_walk.specs.Sends.{IsNewWriter, IsWriter, SendCause, SentRows, SentSoFar, send_options};
+ghost use Rattle.laws_walk.specs.Sends.{IsWriter, SendCause, SentRows, SentSoFar};
 ghost use Rattle.ipc_scan.specs.Sends.{BeginsScan, BlocksFetched, IsReady, IsScannedBy, IsUnscanned, ScansAll, ScansFile, ScansNext, first_block, place_at, scanning};
 
 use crate::scanner::Scanner;
 use arrow_spec::IpcError;
 use ipc_bodies::Encoding;
-use ipc_fields::copy_if_any;
-use ipc_files::{Dictionaries, FileMetadata, read_file_dictionaries, read_file_metadata};
+use ipc_files::{Dictionaries, read_file_dictionaries, read_file_metadata};
 use ipc_io::{Sink, Source};
-use laws_walk::{StreamCore, Summary, WriteOptions, types_have_no_ids};
+use laws_walk::{StreamCore, Summary, numbers_asked, types_have_no_ids, writer_of};
 use row_filters::Filter;
 use std::alloc::Global;
-
-/// How the stream is written: what goes on of a dictionary is sent as a delta.
-fn stream_options() -> WriteOptions
-    ensures { result ≡ send_options }
-{
-    WriteOptions {
-        deltas: true,
-        ..WriteOptions::default()
-    }
-}
-
-/// A writer of a stream with the pairs of a file.
-fn writer_of(alloc: Global, file: &FileMetadata, encoding: Encoding) -> Result<StreamCore, IpcError>
-    requires few { length (file_custom file.now) ≤ 1048576 }
-    ensures new { IfOk result (λ w. IsNewWriter file.now encoding w) }
-    ensures err { IfErr result (λ e. e ≡ Memory) }
-{
-    let mut writer = StreamCore::new_as(alloc, stream_options(), encoding)?;
-    if let Some(pairs) = copy_if_any(alloc, &file.custom_schema_metadata)? {
-        writer.set_custom_schema_metadata(pairs);
-    }
-    if let Some(pairs) = copy_if_any(alloc, &file.custom_metadata)? {
-        writer.set_message_metadata(pairs)?;
-    }
-    Ok(writer)
-}
 
 /// Puts the message of the schema of the columns asked for.
 fn begin_stream<W: Sink>(
@@ -179,17 +151,6 @@ fn scan_stream<S: Source, W: Sink>(
     })
 }
 
-/// The numbers of the columns that are asked for.
-fn numbers(alloc: Global, columns: Option<&[usize]>) -> Result<Option<Vec<usize>>, IpcError>
-    ensures same { IfOk result (λ n. numbers_in n ≡ columns_of columns.entry) }
-    ensures err { IfErr result (λ e. e ≡ Memory) }
-{
-    match columns {
-        None => Ok(None),
-        Some(columns) => Ok(Some(columns.to_vec(alloc)?)),
-    }
-}
-
 /// Reads a file, and writes the rows that meet the filter, in the columns that are asked for, as one stream.
 pub(crate) fn scan_file<S: Source, W: Sink>(
     alloc: Global,
@@ -206,7 +167,7 @@ pub(crate) fn scan_file<S: Source, W: Sink>(
     ensures sink { SinkKept W.faults W.wants W.references sink.old sink.new }
 {
     let file = read_file_metadata(alloc, source)?;
-    let columns = numbers(alloc, columns)?;
+    let columns = numbers_asked(alloc, columns)?;
     let scanner = Scanner::new(alloc, file, filter, columns)?;
     scan_stream(alloc, source, sink, &scanner, encoding)
 }

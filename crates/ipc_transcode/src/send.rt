@@ -1,54 +1,26 @@
 //! A file's record batches, read one after another and written to a stream.
 ghost use Rattle.std.specs.Prelude.{◌≡◌, ◌≤◌, ◌<◌, ◌^◌, List, ℕ, Option, Some, Ok, IfErr, IfOk, IfSome, length};
 ghost use Rattle.std.specs.Rc.{rc_value};
-ghost use Rattle.arrow_spec.specs.declared.error.IpcError.TheVariants.{Memory};
 ghost use Rattle.arrow_spec.specs.Files.{TableBatch, columns_right};
 ghost use Rattle.arrow_spec.specs.Kinds.{width};
 ghost use Rattle.ipc_fields.specs.IpcFields.{metadata_of};
 ghost use Rattle.ipc_io.specs.Outside.{IsSize, SinkKept, SourceKept};
 ghost use Rattle.ipc_bodies.specs.Encodings.{text_of};
 ghost use Rattle.laws_walk.specs.Below.{columns_of};
-ghost use Rattle.ipc_reader.specs.Below.{WasRead, file_custom, meta_view, asked, numbers_in};
+ghost use Rattle.ipc_reader.specs.Below.{WasRead, file_custom, meta_view, asked};
 ghost use Rattle.ipc_stream_writer.specs.Calls.{IsFresh};
 ghost use Rattle.laws_walk.specs.Fetching.{FetchesSome, FetchesTo, FileFetched};
 ghost use Rattle.laws_walk.specs.Places.{IsUnread, Sending, schema_of_reader, walking};
-ghost use Rattle.laws_walk.specs.Sends.{IsNewWriter, IsWriter, SendCause, send_options};
+ghost use Rattle.laws_walk.specs.Sends.{IsWriter, SendCause};
 ghost use Rattle.ipc_transcode.specs.Sends.{BeginsStream, FileRows, FileSoFar, IsReader, IsSentBy, SendsAll, SendsFile, SendsNext};
 
 use arrow_spec::IpcError;
 use ipc_bodies::Encoding;
-use ipc_fields::copy_if_any;
 use ipc_io::{Sink, Source};
-use ipc_reader::{FileCursor, FileMetadata, read_file_metadata};
-use ipc_stream_writer::{StreamCore, WriteOptions};
-use laws_walk::{Summary, types_have_no_ids};
+use ipc_reader::{FileCursor, read_file_metadata};
+use ipc_stream_writer::StreamCore;
+use laws_walk::{Summary, batch_count, numbers_asked, types_have_no_ids, writer_of};
 use std::alloc::Global;
-
-/// How the stream is written: what goes on of a dictionary is sent as a delta.
-fn stream_options() -> WriteOptions
-    ensures { result ≡ send_options }
-{
-    WriteOptions {
-        deltas: true,
-        ..WriteOptions::default()
-    }
-}
-
-/// A writer of a stream with the pairs of a file.
-fn writer_of(alloc: Global, file: &FileMetadata, encoding: Encoding) -> Result<StreamCore, IpcError>
-    requires few { length (file_custom file.now) ≤ 1048576 }
-    ensures new { IfOk result (λ w. IsNewWriter file.now encoding w) }
-    ensures err { IfErr result (λ e. e ≡ Memory) }
-{
-    let mut writer = StreamCore::new_as(alloc, stream_options(), encoding)?;
-    if let Some(pairs) = copy_if_any(alloc, &file.custom_schema_metadata)? {
-        writer.set_custom_schema_metadata(pairs);
-    }
-    if let Some(pairs) = copy_if_any(alloc, &file.custom_metadata)? {
-        writer.set_message_metadata(pairs)?;
-    }
-    Ok(writer)
-}
 
 /// Puts the message of the schema of a file's columns.
 fn begin_stream<W: Sink>(
@@ -68,14 +40,6 @@ fn begin_stream<W: Sink>(
     types_have_no_ids(reader.schema());
     writer.start(sink, reader.schema(), None)?;
     Ok(writer)
-}
-
-/// How many record batches a file has.
-fn batch_count(file: &FileMetadata) -> usize
-    ensures count { result ≡ length file.now.blocks.items }
-    ensures few { result < 2 ^ 63 }
-{
-    file.blocks.len()
 }
 
 /// Reads the next record batch, if there is one, and writes it. It answers how many rows the batch has.
@@ -171,17 +135,6 @@ fn send_stream<S: Source, W: Sink>(
     })
 }
 
-/// The numbers of the columns that are asked for.
-fn numbers(alloc: Global, columns: Option<&[usize]>) -> Result<Option<Vec<usize>>, IpcError>
-    ensures same { IfOk result (λ n. numbers_in n ≡ columns_of columns.entry) }
-    ensures err { IfErr result (λ e. e ≡ Memory) }
-{
-    match columns {
-        None => Ok(None),
-        Some(columns) => Ok(Some(columns.to_vec(alloc)?)),
-    }
-}
-
 /// Reads a file, and writes its table, in the columns and the rows that are asked for, as one stream.
 pub(crate) fn send_file<S: Source, W: Sink>(
     alloc: Global,
@@ -198,7 +151,7 @@ pub(crate) fn send_file<S: Source, W: Sink>(
     ensures sink { SinkKept W.faults W.wants W.references sink.old sink.new }
 {
     let file = read_file_metadata(alloc, source)?;
-    let columns = numbers(alloc, columns)?;
+    let columns = numbers_asked(alloc, columns)?;
     let mut reader = FileCursor::new(alloc, file, columns, limit)?;
     send_stream(alloc, source, sink, &mut reader, encoding)
 }

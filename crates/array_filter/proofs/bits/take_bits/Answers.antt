@@ -1,6 +1,10 @@
-use Rattle.std.proofs.Common.{◌∙◌, sym, ap, ◌+◌, ◌++◌, get_or, length}
+use Rattle.std.proofs.Common.{◌≡◌, ◌∙◌, sym, ap, ◌+◌, ◌++◌, get_or, length}
 use Rattle.arrow_buffers.specs.Rows.{part}
+use Rattle.array_filter.specs.Rows.{taken}
+use Rattle.array_filter.specs.Runs.{rows_in_runs}
+use Rattle.array_filter.proofs.Kept.{if_kept}
 use Rattle.array_filter.proofs.RunLaws.{items_next, no_run, reached_next, run_here}
+use Rattle.array_filter.proofs.Whole.{whole_items}
 use Rattle.array_filter.proofs.bits.take_bits.Goals as goal
 
 pub push_bits-requires : goal.push_bits-requires
@@ -21,3 +25,9 @@ loop-run-preserved c =
       bits = c.in_ok-push_bits.ensures ∙ ap (λ ys. ys ++ part r.from r.count bits) c.loop-run.invariant.bits ∙ sym (items_next bits runs k r c.loop-run-test.true here n.within);
       reached = record { low = r.from + r.count; left = n.left };
     }
+
+pub returns-then-is_one : goal.returns-then-is_one
+returns-then-is_one c =
+    let bits = c.args.bits.now in
+    let runs = c.args.runs.now in
+    if_kept c.try_clone.result (λ b. b ≡ bits) (λ b. b ≡ taken (rows_in_runs runs) bits) (λ b h. h ∙ sym (whole_items bits runs c.len.result c.len.ensures (c.is_one.ensures c.if-is_one.true))) c.try_clone.ensures

@@ -1,17 +1,26 @@
-use Rattle.std.proofs.Common.{◌≡◌, ◌∙◌, ap, ◌*◌, length, not, arith}
+use Rattle.std.proofs.Common.{◌≡◌, ◌∙◌, sym, ap, ◌*◌, length, not, arith}
 use Rattle.std.specs.List.{flat_map}
 use Rattle.std.specs.Rc.{rc_slice_items}
 use Rattle.arrow_spec.specs.Flat.{order_by}
 use Rattle.arrow_buffers.specs.Items.{items_at}
 use Rattle.arrow_buffers.specs.Leaf.{fixed_row}
 use Rattle.array_filter.specs.Runs.{rows_in_runs}
+use Rattle.array_filter.specs.Rows.{taken}
+use Rattle.array_filter.proofs.Kept.{if_kept}
 use Rattle.array_filter.proofs.Made.{items_kept, kept_size}
 use Rattle.array_filter.proofs.RunLaws.{climb_below, climb_within}
 use Rattle.array_filter.proofs.RunSteps.{climb_as}
+use Rattle.array_filter.proofs.Whole.{whole_items}
 use Rattle.array_filter.proofs.bytes.take_items.Goals as goal
 
+pub returns-then-is_one : goal.returns-then-is_one
+returns-then-is_one g c =
+    let items = c.args.items.now in
+    let runs = c.args.runs.now in
+    if_kept c.try_clone.result (λ b. b ≡ items) (λ b. b ≡ taken (rows_in_runs runs) items) (λ b h. h ∙ sym (whole_items items runs c.len.result c.len.ensures (c.is_one.ensures c.if-is_one.true))) c.try_clone.ensures
+
 pub row_count-count-requires : goal.row_count-count-requires
-row_count-count-requires g c = climb_as c.args.runs.now (length c.args.items.now) c.len.result c.len.ensures c.requires
+row_count-count-requires g c = climb_as c.args.runs.now (length c.args.items.now) c.len-2.result c.len-2.ensures c.requires
 
 pub take_bytes-requires : goal.take_bytes-requires
 take_bytes-requires g c =

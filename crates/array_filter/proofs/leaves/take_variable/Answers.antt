@@ -22,15 +22,15 @@ pub take_offsets-requires-clause-rise : goal.take_offsets-requires-clause-rise
 take_offsets-requires-clause-rise g c =
     let p = c.args.array.now in
     let s = (variable_sound g.V.ViewType.IS_TEXT (is_variable g.V.ViewType.IS_TEXT g.O.Offset.IS_LARGE (physical_of p.kind)) p c.len-held.ensures.sound).spanned in
-    ap (λ os. are_offsets os (length c.as_slice-bytes.result.now)) c.offsets.ensures ∙ ap (are_offsets p.offsets) (ap length (c.as_slice-bytes.ensures ∙ c.values.ensures)) ∙ s.rise
+    ap (λ os. are_offsets os c.len-limit.result) c.offsets.ensures ∙ ap (are_offsets p.offsets) (c.len-limit.ensures ∙ ap length c.values.ensures) ∙ s.rise
 
 pub take_offsets-requires-clause-climb : goal.take_offsets-requires-clause-climb
 take_offsets-requires-clause-climb g c = subst (λ os. Climb 0 c.args.runs.now (variable_rows os)) (sym c.offsets.ensures) c.requires
 
-pub take_bytes-requires : goal.take_bytes-requires
-take_bytes-requires g c =
-    let n = length c.as_slice-bytes.result.now in
-    climb_within 1 0 c.as_slice.result.now n n (subst (λ runs. Climb 0 runs n) (sym c.as_slice.ensures.value) c.in_ok-offsets.ensures.climb) (omega arith)
+pub take_rows-requires : goal.take_rows-requires
+take_rows-requires g c =
+    let n = c.len-limit.result in
+    climb_within 1 0 c.as_slice.result.now n (length c.values-2.result.now) (subst (λ runs. Climb 0 runs n) (sym c.as_slice.ensures.value) c.in_ok-offsets.ensures.climb) (omega (arith, c.len-limit.ensures, ap length c.values.ensures, ap length c.values-2.ensures))
 
 pub take_validity-requires-clause-climb : goal.take_validity-requires-clause-climb
 take_validity-requires-clause-climb g c = climb_as c.args.runs.now (variable_rows c.args.array.now.offsets) c.len-held.result c.len-held.ensures.rows c.requires
@@ -39,16 +39,16 @@ pub unreachable-requires : goal.unreachable-requires
 unreachable-requires g c =
     let p = c.args.array.now in
     let rows = rows_in_runs c.args.runs.now in
-    let held = c.as_slice-bytes.result.now in
+    let held = c.values-2.result.now in
     let is_text = g.V.ViewType.IS_TEXT in
     let is_large = g.O.Offset.IS_LARGE in
     refused (λ x. variable_fault is_text (is_variable is_text is_large (physical_of x.kind)) x) (variable_of (kind_of c.in_ok-dtype.dtype) (map g.O.Offset.number c.in_ok-offsets.offsets) c.in_ok-values.values c.in_ok-validity.validity) (variable_taken rows p) c.in-Err.field-0
     (variable_same (kind_of c.in_ok-dtype.dtype) p.kind (map g.O.Offset.number c.in_ok-offsets.offsets) (offsets_taken rows p.offsets) c.in_ok-values.values (flat_map (row_bytes p.offsets p.values) rows) c.in_ok-validity.validity (option_map (taken rows) p.validity)
     (c.in_ok-dtype.ensures ∙ c.dtype.ensures)
     (c.in_ok-offsets.ensures.offsets ∙ ap (offsets_taken rows) c.offsets.ensures)
-    (c.in_ok-values.ensures ∙ c.in_ok-take_bytes.ensures ∙ ap (λ rs. flat_map (fixed_row 1 held) (rows_in_runs rs)) c.as_slice.ensures.value
+    (c.in_ok-values.ensures ∙ ap (λ rs. flat_map (fixed_row 1 held) (rows_in_runs rs)) c.as_slice.ensures.value
     ∙ ap (flat_map (fixed_row 1 held)) (c.in_ok-offsets.ensures.items ∙ ap (items_taken rows) c.offsets.ensures) ∙ bytes_of_items (place_at p.offsets) (row_length p.offsets) held rows
-    ∙ ap (λ bs. flat_map (row_bytes p.offsets bs) rows) (c.as_slice-bytes.ensures ∙ c.values.ensures))
+    ∙ ap (λ bs. flat_map (row_bytes p.offsets bs) rows) c.values-2.ensures)
     (c.in_ok-validity.ensures ∙ ap (option_map (taken rows)) c.validity.ensures.bits))
     (variable_fault-taken is_text (is_variable is_text is_large (physical_of p.kind)) rows p c.len-held.ensures.sound (climb_below 0 c.args.runs.now (variable_rows p.offsets) c.requires))
     c.in-Err.ensures.err
@@ -57,11 +57,11 @@ pub returns : goal.returns
 returns g c =
     let p = c.args.array.now in
     let rows = rows_in_runs c.args.runs.now in
-    let held = c.as_slice-bytes.result.now in
+    let held = c.values-2.result.now in
     c.in-Ok.ensures.ok ∙ (variable_same (kind_of c.in_ok-dtype.dtype) p.kind (map g.O.Offset.number c.in_ok-offsets.offsets) (offsets_taken rows p.offsets) c.in_ok-values.values (flat_map (row_bytes p.offsets p.values) rows) c.in_ok-validity.validity (option_map (taken rows) p.validity)
     (c.in_ok-dtype.ensures ∙ c.dtype.ensures)
     (c.in_ok-offsets.ensures.offsets ∙ ap (offsets_taken rows) c.offsets.ensures)
-    (c.in_ok-values.ensures ∙ c.in_ok-take_bytes.ensures ∙ ap (λ rs. flat_map (fixed_row 1 held) (rows_in_runs rs)) c.as_slice.ensures.value
+    (c.in_ok-values.ensures ∙ ap (λ rs. flat_map (fixed_row 1 held) (rows_in_runs rs)) c.as_slice.ensures.value
     ∙ ap (flat_map (fixed_row 1 held)) (c.in_ok-offsets.ensures.items ∙ ap (items_taken rows) c.offsets.ensures) ∙ bytes_of_items (place_at p.offsets) (row_length p.offsets) held rows
-    ∙ ap (λ bs. flat_map (row_bytes p.offsets bs) rows) (c.as_slice-bytes.ensures ∙ c.values.ensures))
+    ∙ ap (λ bs. flat_map (row_bytes p.offsets bs) rows) c.values-2.ensures)
     (c.in_ok-validity.ensures ∙ ap (option_map (taken rows)) c.validity.ensures.bits))

@@ -15,8 +15,8 @@ use Rattle.array_filter.proofs.RunLaws.{climb_below}
 use Rattle.array_filter.proofs.RunSteps.{bytes_within, climb_as}
 use Rattle.array_filter.proofs.leaves.take_views.Goals as goal
 
-pub take_bytes-requires : goal.take_bytes-requires
-take_bytes-requires g c = bytes_within 16 16 c.args.runs.now (length c.args.array.now.views) (length c.as_slice.result.now) refl (omega arith) (ap length (c.as_slice.ensures ∙ c.views.ensures)) c.requires
+pub take_rows-requires : goal.take_rows-requires
+take_rows-requires g c = bytes_within 16 16 c.args.runs.now (length c.args.array.now.views) (length c.views.result.now) refl (omega arith) (ap length c.views.ensures) c.requires
 
 pub take_validity-requires-clause-climb : goal.take_validity-requires-clause-climb
 take_validity-requires-clause-climb g c = climb_as c.args.runs.now (view_rows c.args.array.now.views) c.len-held.result c.len-held.ensures.rows c.requires
@@ -29,7 +29,7 @@ unreachable-requires g c =
     refused (λ x. view_fault is_text (is_view is_text (physical_of x.kind)) x) (views_of (kind_of c.in_ok-dtype.dtype) c.in_ok-views.views c.in_ok-buffers.buffers.items c.in_ok-validity.validity) (views_taken rows p) c.in-Err.field-0
     (views_same (kind_of c.in_ok-dtype.dtype) p.kind c.in_ok-views.views (flat_map (view_at p.views) rows) c.in_ok-buffers.buffers.items p.buffers c.in_ok-validity.validity (option_map (taken rows) p.validity)
     (c.in_ok-dtype.ensures ∙ c.dtype.ensures)
-    (c.in_ok-views.ensures ∙ c.in_ok-bytes.ensures ∙ ap (λ xs. flat_map (view_at xs) rows) (c.as_slice.ensures ∙ c.views.ensures))
+    (c.in_ok-views.ensures ∙ ap (λ xs. flat_map (view_at xs) rows) c.views.ensures)
     (c.in_ok-buffers.ensures ∙ c.data_buffers.ensures)
     (c.in_ok-validity.ensures ∙ ap (option_map (taken rows)) c.validity.ensures.bits))
     (view_fault-taken is_text (is_view is_text (physical_of p.kind)) rows p c.len-held.ensures.sound (climb_below 0 c.args.runs.now (view_rows p.views) c.requires))
@@ -42,6 +42,6 @@ returns g c =
     c.in-Ok.ensures.ok
     ∙ views_same (kind_of c.in_ok-dtype.dtype) p.kind c.in_ok-views.views (flat_map (view_at p.views) rows) c.in_ok-buffers.buffers.items p.buffers c.in_ok-validity.validity (option_map (taken rows) p.validity)
     (c.in_ok-dtype.ensures ∙ c.dtype.ensures)
-    (c.in_ok-views.ensures ∙ c.in_ok-bytes.ensures ∙ ap (λ xs. flat_map (view_at xs) rows) (c.as_slice.ensures ∙ c.views.ensures))
+    (c.in_ok-views.ensures ∙ ap (λ xs. flat_map (view_at xs) rows) c.views.ensures)
     (c.in_ok-buffers.ensures ∙ c.data_buffers.ensures)
     (c.in_ok-validity.ensures ∙ ap (option_map (taken rows)) c.validity.ensures.bits)

@@ -45,5 +45,5 @@ returns-in_err-add_next-clause-cause g c =
 
 pub returns-clause-adds : goal.returns-clause-adds
 returns-clause-adds g c =
-    let n : c.batch_count-end.result ≡ length c.args.reader.now.metadata.blocks.items = c.batch_count-end.ensures ∙ ap (λ (m : FileMetadata). length m.blocks.items) c.metadata.ensures in
+    let n : c.batch_count-end.result ≡ length c.args.reader.now.metadata.blocks.items = c.batch_count-end.ensures.count ∙ ap (λ (m : FileMetadata). length m.blocks.items) c.metadata.ensures in
     file_done c.args.reader.now c.args.stream.now (g.W.Sink.written c.args.sink.now) (g.S.Source.content c.args.source.now) c.loop.reader c.loop.stream (g.W.Sink.written c.loop.sink) c.loop.counter 0 0 (omega (arith, n)) c.loop.invariant.metadata c.loop.invariant.adds

@@ -4,7 +4,7 @@ use Rattle.std.specs.Rc.{rc_value}
 use Rattle.arrow_spec.specs.declared.error.IpcError.TheVariants.{Memory}
 use Rattle.arrow_spec.specs.Features.{chosen_floats}
 use Rattle.arrow_arrays.specs.Parts.{kind_in}
-use Rattle.ipc_files.specs.FileBlocks.{file_block}
+use Rattle.ipc_files.specs.FileBlocks.{file_block, paired_of}
 use Rattle.ipc_files.specs.FileViews.{meta_view}
 use Rattle.ipc_files.proofs.Errors.{is_err}
 use Rattle.ipc_files.proofs.InOrder.{made_range, made_rising, may_reorder, none_shown}
@@ -12,7 +12,6 @@ use Rattle.ipc_files.proofs.ShownFields.{all_fields, ordered_fields}
 use Rattle.ipc_projection.specs.Below.{are_columns, are_rising, chosen, columns_of}
 use Rattle.ipc_read.specs.Batches.{kinds_of}
 use Rattle.ipc_read.specs.Held.{held_in}
-use Rattle.ipc_scan.specs.Messages.{paired}
 use Rattle.ipc_scan.proofs.BlockColumns.{chosen_all, chosen_memory, chosen_ordered, chosen_refused, reordered_height, with_same}
 use Rattle.ipc_scan.proofs.FetchedBlocks.{buffers_asked}
 use Rattle.ipc_scan.proofs.columns.read_chosen.Goals as goal
@@ -32,7 +31,7 @@ read_columns-requires-clause-floats g c = ap (λ ns. chosen_floats ns (meta_view
 pub returns-in_err-batch-clause-gives : goal.returns-in_err-batch-clause-gives
 returns-in_err-batch-clause-gives g c =
     let e : c.from_residual.result ≡ Err c.in_err-batch.field-0.0 = is_err _ _ _ c.from_residual.ensures.0 c.from_residual.ensures.1 (λ f h. h) in
-    chosen_refused (g.S.Source.content c.args.source.now) (held_in c.args.dictionaries.now) c.args.file.now (option_copied c.args.projection) (columns_of c.rising_numbers-numbers.result) c.args.at.block.now (paired c.args.at.read.now) c.from_residual.result c.in_err-batch.field-0.0
+    chosen_refused (g.S.Source.content c.args.source.now) (held_in c.args.dictionaries.now) c.args.file.now (option_copied c.args.projection) (columns_of c.rising_numbers-numbers.result) c.args.at.block.now (paired_of c.args.at.read.now) c.from_residual.result c.in_err-batch.field-0.0
     e c.rising_numbers-numbers.ensures c.requires.message c.requires.fits c.in_err-batch.ensures.gives
 
 pub returns-in_err-batch-clause-schema : goal.returns-in_err-batch-clause-schema
@@ -42,7 +41,7 @@ returns-in_err-batch-clause-schema g c = λ columns may.
 
 pub returns-in_err-batch-clause-fetched : goal.returns-in_err-batch-clause-fetched
 returns-in_err-batch-clause-fetched g c = λ columns may.
-    buffers_asked (g.S.Source.content c.args.source.now) (meta_view c.args.file.now) (paired c.args.at.read.now) (rc_value c.args.file.now.schema) columns (columns_of c.rising_numbers-numbers.result) (option_copied c.args.projection) (file_block c.args.at.block.now) _ _ c.rising_numbers-numbers.ensures may c.in_err-batch.ensures.fetched
+    buffers_asked (g.S.Source.content c.args.source.now) (meta_view c.args.file.now) (paired_of c.args.at.read.now) (rc_value c.args.file.now.schema) columns (columns_of c.rising_numbers-numbers.result) (option_copied c.args.projection) (file_block c.args.at.block.now) _ _ c.rising_numbers-numbers.ensures may c.in_err-batch.ensures.fetched
 
 -- ── want of memory ──
 
@@ -58,7 +57,7 @@ returns-in_err-pairs-clause-schema g c = λ columns may.
 
 pub returns-in_err-pairs-clause-fetched : goal.returns-in_err-pairs-clause-fetched
 returns-in_err-pairs-clause-fetched g c = λ columns may.
-    buffers_asked (g.S.Source.content c.args.source.now) (meta_view c.args.file.now) (paired c.args.at.read.now) (rc_value c.args.file.now.schema) columns (columns_of c.rising_numbers-numbers.result) (option_copied c.args.projection) (file_block c.args.at.block.now) _ _ c.rising_numbers-numbers.ensures may c.in_ok-batch.ensures.fetched
+    buffers_asked (g.S.Source.content c.args.source.now) (meta_view c.args.file.now) (paired_of c.args.at.read.now) (rc_value c.args.file.now.schema) columns (columns_of c.rising_numbers-numbers.result) (option_copied c.args.projection) (file_block c.args.at.block.now) _ _ c.rising_numbers-numbers.ensures may c.in_ok-batch.ensures.fetched
 
 pub with_optional_metadata-paired-requires : goal.with_optional_metadata-paired-requires
 with_optional_metadata-paired-requires g c = subst (λ pairs. length pairs ≤ 1048576) (sym c.in_ok-pairs.ensures.same) c.requires.ordered.few
@@ -67,8 +66,8 @@ with_optional_metadata-paired-requires g c = subst (λ pairs. length pairs ≤ 1
 
 pub returns-in-None-clause-gives : goal.returns-in-None-clause-gives
 returns-in-None-clause-gives g c =
-    let pairs = with_same c.in_ok-batch.batch c.with_optional_metadata-paired.result _ (paired c.args.at.read.now).custom c.with_optional_metadata-paired.ensures c.in_ok-pairs.ensures.same in
-    chosen_all (g.S.Source.content c.args.source.now) (held_in c.args.dictionaries.now) c.args.file.now (option_copied c.args.projection) (columns_of c.rising_numbers-numbers.result) c.args.at.block.now (paired c.args.at.read.now) c.in_ok-batch.batch c.with_optional_metadata-paired.result
+    let pairs = with_same c.in_ok-batch.batch c.with_optional_metadata-paired.result _ (paired_of c.args.at.read.now).custom c.with_optional_metadata-paired.ensures c.in_ok-pairs.ensures.same in
+    chosen_all (g.S.Source.content c.args.source.now) (held_in c.args.dictionaries.now) c.args.file.now (option_copied c.args.projection) (columns_of c.rising_numbers-numbers.result) c.args.at.block.now (paired_of c.args.at.read.now) c.in_ok-batch.batch c.with_optional_metadata-paired.result
     (ap option_copied c.in-None.is) c.rising_numbers-numbers.ensures c.requires.message c.requires.fits c.requires.ordered pairs c.in_ok-batch.ensures.gives
 
 pub returns-in-None-clause-height : goal.returns-in-None-clause-height
@@ -83,7 +82,7 @@ returns-in-None-clause-schema g c = λ columns may.
 
 pub returns-in-None-clause-fetched : goal.returns-in-None-clause-fetched
 returns-in-None-clause-fetched g c = λ columns may.
-    buffers_asked (g.S.Source.content c.args.source.now) (meta_view c.args.file.now) (paired c.args.at.read.now) (rc_value c.args.file.now.schema) columns (columns_of c.rising_numbers-numbers.result) (option_copied c.args.projection) (file_block c.args.at.block.now) _ _ c.rising_numbers-numbers.ensures may c.in_ok-batch.ensures.fetched
+    buffers_asked (g.S.Source.content c.args.source.now) (meta_view c.args.file.now) (paired_of c.args.at.read.now) (rc_value c.args.file.now.schema) columns (columns_of c.rising_numbers-numbers.result) (option_copied c.args.projection) (file_block c.args.at.block.now) _ _ c.rising_numbers-numbers.ensures may c.in_ok-batch.ensures.fetched
 
 -- ── in the order asked ──
 
@@ -95,8 +94,8 @@ apply_projection-requires g c = record {
 
 pub returns-in-Some-clause-gives : goal.returns-in-Some-clause-gives
 returns-in-Some-clause-gives g c =
-    let pairs = with_same c.in_ok-batch.batch c.with_optional_metadata-paired.result _ (paired c.args.at.read.now).custom c.with_optional_metadata-paired.ensures c.in_ok-pairs.ensures.same in
-    chosen_ordered (g.S.Source.content c.args.source.now) (held_in c.args.dictionaries.now) c.args.file.now (option_copied c.args.projection) c.in-Some.projection.now (columns_of c.rising_numbers-numbers.result) c.args.at.block.now (paired c.args.at.read.now) c.in_ok-batch.batch c.with_optional_metadata-paired.result c.apply_projection.result
+    let pairs = with_same c.in_ok-batch.batch c.with_optional_metadata-paired.result _ (paired_of c.args.at.read.now).custom c.with_optional_metadata-paired.ensures c.in_ok-pairs.ensures.same in
+    chosen_ordered (g.S.Source.content c.args.source.now) (held_in c.args.dictionaries.now) c.args.file.now (option_copied c.args.projection) c.in-Some.projection.now (columns_of c.rising_numbers-numbers.result) c.args.at.block.now (paired_of c.args.at.read.now) c.in_ok-batch.batch c.with_optional_metadata-paired.result c.apply_projection.result
     (ap option_copied c.in-Some.is) c.rising_numbers-numbers.ensures c.requires.message c.requires.fits c.requires.ordered pairs c.apply_projection.ensures.reordered c.apply_projection.ensures.memory c.in_ok-batch.ensures.gives
 
 pub returns-in-Some-clause-height : goal.returns-in-Some-clause-height
@@ -113,4 +112,4 @@ returns-in-Some-clause-schema g c = λ columns may.
 
 pub returns-in-Some-clause-fetched : goal.returns-in-Some-clause-fetched
 returns-in-Some-clause-fetched g c = λ columns may.
-    buffers_asked (g.S.Source.content c.args.source.now) (meta_view c.args.file.now) (paired c.args.at.read.now) (rc_value c.args.file.now.schema) columns (columns_of c.rising_numbers-numbers.result) (option_copied c.args.projection) (file_block c.args.at.block.now) _ _ c.rising_numbers-numbers.ensures may c.in_ok-batch.ensures.fetched
+    buffers_asked (g.S.Source.content c.args.source.now) (meta_view c.args.file.now) (paired_of c.args.at.read.now) (rc_value c.args.file.now.schema) columns (columns_of c.rising_numbers-numbers.result) (option_copied c.args.projection) (file_block c.args.at.block.now) _ _ c.rising_numbers-numbers.ensures may c.in_ok-batch.ensures.fetched

@@ -5,7 +5,7 @@ use Rattle.arrow_arrays.specs.PartsOf.{parts_of}
 use Rattle.ipc_files.specs.FileViews.{meta_view}
 use Rattle.ipc_files.proofs.Errors.{is_err}
 use Rattle.ipc_read.specs.Held.{held_in}
-use Rattle.ipc_scan.specs.Messages.{paired}
+use Rattle.ipc_files.specs.FileBlocks.{paired_of}
 use Rattle.ipc_scan.proofs.BlockColumns.{marks_count, marks_memory, marks_read, marks_refused, one_array, only_column}
 use Rattle.ipc_scan.proofs.TestedColumns.{one_below, one_kind, one_rises, tested_floats}
 use Rattle.ipc_scan.proofs.columns.read_marks.Goals as goal
@@ -26,7 +26,7 @@ prove-unreachable-requires g c =
 pub returns-in_err-tested-clause-gives : goal.returns-in_err-tested-clause-gives
 returns-in_err-tested-clause-gives g c =
     let e : c.from_residual.result ≡ Err c.in_err-tested.field-0.0 = is_err _ _ _ c.from_residual.ensures.0 c.from_residual.ensures.1 (λ f h. h) in
-    marks_refused (g.S.Source.content c.args.source.now) (held_in c.args.dictionaries.now) c.args.file.now c.args.filter c.args.at.block.now (paired c.args.at.read.now) c.from_residual.result c.in_err-tested.field-0.0 e c.requires.message c.requires.fits c.in_err-tested.ensures.gives
+    marks_refused (g.S.Source.content c.args.source.now) (held_in c.args.dictionaries.now) c.args.file.now c.args.filter c.args.at.block.now (paired_of c.args.at.read.now) c.from_residual.result c.in_err-tested.field-0.0 e c.requires.message c.requires.fits c.in_err-tested.ensures.gives
 
 pub returns-in_err-row_marks-clause-gives : goal.returns-in_err-row_marks-clause-gives
 returns-in_err-row_marks-clause-gives g c =
@@ -38,7 +38,7 @@ returns-clause-gives g c =
     let a = c.index-columns-0.result in
     let one = one_array c.arrays-columns.result.now c.in_ok-tested.tested.arrays _ c.arrays-columns.ensures c.in_ok-tested.ensures.kinds (one_kind c.args.filter.column (rc_value c.args.file.now.schema) c.requires.below) in
     let only = only_column c.arrays-columns.result.now a c.in_ok-tested.tested.arrays c.arrays-columns.ensures one c.index-columns-0.is in
-    marks_read (g.S.Source.content c.args.source.now) (held_in c.args.dictionaries.now) c.args.file.now c.args.filter c.args.at.block.now (paired c.args.at.read.now) c.in_ok-tested.tested (parts_of a) c.in_ok-row_marks.field-0
+    marks_read (g.S.Source.content c.args.source.now) (held_in c.args.dictionaries.now) c.args.file.now c.args.filter c.args.at.block.now (paired_of c.args.at.read.now) c.in_ok-tested.tested (parts_of a) c.in_ok-row_marks.field-0
     c.requires.message c.requires.fits c.requires.ordered only c.in_ok-row_marks.ensures c.in_ok-tested.ensures.gives
 
 pub returns-clause-rows : goal.returns-clause-rows

@@ -2,7 +2,7 @@ use Rattle.std.proofs.Common.{◌≡◌, ◌∙◌, ◌<◌, ap, Bool, Err, fals
 use Rattle.std.specs.Prelude.{option_copied}
 use Rattle.std.specs.Rc.{rc_value}
 use Rattle.arrow_spec.specs.Features.{chosen_floats}
-use Rattle.ipc_files.specs.FileBlocks.{file_block}
+use Rattle.ipc_files.specs.FileBlocks.{file_block, paired_of}
 use Rattle.ipc_files.specs.FileViews.{meta_view}
 use Rattle.ipc_files.specs.Selections.{HasFields, numbers_read, schema_shown}
 use Rattle.ipc_files.specs.declared.metadata.FileMetadata.{FileMetadata}
@@ -15,7 +15,6 @@ use Rattle.row_filters.specs.Filters.{is_tested}
 use Rattle.laws_scan.specs.Filtered.{any_marked}
 use Rattle.laws_scan.specs.Reads.{KeepsRows}
 use Rattle.laws_scan.specs.Scan.{filter_alone}
-use Rattle.ipc_scan.specs.Messages.{paired}
 use Rattle.ipc_scan.proofs.BlockReads.{buffers_as, chooses_as, columns_fail, fields_kept, front_fetched, is_message, message_as, message_fails, none_kept, rest_as, rows_kept, tests_as, tests_fail, tests_fetched, whole_fetched}
 use Rattle.ipc_scan.proofs.Scanners.{right_parts, right_within}
 use Rattle.ipc_scan.proofs.scanner.Scanner.read_block.Goals as goal
@@ -34,7 +33,7 @@ returns-in_err-read-clause-fetched g c =
 pub read_marks-requires-clause-message : goal.read_marks-requires-clause-message
 read_marks-requires-clause-message g c =
     let message = is_message (g.S.Source.content c.args.source.now) c.index-block.result.now c.in_ok-read.read c.in_ok-read.ensures.message in
-    message_as (g.S.Source.content c.args.source.now) _ c.index-block.result.now (paired c.in_ok-read.read) c.in_ok-read.ensures.kept.content message
+    message_as (g.S.Source.content c.args.source.now) _ c.index-block.result.now (paired_of c.in_ok-read.read) c.in_ok-read.ensures.kept.content message
 
 pub read_marks-requires-clause-tested : goal.read_marks-requires-clause-tested
 read_marks-requires-clause-tested g c =
@@ -56,7 +55,7 @@ returns-in_err-marks-clause-reads g c =
 pub returns-in_err-marks-clause-fetched : goal.returns-in_err-marks-clause-fetched
 returns-in_err-marks-clause-fetched g c =
     let s = c.args.self.now in
-    let m = paired c.in_ok-read.read in
+    let m = paired_of c.in_ok-read.read in
     let message = is_message (g.S.Source.content c.args.source.now) c.index-block.result.now c.in_ok-read.read c.in_ok-read.ensures.message in
     let first = buffers_as (g.S.Source.content c.args.source.now) _ s.reader.metadata c.metadata-file.result.now m (filter_alone s.filter) (file_block c.index-block.result.now) _ _ c.in_ok-read.ensures.kept.content c.metadata-file.ensures c.in_err-marks.ensures.fetched in
     tests_fetched (g.S.Source.content c.args.source.now) s (held_in c.args.dictionaries.now) c.args.number c.index-block.result.now c.requires.within (subst (λ (x : FileMetadata). c.index-block.result.now ≡ get_or x.blocks.items c.args.number c.index-block.result.now) c.metadata-file.ensures c.index-block.ensures) m _ _ _ message c.in_ok-read.ensures.fetched first
@@ -71,7 +70,7 @@ returns-then-not-any_marked-clause-reads g c =
 pub returns-then-not-any_marked-clause-fetched : goal.returns-then-not-any_marked-clause-fetched
 returns-then-not-any_marked-clause-fetched g c =
     let s = c.args.self.now in
-    let m = paired c.in_ok-read.read in
+    let m = paired_of c.in_ok-read.read in
     let message = is_message (g.S.Source.content c.args.source.now) c.index-block.result.now c.in_ok-read.read c.in_ok-read.ensures.message in
     let first = buffers_as (g.S.Source.content c.args.source.now) _ s.reader.metadata c.metadata-file.result.now m (filter_alone s.filter) (file_block c.index-block.result.now) _ _ c.in_ok-read.ensures.kept.content c.metadata-file.ensures c.in_ok-marks.ensures.fetched in
     tests_fetched (g.S.Source.content c.args.source.now) s (held_in c.args.dictionaries.now) c.args.number c.index-block.result.now c.requires.within (subst (λ (x : FileMetadata). c.index-block.result.now ≡ get_or x.blocks.items c.args.number c.index-block.result.now) c.metadata-file.ensures c.index-block.ensures) m _ _ _ message c.in_ok-read.ensures.fetched first
@@ -80,7 +79,7 @@ pub read_chosen-requires-clause-message : goal.read_chosen-requires-clause-messa
 read_chosen-requires-clause-message g c =
     let message = is_message (g.S.Source.content c.args.source.now) c.index-block.result.now c.in_ok-read.read c.in_ok-read.ensures.message in
     let behind = c.in_ok-marks.ensures.kept.content ∙ c.in_ok-read.ensures.kept.content in
-    message_as (g.S.Source.content c.args.source.now) _ c.index-block.result.now (paired c.in_ok-read.read) behind message
+    message_as (g.S.Source.content c.args.source.now) _ c.index-block.result.now (paired_of c.in_ok-read.read) behind message
 
 pub read_chosen-requires-clause-floats : goal.read_chosen-requires-clause-floats
 read_chosen-requires-clause-floats g c =
@@ -104,7 +103,7 @@ returns-in_err-batch-clause-reads g c =
 pub returns-in_err-batch-clause-fetched : goal.returns-in_err-batch-clause-fetched
 returns-in_err-batch-clause-fetched g c =
     let s = c.args.self.now in
-    let m = paired c.in_ok-read.read in
+    let m = paired_of c.in_ok-read.read in
     let message = is_message (g.S.Source.content c.args.source.now) c.index-block.result.now c.in_ok-read.read c.in_ok-read.ensures.message in
     let behind = c.in_ok-marks.ensures.kept.content ∙ c.in_ok-read.ensures.kept.content in
     let tests = tests_as (g.S.Source.content c.args.source.now) _ (held_in c.args.dictionaries.now) s.reader.metadata c.metadata-file.result.now s.filter c.index-block.result.now (Ok c.in_ok-marks.marks) c.in_ok-read.ensures.kept.content c.metadata-file.ensures c.in_ok-marks.ensures.gives in
@@ -116,7 +115,7 @@ returns-in_err-batch-clause-fetched g c =
 pub returns-in_err-keep_rows-clause-fetched : goal.returns-in_err-keep_rows-clause-fetched
 returns-in_err-keep_rows-clause-fetched g c =
     let s = c.args.self.now in
-    let m = paired c.in_ok-read.read in
+    let m = paired_of c.in_ok-read.read in
     let message = is_message (g.S.Source.content c.args.source.now) c.index-block.result.now c.in_ok-read.read c.in_ok-read.ensures.message in
     let behind = c.in_ok-marks.ensures.kept.content ∙ c.in_ok-read.ensures.kept.content in
     let tests = tests_as (g.S.Source.content c.args.source.now) _ (held_in c.args.dictionaries.now) s.reader.metadata c.metadata-file.result.now s.filter c.index-block.result.now (Ok c.in_ok-marks.marks) c.in_ok-read.ensures.kept.content c.metadata-file.ensures c.in_ok-marks.ensures.gives in
@@ -128,7 +127,7 @@ returns-in_err-keep_rows-clause-fetched g c =
 pub returns-clause-fetched : goal.returns-clause-fetched
 returns-clause-fetched g c =
     let s = c.args.self.now in
-    let m = paired c.in_ok-read.read in
+    let m = paired_of c.in_ok-read.read in
     let message = is_message (g.S.Source.content c.args.source.now) c.index-block.result.now c.in_ok-read.read c.in_ok-read.ensures.message in
     let behind = c.in_ok-marks.ensures.kept.content ∙ c.in_ok-read.ensures.kept.content in
     let tests = tests_as (g.S.Source.content c.args.source.now) _ (held_in c.args.dictionaries.now) s.reader.metadata c.metadata-file.result.now s.filter c.index-block.result.now (Ok c.in_ok-marks.marks) c.in_ok-read.ensures.kept.content c.metadata-file.ensures c.in_ok-marks.ensures.gives in
