@@ -7,6 +7,7 @@ pub mod Utf8Tests
 pub mod Rising
 pub mod Strings
 pub mod Viewed
+pub mod TextViews
 pub mod LeafParts
 pub mod Places
 pub mod SameArrays

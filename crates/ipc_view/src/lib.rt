@@ -12,6 +12,7 @@ mod nested;
 mod record_batch;
 mod tables;
 mod tests;
+mod text_views;
 mod unions;
 mod views;
 

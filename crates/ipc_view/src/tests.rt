@@ -85,7 +85,7 @@ fn is_row_set(bits: Option<&[u8]>, row: usize) -> bool
 }
 
 /// Whether no character of a text passes over the place.
-fn is_boundary(text: &[u8], at: usize) -> bool
+pub(crate) fn is_boundary(text: &[u8], at: usize) -> bool
     requires { at ≤ length text.now }
     ensures { IsTrue result → IsCharBoundary text.now at }
 {

@@ -12,14 +12,15 @@ ghost use Rattle.ipc_view.specs.Built.{HasBitsIn};
 ghost use Rattle.ipc_view.specs.Layouts.{buffers_in, is_bad_text_view, is_bad_view, view_causes, AreGood};
 
 use crate::tests::is_text;
+use crate::text_views::are_text_views;
 use arrow_spec::{IpcError, OutOfSpecKind};
 use view_types::{ViewParts, part_of, u32_at};
 
 /// The most bytes that stand in a view itself.
-const SHORT: usize = 12;
+pub(crate) const SHORT: usize = 12;
 
 /// The number at a place of a view.
-fn number_at(view: &[u8], at: usize) -> usize
+pub(crate) fn number_at(view: &[u8], at: usize) -> usize
     requires { at + 4 ≤ length view.now }
     ensures number { result ≡ u32_of view.now at }
     ensures small { result < 2 ^ 32 }
@@ -74,7 +75,7 @@ fn leads_right(parts: &ViewParts<'_>, view: &[u8]) -> bool
 }
 
 /// Whether a view's padding is zero, or it leads to its bytes.
-fn is_good_view(parts: &ViewParts<'_>, view: &[u8]) -> bool
+pub(crate) fn is_good_view(parts: &ViewParts<'_>, view: &[u8]) -> bool
     requires size { length view.now ≡ 16 }
     requires lie { AreRanges parts.now.input.now parts.now.buffers.items }
     ensures { result ≡ is_good_view (buffers_in (top_in parts.now)) view.now }
@@ -88,7 +89,7 @@ fn is_good_view(parts: &ViewParts<'_>, view: &[u8]) -> bool
 }
 
 /// Whether the bytes of a good view are UTF-8.
-fn leads_to_text(parts: &ViewParts<'_>, view: &[u8]) -> bool
+pub(crate) fn leads_to_text(parts: &ViewParts<'_>, view: &[u8]) -> bool
     requires size { length view.now ≡ 16 }
     requires lie { AreRanges parts.now.input.now parts.now.buffers.items }
     requires good { is_good_view (buffers_in (top_in parts.now)) view.now ≡ true }
@@ -151,6 +152,9 @@ pub(crate) fn check_views(parts: &ViewParts<'_>, is_text: bool) -> Result<(), Ip
     ensures gives { Answers result (view_causes (top_in parts.now) is_text) (λ _. AreGood (top_in parts.now) is_text) }
     ensures cause { IfErr result IsOfBytes }
 {
+    if is_text && are_text_views(parts) {
+        return Ok(());
+    }
     if !are_good_views(parts) {
         return Err(IpcError::OutOfSpec(OutOfSpecKind::InvalidView));
     }

@@ -1,9 +1,16 @@
 use Rattle.std.proofs.Common.{◌≡◌, true, false, sym, ◌∙◌}
 use Rattle.view_types.specs.Tops.{top_in}
 use Rattle.ipc_view.specs.Layouts.{AreGood}
+use Rattle.arrow_buffers.proofs.TextViews.{neither}
 use Rattle.ipc_view.proofs.Answered.{is_bad, is_good}
 use Rattle.ipc_view.proofs.LeafParts.{view_texts_refused, views_fine, views_refused}
 use Rattle.ipc_view.proofs.views.check_views.Goals as goal
+
+pub returns-then-are_text_views-clause-gives : goal.returns-then-are_text_views-clause-gives
+returns-then-are_text_views-clause-gives c =
+    let both = neither _ _ (sym c.if-are_text_views.true ∙ c.are_text_views.ensures) in
+    let g : AreGood (top_in c.args.parts.now) c.args.is_text = record { views = both.0; texts = λ x. both.1 } in
+    record { ok = (views_fine (top_in c.args.parts.now) c.args.is_text g, g); err = tt }
 
 pub returns-then-not-are_good_views-clause-gives : goal.returns-then-not-are_good_views-clause-gives
 returns-then-not-are_good_views-clause-gives c = record { ok = tt; err = views_refused (top_in c.args.parts.now) c.args.is_text (is_bad _ _ c.are_good_views.ensures c.if-not-are_good_views.true) }
