@@ -23,4 +23,4 @@ pub use ipc_streams::{StreamMetadata, StreamReader, StreamState, read_stream_met
 pub use laws_sent::types_have_no_ids;
 pub use stream::WholeStream;
 pub use stream_append::append_stream;
-pub use whole::read_whole;
+pub use whole::{read_rest, read_whole};

@@ -43,8 +43,12 @@ fn next_batch<F: Feed + Drop>(reader: &mut StreamReader<F>) -> Result<Option<Rec
     }
 }
 
-/// The record batches that a stream has left.
-fn read_batches<F: Feed + Drop>(
+/// The record batches that a stream has left, all columns of them.
+///
+/// # Errors
+///
+/// As of the reader of its record batches; `Memory`.
+pub fn read_rest<F: Feed + Drop>(
     alloc: Global,
     reader: &mut StreamReader<F>,
 ) -> Result<Vec<RecordBatch>, IpcError>
@@ -77,7 +81,7 @@ fn read_behind<F: Feed + Drop>(
     match StreamReader::new(alloc, feed, metadata, None) {
         Ok(opened) => {
             let mut reader = opened;
-            read_batches(alloc, &mut reader)
+            read_rest(alloc, &mut reader)
         }
         Err(refused) => Err(refused.error),
     }

@@ -1,6 +1,6 @@
 use Rattle.std.proofs.Common.{refl}
 use Rattle.ipc_append.proofs.WholeSteps.{all_read_of, kept_since, memory_handed, memory_wanted, none_kept, none_read_of, one_read_of, read_refused}
-use Rattle.ipc_append.proofs.whole.read_batches.Goals as goal
+use Rattle.ipc_append.proofs.whole.read_rest.Goals as goal
 
 pub loop-init : goal.loop-init
 loop-init g c = (none_read_of _ _ _ c.new-batches.ensures.items c.requires.more, none_kept _ _ _)

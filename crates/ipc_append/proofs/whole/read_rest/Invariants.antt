@@ -1,6 +1,6 @@
 use Rattle.ipc_streams.specs.Feeds.{FeedKept}
 use Rattle.ipc_append.proofs.WholeSteps.{AreFront}
-use Rattle.ipc_append.proofs.whole.read_batches.Given as goal
+use Rattle.ipc_append.proofs.whole.read_rest.Given as goal
 
 abbrev pub invariant-loop : goal.invariant-loop
 invariant-loop g l = AreFront (g.F.Feed.rest l.fn.reader.feed) (g.F.Feed.rest l.reader.feed) l.fn.reader.cursor l.reader.cursor l.batches.items

@@ -1,7 +1,0 @@
-use Rattle.ipc_append.specs.Below.{FeedKept}
-use Rattle.ipc_append.proofs.WholeSteps.{AreFront}
-use Rattle.ipc_to_file.proofs.read.read_rest.Given as goal
-
-abbrev pub invariant-loop : goal.invariant-loop
-invariant-loop g l = AreFront (g.F.Feed.rest l.fn.reader.feed) (g.F.Feed.rest l.reader.feed) l.fn.reader.cursor l.reader.cursor l.batches.items
-    × FeedKept g.F.Feed.faults g.F.Feed.references l.fn.reader.feed l.reader.feed
