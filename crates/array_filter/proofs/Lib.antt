@@ -7,10 +7,10 @@ pub mod RunLaws
 mod MarkedRuns
 pub mod OffsetRuns
 pub mod RunSteps
-mod Whole
 pub mod LeafTaken
 pub mod HeadTaken
 pub mod TreeTaken
 pub mod Kept
 pub mod Made
+mod Whole
 pub mod Worked

@@ -12,8 +12,8 @@ ghost use Rattle.array_filter.specs.Taken.{fixed_taken, leaf_rows_taken, leaf_ta
 
 use crate::bits::{take_bits, take_validity};
 use crate::bytes::{take_items, take_rows};
-use crate::offsets::take_offsets;
-use crate::runs::{Run, row_count};
+use crate::offsets::{are_all, take_offsets};
+use crate::runs::{Run, is_one, row_count};
 use arrow_arrays::Array;
 use arrow_buffers::{
     BinaryViewArrayGeneric, BooleanArray, Buffer, FixedSizeBinaryArray, NullArray, PrimitiveArray,
@@ -92,7 +92,7 @@ fn take_fixed(
     }
 }
 
-/// Rows of an array of byte strings or texts between offsets.
+/// Rows of an array of byte strings or texts between offsets. One that is kept whole is not looked at again.
 fn take_variable<O: Offset, V: ViewType>(
     alloc: Global,
     array: &VariableArray<O, V>,
@@ -103,6 +103,9 @@ fn take_variable<O: Offset, V: ViewType>(
 {
     let held = array.len();
     let limit = array.values().len();
+    if are_all(array.offsets(), limit, runs) {
+        return array.try_clone(alloc);
+    }
     let (offsets, items) = take_offsets(alloc, array.offsets(), limit, runs)?;
     let values = take_rows(alloc, array.values(), 1, limit, items.as_slice())?;
     let validity = take_validity(alloc, array.validity(), held, runs)?;
@@ -124,7 +127,7 @@ fn clone_buffers(alloc: Global, buffers: &[Buffer<u8>]) -> Result<Vec<Buffer<u8>
     Ok(clones)
 }
 
-/// Rows of an array of views, which keep the buffers.
+/// Rows of an array of views, which keep the buffers. One that is kept whole is not looked at again.
 fn take_views<V: ViewType>(
     alloc: Global,
     array: &BinaryViewArrayGeneric<V>,
@@ -134,6 +137,9 @@ fn take_views<V: ViewType>(
     ensures { IfOk result (λ a. a ≡ views_taken (rows_in_runs runs.now) array.now) }
 {
     let held = array.len();
+    if is_one(runs, held) {
+        return array.try_clone(alloc);
+    }
     let views = take_rows(alloc, array.views(), VIEW_SIZE, held, runs)?;
     let buffers = clone_buffers(alloc, array.data_buffers())?;
     let validity = take_validity(alloc, array.validity(), held, runs)?;

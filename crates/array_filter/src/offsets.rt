@@ -1,5 +1,5 @@
 //! The offsets of rows, and the items between them (Arrow Columnar Format, "Variable-size Binary Layout").
-ghost use Rattle.std.specs.Prelude.{◌≡◌, ◌+◌, ◌-◌, ◌<◌, ◌≤◌, ◌++◌, length, map, pos, true, IfOk, OnOk};
+ghost use Rattle.std.specs.Prelude.{◌≡◌, ◌+◌, ◌-◌, ◌<◌, ◌≤◌, ◌++◌, [], ◌∷◌, length, map, pos, true, IfOk, OnOk};
 ghost use Rattle.arrow_spec.specs.Needed.{numbers_from};
 ghost use Rattle.arrow_buffers.specs.Variable.{are_offsets, place_at, variable_rows};
 ghost use Rattle.array_filter.specs.Runs.{Climb, rows_in_runs, rows_of};
@@ -118,6 +118,19 @@ fn items_of_runs<O: Offset>(
         })?;
     }
     Ok(items)
+}
+
+/// Whether one run has all rows between offsets that begin at 0 and end at the limit.
+pub(crate) fn are_all<O: Offset>(offsets: &Buffer<O>, limit: usize, runs: &[Run]) -> bool
+    requires rise { are_offsets (map O.number offsets.now) limit ≡ true }
+    ensures rows { result ≡ true → runs.now ≡ record { from = 0; count = variable_rows (map O.number offsets.now) } ∷ [] }
+    ensures first { result ≡ true → place_at (map O.number offsets.now) 0 ≡ 0 }
+    ensures last { result ≡ true → place_at (map O.number offsets.now) (variable_rows (map O.number offsets.now)) ≡ limit }
+{
+    let rows = offsets.len() - 1;
+    is_one(runs, rows)
+        && place_in(offsets, 0, limit) == 0
+        && place_in(offsets, rows, limit) == limit
 }
 
 /// The offsets of the rows of runs, which share the memory where one run has all and the first is 0.

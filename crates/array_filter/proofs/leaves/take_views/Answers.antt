@@ -1,4 +1,4 @@
-use Rattle.std.proofs.Common.{◌∙◌, ap, length, arith}
+use Rattle.std.proofs.Common.{◌≡◌, ◌∙◌, sym, ap, length, arith}
 use Rattle.std.specs.Option.{option_map}
 use Rattle.arrow_types.specs.KindOf.{kind_of}
 use Rattle.arrow_types.specs.Physical.{physical_of}
@@ -6,14 +6,26 @@ use Rattle.std.specs.List.{flat_map}
 use Rattle.std.proofs.Common.{refl}
 use Rattle.arrow_buffers.specs.Layouts.{is_view}
 use Rattle.arrow_buffers.specs.Views.{view_at, view_fault, view_rows}
+use Rattle.arrow_buffers.proofs.ViewParts.{view_sound}
 use Rattle.array_filter.specs.Rows.{taken}
 use Rattle.array_filter.specs.Runs.{rows_in_runs}
 use Rattle.array_filter.specs.Taken.{views_taken}
+use Rattle.array_filter.proofs.Kept.{if_kept}
 use Rattle.array_filter.proofs.LeafTaken.{view_fault-taken}
 use Rattle.array_filter.proofs.Made.{refused, views_of, views_same}
 use Rattle.array_filter.proofs.RunLaws.{climb_below}
 use Rattle.array_filter.proofs.RunSteps.{bytes_within, climb_as}
+use Rattle.array_filter.proofs.Whole.{whole, whole_views}
 use Rattle.array_filter.proofs.leaves.take_views.Goals as goal
+
+pub returns-then-is_one : goal.returns-then-is_one
+returns-then-is_one g c =
+    let p = c.args.array.now in
+    let runs = c.args.runs.now in
+    let is_text = g.V.ViewType.IS_TEXT in
+    let s = (view_sound is_text (is_view is_text (physical_of p.kind)) p c.len-held.ensures.sound).seen in
+    let rows : runs ≡ whole (view_rows p.views) = c.is_one.ensures c.if-is_one.true ∙ ap whole c.len-held.ensures.rows in
+    if_kept c.try_clone.result (λ a. a ≡ p) (λ a. a ≡ views_taken (rows_in_runs runs) p) (λ a e. e ∙ sym (whole_views p runs s rows)) c.try_clone.ensures
 
 pub take_rows-requires : goal.take_rows-requires
 take_rows-requires g c = bytes_within 16 16 c.args.runs.now (length c.args.array.now.views) (length c.views.result.now) refl (omega arith) (ap length c.views.ensures) c.requires
