@@ -3,6 +3,7 @@ ghost use Rattle.std.specs.Prelude.{◌≡◌, All, IfErr, IfOk, IfSome, false};
 ghost use Rattle.std.specs.Rc.{rc_value};
 ghost use Rattle.arrow_spec.specs.Kinds.{bare};
 ghost use Rattle.arrow_types.specs.Schemas.{fields_in};
+ghost use Rattle.ipc_io.specs.Outside.{LeavesFaults};
 ghost use Rattle.ipc_streams.specs.Below.{FileCause};
 ghost use Rattle.ipc_streams.specs.Feeds.{FeedKept};
 ghost use Rattle.ipc_streams.specs.Readers.{IsReader};
@@ -32,6 +33,7 @@ fn next_batch<F: Feed + Drop>(reader: &mut StreamReader<F>) -> Result<Option<Rec
     requires all { IsReader reader.old.cursor.columns (all_columns reader.old.cursor.columns) }
     ensures gives { GivesMore (F.rest reader.old.feed) (F.rest reader.new.feed) reader.old.cursor reader.new.cursor result }
     ensures cause { IfErr result (λ e. FileCause e (F.faults reader.old.feed) (F.faults reader.new.feed)) }
+    ensures faults_stay { LeavesFaults (F.faults reader.old.feed) (F.faults reader.new.feed) result }
     ensures kept { FeedKept F.faults F.references reader.old.feed reader.new.feed }
 {
     match reader.next() {
@@ -56,6 +58,7 @@ pub fn read_rest<F: Feed + Drop>(
     requires all { IsReader reader.old.cursor.columns (all_columns reader.old.cursor.columns) }
     ensures gives { GivesEach (F.rest reader.old.feed) reader.old.cursor result }
     ensures cause { IfErr result (λ e. FileCause e (F.faults reader.old.feed) (F.faults reader.new.feed)) }
+    ensures faults_stay { LeavesFaults (F.faults reader.old.feed) (F.faults reader.new.feed) result }
     ensures kept { FeedKept F.faults F.references reader.old.feed reader.new.feed }
 {
     let mut batches = Vec::new(alloc);

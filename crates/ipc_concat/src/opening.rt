@@ -1,7 +1,7 @@
 //! The metadata of several files, which is read before any of their batches.
 ghost use Rattle.std.specs.Prelude.{◌≡◌, ◌↔◌, IfErr, IfOk, IfSome, IsTrue, None, length, map, true};
 ghost use Rattle.arrow_spec.specs.Readings.{Refuses, refusals};
-ghost use Rattle.ipc_io.specs.Outside.{SourceKept};
+ghost use Rattle.ipc_io.specs.Outside.{LeavesFaults, SourceKept};
 ghost use Rattle.laws_walk.specs.Below.{FileCause};
 ghost use Rattle.ipc_concat.specs.Concat.{ConcatCause, EachKept};
 ghost use Rattle.ipc_concat.specs.Files.{AreAlike, AreUnread, FitsFirst, FitsKinds, IsUnread};
@@ -19,6 +19,7 @@ fn open_file<S: Source>(alloc: Global, source: &mut S) -> Result<FileCursor, Ipc
     ensures opened { IfOk result (λ c. IsUnread (S.content source.old) c) }
     ensures refused { IfErr result (λ e. IfSome (S.content source.old) (λ b. Refuses e (refusals (opening b)))) }
     ensures cause { IfErr result (λ e. FileCause e (S.faults source.old) (S.faults source.new)) }
+    ensures faults_stay { LeavesFaults (S.faults source.old) (S.faults source.new) result }
     ensures kept { SourceKept S.content S.faults S.references source.old source.new }
 {
     let file = read_file_metadata(alloc, source)?;

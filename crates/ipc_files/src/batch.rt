@@ -7,7 +7,7 @@ ghost use Rattle.arrow_spec.specs.Files.{FileBlock};
 ghost use Rattle.arrow_spec.specs.declared.message.Block.{Block};
 ghost use Rattle.arrow_spec.specs.Readings.{Gives};
 ghost use Rattle.arrow_arrays.specs.Parts.{kind_in};
-ghost use Rattle.ipc_io.specs.Outside.{IsSize, SourceKept};
+ghost use Rattle.ipc_io.specs.Outside.{LeavesFaults, IsSize, SourceKept};
 ghost use Rattle.ipc_read.specs.Batches.{kinds_of, table_of};
 ghost use Rattle.ipc_read.specs.Held.{held_in};
 ghost use Rattle.ipc_projection.specs.Below.{are_columns, are_rising, chosen, columns_of, HoldsCells};
@@ -60,6 +60,7 @@ pub fn read_block<S: Source>(
     ensures schema { IfOk result (λ x. x.schema ≡ chosen (columns_of projection.entry) 0 (rc_value file.now.schema)) }
     ensures kinds { IfOk result (λ x. map kind_in x.arrays ≡ chosen (columns_of projection.entry) 0 (kinds_of (rc_value file.now.schema))) }
     ensures cause { IfErr result (λ e. FileCause e (S.faults source.old) (S.faults source.new)) }
+    ensures faults_stay { LeavesFaults (S.faults source.old) (S.faults source.new) result }
     ensures fetched { BlockFetched (S.content source.old) (meta_view file.now) (asked (columns_of projection.entry) left) (file_block block.now) left (S.fetched source.old) (S.fetched source.new) }
     ensures kept { SourceKept S.content S.faults S.references source.old source.new }
 {
@@ -116,6 +117,7 @@ pub fn read_batch<S: Source>(
     ensures schema { IfOk result (λ x. x.schema ≡ chosen (columns_of projection.entry) 0 (rc_value metadata.now.schema)) }
     ensures kinds { IfOk result (λ x. map kind_in x.arrays ≡ chosen (columns_of projection.entry) 0 (kinds_of (rc_value metadata.now.schema))) }
     ensures cause { IfErr result (λ e. FileCause e (S.faults source.old) (S.faults source.new)) }
+    ensures faults_stay { LeavesFaults (S.faults source.old) (S.faults source.new) result }
 
     // Of a block that means a batch, its prefix, its metadata and the buffers that are looked at are fetched, of columns that are asked for alone, and no buffer where there are no rows.
     ensures fetched { (block : FileBlock) → slice_get (meta_view metadata.now).blocks index ≡ Some block → BlockFetched (S.content source.old) (meta_view metadata.now) (asked (columns_of projection.entry) limit) block limit (S.fetched source.old) (S.fetched source.new) }

@@ -1,7 +1,7 @@
 //! The messages of a file's blocks.
 ghost use Rattle.std.specs.Prelude.{◌≡◌, ◌+◌, ◌≤◌, ◌<◌, ◌^◌, IfOk, IfErr, OnOk};
 ghost use Rattle.ipc_fields.specs.Causes.{Decodes};
-ghost use Rattle.ipc_io.specs.Outside.{IsSize, SourceKept};
+ghost use Rattle.ipc_io.specs.Outside.{LeavesFaults, IsSize, SourceKept};
 ghost use Rattle.ipc_schema.specs.Headers.{dictionary_message, dictionary_message_of};
 ghost use Rattle.ipc_schema.specs.Views.{header_of, message_of};
 ghost use Rattle.arrow_spec.specs.WrittenSchemas.{CustomMayBeWritten};
@@ -45,6 +45,7 @@ fn read_prefix<S: Source>(
     ensures prefix { PrefixIn (S.content source.old) at size result }
     ensures within { IfOk result (λ p. p.0 + p.1 ≤ size) }
     ensures cause { IfErr result (λ e. CountCause e (S.faults source.old) (S.faults source.new)) }
+    ensures faults_stay { LeavesFaults (S.faults source.old) (S.faults source.new) result }
     ensures fetched { FrontFetched (S.content source.old) at size (S.fetched source.old) (S.fetched source.new) }
     ensures kept { SourceKept S.content S.faults S.references source.old source.new }
 {
@@ -97,6 +98,7 @@ fn fetch_metadata<S: Source>(
     ensures within { OnOk result ((file_block block.now).offset + (file_block block.now).metadata + (file_block block.now).body ≤ size) }
     ensures metadata { GivesIn (S.content source.old) (λ v. v.items) result (λ b. given block.now (metadata_at b)) }
     ensures cause { IfErr result (λ e. CountCause e (S.faults source.old) (S.faults source.new)) }
+    ensures faults_stay { LeavesFaults (S.faults source.old) (S.faults source.new) result }
     ensures fetched { MetadataFetched (S.content source.old) (file_block block.now) (S.fetched source.old) (S.fetched source.new) }
     ensures kept { SourceKept S.content S.faults S.references source.old source.new }
 {
@@ -129,6 +131,7 @@ pub fn read_block_message<S: Source>(
     ensures fits { IfOk result (λ m. HeaderFits (paired_of m).tables) }
     ensures ordered { IfOk result (λ m. CustomMayBeWritten (paired_of m).custom) }
     ensures cause { IfErr result (λ e. FileCause e (S.faults source.old) (S.faults source.new)) }
+    ensures faults_stay { LeavesFaults (S.faults source.old) (S.faults source.new) result }
     ensures fetched { MessageFetched (S.content source.old) (file_block block.now) (S.fetched source.old) (S.fetched source.new) }
     ensures kept { SourceKept S.content S.faults S.references source.old source.new }
 {
@@ -148,6 +151,7 @@ pub(crate) fn read_block_dictionary<S: Source>(
     ensures message { DictionaryIn (S.content source.old) block.now result }
     ensures fits { IfOk result (λ m. HeaderFits (header_of m.header)) }
     ensures cause { IfErr result (λ e. FileCause e (S.faults source.old) (S.faults source.new)) }
+    ensures faults_stay { LeavesFaults (S.faults source.old) (S.faults source.new) result }
     ensures fetched { MetadataFetched (S.content source.old) (file_block block.now) (S.fetched source.old) (S.fetched source.new) }
     ensures kept { SourceKept S.content S.faults S.references source.old source.new }
 {
@@ -170,6 +174,7 @@ pub fn read_block_header<S: Source>(
     requires { IsSize (S.content source.old) size }
     ensures header { GivesIn (S.content source.old) message_of result (λ b. given block.now (block_header b)) }
     ensures cause { IfErr result (λ e. CountCause e (S.faults source.old) (S.faults source.new)) }
+    ensures faults_stay { LeavesFaults (S.faults source.old) (S.faults source.new) result }
     ensures fetched { MetadataFetched (S.content source.old) (file_block block.now) (S.fetched source.old) (S.fetched source.new) }
     ensures kept { SourceKept S.content S.faults S.references source.old source.new }
 {

@@ -1,7 +1,7 @@
 //! The dictionaries of a file (Arrow Columnar Format, "IPC File Format", "Dictionary Messages").
 ghost use Rattle.std.specs.Prelude.{◌≡◌, ◌<◌, length, IfOk, IfErr, IfSome, ℤ};
 ghost use Rattle.arrow_spec.specs.Arrays.{Dictionaries as History};
-ghost use Rattle.ipc_io.specs.Outside.{IsSize, SourceKept};
+ghost use Rattle.ipc_io.specs.Outside.{LeavesFaults, IsSize, SourceKept};
 ghost use Rattle.ipc_read.specs.DictionaryBatches.{AddsDictionary};
 ghost use Rattle.ipc_read.specs.Held.{held_in};
 ghost use Rattle.ipc_projection.specs.Below.{HoldsCells};
@@ -43,6 +43,7 @@ pub fn read_dictionary_block<S: Source>(
     // A refusal leaves the map as it was.
     ensures refused { IfErr result (λ _. (q : ℤ) → held_in dictionaries.new q ≡ held_in dictionaries.old q) }
     ensures cause { IfErr result (λ e. FileCause e (S.faults source.old) (S.faults source.new)) }
+    ensures faults_stay { LeavesFaults (S.faults source.old) (S.faults source.new) result }
     ensures fetched { DictionaryFetched (S.content source.old) (meta_view file.now) (file_block block.now) (S.fetched source.old) (S.fetched source.new) }
     ensures kept { SourceKept S.content S.faults S.references source.old source.new }
 {
@@ -88,6 +89,7 @@ pub fn read_file_dictionaries<S: Source>(
     // Where there are no blocks nothing is refused.
     ensures some { IfErr result (λ _. 0 < length metadata.now.dictionaries.items) }
     ensures cause { IfErr result (λ e. FileCause e (S.faults source.old) (S.faults source.new)) }
+    ensures faults_stay { LeavesFaults (S.faults source.old) (S.faults source.new) result }
 
     // Of blocks that can be read no more is fetched than their messages and the buffers that are looked at.
     ensures fetched { DictionariesFetched (S.content source.old) (meta_view metadata.now) (S.fetched source.old) (S.fetched source.new) }

@@ -2,7 +2,7 @@
 ghost use Rattle.std.specs.Prelude.{◌≡◌, ◌+◌, ◌≤◌, length, IfOk, IfErr};
 ghost use Rattle.ipc_files.specs.FileBlocks.{Lies, Fetched, Faulted};
 ghost use Rattle.ipc_files.specs.RowCounts.{CountCause};
-ghost use Rattle.ipc_io.specs.Outside.{SourceKept};
+ghost use Rattle.ipc_io.specs.Outside.{LeavesFaults, SourceKept};
 
 use arrow_spec::{IpcError, OutOfSpecKind};
 use ipc_schema::{Got, Source};
@@ -20,6 +20,7 @@ pub(crate) fn fetch<S: Source>(
     ensures count { IfOk result (λ v. length v.items ≡ count) }
     ensures refused { IfErr result (λ e. Faulted (S.content source.old) e) }
     ensures cause { IfErr result (λ e. CountCause e (S.faults source.old) (S.faults source.new)) }
+    ensures faults_stay { LeavesFaults (S.faults source.old) (S.faults source.new) result }
     ensures fetched { S.fetched source.new ≤ S.fetched source.old + count }
     ensures kept { SourceKept S.content S.faults S.references source.old source.new }
 {

@@ -11,7 +11,7 @@ ghost use Rattle.ipc_schema.specs.Footers.{footer_view, HasNaturalBlocks};
 ghost use Rattle.ipc_files.specs.FileBlocks.{GivesIn};
 ghost use Rattle.ipc_files.specs.FileViews.{file_custom, meta_view, FileCause, FileSays, IsReadable, WasRead};
 ghost use Rattle.ipc_files.specs.Fetching.{FooterFetched};
-ghost use Rattle.ipc_io.specs.Outside.{IsSize, SourceKept};
+ghost use Rattle.ipc_io.specs.Outside.{LeavesFaults, IsSize, SourceKept};
 ghost use Rattle.ipc_files.specs.RowCounts.{CountCause};
 
 use crate::fetch::fetch;
@@ -74,6 +74,7 @@ fn fetch_footer<S: Source>(alloc: Global, source: &mut S, size: u64) -> Result<V
     requires { IsSize (S.content source.old) size }
     ensures footer { GivesIn (S.content source.old) (λ v. v.items) result footer_of }
     ensures cause { IfErr result (λ e. CountCause e (S.faults source.old) (S.faults source.new)) }
+    ensures faults_stay { LeavesFaults (S.faults source.old) (S.faults source.new) result }
     ensures fetched { FooterFetched (S.content source.old) (S.fetched source.old) (S.fetched source.new) }
     ensures kept { SourceKept S.content S.faults S.references source.old source.new }
 {
@@ -99,6 +100,7 @@ pub(crate) fn read_footer<S: Source>(alloc: Global, source: &mut S) -> Result<Fo
     ensures size { IfOk result (λ f. IsSize (S.content source.old) f.size) }
     ensures bound { IfOk result (λ f. f.size < 2 ^ 63) }
     ensures cause { IfErr result (λ e. CountCause e (S.faults source.old) (S.faults source.new)) }
+    ensures faults_stay { LeavesFaults (S.faults source.old) (S.faults source.new) result }
     ensures fetched { FooterFetched (S.content source.old) (S.fetched source.old) (S.fetched source.new) }
     ensures kept { SourceKept S.content S.faults S.references source.old source.new }
 {
@@ -150,6 +152,7 @@ pub fn read_file_schema<S: Source>(alloc: Global, source: &mut S) -> Result<File
     ensures size { IfOk result (λ m. IsSize (S.content source.old) m.size) }
     ensures read { IfOk result WasRead }
     ensures cause { IfErr result (λ e. FileCause e (S.faults source.old) (S.faults source.new)) }
+    ensures faults_stay { LeavesFaults (S.faults source.old) (S.faults source.new) result }
     ensures fetched { FooterFetched (S.content source.old) (S.fetched source.old) (S.fetched source.new) }
     ensures kept { SourceKept S.content S.faults S.references source.old source.new }
 {
@@ -190,6 +193,7 @@ pub fn read_file_metadata<S: Source>(
     ensures size { IfOk result (λ m. IsSize (S.content source.old) m.size) }
     ensures read { IfOk result WasRead }
     ensures cause { IfErr result (λ e. FileCause e (S.faults source.old) (S.faults source.new)) }
+    ensures faults_stay { LeavesFaults (S.faults source.old) (S.faults source.new) result }
     ensures fetched { FooterFetched (S.content source.old) (S.fetched source.old) (S.fetched source.new) }
     ensures kept { SourceKept S.content S.faults S.references source.old source.new }
 {

@@ -6,7 +6,7 @@ ghost use Rattle.arrow_spec.specs.Features.{chosen_floats};
 ghost use Rattle.arrow_spec.specs.Files.{FileBlock};
 ghost use Rattle.arrow_spec.specs.declared.message.Block.{Block};
 ghost use Rattle.arrow_spec.specs.Readings.{Gives};
-ghost use Rattle.ipc_io.specs.Outside.{IsSize, SourceKept};
+ghost use Rattle.ipc_io.specs.Outside.{LeavesFaults, IsSize, SourceKept};
 ghost use Rattle.ipc_read.specs.Batches.{table_of};
 ghost use Rattle.ipc_read.specs.Held.{held_in};
 ghost use Rattle.ipc_projection.specs.Below.{columns_of, HoldsCells};
@@ -82,6 +82,7 @@ pub fn read_projected_batch<S: Source>(
     ensures read { (columns : Option (List ℕ)) (block : FileBlock) → MayProject (rc_value metadata.now.schema) columns (option_copied projection.entry) → slice_get (meta_view metadata.now).blocks index ≡ Some block → IfOk result (λ x. IfSome (S.content source.old) (λ b. BatchRead b (held_in dictionaries.now) (meta_view metadata.now) (asked columns limit) block x)) }
     ensures schema { (columns : Option (List ℕ)) → MayProject (rc_value metadata.now.schema) columns (option_copied projection.entry) → IfOk result (λ x. HasFields x (schema_shown (rc_value metadata.now.schema) (option_copied projection.entry))) }
     ensures cause { IfErr result (λ e. FileCause e (S.faults source.old) (S.faults source.new)) }
+    ensures faults_stay { LeavesFaults (S.faults source.old) (S.faults source.new) result }
 
     // No more is fetched than these columns of the block cost.
     ensures fetched { (columns : Option (List ℕ)) (block : FileBlock) → MayProject (rc_value metadata.now.schema) columns (option_copied projection.entry) → slice_get (meta_view metadata.now).blocks index ≡ Some block → BlockFetched (S.content source.old) (meta_view metadata.now) (asked columns limit) block limit (S.fetched source.old) (S.fetched source.new) }

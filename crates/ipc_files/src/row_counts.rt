@@ -3,7 +3,7 @@ ghost use Rattle.std.specs.Prelude.{◌≡◌, ◌+◌, ◌^◌, ◌<◌, ◌≤
 ghost use Rattle.arrow_spec.specs.Files.{footer_of};
 ghost use Rattle.arrow_spec.specs.Readings.{Gives, natural};
 ghost use Rattle.ipc_fields.specs.Causes.{Decodes};
-ghost use Rattle.ipc_io.specs.Outside.{IsSize, SourceKept};
+ghost use Rattle.ipc_io.specs.Outside.{LeavesFaults, IsSize, SourceKept};
 ghost use Rattle.ipc_files.specs.FileBlocks.{file_block, given, GivesIn};
 ghost use Rattle.ipc_files.specs.Fetching.{MetadataFetched};
 ghost use Rattle.ipc_files.specs.RowCounts.{block_rows, file_row_count, row_count_of, CountCause, MessagesFetched, RowCountFetched};
@@ -40,6 +40,7 @@ pub fn read_block_rows<S: Source>(
     ensures gives { GivesIn (S.content source.old) (λ n. n) result (λ b. given block.now (block_rows b)) }
     ensures small { IfOk result (λ n. n < 2 ^ 63) }
     ensures cause { IfErr result (λ e. CountCause e (S.faults source.old) (S.faults source.new)) }
+    ensures faults_stay { LeavesFaults (S.faults source.old) (S.faults source.new) result }
     ensures fetched { MetadataFetched (S.content source.old) (file_block block.now) (S.fetched source.old) (S.fetched source.new) }
     ensures kept { SourceKept S.content S.faults S.references source.old source.new }
 {
@@ -57,6 +58,7 @@ fn count_rows<S: Source>(
     requires { IsSize (S.content source.old) size }
     ensures gives { GivesIn (S.content source.old) (λ n. n) result (λ b. row_count_of b blocks.now) }
     ensures cause { IfErr result (λ e. CountCause e (S.faults source.old) (S.faults source.new)) }
+    ensures faults_stay { LeavesFaults (S.faults source.old) (S.faults source.new) result }
     ensures fetched { MessagesFetched (S.content source.old) (map file_block blocks.now) (λ b. row_count_of b blocks.now) (S.fetched source.old) (S.fetched source.new) }
     ensures kept { SourceKept S.content S.faults S.references source.old source.new }
 {
@@ -85,6 +87,7 @@ pub fn get_row_count_from_blocks<S: Source>(
 ) -> Result<i64, IpcError>
     ensures gives { IfSome (S.content source.old) (λ b. Gives (λ n. n) result (row_count_of b blocks.now)) }
     ensures cause { IfErr result (λ e. CountCause e (S.faults source.old) (S.faults source.new)) }
+    ensures faults_stay { LeavesFaults (S.faults source.old) (S.faults source.new) result }
 
     // Of each block, at most its prefix and its metadata are fetched.
     ensures fetched { MessagesFetched (S.content source.old) (map file_block blocks.now) (λ b. row_count_of b blocks.now) (S.fetched source.old) (S.fetched source.new) }
@@ -104,6 +107,7 @@ pub fn get_row_count_from_blocks<S: Source>(
 pub fn get_row_count<S: Source>(alloc: Global, source: &mut S) -> Result<i64, IpcError>
     ensures gives { IfSome (S.content source.old) (λ b. Gives (λ n. n) result (file_row_count b)) }
     ensures cause { IfErr result (λ e. CountCause e (S.faults source.old) (S.faults source.new)) }
+    ensures faults_stay { LeavesFaults (S.faults source.old) (S.faults source.new) result }
 
     // Beside the footer, at most the prefix and the metadata of each block are fetched.
     ensures fetched { RowCountFetched (S.content source.old) (S.fetched source.old) (S.fetched source.new) }

@@ -7,29 +7,16 @@ ghost use Rattle.ipc_flight.specs.Firsts.{first_in};
 
 use arrow_flat::Flat;
 use arrow_spec::{FlatError, IpcError};
-use ipc_files::{message_metadata, read_schema};
-use ipc_streams::StreamMetadata;
-use schema_reader::message::{Expected, read_message, read_version};
+use ipc_streams::{StreamMetadata, beginning_in};
 use std::alloc::Global;
-use std::rc::Rc;
 
 /// What the metadata of a schema's message says.
-#[tactic(auto, unfolding(arrow_spec::specs::Readings::bind))]
 pub(crate) fn read_first(alloc: Global, bytes: &[u8]) -> Result<StreamMetadata, IpcError>
     ensures gives { Decodes start_view result (first_in bytes.now) }
     ensures readable { IfOk result IsReadable }
 {
-    let message = read_message(bytes, Expected::Schema)?;
-    let version = read_version(&message.table)?;
-    let custom_metadata = message_metadata(alloc, bytes)?;
-    let (schema, ipc_schema, custom_schema_metadata) = read_schema(alloc, &message.header)?;
-    Ok(StreamMetadata {
-        schema: Rc::new(alloc, schema)?,
-        ipc_schema,
-        custom_schema_metadata,
-        custom_metadata,
-        version,
-    })
+    let beginning = beginning_in(alloc, bytes)?;
+    Ok(beginning.metadata)
 }
 
 /// The tag of a message's header.

@@ -1,5 +1,5 @@
 -- What the calls of the outside's objects do to the bytes that they tell, and what their refusals rest on.
-use Rattle.std.specs.Prelude.{◌≡◌, ◌⊎◌, ℕ, ◌+◌, ◌^◌, ◌-◌, ◌<◌, ◌≤◌, min, List, length, take, drop, ⊤, Option, Some, None, Result, Ok, Err, IsSome, OnErr, MatchResult}
+use Rattle.std.specs.Prelude.{◌≡◌, ◌⊎◌, ℕ, ◌+◌, ◌^◌, ◌-◌, ◌<◌, ◌≤◌, min, List, length, take, drop, ⊤, Option, Some, None, Result, Ok, Err, IsSome, OnOk, OnErr, MatchResult}
 use Rattle.std.specs.Io.KnownBytes.{Appends, Keeps}
 use Rattle.arrow_spec.specs.Words.{Held}
 use Rattle.ipc_io.specs.declared.outside.Failed.{Failed}
@@ -19,10 +19,15 @@ pub record Stands (before now : ℕ) : Type 0 where
   pub same : now ≡ before
   pub below : now < 2 ^ 64 - 1
 
--- a count does not fall, and an error is told only where it rose
+-- a call that tells no error leaves a count of faults: none is hidden
+abbrev pub LeavesFaults : {T E : Type 0} → ℕ → ℕ → Result T E → Type 0
+LeavesFaults before now result = OnOk result (now ≡ before)
+
+-- a count does not fall; an error is told only where it rose, and where it rose an error is told
 pub record HasCause {T E : Type 0} (before now : ℕ) (result : Result T E) : Type 0 where
   pub later : before ≤ now
   pub failed : OnErr result (Rose before now)
+  pub stays : LeavesFaults before now result
 
 -- known bytes grow by a part of bs, from its front
 abbrev pub AppendsPrefix : Option (List ℕ) → Option (List ℕ) → List ℕ → Type 0
@@ -55,9 +60,10 @@ Puts old new (Ok done) bs = Appends old new bs
 Puts old new (Err put.Failed) bs = AppendsPrefix old new bs
 Puts old new (Err put.Memory) bs = Keeps old new
 
--- no count falls; `Failed` is told only where the faults rose, `Memory` only where the wants rose, and the wants rise nowhere else
+-- no count falls; `Failed` is told only where the faults rose, `Memory` only where the wants rose; the wants rise nowhere else, and the faults where an error is told
 pub record PutHasCause (faults faults' wants wants' : ℕ) (result : Result (Unit {0}) PutError) : Type 0 where
   pub later : faults ≤ faults'
+  pub stays : LeavesFaults faults faults' result
   pub failed : result ≡ Err put.Failed → Rose faults faults'
   pub wants_later : wants ≤ wants'
   pub wanted : result ≡ Err put.Memory → Rose wants wants'

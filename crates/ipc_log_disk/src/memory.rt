@@ -1,7 +1,7 @@
 //! A disk over memory.
 ghost use Rattle.std.specs.Prelude.{◌≡◌, ◌↔◌, ◌+◌, ◌^◌, ◌<◌, ◌≤◌, ◌++◌, ◌∷◌, [], true, Some, length, drop, reverse, IfOk, IsOk, IsTrue, OnErr, OnOk};
 ghost use Rattle.ipc_disk.specs.Disks.{WritesAt};
-ghost use Rattle.ipc_io.specs.Outside.{Rose};
+ghost use Rattle.ipc_io.specs.Outside.{LeavesFaults, Rose};
 ghost use Rattle.ipc_log_disk.specs.Histories.{LogState, MayBeLeft, Notes, WasImage, content_after, crashed_after, front_by, images_after, is_history, is_wanted, new_disk, new_log_disk, now_image, now_only, oldest, told_image};
 
 use crate::crash::crashed_bytes;
@@ -143,6 +143,7 @@ fn write_noted(
     ensures places { disk.new.source.places ≡ disk.old.source.places }
     ensures fetched { disk.new.source.fetched ≡ disk.old.source.fetched }
     ensures later { disk.old.source.calls.faults ≤ disk.new.source.calls.faults }
+    ensures faults_stay { LeavesFaults disk.old.source.calls.faults disk.new.source.calls.faults result }
     ensures failed { result ≡ Err PutError.Failed → Rose disk.old.source.calls.faults disk.new.source.calls.faults }
 {
     let Ok(mut written) = bytes.to_vec(alloc) else {

@@ -7,7 +7,7 @@ use Rattle.arrow_spec.specs.declared.message.MetadataVersion.{MetadataVersion}
 use Rattle.arrow_spec.specs.Kinds.{Kind, Fields}
 use Rattle.arrow_spec.specs.Counts.{RecordBatch, Place, nodes_of, buffers_of, views_of, after}
 use Rattle.arrow_spec.specs.Arrays.{Dictionaries}
-use Rattle.ipc_io.specs.Outside.{SourceKept}
+use Rattle.ipc_io.specs.Outside.{SourceKept, LeavesFaults}
 use Rattle.ipc_read_laws.specs.Faults.{read_faults, fetched_at_most}
 use Rattle.ipc_read_laws.specs.Held.{Held, HoldsCells}
 use Rattle.ipc_read.specs.declared.body.Body.{Body}
@@ -163,6 +163,9 @@ KnownTo content_of r m = Known (content_of r.source.now) r.body r.is_little_endi
 
 abbrev pub FailsToRead : {S X : Type 0} → (S → ℕ) → BufferReader S → BufferReader S → Result X IpcError → Type 0
 FailsToRead faults_of r r' result = HasReadCause (faults_of r.source.now) (faults_of r'.source.now) result
+
+abbrev pub LeavesReadFaults : {S X : Type 0} → (S → ℕ) → BufferReader S → BufferReader S → Result X IpcError → Type 0
+LeavesReadFaults faults_of r r' result = LeavesFaults (faults_of r.source.now) (faults_of r'.source.now) result
 
 abbrev pub TakesBuffer : {S X : Type 0} → BufferReader S → BufferReader S → Result X IpcError → Type 0
 TakesBuffer r r' result = BufferTaken r.queue.now.items r'.queue.now.items result

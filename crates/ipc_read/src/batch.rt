@@ -20,10 +20,10 @@ ghost use Rattle.ipc_read.specs.Held.{held_in, column_kind};
 ghost use Rattle.ipc_read_laws.specs.Held.{HoldsCells, HasKinds, HasFields};
 ghost use Rattle.ipc_read_laws.specs.Projection.{are_columns, are_rising, chosen, columns_of};
 ghost use Rattle.arrow_spec.specs.Files.{record_batch_of, share};
-ghost use Rattle.ipc_read.specs.Readers.{TreeAt, KnownTo, Readable, CanRead, KeepsQueues, KeepsSource, FailsToReadColumn, HasReadCause, TakesTree, FetchesTree};
+ghost use Rattle.ipc_read.specs.Readers.{LeavesReadFaults, TreeAt, KnownTo, Readable, CanRead, KeepsQueues, KeepsSource, FailsToReadColumn, HasReadCause, TakesTree, FetchesTree};
 ghost use Rattle.ipc_read.specs.Skips.{PassesColumn};
 ghost use Rattle.ipc_read.specs.Sources.{Answers, Inside, BodyReadCause, bytes_in};
-ghost use Rattle.ipc_io.specs.Outside.{SourceKept};
+ghost use Rattle.ipc_io.specs.Outside.{LeavesFaults, SourceKept};
 
 use crate::Body;
 use crate::dictionaries::Dictionaries;
@@ -60,6 +60,7 @@ impl<'a, S: Source> BufferReader<'a, S> {
         version: MetadataVersion,
     ) -> Result<(), IpcError>
         ensures passes { PassesColumn (kind_of dtype.now) version nodes.old.items nodes.new.items self.old.queue.now.items self.new.queue.now.items variadic.old.items variadic.new.items result }
+        ensures faults_stay { LeavesReadFaults S.faults self.old self.new result }
         ensures keeps { KeepsSource S.content S.faults S.references self.old self.new }
         ensures fetched { S.fetched self.new.source.now ≡ S.fetched self.old.source.now }
     {
@@ -86,6 +87,7 @@ impl<'n, 'a, S: Source> ColumnReader<'n, 'a, S> {
         ensures cells { (m : Batch) (d : History) (p : Place) → TreeAt m p self.old → KnownTo S.content self.old.buffers m → HoldsCells d (held_in dictionaries.now) → Answers (λ a. cells_in (parts_of a)) result (column_faults m d (column_kind dtype.now id fields.now) p rows few) (from_on (cell m d (column_kind dtype.now id fields.now) p) 0 few) }
         ensures shape { IfOk result (λ a. (kind_in (parts_of a) ≡ kind_of dtype.now) × (rows_in (parts_of a) ≡ few)) }
         ensures cause { FailsToReadColumn S.faults self.old self.new result }
+        ensures faults_stay { LeavesReadFaults S.faults self.old.buffers self.new.buffers result }
         ensures keeps { KeepsQueues S.content S.faults S.references self.old self.new }
         ensures fetched { FetchesTree S.fetched (column_kind dtype.now id fields.now) self.old self.new few }
     {
@@ -98,6 +100,7 @@ impl<'n, 'a, S: Source> ColumnReader<'n, 'a, S> {
         ensures takes { TakesTree (kind_of dtype.now) self.old self.new result }
         ensures exact { (m : Batch) (p : Place) → TreeAt m p self.old → Answers (λ u. u) result (count_faults m (kind_of dtype.now) p) tt }
         ensures cause { FailsToReadColumn S.faults self.old self.new result }
+        ensures faults_stay { LeavesReadFaults S.faults self.old.buffers self.new.buffers result }
         ensures keeps { KeepsQueues S.content S.faults S.references self.old self.new }
         ensures fetched { S.fetched self.new.buffers.source.now ≡ S.fetched self.old.buffers.source.now }
     {
@@ -125,6 +128,7 @@ impl<'n, 'a, S: Source> ColumnReader<'n, 'a, S> {
         ensures count { IfOk result (λ v. length v.items ≡ length (chosen (columns_of projection.entry) 0 schema.now)) }
         ensures kinds { IfOk result (λ v. map kind_in (all_parts_of v.items) ≡ chosen (columns_of projection.entry) 0 (kinds_of schema.now)) }
         ensures cause { FailsToReadColumn S.faults self.old self.new result }
+        ensures faults_stay { LeavesReadFaults S.faults self.old.buffers self.new.buffers result }
         ensures keeps { KeepsQueues S.content S.faults S.references self.old self.new }
         ensures fetched { (m : Batch) → TreeAt m first_place self.old → S.fetched self.new.buffers.source.now ≤ S.fetched self.old.buffers.source.now + chosen_fetched m (columns_of projection.entry) (schema_fields schema.now fields.now) 0 first_place few }
     {
@@ -172,6 +176,7 @@ impl<'n, 'a, S: Source> ColumnReader<'n, 'a, S> {
         ensures kinds { IfOk result (λ r. map kind_in (all_parts_of r.1.items) ≡ chosen (columns_of projection.entry) 0 (kinds_of schema.now)) }
         ensures height { IfOk result (λ r. r.0 ≡ share limit (magnitude header.now.length)) }
         ensures cause { FailsToReadColumn S.faults self.old self.new result }
+        ensures faults_stay { LeavesReadFaults S.faults self.old.buffers self.new.buffers result }
         ensures keeps { KeepsQueues S.content S.faults S.references self.old self.new }
         ensures fetched { (bytes : List ℕ) → S.fetched self.new.buffers.source.now ≤ S.fetched self.old.buffers.source.now + batch_fetched (record_batch_of (order_by self.old.buffers.is_little_endian) self.old.version (header_of header.now) bytes) (columns_of projection.entry) (schema_fields schema.now fields.now) (share limit (magnitude header.now.length)) }
     {
@@ -228,6 +233,7 @@ pub fn read_record_batch<S: Source>(
     ensures height { IfOk result (λ x. x.height ≡ share limit (magnitude header.now.length)) }
     ensures kinds { IfOk result (λ x. map kind_in x.arrays ≡ chosen (columns_of projection.entry) 0 (kinds_of (rc_value schema.now))) }
     ensures cause { IfErr result (λ e. BodyReadCause e (S.faults source.old) (S.faults source.new)) }
+    ensures faults_stay { LeavesFaults (S.faults source.old) (S.faults source.new) result }
 
     // A validity is fetched only where there are rows and nulls, and other buffers only where there are rows.
     ensures fetched { (bytes : List ℕ) → S.fetched source.new ≤ S.fetched source.old + batch_fetched (record_batch_of (order_by ipc_schema.now.is_little_endian) version (header_of header.now) bytes) (columns_of projection.entry) (schema_fields (rc_value schema.now) ipc_schema.now.fields.items) (share limit (magnitude header.now.length)) }

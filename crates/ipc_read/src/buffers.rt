@@ -6,10 +6,10 @@ ghost use Rattle.arrow_spec.specs.Faults.{range_causes, range_faults, bitmap_fau
 ghost use Rattle.arrow_spec.specs.Laws.{AreBytes};
 ghost use Rattle.arrow_spec.specs.declared.error.IpcError.TheVariants.{Memory, ReadFault};
 ghost use Rattle.arrow_buffers.specs.Rows.{has_rows};
-ghost use Rattle.ipc_io.specs.Outside.{StandsAt, SourceKept};
+ghost use Rattle.ipc_io.specs.Outside.{LeavesFaults, StandsAt, SourceKept};
 ghost use Rattle.ipc_read.specs.Queues.{Left, Takes, short_of, Shortened};
 ghost use Rattle.ipc_read.specs.Sources.{Answers, Inside, Told, Known, IsRefusal, part_of, validity_fetched};
-ghost use Rattle.ipc_read.specs.Readers.{KnownTo, Readable, HasReadCause, BufferTaken, BytesGiven, NumbersGiven, BufferFetched, CanRead, KeepsSource, FailsToRead, TakesBuffer, ShortensBuffers, GivesBytes, GivesNumbers, FetchesBuffer};
+ghost use Rattle.ipc_read.specs.Readers.{LeavesReadFaults, KnownTo, Readable, HasReadCause, BufferTaken, BytesGiven, NumbersGiven, BufferFetched, CanRead, KeepsSource, FailsToRead, TakesBuffer, ShortensBuffers, GivesBytes, GivesNumbers, FetchesBuffer};
 ghost use Rattle.arrow_spec.specs.Flat.{order_by};
 ghost use Rattle.ipc_read_laws.specs.PartsRead.{bits_read, items_read, validity_read};
 ghost use Rattle.ipc_read_laws.specs.Faults.{stated};
@@ -121,6 +121,7 @@ fn fetch<S: Source>(alloc: Global, source: &mut S, part: Body) -> Result<Vec<u8>
     ensures count { IfOk result (λ v. length v.items ≡ part.length) }
     ensures err { IfErr result (λ e. ((e ≡ Memory) ⊎ (e ≡ ReadFault)) ⊎ (S.content source.old ≡ None)) }
     ensures cause { HasReadCause (S.faults source.old) (S.faults source.new) result }
+    ensures faults_stay { LeavesFaults (S.faults source.old) (S.faults source.new) result }
     ensures kept { SourceKept S.content S.faults S.references source.old source.new }
     ensures fetched { S.fetched source.new ≤ S.fetched source.old + part.length }
 {
@@ -177,6 +178,7 @@ impl<'a, S: Source> BufferReader<'a, S> {
         ensures gives { GivesBytes S.content self.old (λ b. b) result range_faults buf }
         ensures shortened { ShortensBuffers 1 self.old self.new }
         ensures cause { FailsToRead S.faults self.old self.new result }
+        ensures faults_stay { LeavesReadFaults S.faults self.old self.new result }
         ensures keeps { KeepsSource S.content S.faults S.references self.old self.new }
         ensures fetched { FetchesBuffer S.fetched self.old self.new stated }
     {
@@ -192,6 +194,7 @@ impl<'a, S: Source> BufferReader<'a, S> {
         ensures gives { GivesBytes S.content self.old (λ b. b) result (λ m i. bitmap_faults m i rows) (λ m i. bits_read m i rows) }
         ensures shortened { ShortensBuffers 1 self.old self.new }
         ensures cause { FailsToRead S.faults self.old self.new result }
+        ensures faults_stay { LeavesReadFaults S.faults self.old self.new result }
         ensures keeps { KeepsSource S.content S.faults S.references self.old self.new }
         ensures fetched { FetchesBuffer S.fetched self.old self.new stated }
         ensures few { S.fetched self.new.source.now ≤ S.fetched self.old.source.now + (rows + 7) / 8 }
@@ -220,6 +223,7 @@ impl<'a, S: Source> BufferReader<'a, S> {
         ensures shortened { ShortensBuffers 1 self.old self.new }
         ensures bytes { IfOk result (λ _. (m : Batch) (i : ℕ) → Left m.buffers i self.old.queue.now.items → KnownTo S.content self.old m → AreBytes (take (T.WIDTH * rows) (buf m i))) }
         ensures cause { FailsToRead S.faults self.old self.new result }
+        ensures faults_stay { LeavesReadFaults S.faults self.old self.new result }
         ensures keeps { KeepsSource S.content S.faults S.references self.old self.new }
         ensures fetched { FetchesBuffer S.fetched self.old self.new stated }
         ensures few { S.fetched self.new.source.now ≤ S.fetched self.old.source.now + T.WIDTH * rows }
@@ -239,6 +243,7 @@ impl<'a, S: Source> BufferReader<'a, S> {
         ensures shortened { ShortensBuffers 1 self.old self.new }
         ensures rows { IfOk result (λ b. length b ≡ size * rows) }
         ensures cause { FailsToRead S.faults self.old self.new result }
+        ensures faults_stay { LeavesReadFaults S.faults self.old self.new result }
         ensures keeps { KeepsSource S.content S.faults S.references self.old self.new }
         ensures fetched { FetchesBuffer S.fetched self.old self.new stated }
     {
@@ -258,6 +263,7 @@ impl<'a, S: Source> BufferReader<'a, S> {
         ensures gives { (m : Batch) (p : Place) → Left m.buffers p.buffer self.old.queue.now.items → slice_get m.nodes p.node ≡ Some node → Told (S.content self.old.source.now) self.old.body m.body → Answers (λ v. v) result (short_of m.buffers p.buffer ++ validity_faults m p rows) (validity_read m p rows) }
         ensures shortened { ShortensBuffers 1 self.old self.new }
         ensures cause { FailsToRead S.faults self.old self.new result }
+        ensures faults_stay { LeavesReadFaults S.faults self.old self.new result }
         ensures keeps { KeepsSource S.content S.faults S.references self.old self.new }
         ensures fetched { (m : Batch) (p : Place) → Left m.buffers p.buffer self.old.queue.now.items → slice_get m.nodes p.node ≡ Some node → S.fetched self.new.source.now ≤ S.fetched self.old.source.now + validity_fetched m p rows }
         ensures rows { IfOk result (λ v. has_rows v rows ≡ true) }
@@ -288,6 +294,7 @@ pub fn read_bytes<S: Source>(
     ensures gives { BytesGiven (S.content source.old) body buffers.old.items (λ b. b) result range_faults buf }
     ensures shortened { Shortened buffers.old.items 1 buffers.new.items }
     ensures cause { HasReadCause (S.faults source.old) (S.faults source.new) result }
+    ensures faults_stay { LeavesFaults (S.faults source.old) (S.faults source.new) result }
     ensures kept { SourceKept S.content S.faults S.references source.old source.new }
     ensures fetched { BufferFetched buffers.old.items (S.fetched source.old) (S.fetched source.new) stated }
 {
@@ -319,6 +326,7 @@ pub fn read_bitmap<S: Source>(
     ensures gives { BytesGiven (S.content source.old) body buffers.old.items (λ b. b) result (λ m i. bitmap_faults m i rows) (λ m i. bits_read m i rows) }
     ensures shortened { Shortened buffers.old.items 1 buffers.new.items }
     ensures cause { HasReadCause (S.faults source.old) (S.faults source.new) result }
+    ensures faults_stay { LeavesFaults (S.faults source.old) (S.faults source.new) result }
     ensures kept { SourceKept S.content S.faults S.references source.old source.new }
     ensures fetched { BufferFetched buffers.old.items (S.fetched source.old) (S.fetched source.new) stated }
     ensures few { S.fetched source.new ≤ S.fetched source.old + (rows + 7) / 8 }
@@ -354,6 +362,7 @@ pub fn read_buffer<T: NativeType, S: Source>(
     ensures shortened { Shortened buffers.old.items 1 buffers.new.items }
     ensures bytes { IfOk result (λ _. (m : Batch) (i : ℕ) → Left m.buffers i buffers.old.items → Known (S.content source.old) body is_little_endian m → AreBytes (take (T.WIDTH * rows) (buf m i))) }
     ensures cause { HasReadCause (S.faults source.old) (S.faults source.new) result }
+    ensures faults_stay { LeavesFaults (S.faults source.old) (S.faults source.new) result }
     ensures kept { SourceKept S.content S.faults S.references source.old source.new }
     ensures fetched { BufferFetched buffers.old.items (S.fetched source.old) (S.fetched source.new) stated }
     ensures few { S.fetched source.new ≤ S.fetched source.old + T.WIDTH * rows }
@@ -388,6 +397,7 @@ pub fn read_validity<S: Source>(
     ensures gives { (m : Batch) (p : Place) → Left m.buffers p.buffer buffers.old.items → slice_get m.nodes p.node ≡ Some node → Told (S.content source.old) body m.body → Answers (λ v. v) result (short_of m.buffers p.buffer ++ validity_faults m p rows) (validity_read m p rows) }
     ensures shortened { Shortened buffers.old.items 1 buffers.new.items }
     ensures cause { HasReadCause (S.faults source.old) (S.faults source.new) result }
+    ensures faults_stay { LeavesFaults (S.faults source.old) (S.faults source.new) result }
     ensures kept { SourceKept S.content S.faults S.references source.old source.new }
     ensures fetched { (m : Batch) (p : Place) → Left m.buffers p.buffer buffers.old.items → slice_get m.nodes p.node ≡ Some node → S.fetched source.new ≤ S.fetched source.old + validity_fetched m p rows }
     ensures rows { IfOk result (λ v. has_rows v rows ≡ true) }

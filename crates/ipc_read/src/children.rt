@@ -26,7 +26,7 @@ ghost use Rattle.ipc_read.specs.Held.{held_in, column_kind, column_fields};
 ghost use Rattle.ipc_read.specs.Lists.{is_any_list, as_lists};
 ghost use Rattle.ipc_read.specs.ChildRows.{rows_by, rows_of_each};
 ghost use Rattle.ipc_read.specs.Unions.{is_any_union, union_as};
-ghost use Rattle.ipc_read.specs.Readers.{TreeAt, KnownTo, CanRead, KeepsQueues, FailsToReadColumn, TakesTree, GivesTree, FetchesTree, ShortensTree, ShortensTrees};
+ghost use Rattle.ipc_read.specs.Readers.{LeavesReadFaults, TreeAt, KnownTo, CanRead, KeepsQueues, FailsToReadColumn, TakesTree, GivesTree, FetchesTree, ShortensTree, ShortensTrees};
 ghost use Rattle.ipc_read.specs.Sources.{Answers, IsRefusal};
 
 use crate::child_rows::{ChildRows, rows_of_next};
@@ -189,6 +189,7 @@ impl<'n, 'a, S: Source> ColumnReader<'n, 'a, S> {
         ensures shortened { ShortensTree (column_kind dtype.now id fields.now) self.old self.new }
         ensures shape { IfOk result (λ a. (kind_in (parts_of a) ≡ kind_of dtype.now) × (rows_in (parts_of a) ≡ rows)) }
         ensures cause { FailsToReadColumn S.faults self.old self.new result }
+        ensures faults_stay { LeavesReadFaults S.faults self.old.buffers self.new.buffers result }
         ensures keeps { KeepsQueues S.content S.faults S.references self.old self.new }
         ensures fetched { FetchesTree S.fetched (column_kind dtype.now id fields.now) self.old self.new rows }
         ensures cells { GivesTree S.content self.old (held_in dictionaries.now) (λ a. cells_in (parts_of a)) result (column_kind dtype.now id fields.now) rows (λ m d p. from_on (cell m d (column_kind dtype.now id fields.now) p) 0 rows) }
@@ -218,6 +219,7 @@ impl<'n, 'a, S: Source> ColumnReader<'n, 'a, S> {
         ensures shortened { ShortensTree (column_kind dtype.now id fields.now) self.old self.new }
         ensures shape { IfOk result (λ a. (kind_in (parts_of a) ≡ kind_of dtype.now) × (rows_in (parts_of a) ≡ rows)) }
         ensures cause { FailsToReadColumn S.faults self.old self.new result }
+        ensures faults_stay { LeavesReadFaults S.faults self.old.buffers self.new.buffers result }
         ensures keeps { KeepsQueues S.content S.faults S.references self.old self.new }
         ensures fetched { FetchesTree S.fetched (column_kind dtype.now id fields.now) self.old self.new rows }
     {
@@ -252,6 +254,7 @@ impl<'n, 'a, S: Source> ColumnReader<'n, 'a, S> {
         ensures shortened { ShortensTree (column_kind dtype.now id fields.now) self.old self.new }
         ensures shape { IfOk result (λ a. (kind_in (parts_of a) ≡ kind_of dtype.now) × (rows_in (parts_of a) ≡ rows)) }
         ensures cause { FailsToReadColumn S.faults self.old self.new result }
+        ensures faults_stay { LeavesReadFaults S.faults self.old.buffers self.new.buffers result }
         ensures keeps { KeepsQueues S.content S.faults S.references self.old self.new }
         ensures fetched { FetchesTree S.fetched (column_kind dtype.now id fields.now) self.old self.new rows }
     {
@@ -296,6 +299,7 @@ impl<'n, 'a, S: Source> ColumnReader<'n, 'a, S> {
         ensures shortened { ShortensTree (column_kind dtype.now id fields.now) self.old self.new }
         ensures shape { IfOk result (λ a. (kind_in (parts_of a) ≡ kind_of dtype.now) × (rows_in (parts_of a) ≡ rows)) }
         ensures cause { FailsToReadColumn S.faults self.old self.new result }
+        ensures faults_stay { LeavesReadFaults S.faults self.old.buffers self.new.buffers result }
         ensures keeps { KeepsQueues S.content S.faults S.references self.old self.new }
         ensures fetched { FetchesTree S.fetched (column_kind dtype.now id fields.now) self.old self.new rows }
     {
@@ -329,6 +333,7 @@ impl<'n, 'a, S: Source> ColumnReader<'n, 'a, S> {
         ensures shortened { ShortensTree (column_kind dtype.now id fields.now) self.old self.new }
         ensures shape { IfOk result (λ a. (kind_in (parts_of a) ≡ kind_of dtype.now) × (rows_in (parts_of a) ≡ rows)) }
         ensures cause { FailsToReadColumn S.faults self.old self.new result }
+        ensures faults_stay { LeavesReadFaults S.faults self.old.buffers self.new.buffers result }
         ensures keeps { KeepsQueues S.content S.faults S.references self.old self.new }
         ensures fetched { FetchesTree S.fetched (column_kind dtype.now id fields.now) self.old self.new rows }
     {
@@ -367,6 +372,7 @@ impl<'n, 'a, S: Source> ColumnReader<'n, 'a, S> {
         ensures shortened { ShortensTree (column_kind dtype.now id fields.now) self.old self.new }
         ensures shape { IfOk result (λ a. (kind_in (parts_of a) ≡ kind_of dtype.now) × (rows_in (parts_of a) ≡ rows)) }
         ensures cause { FailsToReadColumn S.faults self.old self.new result }
+        ensures faults_stay { LeavesReadFaults S.faults self.old.buffers self.new.buffers result }
         ensures keeps { KeepsQueues S.content S.faults S.references self.old self.new }
         ensures fetched { FetchesTree S.fetched (column_kind dtype.now id fields.now) self.old self.new rows }
     {
@@ -398,6 +404,7 @@ impl<'n, 'a, S: Source> ColumnReader<'n, 'a, S> {
         ensures rows { IfOk result (λ v. (m : Batch) (p : Place) → TreeAt m p self.old → rows_each (forest_of v.items) ≡ rows_of_each m (column_fields children.now fields.now) p (rows_by rows m)) }
         ensures sound { IfOk result (λ v. fault_each (forest_of v.items) ≡ None) }
         ensures cause { FailsToReadColumn S.faults self.old self.new result }
+        ensures faults_stay { LeavesReadFaults S.faults self.old.buffers self.new.buffers result }
         ensures keeps { KeepsQueues S.content S.faults S.references self.old self.new }
         ensures fetched { (m : Batch) (p : Place) → TreeAt m p self.old → S.fetched self.new.buffers.source.now ≤ S.fetched self.old.buffers.source.now + columns_fetched m (column_fields children.now fields.now) p (rows_by rows m) }
     {

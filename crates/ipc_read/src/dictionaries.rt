@@ -16,12 +16,12 @@ ghost use Rattle.arrow_arrays.specs.PartsOf.{parts_of, forest_of};
 ghost use Rattle.arrow_arrays.specs.declared.array.Array.TheVariants as arrays;
 ghost use Rattle.ipc_fields.specs.IpcFields.{no_fields, kind_with};
 ghost use Rattle.ipc_fields.specs.Uses.{id_under};
-ghost use Rattle.ipc_io.specs.Outside.{SourceKept};
+ghost use Rattle.ipc_io.specs.Outside.{LeavesFaults, SourceKept};
 ghost use Rattle.ipc_read_laws.specs.Held.{HoldsKinds, HasKinds};
 ghost use Rattle.ipc_read_laws.specs.Laws.{key_refusal};
 ghost use Rattle.ipc_read_laws.specs.PartsRead.{primitive_read, indexed_read, parts_or_empty, parts_read};
 ghost use Rattle.ipc_read.specs.Held.{held_in, is_any_dictionary, dictionary_as};
-ghost use Rattle.ipc_read.specs.Readers.{Readable, CanRead, KeepsQueues, HasReadCause, FailsToReadColumn, LeafTaken, LeafShortened, LeafFetched, KeysGiven, TakesLeaf, GivesLeaf, GivesKeys, ShortensLeaf, FetchesLeaf};
+ghost use Rattle.ipc_read.specs.Readers.{LeavesReadFaults, Readable, CanRead, KeepsQueues, HasReadCause, FailsToReadColumn, LeafTaken, LeafShortened, LeafFetched, KeysGiven, TakesLeaf, GivesLeaf, GivesKeys, ShortensLeaf, FetchesLeaf};
 
 use crate::Body;
 use crate::readers::{BufferReader, ColumnReader};
@@ -161,6 +161,7 @@ impl<'n, 'a, S: Source> ColumnReader<'n, 'a, S> {
         ensures shortened { ShortensLeaf (integer index) self.old self.new }
         ensures counts { self.new.variadic.now.items ≡ self.old.variadic.now.items }
         ensures cause { FailsToReadColumn S.faults self.old self.new result }
+        ensures faults_stay { LeavesReadFaults S.faults self.old.buffers self.new.buffers result }
         ensures keeps { KeepsQueues S.content S.faults S.references self.old self.new }
         ensures fetched { FetchesLeaf S.fetched (integer index) self.old self.new rows }
     {
@@ -178,6 +179,7 @@ impl<'n, 'a, S: Source> ColumnReader<'n, 'a, S> {
         ensures shortened { ShortensLeaf (integer index) self.old self.new }
         ensures counts { self.new.variadic.now.items ≡ self.old.variadic.now.items }
         ensures cause { FailsToReadColumn S.faults self.old self.new result }
+        ensures faults_stay { LeavesReadFaults S.faults self.old.buffers self.new.buffers result }
         ensures keeps { KeepsQueues S.content S.faults S.references self.old self.new }
         ensures fetched { FetchesLeaf S.fetched (integer index) self.old self.new rows }
     {
@@ -221,6 +223,7 @@ impl<'n, 'a, S: Source> ColumnReader<'n, 'a, S> {
         ensures counts { self.new.variadic.now.items ≡ self.old.variadic.now.items }
         ensures shape { IfOk result (λ a. (kind_in (parts_of (arrays.Dictionary a)) ≡ kind_of dtype.now) × (rows_in (parts_of (arrays.Dictionary a)) ≡ rows)) }
         ensures cause { FailsToReadColumn S.faults self.old self.new result }
+        ensures faults_stay { LeavesReadFaults S.faults self.old.buffers self.new.buffers result }
         ensures keeps { KeepsQueues S.content S.faults S.references self.old self.new }
         ensures fetched { FetchesLeaf S.fetched (kind_of dtype.now) self.old self.new rows }
     {
@@ -263,6 +266,7 @@ pub fn read_dictionary<S: Source>(
     ensures shape { IfOk result (λ a. (kind_in (parts_of (arrays.Dictionary a)) ≡ kind_of dtype.now) × (rows_in (parts_of (arrays.Dictionary a)) ≡ rows)) }
     ensures shortened { LeafShortened (kind_of dtype.now) nodes.old.items nodes.new.items buffers.old.items buffers.new.items }
     ensures cause { HasReadCause (S.faults source.old) (S.faults source.new) result }
+    ensures faults_stay { LeavesFaults (S.faults source.old) (S.faults source.new) result }
     ensures kept { SourceKept S.content S.faults S.references source.old source.new }
     ensures fetched { LeafFetched (kind_of dtype.now) nodes.old.items buffers.old.items rows (S.fetched source.old) (S.fetched source.new) }
 {

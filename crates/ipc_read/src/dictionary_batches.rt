@@ -14,9 +14,10 @@ ghost use Rattle.arrow_spec.specs.declared.error.OutOfSpecKind.TheVariants.{Inva
 ghost use Rattle.arrow_types.specs.KindOf.{kind_of};
 ghost use Rattle.arrow_arrays.specs.Parts.{none, also};
 ghost use Rattle.arrow_arrays.specs.PartsOf.{parts_of, forest_of};
+ghost use Rattle.ipc_fields.specs.Causes.{IsOfBytes};
 ghost use Rattle.ipc_fields.specs.IpcFields.{ids_of, tree_of};
 ghost use Rattle.ipc_fields.specs.Uses.{use_in};
-ghost use Rattle.ipc_io.specs.Outside.{SourceKept};
+ghost use Rattle.ipc_io.specs.Outside.{LeavesFaults, SourceKept};
 ghost use Rattle.ipc_read_laws.specs.Held.{HoldsCells, HasKinds, values_of_id, HasKindOf};
 ghost use Rattle.ipc_schema.specs.Views.{header_of};
 ghost use Rattle.ipc_read.specs.Batches.{is_column_kind, kinds_of, schema_fields};
@@ -72,8 +73,12 @@ fn first_use(uses: Vec<Use>, id: i64) -> Option<Use>
     None
 }
 
-/// The use of the dictionary under an id in the columns of a schema.
-fn use_of(
+/// The first use of the dictionary under an id in the columns of a schema, in preorder.
+///
+/// # Errors
+///
+/// `InvalidId` where no column has the id; `Memory`.
+pub fn use_of(
     alloc: Global,
     schema: &ArrowSchema,
     fields: &[IpcField],
@@ -81,6 +86,7 @@ fn use_of(
 ) -> Result<Use, IpcError>
     ensures found { IfOk result (λ u. values_of_id (schema_fields schema.now fields.now) id ≡ Some (use_in u).values) }
     ensures err { IfErr result (λ e. (e ≡ Memory) ⊎ ((e ≡ OutOfSpec (InvalidId id)) × (values_of_id (schema_fields schema.now fields.now) id ≡ None))) }
+    ensures cause { IfErr result IsOfBytes }
 {
     let uses = schema_uses(alloc, schema, fields)?;
     match first_use(uses, id) {
@@ -111,7 +117,11 @@ fn column_of(alloc: Global, dtype: ArrowDataType) -> Result<ArrowSchema, IpcErro
 }
 
 /// One column of a dictionary's values, without a name, and the ids of its IPC field.
-fn values_schema(
+///
+/// # Errors
+///
+/// `Memory`.
+pub fn values_schema(
     alloc: Global,
     values: Use,
     is_little_endian: bool,
@@ -231,6 +241,7 @@ pub fn read_dictionary_batch<S: Source>(
     ensures others { (q : ℤ) → same id q ≡ false → held_in dictionaries.new q ≡ held_in dictionaries.old q }
     ensures refused { IfErr result (λ _. (q : ℤ) → held_in dictionaries.new q ≡ held_in dictionaries.old q) }
     ensures cause { IfErr result (λ e. BodyReadCause e (S.faults source.old) (S.faults source.new)) }
+    ensures faults_stay { LeavesFaults (S.faults source.old) (S.faults source.new) result }
     ensures kept { SourceKept S.content S.faults S.references source.old source.new }
     ensures fetched { (bytes : List ℕ) → S.fetched source.new ≤ S.fetched source.old + dictionary_fetched (record_batch_of (order_by ipc_schema.now.is_little_endian) version (header_of header.now) bytes) (values_of_id (schema_fields (rc_value schema.now) ipc_schema.now.fields.items) id) (magnitude header.now.length) }
 {

@@ -5,7 +5,7 @@ ghost use Rattle.arrow_types.specs.KindOf.{kind_of};
 ghost use Rattle.arrow_types.specs.Physical.{physical_of};
 ghost use Rattle.ipc_read.specs.Queues.{NodesAt, At, ShortenedBy};
 ghost use Rattle.ipc_read.specs.Sources.{Answers, Known, BodyReadCause, IsRefusal};
-ghost use Rattle.ipc_read.specs.Readers.{LeafAt, KnownTo, Readable, HasReadCause, LeafTaken, LeafGiven, LeafFetched, LeafShortened, CanRead, KeepsQueues, FailsToReadColumn, TakesLeaf, GivesLeaf, FetchesLeaf, ShortensLeaf};
+ghost use Rattle.ipc_read.specs.Readers.{LeavesReadFaults, LeafAt, KnownTo, Readable, HasReadCause, LeafTaken, LeafGiven, LeafFetched, LeafShortened, CanRead, KeepsQueues, FailsToReadColumn, TakesLeaf, GivesLeaf, FetchesLeaf, ShortensLeaf};
 ghost use Rattle.ipc_read_laws.specs.Faults.{read_faults};
 ghost use Rattle.arrow_buffers.specs.Layouts.{is_null, is_boolean, is_primitive, binary_size};
 ghost use Rattle.ipc_read_laws.specs.PartsRead.{boolean_read, primitive_read, fixed_read, numbers_bytes};
@@ -14,7 +14,7 @@ ghost use Rattle.arrow_buffers.specs.Leaf.{fixed_rows};
 ghost use Rattle.arrow_spec.specs.declared.error.IpcError.TheVariants.{Memory};
 ghost use Rattle.arrow_spec.specs.declared.message.MetadataVersion.{MetadataVersion};
 ghost use Rattle.arrow_spec.specs.declared.message.IpcBuffer.{IpcBuffer};
-ghost use Rattle.ipc_io.specs.Outside.{SourceKept};
+ghost use Rattle.ipc_io.specs.Outside.{LeavesFaults, SourceKept};
 
 use crate::Body;
 use crate::makes::{binary_size as size_of, make_boolean, make_fixed, make_null, make_primitive};
@@ -65,6 +65,7 @@ impl<'n, 'a, S: Source> ColumnReader<'n, 'a, S> {
         ensures shortened { ShortensLeaf (kind_of dtype.now) self.old self.new }
         ensures counts { self.new.variadic.now.items ≡ self.old.variadic.now.items }
         ensures cause { FailsToReadColumn S.faults self.old self.new result }
+        ensures faults_stay { LeavesReadFaults S.faults self.old.buffers self.new.buffers result }
         ensures keeps { KeepsQueues S.content S.faults S.references self.old self.new }
         ensures fetched { FetchesLeaf S.fetched (kind_of dtype.now) self.old self.new rows }
     {
@@ -88,6 +89,7 @@ impl<'n, 'a, S: Source> ColumnReader<'n, 'a, S> {
         ensures counts { self.new.variadic.now.items ≡ self.old.variadic.now.items }
         ensures bytes { IfOk result (λ _. (m : Batch) (p : Place) → LeafAt m p self.old → KnownTo S.content self.old.buffers m → AreBytes (numbers_bytes m (kind_of dtype.now) p rows)) }
         ensures cause { FailsToReadColumn S.faults self.old self.new result }
+        ensures faults_stay { LeavesReadFaults S.faults self.old.buffers self.new.buffers result }
         ensures keeps { KeepsQueues S.content S.faults S.references self.old self.new }
         ensures fetched { FetchesLeaf S.fetched (kind_of dtype.now) self.old self.new rows }
     {
@@ -110,6 +112,7 @@ impl<'n, 'a, S: Source> ColumnReader<'n, 'a, S> {
         ensures shortened { ShortensLeaf (kind_of dtype.now) self.old self.new }
         ensures counts { self.new.variadic.now.items ≡ self.old.variadic.now.items }
         ensures cause { FailsToReadColumn S.faults self.old self.new result }
+        ensures faults_stay { LeavesReadFaults S.faults self.old.buffers self.new.buffers result }
         ensures keeps { KeepsQueues S.content S.faults S.references self.old self.new }
         ensures fetched { FetchesLeaf S.fetched (kind_of dtype.now) self.old self.new rows }
     {
@@ -143,6 +146,7 @@ pub fn read_boolean<S: Source>(
     ensures gives { LeafGiven (S.content source.old) body is_little_endian nodes.old.items buffers.old.items (λ a. a) result (kind_of dtype.now) rows (λ m p. boolean_read m (kind_of dtype.now) p rows) }
     ensures shortened { LeafShortened (kind_of dtype.now) nodes.old.items nodes.new.items buffers.old.items buffers.new.items }
     ensures cause { HasReadCause (S.faults source.old) (S.faults source.new) result }
+    ensures faults_stay { LeavesFaults (S.faults source.old) (S.faults source.new) result }
     ensures kept { SourceKept S.content S.faults S.references source.old source.new }
     ensures fetched { LeafFetched (kind_of dtype.now) nodes.old.items buffers.old.items rows (S.fetched source.old) (S.fetched source.new) }
 {
@@ -186,6 +190,7 @@ pub fn read_primitive<T: NativeType, S: Source>(
     ensures shortened { LeafShortened (kind_of dtype.now) nodes.old.items nodes.new.items buffers.old.items buffers.new.items }
     ensures bytes { IfOk result (λ _. (m : Batch) (p : Place) → At m p nodes.old.items buffers.old.items → Known (S.content source.old) body is_little_endian m → AreBytes (numbers_bytes m (kind_of dtype.now) p rows)) }
     ensures cause { HasReadCause (S.faults source.old) (S.faults source.new) result }
+    ensures faults_stay { LeavesFaults (S.faults source.old) (S.faults source.new) result }
     ensures kept { SourceKept S.content S.faults S.references source.old source.new }
     ensures fetched { LeafFetched (kind_of dtype.now) nodes.old.items buffers.old.items rows (S.fetched source.old) (S.fetched source.new) }
 {
@@ -228,6 +233,7 @@ pub fn read_fixed_size_binary<S: Source>(
     ensures gives { LeafGiven (S.content source.old) body is_little_endian nodes.old.items buffers.old.items (λ a. a) result (kind_of dtype.now) rows (λ m p. fixed_read m (kind_of dtype.now) p rows) }
     ensures shortened { LeafShortened (kind_of dtype.now) nodes.old.items nodes.new.items buffers.old.items buffers.new.items }
     ensures cause { HasReadCause (S.faults source.old) (S.faults source.new) result }
+    ensures faults_stay { LeavesFaults (S.faults source.old) (S.faults source.new) result }
     ensures kept { SourceKept S.content S.faults S.references source.old source.new }
     ensures fetched { LeafFetched (kind_of dtype.now) nodes.old.items buffers.old.items rows (S.fetched source.old) (S.fetched source.new) }
 {

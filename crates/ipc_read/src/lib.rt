@@ -30,7 +30,7 @@ pub use batch::read_record_batch;
 pub use body::Body;
 pub use buffers::{read_bitmap, read_buffer, read_bytes, read_validity};
 pub use dictionaries::{Dictionaries, read_dictionary};
-pub use dictionary_batches::read_dictionary_batch;
+pub use dictionary_batches::{read_dictionary_batch, use_of, values_schema};
 pub use held::{are_held_for, is_held_for};
 pub use integers::magnitude;
 pub use ipc_schema::{

@@ -17,7 +17,7 @@ ghost use Rattle.ipc_read_laws.specs.PartsRead.{validity_read};
 ghost use Rattle.ipc_read_laws.specs.Faults.{stated};
 ghost use Rattle.ipc_read.specs.Lists.{is_any_list, is_any_map, as_lists, list_head, list_faults, list_top};
 ghost use Rattle.ipc_read.specs.Queues.{Left, short_of, Shortened};
-ghost use Rattle.ipc_read.specs.Readers.{LeafAt, KnownTo, CanRead, KeepsSource, KeepsQueues, FailsToRead, FailsToReadColumn, TakesBuffer, ShortensBuffers, GivesNumbers, FetchesBuffer};
+ghost use Rattle.ipc_read.specs.Readers.{LeavesReadFaults, LeafAt, KnownTo, CanRead, KeepsSource, KeepsQueues, FailsToRead, FailsToReadColumn, TakesBuffer, ShortensBuffers, GivesNumbers, FetchesBuffer};
 ghost use Rattle.ipc_read.specs.Sources.{Answers, offsets_of_rows, faults_where, bytes_where, validity_fetched};
 
 use crate::child_rows::next_end;
@@ -174,6 +174,7 @@ impl<'a, S: Source> BufferReader<'a, S> {
         ensures none { IfOk result (λ b. rows ≡ 0 → offsets_in b ≡ pos 0 ∷ []) }
         ensures shortened { ShortensBuffers 1 self.old self.new }
         ensures cause { FailsToRead S.faults self.old self.new result }
+        ensures faults_stay { LeavesReadFaults S.faults self.old self.new result }
         ensures keeps { KeepsSource S.content S.faults S.references self.old self.new }
         ensures fetched { FetchesBuffer S.fetched self.old self.new (λ m i. bytes_where rows (stated m i)) }
     {
@@ -206,6 +207,7 @@ impl<'n, 'a, S: Source> ColumnReader<'n, 'a, S> {
         ensures rise { IfOk result (λ x. are_offsets (offsets_in x.offsets) x.last ≡ true) }
         ensures rows { IfOk result (λ x. has_rows x.validity rows ≡ true) }
         ensures cause { FailsToReadColumn S.faults self.old self.new result }
+        ensures faults_stay { LeavesReadFaults S.faults self.old.buffers self.new.buffers result }
         ensures keeps { KeepsQueues S.content S.faults S.references self.old self.new }
         ensures fetched { (m : Batch) (p : Place) → LeafAt m p self.old → S.fetched self.new.buffers.source.now ≤ S.fetched self.old.buffers.source.now + (validity_fetched m p rows + bytes_where rows (stated m (p.buffer + 1))) }
     {

@@ -9,7 +9,7 @@ ghost use Rattle.arrow_arrays.specs.Carried.{is_carried};
 ghost use Rattle.arrow_arrays.specs.Parts.{kind_in, rows_in, cells_in, fault_in};
 ghost use Rattle.arrow_arrays.specs.PartsOf.{parts_of};
 ghost use Rattle.arrow_arrays.specs.declared.array.Array.TheVariants as arrays;
-ghost use Rattle.ipc_io.specs.Outside.{SourceKept};
+ghost use Rattle.ipc_io.specs.Outside.{LeavesFaults, SourceKept};
 ghost use Rattle.ipc_read_laws.specs.Held.{HasKinds};
 ghost use Rattle.ipc_read_laws.specs.PartsRead.{parts_read};
 ghost use Rattle.ipc_read.specs.Held.{held_in, field_kind};
@@ -122,6 +122,7 @@ pub fn read_list<S: Source>(
     ensures shortened { ShortenedBy (field_kind dtype.now ipc_field.now) version nodes.old.items nodes.new.items buffers.old.items buffers.new.items variadic.old.items variadic.new.items }
     ensures shape { IfOk result (λ a. (kind_in (parts_of (arrays.List a)) ≡ kind_of dtype.now) × (rows_in (parts_of (arrays.List a)) ≡ rows)) }
     ensures cause { HasReadCause (S.faults source.old) (S.faults source.new) result }
+    ensures faults_stay { LeavesFaults (S.faults source.old) (S.faults source.new) result }
     ensures kept { SourceKept S.content S.faults S.references source.old source.new }
     ensures fetched { TreeFetched (field_kind dtype.now ipc_field.now) version nodes.old.items buffers.old.items variadic.old.items rows (S.fetched source.old) (S.fetched source.new) }
     ensures cells { TreeGiven (S.content source.old) body is_little_endian version nodes.old.items buffers.old.items variadic.old.items (held_in dictionaries.now) (λ a. cells_in (parts_of (arrays.List a))) result (field_kind dtype.now ipc_field.now) rows (λ m d p. from_on (cell m d (field_kind dtype.now ipc_field.now) p) 0 rows) }
@@ -174,6 +175,7 @@ pub fn read_fixed_size_list<S: Source>(
     ensures shortened { ShortenedBy (field_kind dtype.now ipc_field.now) version nodes.old.items nodes.new.items buffers.old.items buffers.new.items variadic.old.items variadic.new.items }
     ensures shape { IfOk result (λ a. (kind_in (parts_of (arrays.FixedSizeList a)) ≡ kind_of dtype.now) × (rows_in (parts_of (arrays.FixedSizeList a)) ≡ rows)) }
     ensures cause { HasReadCause (S.faults source.old) (S.faults source.new) result }
+    ensures faults_stay { LeavesFaults (S.faults source.old) (S.faults source.new) result }
     ensures kept { SourceKept S.content S.faults S.references source.old source.new }
     ensures fetched { TreeFetched (field_kind dtype.now ipc_field.now) version nodes.old.items buffers.old.items variadic.old.items rows (S.fetched source.old) (S.fetched source.new) }
     ensures cells { TreeGiven (S.content source.old) body is_little_endian version nodes.old.items buffers.old.items variadic.old.items (held_in dictionaries.now) (λ a. cells_in (parts_of (arrays.FixedSizeList a))) result (field_kind dtype.now ipc_field.now) rows (λ m d p. from_on (cell m d (field_kind dtype.now ipc_field.now) p) 0 rows) }
@@ -226,6 +228,7 @@ pub fn read_struct<S: Source>(
     ensures shortened { ShortenedBy (field_kind dtype.now ipc_field.now) version nodes.old.items nodes.new.items buffers.old.items buffers.new.items variadic.old.items variadic.new.items }
     ensures shape { IfOk result (λ a. (kind_in (parts_of (arrays.Struct a)) ≡ kind_of dtype.now) × (rows_in (parts_of (arrays.Struct a)) ≡ rows)) }
     ensures cause { HasReadCause (S.faults source.old) (S.faults source.new) result }
+    ensures faults_stay { LeavesFaults (S.faults source.old) (S.faults source.new) result }
     ensures kept { SourceKept S.content S.faults S.references source.old source.new }
     ensures fetched { TreeFetched (field_kind dtype.now ipc_field.now) version nodes.old.items buffers.old.items variadic.old.items rows (S.fetched source.old) (S.fetched source.new) }
     ensures cells { TreeGiven (S.content source.old) body is_little_endian version nodes.old.items buffers.old.items variadic.old.items (held_in dictionaries.now) (λ a. cells_in (parts_of (arrays.Struct a))) result (field_kind dtype.now ipc_field.now) rows (λ m d p. from_on (cell m d (field_kind dtype.now ipc_field.now) p) 0 rows) }
@@ -278,6 +281,7 @@ pub fn read_map<S: Source>(
     ensures shortened { ShortenedBy (field_kind dtype.now ipc_field.now) version nodes.old.items nodes.new.items buffers.old.items buffers.new.items variadic.old.items variadic.new.items }
     ensures shape { IfOk result (λ a. (kind_in (parts_of (arrays.Map a)) ≡ kind_of dtype.now) × (rows_in (parts_of (arrays.Map a)) ≡ rows)) }
     ensures cause { HasReadCause (S.faults source.old) (S.faults source.new) result }
+    ensures faults_stay { LeavesFaults (S.faults source.old) (S.faults source.new) result }
     ensures kept { SourceKept S.content S.faults S.references source.old source.new }
     ensures fetched { TreeFetched (field_kind dtype.now ipc_field.now) version nodes.old.items buffers.old.items variadic.old.items rows (S.fetched source.old) (S.fetched source.new) }
     ensures cells { TreeGiven (S.content source.old) body is_little_endian version nodes.old.items buffers.old.items variadic.old.items (held_in dictionaries.now) (λ a. cells_in (parts_of (arrays.Map a))) result (field_kind dtype.now ipc_field.now) rows (λ m d p. from_on (cell m d (field_kind dtype.now ipc_field.now) p) 0 rows) }
@@ -330,6 +334,7 @@ pub fn read_union<S: Source>(
     ensures shortened { ShortenedBy (field_kind dtype.now ipc_field.now) version nodes.old.items nodes.new.items buffers.old.items buffers.new.items variadic.old.items variadic.new.items }
     ensures shape { IfOk result (λ a. (kind_in (parts_of (arrays.Union a)) ≡ kind_of dtype.now) × (rows_in (parts_of (arrays.Union a)) ≡ rows)) }
     ensures cause { HasReadCause (S.faults source.old) (S.faults source.new) result }
+    ensures faults_stay { LeavesFaults (S.faults source.old) (S.faults source.new) result }
     ensures kept { SourceKept S.content S.faults S.references source.old source.new }
     ensures fetched { TreeFetched (field_kind dtype.now ipc_field.now) version nodes.old.items buffers.old.items variadic.old.items rows (S.fetched source.old) (S.fetched source.new) }
     ensures cells { TreeGiven (S.content source.old) body is_little_endian version nodes.old.items buffers.old.items variadic.old.items (held_in dictionaries.now) (λ a. cells_in (parts_of (arrays.Union a))) result (field_kind dtype.now ipc_field.now) rows (λ m d p. from_on (cell m d (field_kind dtype.now ipc_field.now) p) 0 rows) }

@@ -16,8 +16,8 @@ ghost use Rattle.ipc_read_laws.specs.Held.{HasKinds};
 ghost use Rattle.ipc_read.specs.Held.{held_in, column_kind, field_kind};
 ghost use Rattle.ipc_read.specs.Readings.{is_of_values, is_of_views};
 ghost use Rattle.ipc_read.specs.Queues.{ShortenedBy};
-ghost use Rattle.ipc_read.specs.Readers.{LeafAt, QueuesAt, KnownTo, Readable, HasReadCause, TreeTaken, TreeGiven, TreeFetched, CanRead, KeepsQueues, FailsToReadColumn, TakesLeaf, GivesLeaf, FetchesLeaf, ShortensLeaf, TakesColumn, GivesColumn, FetchesColumn, ShortensColumn};
-ghost use Rattle.ipc_io.specs.Outside.{SourceKept};
+ghost use Rattle.ipc_read.specs.Readers.{LeavesReadFaults, LeafAt, QueuesAt, KnownTo, Readable, HasReadCause, TreeTaken, TreeGiven, TreeFetched, CanRead, KeepsQueues, FailsToReadColumn, TakesLeaf, GivesLeaf, FetchesLeaf, ShortensLeaf, TakesColumn, GivesColumn, FetchesColumn, ShortensColumn};
+ghost use Rattle.ipc_io.specs.Outside.{LeavesFaults, SourceKept};
 
 use crate::Body;
 use crate::dictionaries::Dictionaries;
@@ -43,6 +43,7 @@ impl<'n, 'a, S: Source> ColumnReader<'n, 'a, S> {
         ensures counts { self.new.variadic.now.items ≡ self.old.variadic.now.items }
         ensures shape { IfOk result (λ a. (kind_in (parts_of a) ≡ (kind_of dtype.now)) × (rows_in (parts_of a) ≡ rows)) }
         ensures cause { FailsToReadColumn S.faults self.old self.new result }
+        ensures faults_stay { LeavesReadFaults S.faults self.old.buffers self.new.buffers result }
         ensures keeps { KeepsQueues S.content S.faults S.references self.old self.new }
         ensures fetched { FetchesLeaf S.fetched (kind_of dtype.now) self.old self.new rows }
     {
@@ -66,6 +67,7 @@ impl<'n, 'a, S: Source> ColumnReader<'n, 'a, S> {
         ensures counts { self.new.variadic.now.items ≡ self.old.variadic.now.items }
         ensures shape { IfOk result (λ a. (kind_in (parts_of a) ≡ (kind_of dtype.now)) × (rows_in (parts_of a) ≡ rows)) }
         ensures cause { FailsToReadColumn S.faults self.old self.new result }
+        ensures faults_stay { LeavesReadFaults S.faults self.old.buffers self.new.buffers result }
         ensures keeps { KeepsQueues S.content S.faults S.references self.old self.new }
         ensures fetched { FetchesLeaf S.fetched (kind_of dtype.now) self.old self.new rows }
         ensures bytes { IfOk result (λ _. (m : Batch) (p : Place) → LeafAt m p self.old → KnownTo S.content self.old.buffers m → AreBytes (numbers_bytes m (kind_of dtype.now) p rows)) }
@@ -109,6 +111,7 @@ impl<'n, 'a, S: Source> ColumnReader<'n, 'a, S> {
         ensures counts { self.new.variadic.now.items ≡ self.old.variadic.now.items }
         ensures shape { IfOk result (λ a. (kind_in (parts_of a) ≡ (kind_of dtype.now)) × (rows_in (parts_of a) ≡ rows)) }
         ensures cause { FailsToReadColumn S.faults self.old self.new result }
+        ensures faults_stay { LeavesReadFaults S.faults self.old.buffers self.new.buffers result }
         ensures keeps { KeepsQueues S.content S.faults S.references self.old self.new }
         ensures fetched { FetchesLeaf S.fetched (kind_of dtype.now) self.old self.new rows }
     {
@@ -157,6 +160,7 @@ impl<'n, 'a, S: Source> ColumnReader<'n, 'a, S> {
         ensures shortened { ShortensColumn (kind_of dtype.now) self.old self.new }
         ensures shape { IfOk result (λ a. (kind_in (parts_of a) ≡ (kind_of dtype.now)) × (rows_in (parts_of a) ≡ rows)) }
         ensures cause { FailsToReadColumn S.faults self.old self.new result }
+        ensures faults_stay { LeavesReadFaults S.faults self.old.buffers self.new.buffers result }
         ensures keeps { KeepsQueues S.content S.faults S.references self.old self.new }
         ensures fetched { FetchesColumn S.fetched (kind_of dtype.now) self.old self.new rows }
     {
@@ -186,6 +190,7 @@ impl<'n, 'a, S: Source> ColumnReader<'n, 'a, S> {
         ensures shortened { ShortensColumn (kind_of dtype.now) self.old self.new }
         ensures shape { IfOk result (λ a. (kind_in (parts_of a) ≡ (kind_of dtype.now)) × (rows_in (parts_of a) ≡ rows)) }
         ensures cause { FailsToReadColumn S.faults self.old self.new result }
+        ensures faults_stay { LeavesReadFaults S.faults self.old.buffers self.new.buffers result }
         ensures keeps { KeepsQueues S.content S.faults S.references self.old self.new }
         ensures fetched { FetchesColumn S.fetched (kind_of dtype.now) self.old self.new rows }
         ensures bytes { IfOk result (λ _. (m : Batch) (p : Place) → QueuesAt m p self.old → KnownTo S.content self.old.buffers m → AreBytes (numbers_bytes m (kind_of dtype.now) p rows)) }
@@ -232,6 +237,7 @@ pub(crate) fn read_next<S: Source>(
     ensures shortened { ShortenedBy (column_kind dtype.now id fields.now) version nodes.old.items nodes.new.items buffers.old.items buffers.new.items variadic.old.items variadic.new.items }
     ensures shape { IfOk result (λ a. (kind_in (parts_of a) ≡ kind_of dtype.now) × (rows_in (parts_of a) ≡ rows)) }
     ensures cause { HasReadCause (S.faults source.old) (S.faults source.new) result }
+    ensures faults_stay { LeavesFaults (S.faults source.old) (S.faults source.new) result }
     ensures kept { SourceKept S.content S.faults S.references source.old source.new }
     ensures fetched { TreeFetched (column_kind dtype.now id fields.now) version nodes.old.items buffers.old.items variadic.old.items rows (S.fetched source.old) (S.fetched source.new) }
     ensures cells { TreeGiven (S.content source.old) body is_little_endian version nodes.old.items buffers.old.items variadic.old.items (held_in dictionaries.now) (λ a. cells_in (parts_of a)) result (column_kind dtype.now id fields.now) rows (λ m d p. from_on (cell m d (column_kind dtype.now id fields.now) p) 0 rows) }
@@ -284,6 +290,7 @@ pub fn read<S: Source>(
     ensures shortened { ShortenedBy (field_kind field.now.dtype ipc_field.now) version nodes.old.items nodes.new.items buffers.old.items buffers.new.items variadic.old.items variadic.new.items }
     ensures shape { IfOk result (λ a. (kind_in (parts_of a) ≡ kind_of field.now.dtype) × (rows_in (parts_of a) ≡ rows)) }
     ensures cause { HasReadCause (S.faults source.old) (S.faults source.new) result }
+    ensures faults_stay { LeavesFaults (S.faults source.old) (S.faults source.new) result }
     ensures kept { SourceKept S.content S.faults S.references source.old source.new }
     ensures fetched { TreeFetched (field_kind field.now.dtype ipc_field.now) version nodes.old.items buffers.old.items variadic.old.items rows (S.fetched source.old) (S.fetched source.new) }
     ensures cells { TreeGiven (S.content source.old) body is_little_endian version nodes.old.items buffers.old.items variadic.old.items (held_in dictionaries.now) (λ a. cells_in (parts_of a)) result (field_kind field.now.dtype ipc_field.now) rows (λ m d p. from_on (cell m d (field_kind field.now.dtype ipc_field.now) p) 0 rows) }

@@ -8,7 +8,7 @@ ghost use Rattle.arrow_spec.specs.Readings.{Refuses};
 ghost use Rattle.ipc_read.specs.Queues.{Left, short_of, Shortened};
 ghost use Rattle.ipc_read.specs.Sources.{Answers, Told, IsRefusal, faults_where, bytes_where, head_faults, validity_fetched};
 ghost use Rattle.arrow_buffers.specs.Rows.{has_rows};
-ghost use Rattle.ipc_read.specs.Readers.{LeafAt, KnownTo, CanRead, KeepsSource, KeepsQueues, FailsToRead, FailsToReadColumn, TakesHead, TakesBuffer, ShortensBuffers, GivesBytes, GivesNumbers, FetchesBuffer};
+ghost use Rattle.ipc_read.specs.Readers.{LeavesReadFaults, LeafAt, KnownTo, CanRead, KeepsSource, KeepsQueues, FailsToRead, FailsToReadColumn, TakesHead, TakesBuffer, ShortensBuffers, GivesBytes, GivesNumbers, FetchesBuffer};
 ghost use Rattle.ipc_read_laws.specs.PartsRead.{bits_read, items_read, bytes_of_rows, validity_read};
 ghost use Rattle.ipc_read_laws.specs.Faults.{stated};
 
@@ -60,6 +60,7 @@ impl<'a, S: Source> BufferReader<'a, S> {
         ensures shortened { ShortensBuffers 1 self.old self.new }
         ensures rows { IfOk result (λ b. length b ≡ rows) }
         ensures cause { FailsToRead S.faults self.old self.new result }
+        ensures faults_stay { LeavesReadFaults S.faults self.old self.new result }
         ensures keeps { KeepsSource S.content S.faults S.references self.old self.new }
         ensures fetched { FetchesBuffer S.fetched self.old self.new (λ m i. bytes_where rows (stated m i)) }
     {
@@ -79,6 +80,7 @@ impl<'a, S: Source> BufferReader<'a, S> {
         ensures bytes { IfOk result (λ _. (m : Batch) (i : ℕ) → Left m.buffers i self.old.queue.now.items → KnownTo S.content self.old m → AreBytes (take (T.WIDTH * rows) (buf m i))) }
         ensures rows { IfOk result (λ b. length b ≡ rows) }
         ensures cause { FailsToRead S.faults self.old self.new result }
+        ensures faults_stay { LeavesReadFaults S.faults self.old self.new result }
         ensures keeps { KeepsSource S.content S.faults S.references self.old self.new }
         ensures fetched { FetchesBuffer S.fetched self.old self.new (λ m i. bytes_where rows (stated m i)) }
     {
@@ -97,6 +99,7 @@ impl<'a, S: Source> BufferReader<'a, S> {
         ensures shortened { ShortensBuffers 1 self.old self.new }
         ensures rows { IfOk result (λ b. length b ≡ size * rows) }
         ensures cause { FailsToRead S.faults self.old self.new result }
+        ensures faults_stay { LeavesReadFaults S.faults self.old self.new result }
         ensures keeps { KeepsSource S.content S.faults S.references self.old self.new }
         ensures fetched { FetchesBuffer S.fetched self.old self.new (λ m i. bytes_where rows (stated m i)) }
     {
@@ -120,6 +123,7 @@ impl<'n, 'a, S: Source> ColumnReader<'n, 'a, S> {
         ensures few { IfOk result (λ _. rows < 2 ^ 63) }
         ensures rows { IfOk result (λ v. has_rows v rows ≡ true) }
         ensures cause { FailsToReadColumn S.faults self.old self.new result }
+        ensures faults_stay { LeavesReadFaults S.faults self.old.buffers self.new.buffers result }
         ensures keeps { KeepsQueues S.content S.faults S.references self.old self.new }
         ensures fetched { (m : Batch) (p : Place) → LeafAt m p self.old → S.fetched self.new.buffers.source.now ≤ S.fetched self.old.buffers.source.now + validity_fetched m p rows }
     {

@@ -12,7 +12,7 @@ ghost use Rattle.arrow_arrays.specs.Parts.{nested, kinds_each, rows_each, fault_
 ghost use Rattle.arrow_arrays.specs.PartsOf.{parts_of, forest_of};
 ghost use Rattle.ipc_read_laws.specs.Faults.{stated};
 ghost use Rattle.ipc_read.specs.Queues.{Left, Shortened};
-ghost use Rattle.ipc_read.specs.Readers.{KnownTo, CanRead, KeepsSource, KeepsQueues, FailsToRead, FailsToReadColumn, TakesBuffer, ShortensBuffers, GivesNumbers, FetchesBuffer, TreeAt};
+ghost use Rattle.ipc_read.specs.Readers.{LeavesReadFaults, KnownTo, CanRead, KeepsSource, KeepsQueues, FailsToRead, FailsToReadColumn, TakesBuffer, ShortensBuffers, GivesNumbers, FetchesBuffer, TreeAt};
 ghost use Rattle.ipc_read.specs.Sources.{Answers, IsRefusal, bytes_where};
 ghost use Rattle.ipc_read.specs.Unions.{is_any_union, union_as, union_validities, is_dense, union_places, places_stated, union_validity_faults, rows_faults, places_faults, union_parts_faults, union_top, tagged_by, types_in, places_in, union_top_read, union_fetched, children_rows};
 
@@ -131,6 +131,7 @@ impl<'a, S: Source> BufferReader<'a, S> {
         ensures shortened { ShortensBuffers 1 self.old self.new }
         ensures rows { IfOk result (λ b. length b ≡ rows) }
         ensures cause { FailsToRead S.faults self.old self.new result }
+        ensures faults_stay { LeavesReadFaults S.faults self.old self.new result }
         ensures keeps { KeepsSource S.content S.faults S.references self.old self.new }
         ensures fetched { FetchesBuffer S.fetched self.old self.new (λ m i. bytes_where rows (stated m i)) }
     {
@@ -145,6 +146,7 @@ impl<'a, S: Source> BufferReader<'a, S> {
         ensures shortened { ShortensBuffers 1 self.old self.new }
         ensures rows { IfOk result (λ b. length b ≡ rows) }
         ensures cause { FailsToRead S.faults self.old self.new result }
+        ensures faults_stay { LeavesReadFaults S.faults self.old self.new result }
         ensures keeps { KeepsSource S.content S.faults S.references self.old self.new }
         ensures fetched { FetchesBuffer S.fetched self.old self.new (λ m i. bytes_where rows (stated m i)) }
     {
@@ -160,6 +162,7 @@ impl<'a, S: Source> BufferReader<'a, S> {
         ensures mode { IfOk result (λ b. has_offsets b ≡ is_dense mode) }
         ensures rows { IfOk result (λ b. IfSome b (λ xs. length xs ≡ rows)) }
         ensures cause { FailsToRead S.faults self.old self.new result }
+        ensures faults_stay { LeavesReadFaults S.faults self.old self.new result }
         ensures keeps { KeepsSource S.content S.faults S.references self.old self.new }
         ensures fetched { FetchesBuffer S.fetched self.old self.new (λ m i. bytes_where rows (places_stated m mode i)) }
     {
@@ -190,6 +193,7 @@ impl<'n, 'a, S: Source> ColumnReader<'n, 'a, S> {
         ensures rows { IfOk result (λ x. length x.types ≡ rows) }
         ensures places { IfOk result (λ x. IfSome x.offsets (λ xs. length xs ≡ rows)) }
         ensures cause { FailsToReadColumn S.faults self.old self.new result }
+        ensures faults_stay { LeavesReadFaults S.faults self.old.buffers self.new.buffers result }
         ensures keeps { KeepsQueues S.content S.faults S.references self.old self.new }
         ensures fetched { (m : Batch) (p : Place) → TreeAt m p self.old → S.fetched self.new.buffers.source.now ≤ S.fetched self.old.buffers.source.now + union_fetched m mode p rows }
     {

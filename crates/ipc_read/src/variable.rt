@@ -6,7 +6,7 @@ ghost use Rattle.arrow_types.specs.Numbers.{offsets_by};
 ghost use Rattle.arrow_types.specs.Physical.{physical_of};
 ghost use Rattle.ipc_read.specs.Queues.{Left, short_of, Shortened};
 ghost use Rattle.ipc_read.specs.Sources.{Answers, offsets_of_rows, values_of, faults_where, bytes_where, validity_fetched, variable_faults, variable_parts, variable_parts_read};
-ghost use Rattle.ipc_read.specs.Readers.{LeafAt, KnownTo, Readable, HasReadCause, LeafTaken, LeafGiven, LeafFetched, LeafShortened, CanRead, KeepsSource, KeepsQueues, FailsToRead, FailsToReadColumn, TakesBuffer, ShortensBuffers, GivesBytes, GivesNumbers, FetchesBuffer, TakesLeaf, GivesLeaf, FetchesLeaf, ShortensLeaf};
+ghost use Rattle.ipc_read.specs.Readers.{LeavesReadFaults, LeafAt, KnownTo, Readable, HasReadCause, LeafTaken, LeafGiven, LeafFetched, LeafShortened, CanRead, KeepsSource, KeepsQueues, FailsToRead, FailsToReadColumn, TakesBuffer, ShortensBuffers, GivesBytes, GivesNumbers, FetchesBuffer, TakesLeaf, GivesLeaf, FetchesLeaf, ShortensLeaf};
 ghost use Rattle.ipc_read_laws.specs.Faults.{stated};
 ghost use Rattle.arrow_buffers.specs.Layouts.{is_variable};
 ghost use Rattle.arrow_buffers.specs.Rows.{has_rows};
@@ -15,7 +15,7 @@ ghost use Rattle.arrow_spec.specs.Faults.{offsets_buffer_faults, range_faults};
 ghost use Rattle.arrow_spec.specs.declared.error.IpcError.TheVariants.{Memory, OutOfSpec};
 ghost use Rattle.arrow_spec.specs.declared.error.OutOfSpecKind.TheVariants.{InvalidOffsets, InvalidUtf8};
 ghost use Rattle.ipc_read_laws.specs.PartsRead.{variable_read};
-ghost use Rattle.ipc_io.specs.Outside.{SourceKept};
+ghost use Rattle.ipc_io.specs.Outside.{LeavesFaults, SourceKept};
 
 use crate::Body;
 use crate::buffers::pass_buffer;
@@ -85,6 +85,7 @@ impl<'a, S: Source> BufferReader<'a, S> {
         ensures rows { IfOk result (λ b. length b ≡ rows + 1) }
         ensures none { IfOk result (λ b. rows ≡ 0 → map O.number b ≡ pos 0 ∷ []) }
         ensures cause { FailsToRead S.faults self.old self.new result }
+        ensures faults_stay { LeavesReadFaults S.faults self.old self.new result }
         ensures keeps { KeepsSource S.content S.faults S.references self.old self.new }
         ensures fetched { FetchesBuffer S.fetched self.old self.new (λ m i. bytes_where rows (stated m i)) }
     {
@@ -104,6 +105,7 @@ impl<'a, S: Source> BufferReader<'a, S> {
         ensures gives { GivesBytes S.content self.old (λ b. b) result (λ m i. short_of m.buffers i ++ faults_where rows (range_faults m i)) (λ m i. values_of m i rows) }
         ensures shortened { ShortensBuffers 1 self.old self.new }
         ensures cause { FailsToRead S.faults self.old self.new result }
+        ensures faults_stay { LeavesReadFaults S.faults self.old self.new result }
         ensures keeps { KeepsSource S.content S.faults S.references self.old self.new }
         ensures fetched { FetchesBuffer S.fetched self.old self.new (λ m i. bytes_where rows (stated m i)) }
     {
@@ -127,6 +129,7 @@ impl<'n, 'a, S: Source> ColumnReader<'n, 'a, S> {
         ensures offsets { IfOk result (λ x. length x.offsets ≡ rows + 1) }
         ensures rows { IfOk result (λ x. has_rows x.validity rows ≡ true) }
         ensures cause { FailsToReadColumn S.faults self.old self.new result }
+        ensures faults_stay { LeavesReadFaults S.faults self.old.buffers self.new.buffers result }
         ensures keeps { KeepsQueues S.content S.faults S.references self.old self.new }
         ensures fetched { (m : Batch) (p : Place) → LeafAt m p self.old → S.fetched self.new.buffers.source.now ≤ S.fetched self.old.buffers.source.now + (validity_fetched m p rows + bytes_where rows (stated m (p.buffer + 1)) + bytes_where rows (stated m (p.buffer + 2))) }
     {
@@ -154,6 +157,7 @@ impl<'n, 'a, S: Source> ColumnReader<'n, 'a, S> {
         ensures shortened { ShortensLeaf (kind_of dtype.now) self.old self.new }
         ensures counts { self.new.variadic.now.items ≡ self.old.variadic.now.items }
         ensures cause { FailsToReadColumn S.faults self.old self.new result }
+        ensures faults_stay { LeavesReadFaults S.faults self.old.buffers self.new.buffers result }
         ensures keeps { KeepsQueues S.content S.faults S.references self.old self.new }
         ensures fetched { FetchesLeaf S.fetched (kind_of dtype.now) self.old self.new rows }
     {
@@ -185,6 +189,7 @@ pub fn read_binary<O: Offset, S: Source>(
     ensures gives { LeafGiven (S.content source.old) body is_little_endian nodes.old.items buffers.old.items (λ a. a) result (kind_of dtype.now) rows (λ m p. variable_read m (kind_of dtype.now) (offsets_by O.IS_LARGE) p rows) }
     ensures shortened { LeafShortened (kind_of dtype.now) nodes.old.items nodes.new.items buffers.old.items buffers.new.items }
     ensures cause { HasReadCause (S.faults source.old) (S.faults source.new) result }
+    ensures faults_stay { LeavesFaults (S.faults source.old) (S.faults source.new) result }
     ensures kept { SourceKept S.content S.faults S.references source.old source.new }
     ensures fetched { LeafFetched (kind_of dtype.now) nodes.old.items buffers.old.items rows (S.fetched source.old) (S.fetched source.new) }
 {
@@ -227,6 +232,7 @@ pub fn read_utf8<O: Offset, S: Source>(
     ensures gives { LeafGiven (S.content source.old) body is_little_endian nodes.old.items buffers.old.items (λ a. a) result (kind_of dtype.now) rows (λ m p. variable_read m (kind_of dtype.now) (offsets_by O.IS_LARGE) p rows) }
     ensures shortened { LeafShortened (kind_of dtype.now) nodes.old.items nodes.new.items buffers.old.items buffers.new.items }
     ensures cause { HasReadCause (S.faults source.old) (S.faults source.new) result }
+    ensures faults_stay { LeavesFaults (S.faults source.old) (S.faults source.new) result }
     ensures kept { SourceKept S.content S.faults S.references source.old source.new }
     ensures fetched { LeafFetched (kind_of dtype.now) nodes.old.items buffers.old.items rows (S.fetched source.old) (S.fetched source.new) }
 {

@@ -10,7 +10,7 @@ ghost use Rattle.arrow_types.specs.KindOf.{kind_of};
 ghost use Rattle.arrow_types.specs.Physical.{physical_of};
 ghost use Rattle.ipc_read.specs.Queues.{Left};
 ghost use Rattle.ipc_read.specs.Sources.{Answers, Told, bytes_where};
-ghost use Rattle.ipc_read.specs.Readers.{Readable, HasReadCause, BuffersTaken, FetchesBuffer, GivesBytes, ColumnTaken, ColumnGiven, ColumnFetched, ColumnShortened, CanRead, KeepsSource, KeepsQueues, FailsToRead, FailsToReadColumn, ShortensBuffers, TakesColumn, GivesColumn, FetchesColumn, ShortensColumn};
+ghost use Rattle.ipc_read.specs.Readers.{LeavesReadFaults, Readable, HasReadCause, BuffersTaken, FetchesBuffer, GivesBytes, ColumnTaken, ColumnGiven, ColumnFetched, ColumnShortened, CanRead, KeepsSource, KeepsQueues, FailsToRead, FailsToReadColumn, ShortensBuffers, TakesColumn, GivesColumn, FetchesColumn, ShortensColumn};
 ghost use Rattle.ipc_read.specs.DataBuffers.{data_causes, data_of};
 ghost use Rattle.ipc_read_laws.specs.Faults.{stated_of};
 ghost use Rattle.arrow_buffers.specs.declared.error.ArrayError.TheVariants.{Utf8, View};
@@ -18,7 +18,7 @@ ghost use Rattle.arrow_buffers.specs.Layouts.{is_view};
 ghost use Rattle.arrow_buffers.specs.Rows.{has_rows};
 ghost use Rattle.arrow_buffers.specs.Views.{view_rows, view_fault};
 ghost use Rattle.ipc_read_laws.specs.PartsRead.{views_read};
-ghost use Rattle.ipc_io.specs.Outside.{SourceKept};
+ghost use Rattle.ipc_io.specs.Outside.{LeavesFaults, SourceKept};
 
 use crate::Body;
 use crate::counts::take_count;
@@ -72,6 +72,7 @@ impl<'a, S: Source> BufferReader<'a, S> {
         ensures gives { GivesBytes S.content self.old (λ v. v.items) result (λ m i. ranges_faults m i count) (λ m i. from_on (buf m) i count) }
         ensures shortened { ShortensBuffers count self.old self.new }
         ensures cause { FailsToRead S.faults self.old self.new result }
+        ensures faults_stay { LeavesReadFaults S.faults self.old self.new result }
         ensures keeps { KeepsSource S.content S.faults S.references self.old self.new }
         ensures fetched { FetchesBuffer S.fetched self.old self.new (λ m i. stated_of m (numbers_from i count)) }
     {
@@ -90,6 +91,7 @@ impl<'a, S: Source> BufferReader<'a, S> {
         ensures gives { GivesBytes S.content self.old (λ v. v.items) result (λ m i. data_causes m i rows count) (λ m i. data_of m i rows count) }
         ensures shortened { ShortensBuffers count self.old self.new }
         ensures cause { FailsToRead S.faults self.old self.new result }
+        ensures faults_stay { LeavesReadFaults S.faults self.old self.new result }
         ensures keeps { KeepsSource S.content S.faults S.references self.old self.new }
         ensures fetched { FetchesBuffer S.fetched self.old self.new (λ m i. bytes_where rows (stated_of m (numbers_from i count))) }
     {
@@ -118,6 +120,7 @@ impl<'n, 'a, S: Source> ColumnReader<'n, 'a, S> {
         ensures gives { GivesColumn S.content self.old (λ a. a) result (kind_of dtype.now) rows (λ m p. views_read m (kind_of dtype.now) p rows) }
         ensures shortened { ShortensColumn (kind_of dtype.now) self.old self.new }
         ensures cause { FailsToReadColumn S.faults self.old self.new result }
+        ensures faults_stay { LeavesReadFaults S.faults self.old.buffers self.new.buffers result }
         ensures keeps { KeepsQueues S.content S.faults S.references self.old self.new }
         ensures fetched { FetchesColumn S.fetched (kind_of dtype.now) self.old self.new rows }
     {
@@ -158,6 +161,7 @@ pub fn read_binview<V: ViewType, S: Source>(
     ensures gives { ColumnGiven (S.content source.old) body is_little_endian nodes.old.items buffers.old.items variadic.old.items (λ a. a) result (kind_of dtype.now) rows (λ m p. views_read m (kind_of dtype.now) p rows) }
     ensures shortened { ColumnShortened (kind_of dtype.now) nodes.old.items nodes.new.items buffers.old.items buffers.new.items variadic.old.items variadic.new.items }
     ensures cause { HasReadCause (S.faults source.old) (S.faults source.new) result }
+    ensures faults_stay { LeavesFaults (S.faults source.old) (S.faults source.new) result }
     ensures kept { SourceKept S.content S.faults S.references source.old source.new }
     ensures fetched { ColumnFetched (kind_of dtype.now) nodes.old.items buffers.old.items variadic.old.items rows (S.fetched source.old) (S.fetched source.new) }
 {

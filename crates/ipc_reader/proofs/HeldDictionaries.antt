@@ -14,6 +14,7 @@ use Rattle.arrow_spec.specs.Readings.{Gives, IsAmong, Refuses, bind, free_of, re
 use Rattle.arrow_spec.proofs.Projection.{on}
 use Rattle.arrow_arrays.specs.Batches.{Batch}
 use Rattle.arrow_arrays.specs.Parts.{Forest}
+use Rattle.ipc_io.specs.Outside.{LeavesFaults}
 use Rattle.ipc_files.specs.Below.{Held, HasKind, IsRefusal, HoldsCells, HasKindOf, values_of_id, table_of, held_in}
 use Rattle.ipc_files.specs.Blocks.{BatchRead, batch_in}
 use Rattle.ipc_files.specs.Fetching.{BlockFetched}
@@ -56,6 +57,15 @@ is_not_read kept.Refused live held = cc
 -- a refusal gives nothing
 pub ok_none : {X : Type 0} (result : Result X IpcError) (e : IpcError) (P : X → Type 0) → result ≡ Err e → IfOk result P
 ok_none result e P is = subst (λ q. IfOk q P) (sym is) tt
+
+-- nor does it say anything of the faults
+pub err_stays : {X : Type 0} (result : Result X IpcError) (e : IpcError) (f f' : ℕ) → result ≡ Err e → LeavesFaults f f' result
+err_stays result e f f' is = subst (λ q. LeavesFaults f f' q) (sym is) tt
+
+-- a call behind one that left the faults leaves them since that call
+pub stays_since : {X : Type 0} (result : Result X IpcError) (f mid f' : ℕ) → mid ≡ f → LeavesFaults mid f' result → LeavesFaults f f' result
+stays_since (Ok x) f mid f' h stays = stays ∙ h
+stays_since (Err e) f mid f' h stays = tt
 
 -- a fault behind a call before it is one since that call
 pub cause_since : (result : Result Batch IpcError) (f mid f' : ℕ) → f ≤ mid → IfErr result (λ e. FileCause e mid f') → IfErr result (λ e. FileCause e f f')

@@ -12,7 +12,7 @@ use Rattle.arrow_spec.specs.Files.{FileBlock, Meta, Request, TableBatch, diction
 use Rattle.arrow_spec.specs.Readings.{Gives, IsAmong, Reading, Refuses, free_of, refusals, ◌>>=◌}
 use Rattle.arrow_arrays.specs.Batches.{Batch}
 use Rattle.arrow_arrays.specs.declared.array.Array.{Array}
-use Rattle.ipc_io.specs.Outside.{SourceKept}
+use Rattle.ipc_io.specs.Outside.{SourceKept, LeavesFaults}
 use Rattle.ipc_files.specs.Below.{HoldsCells, table_of, held_in, ProjectionInfo, MayProject}
 use Rattle.ipc_files.specs.Blocks.{BatchRead, batch_in}
 use Rattle.ipc_files.specs.FileDictionaries.{AreHeld, DictionariesFetched, FirstFetched, HoldsUses, dictionaries_given}
@@ -116,6 +116,7 @@ module _ {S : Type 0} (content_of : S → Option (List ℕ)) (faults_of fetched_
     pub uses : IfOk result (λ m. HoldsUses (meta_view file) (held_in m))
     pub keeps : KeepsUses (meta_view file) k'
     pub cause : IfErr result (λ e. FileCause e (faults_of s) (faults_of s'))
+    pub faults_stay : LeavesFaults (faults_of s) (faults_of s') result
     pub fetched : DictionariesFetched (content_of s) (meta_view file) (fetched_of s) (fetched_of s')
     pub kept : SourceKept content_of faults_of references_of s s'
 
@@ -131,6 +132,7 @@ module _ {S : Type 0} (content_of : S → Option (List ℕ)) (faults_of fetched_
     pub uses : IfOk result (λ m. HoldsUses (meta_view file) (held_in m))
     pub keeps : KeepsUses (meta_view file) k'
     pub cause : IfErr result (λ e. FileCause e (faults_of s) (faults_of s'))
+    pub faults_stay : LeavesFaults (faults_of s) (faults_of s') result
     pub fetched : k ≡ NotRead → DictionariesFetched (content_of s) (meta_view file) (fetched_of s) (fetched_of s')
     pub stays : (m : HeldParts) → k ≡ Held m → fetched_of s' ≡ fetched_of s
     pub kept : SourceKept content_of faults_of references_of s s'

@@ -6,7 +6,7 @@ use Rattle.arrow_spec.specs.declared.message.Block.{Block}
 use Rattle.arrow_spec.specs.Files.{FileBlock}
 use Rattle.arrow_spec.specs.Readings.{Gives}
 use Rattle.arrow_arrays.specs.Batches.{Batch}
-use Rattle.ipc_io.specs.Outside.{SourceKept}
+use Rattle.ipc_io.specs.Outside.{SourceKept, LeavesFaults}
 use Rattle.ipc_files.specs.BelowViews.{message_of}
 use Rattle.ipc_files.specs.Below.{RecordMessage, MayProject}
 use Rattle.ipc_files.specs.FileBlocks.{GivesIn, block_header, given}
@@ -44,6 +44,7 @@ module _ {S : Type 0} (content_of : S → Option (List ℕ)) (faults_of fetched_
     pub projection : c'.projection ≡ c.projection
     pub metadata : c'.metadata ≡ c.metadata
     pub cause : IfErr result (λ e. FileCause e (faults_of s) (faults_of s'))
+    pub faults_stay : LeavesFaults (faults_of s) (faults_of s') result
     pub fetched : (columns : Option (List ℕ)) (block : FileBlock) → MayProject (rc_value c.metadata.schema) columns c.projection
         → slice_get (meta_view c.metadata).blocks c.block ≡ Some block
         → FetchedBy c.dictionaries (content_of s) (meta_view c.metadata) (asked columns c.left) block c.left (fetched_of s) (fetched_of s')
@@ -75,6 +76,7 @@ module _ {S : Type 0} (content_of : S → Option (List ℕ)) (faults_of fetched_
     pub projection : c'.projection ≡ c.projection
     pub metadata : c'.metadata ≡ c.metadata
     pub cause : IfSome result (λ r. IfErr r (λ e. FileCause e (faults_of s) (faults_of s')))
+    pub faults_stay : MatchOption result (faults_of s' ≡ faults_of s) (λ r. LeavesFaults (faults_of s) (faults_of s') r)
     -- no more is fetched than these columns of the block cost, and at the first batch the dictionaries; and nothing where there is none
     pub fetched : (columns : Option (List ℕ)) (block : FileBlock) → MayProject (rc_value c.metadata.schema) columns c.projection
         → slice_get (meta_view c.metadata).blocks c.block ≡ Some block
@@ -93,6 +95,7 @@ module _ {S : Type 0} (content_of : S → Option (List ℕ)) (faults_of fetched_
     pub projection : c'.projection ≡ c.projection
     pub metadata : c'.metadata ≡ c.metadata
     pub cause : IfSome result (λ r. IfErr r (λ e. CountCause e (faults_of s) (faults_of s')))
+    pub faults_stay : MatchOption result (faults_of s' ≡ faults_of s) (λ r. LeavesFaults (faults_of s) (faults_of s') r)
     -- no more is fetched than the block's prefix and metadata, and nothing past the last block
     pub fetched : (block : FileBlock) → slice_get (meta_view c.metadata).blocks c.block ≡ Some block
         → IfSome result (λ r. MetadataFetched (content_of s) block (fetched_of s) (fetched_of s'))
@@ -112,6 +115,7 @@ module _ {S : Type 0} (content_of : S → Option (List ℕ)) (faults_of fetched_
     pub projection : c'.projection ≡ c.projection
     pub metadata : c'.metadata ≡ c.metadata
     pub cause : IfErr result (λ e. CountCause e (faults_of s) (faults_of s'))
+    pub faults_stay : LeavesFaults (faults_of s) (faults_of s') result
     -- of each block, at most its prefix and its metadata are fetched
     pub fetched : MessagesFetched (content_of s) (meta_view c.metadata).blocks (λ b. blocks_passed b c.metadata.blocks.items 0 offset)
         (fetched_of s) (fetched_of s')

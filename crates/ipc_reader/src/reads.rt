@@ -1,7 +1,7 @@
 //! What a cursor reads at its place.
 ghost use Rattle.std.specs.Prelude.{◌≡◌, ◌≤◌, ◌<◌, false, length, map, Some, IfOk, IfErr};
 ghost use Rattle.arrow_spec.specs.Files.{what_is_left};
-ghost use Rattle.ipc_io.specs.Outside.{IsSize, SourceKept};
+ghost use Rattle.ipc_io.specs.Outside.{LeavesFaults, IsSize, SourceKept};
 ghost use Rattle.ipc_files.specs.FileBlocks.{GivesIn, file_block};
 ghost use Rattle.ipc_files.specs.RowCounts.{blocks_passed, CountCause, MessagesFetched};
 ghost use Rattle.ipc_reader.specs.Cursors.{left_after};
@@ -55,6 +55,7 @@ fn pass_blocks<S: Source>(
     ensures gives { GivesIn (S.content source.old) (λ p. (p.block, p.rows)) result (λ b. blocks_passed b blocks.now 0 offset) }
     ensures within { IfOk result (λ p. p.block ≤ length blocks.now) }
     ensures cause { IfErr result (λ e. CountCause e (S.faults source.old) (S.faults source.new)) }
+    ensures faults_stay { LeavesFaults (S.faults source.old) (S.faults source.new) result }
     ensures fetched { MessagesFetched (S.content source.old) (map file_block blocks.now) (λ b. blocks_passed b blocks.now 0 offset) (S.fetched source.old) (S.fetched source.new) }
     ensures kept { SourceKept S.content S.faults S.references source.old source.new }
 {

@@ -12,7 +12,7 @@ ghost use Rattle.ipc_files.specs.FileDictionaries.{HoldsUses};
 ghost use Rattle.ipc_files.specs.FileViews.{FileCause, IsReadable, meta_view};
 ghost use Rattle.ipc_files.specs.Requests.{asked};
 ghost use Rattle.ipc_files.specs.Selections.{HasFields, IsMade, numbers_read, schema_shown};
-ghost use Rattle.ipc_io.specs.Outside.{IsSize, SourceKept};
+ghost use Rattle.ipc_io.specs.Outside.{LeavesFaults, IsSize, SourceKept};
 ghost use Rattle.ipc_projection.specs.Below.{HoldsCells, are_columns, are_rising, chosen, columns_of};
 ghost use Rattle.ipc_projection.specs.Projections.{MayProject};
 ghost use Rattle.ipc_read.specs.Batches.{kinds_of};
@@ -93,6 +93,7 @@ pub(crate) fn read_columns<S: Source>(
     ensures kinds { IfOk result (λ x. map kind_in x.arrays ≡ chosen (columns_of projection.entry) 0 (kinds_of (rc_value file.now.schema))) }
     ensures custom { IfOk result (λ x. x.custom ≡ []) }
     ensures cause { IfErr result (λ e. FileCause e (S.faults source.old) (S.faults source.new)) }
+    ensures faults_stay { LeavesFaults (S.faults source.old) (S.faults source.new) result }
     ensures fetched { BuffersFetched (S.content source.old) (meta_view file.now) (paired_of at.entry.read.now) (columns_of projection.entry) (file_block at.entry.block.now) (S.fetched source.old) (S.fetched source.new) }
     ensures kept { SourceKept S.content S.faults S.references source.old source.new }
 {
@@ -134,6 +135,7 @@ pub(crate) fn read_marks<S: Source>(
     ensures gives { IfSome (S.content source.old) (λ b. (d : History) (columns : Option (List ℕ)) → HoldsCells d (held_in dictionaries.now) → ReadsTested filter b (asked_under b (meta_view file.now) d (asked columns None)) (file_block at.entry.block.now) result) }
     ensures rows { IfOk result (λ v. length v.items ≡ message_rows (paired_of at.entry.read.now)) }
     ensures cause { IfErr result (λ e. FileCause e (S.faults source.old) (S.faults source.new)) }
+    ensures faults_stay { LeavesFaults (S.faults source.old) (S.faults source.new) result }
     ensures fetched { BuffersFetched (S.content source.old) (meta_view file.now) (paired_of at.entry.read.now) (filter_alone filter) (file_block at.entry.block.now) (S.fetched source.old) (S.fetched source.new) }
     ensures kept { SourceKept S.content S.faults S.references source.old source.new }
 {
@@ -176,6 +178,7 @@ pub(crate) fn read_chosen<S: Source>(
     ensures height { IfOk result (λ x. x.height ≡ message_rows (paired_of at.entry.read.now)) }
     ensures schema { (columns : Option (List ℕ)) → MayProject (rc_value file.now.schema) columns (option_copied projection.entry) → IfOk result (λ x. HasFields x (schema_shown (rc_value file.now.schema) (option_copied projection.entry))) }
     ensures cause { IfErr result (λ e. FileCause e (S.faults source.old) (S.faults source.new)) }
+    ensures faults_stay { LeavesFaults (S.faults source.old) (S.faults source.new) result }
     ensures fetched { (columns : Option (List ℕ)) → MayProject (rc_value file.now.schema) columns (option_copied projection.entry) → BuffersFetched (S.content source.old) (meta_view file.now) (paired_of at.entry.read.now) columns (file_block at.entry.block.now) (S.fetched source.old) (S.fetched source.new) }
     ensures kept { SourceKept S.content S.faults S.references source.old source.new }
 {

@@ -5,7 +5,7 @@ ghost use Rattle.arrow_types.specs.Schemas.{fields_in};
 ghost use Rattle.ipc_files.specs.FileDictionaries.{HoldsUses};
 ghost use Rattle.ipc_files.specs.FileViews.{FileCause, WasRead, meta_view};
 ghost use Rattle.ipc_files.specs.Selections.{HasFields};
-ghost use Rattle.ipc_io.specs.Outside.{IsSize, SourceKept};
+ghost use Rattle.ipc_io.specs.Outside.{LeavesFaults, IsSize, SourceKept};
 ghost use Rattle.ipc_projection.specs.Projections.{numbers_in};
 ghost use Rattle.ipc_read.specs.Held.{held_in};
 ghost use Rattle.laws_walk.specs.Places.{schema_of_reader};
@@ -106,6 +106,7 @@ impl Scanner {
         ensures reads { BlockScanned (S.content source.old) self.now (held_in dictionaries.now) number result }
         ensures schema { IfOk result (λ o. IfSome o (λ y. HasFields y (schema_of_reader self.now.reader))) }
         ensures cause { IfErr result (λ e. FileCause e (S.faults source.old) (S.faults source.new)) }
+        ensures faults_stay { LeavesFaults (S.faults source.old) (S.faults source.new) result }
         ensures fetched { BlockFetchedBy (S.content source.old) self.now (held_in dictionaries.now) number (S.fetched source.old) (S.fetched source.new) }
         ensures kept { SourceKept S.content S.faults S.references source.old source.new }
     {

@@ -20,6 +20,7 @@ module _ {F : Type 0} (rest_of : F → Option (List ℕ)) (faults_of : F → ℕ
         is_finished = n.kept.is_finished ∙ going;
         columns = n.kept.columns;
         cause = tt;
+        faults_stay = n.faults_stay;
         kept = n.kept.feed;
       }
 
@@ -34,5 +35,6 @@ module _ {F : Type 0} (rest_of : F → Option (List ℕ)) (faults_of : F → ℕ
         is_finished = last;
         columns = columns ∙ n.kept.columns;
         cause = tt;
+        faults_stay = n.faults_stay;
         kept = n.kept.feed;
       }

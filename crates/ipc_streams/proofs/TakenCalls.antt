@@ -15,6 +15,7 @@ use Rattle.arrow_spec.specs.Schema.{Schema}
 use Rattle.arrow_spec.specs.Streams.{Reader, stream_batch, stream_dictionary}
 use Rattle.arrow_arrays.specs.Batches.{Batch}
 use Rattle.arrow_arrays.specs.Parts.{Forest}
+use Rattle.ipc_io.specs.Outside.{LeavesFaults}
 use Rattle.ipc_files.specs.Below.{Held, HasKind, HoldsCells, HasKindOf, values_of_id, held_in}
 use Rattle.ipc_files.specs.FileViews.{FileCause}
 use Rattle.ipc_files.proofs.ReadFiles.{of_err}
@@ -57,6 +58,7 @@ module _ {F : Type 0} (rest_of : F → Option (List ℕ)) (faults_of : F → ℕ
     dictionaries = same;
     schema = λ s reads. no_value result e _ is;
     cause = of_err result e _ is cause;
+    faults_stay = no_value result e _ is;
     kept = kept;
   }
 
@@ -67,6 +69,7 @@ module _ {F : Type 0} (rest_of : F → Option (List ℕ)) (faults_of : F → ℕ
     gives = λ s d m reads holds found tag body. given_err (rest_of f) (λ b r. GivesValues d (drop count b) (rest_of f') (held_in c'.dictionaries) r (stream_dictionary s d (framed metadata b) m)) result e is (λ b told. refused s d m b reads holds found tag body told);
     held = λ s d m reads holds found tag body. no_value result e _ is;
     cause = of_err result e _ is cause;
+    faults_stay = no_value result e _ is;
     kept = kept;
   }
 
@@ -79,10 +82,16 @@ module _ {F : Type 0} (rest_of : F → Option (List ℕ)) (faults_of : F → ℕ
     room = λ none. let no : Err e ≡ Ok None = sym is ∙ none in cc;
     schema = λ s reads. no_value result e _ is;
     cause = of_err result e _ is cause;
+    faults_stay = no_value result e _ is;
     kept = kept;
   }
 
 -- ── one after another ──
+
+-- a call leaves the faults where its feed stands as it stood
+pub stays_by : {A : Type 0} (result : Result A IpcError) (n m : ℕ) → m ≡ n → LeavesFaults n m result
+stays_by (Ok x) n m h = h
+stays_by (Err e) n m h = tt
 
 -- a cause that stood since a count was as high stood since it was lower
 pub cause_since : (e : IpcError) (k n m : ℕ) → k ≤ n → FileCause e n m → FileCause e k m

@@ -9,6 +9,7 @@ use Rattle.arrow_spec.specs.Features.{chosen_floats}
 use Rattle.arrow_spec.specs.Messages.{Message, message_of}
 use Rattle.arrow_arrays.specs.Batches.{Batch}
 use Rattle.arrow_types.specs.Schemas.{Keyed}
+use Rattle.ipc_io.specs.Outside.{LeavesFaults}
 use Rattle.ipc_files.specs.Below.{Held, HoldsCells, table_of, held_in}
 use Rattle.ipc_files.specs.FileViews.{FileCause}
 use Rattle.ipc_streams.specs.Arrays.{GivesArrays, LeavesArrays, MessageLeaves}
@@ -96,6 +97,7 @@ module _ {F : Type 0} (rest_of : F → Option (List ℕ)) (faults_of : F → ℕ
         → IfOk result (λ _. IfSome (rest_of f) (λ b. MessageLeaves s (held_in c.dictionaries) (record { metadata = metadata; behind = b })
         (held_in c'.dictionaries) None (drop count b)))
     pub cause : IfErr result (λ e. FileCause e (faults_of f) (faults_of f'))
+    pub faults_stay : LeavesFaults (faults_of f) (faults_of f') result
     pub kept : KeepsColumns
 
   -- a record batch message is taken, by its metadata and the length of its body
@@ -111,6 +113,7 @@ module _ {F : Type 0} (rest_of : F → Option (List ℕ)) (faults_of : F → ℕ
     pub dictionaries : c'.dictionaries ≡ c.dictionaries
     pub schema : (s : Reader) → IsReader c.columns s → IfOk result (λ x. HasFields x (fields_shown c.columns))
     pub cause : IfErr result (λ e. FileCause e (faults_of f) (faults_of f'))
+    pub faults_stay : LeavesFaults (faults_of f) (faults_of f') result
     pub kept : KeepsColumns
 
   -- a message is taken, by its metadata, where so many more dictionaries may stand
@@ -123,6 +126,7 @@ module _ {F : Type 0} (rest_of : F → Option (List ℕ)) (faults_of : F → ℕ
     pub room : result ≡ Ok None → 0 < left
     pub schema : (s : Reader) → IsReader c.columns s → IfOk result (λ o. IfSome o (λ x. HasFields x (fields_shown c.columns)))
     pub cause : IfErr result (λ e. FileCause e (faults_of f) (faults_of f'))
+    pub faults_stay : LeavesFaults (faults_of f) (faults_of f') result
     pub kept : KeepsColumns
 
   -- what stands next is read
@@ -134,6 +138,7 @@ module _ {F : Type 0} (rest_of : F → Option (List ℕ)) (faults_of : F → ℕ
         → IfOk result (λ o. IfSome (rest_of f) (λ b. GivesArrays s (held_in c.dictionaries) b (rest_of f') (held_in c'.dictionaries) o))
     pub schema : (s : Reader) → IsReader c.columns s → IfOk result (λ o. HasSchemaIfAny o (fields_shown c.columns))
     pub cause : IfErr result (λ e. FileCause e (faults_of f) (faults_of f'))
+    pub faults_stay : LeavesFaults (faults_of f) (faults_of f') result
     pub kept : KeepsColumns
 
   -- the next batch, or that the feed has none yet
@@ -150,4 +155,5 @@ module _ {F : Type 0} (rest_of : F → Option (List ℕ)) (faults_of : F → ℕ
     pub is_finished : c'.is_finished ≡ is_last result
     pub columns : c'.columns ≡ c.columns
     pub cause : IfSome result (λ r. IfErr r (λ e. FileCause e (faults_of f) (faults_of f')))
+    pub faults_stay : LeavesFaults (faults_of f) (faults_of f') (answer_of result)
     pub kept : FeedKept faults_of references_of f f'

@@ -1,5 +1,6 @@
 //! The body of a message in memory.
 ghost use Rattle.std.specs.Prelude.{◌≡◌, ◌^◌, ◌<◌, Some, length, IfOk, IfErr};
+ghost use Rattle.ipc_io.specs.Outside.{LeavesFaults};
 ghost use Rattle.ipc_files.specs.FileViews.{FileCause};
 ghost use Rattle.ipc_streams.specs.Feeds.{FeedKept};
 ghost use Rattle.ipc_streams.specs.Bodies.{GivesBody};
@@ -61,6 +62,7 @@ pub(crate) fn read_body<F: Feed>(
     ensures gives { GivesBody (F.rest feed.old) (F.rest feed.new) count result }
     ensures whole { IfOk result (λ body. length body.bytes.items ≡ count) }
     ensures cause { IfErr result (λ e. FileCause e (F.faults feed.old) (F.faults feed.new)) }
+    ensures faults_stay { LeavesFaults (F.faults feed.old) (F.faults feed.new) result }
     ensures kept { FeedKept F.faults F.references feed.old feed.new }
 {
     let bytes = pull_up_to(alloc, feed, count as usize)?;

@@ -1,5 +1,6 @@
 //! The next message of a stream (Arrow Columnar Format, "Encapsulated message format").
 ghost use Rattle.std.specs.Prelude.{IfErr};
+ghost use Rattle.ipc_io.specs.Outside.{LeavesFaults};
 ghost use Rattle.ipc_fields.specs.Causes.{Decodes};
 ghost use Rattle.ipc_files.specs.FileViews.{FileCause};
 ghost use Rattle.ipc_streams.specs.Feeds.{FeedKept};
@@ -39,6 +40,7 @@ fn length_in(four: &[u8]) -> Result<usize, IpcError>
 fn read_length<F: Feed>(alloc: Global, feed: &mut F, front: &[u8]) -> Result<usize, IpcError>
     ensures gives { GivesLength front.now (F.rest feed.old) (F.rest feed.new) result }
     ensures cause { IfErr result (λ e. FileCause e (F.faults feed.old) (F.faults feed.new)) }
+    ensures faults_stay { LeavesFaults (F.faults feed.old) (F.faults feed.new) result }
     ensures kept { FeedKept F.faults F.references feed.old feed.new }
 {
     if !is_continuation(front) {
@@ -52,6 +54,7 @@ fn read_length<F: Feed>(alloc: Global, feed: &mut F, front: &[u8]) -> Result<usi
 pub(crate) fn read_frame<F: Feed>(alloc: Global, feed: &mut F) -> Result<Frame, IpcError>
     ensures gives { GivesFront (F.rest feed.old) (F.rest feed.new) result }
     ensures cause { IfErr result (λ e. FileCause e (F.faults feed.old) (F.faults feed.new)) }
+    ensures faults_stay { LeavesFaults (F.faults feed.old) (F.faults feed.new) result }
     ensures kept { FeedKept F.faults F.references feed.old feed.new }
 {
     let front = pull_up_to(alloc, feed, 4)?;

@@ -19,6 +19,6 @@ pub use ipc_files::{
     read_file_metadata,
 };
 pub use laws::{a_next_is_of_the_stream, arrays_are_of_the_stream, nexts_are_the_stream};
-pub use metadata::{StreamMetadata, read_stream_metadata};
+pub use metadata::{Beginning, StreamMetadata, beginning_in, read_stream_metadata};
 pub use reader::StreamReader;
 pub use state::StreamState;

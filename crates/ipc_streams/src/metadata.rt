@@ -1,6 +1,7 @@
 //! What a stream begins with (Arrow Columnar Format, "IPC Streaming Format", "Schema message").
 ghost use Rattle.std.specs.Prelude.{◌≡◌, IfOk, IfErr};
 ghost use Rattle.std.specs.Rc.{rc_value};
+ghost use Rattle.ipc_io.specs.Outside.{LeavesFaults};
 ghost use Rattle.ipc_fields.specs.Causes.{Decodes};
 ghost use Rattle.ipc_files.specs.FileViews.{FileCause};
 ghost use Rattle.ipc_streams.specs.Feeds.{FeedKept};
@@ -51,14 +52,21 @@ impl StreamMetadata {
 
 /// The metadata of a stream, and how many bytes the body of its schema message has.
 #[derive(Drop)]
-struct Beginning {
-    metadata: StreamMetadata,
-    body: u64,
+pub struct Beginning {
+    /// What the message says.
+    pub metadata: StreamMetadata,
+    /// The length of its body.
+    pub body: u64,
 }
 
 /// What the metadata of a schema message says.
+///
+/// # Errors
+///
+/// `OutOfSpec` with the kind of the part of the message or the schema that is not as the format says, `Unsupported`, `TooDeep`,
+/// `TooMany`, `Memory`.
 #[tactic(auto, unfolding(arrow_spec::specs::Readings::bind, arrow_spec::specs::Streams::stream_head, arrow_spec::specs::Messages::version_of, crate::specs::Starts::head_in))]
-fn beginning_in(alloc: Global, bytes: &[u8]) -> Result<Beginning, IpcError>
+pub fn beginning_in(alloc: Global, bytes: &[u8]) -> Result<Beginning, IpcError>
     ensures gives { Decodes head_view result (head_in bytes.now) }
     ensures readable { IfOk result (λ x. IsReadable x.metadata) }
     ensures may { IfOk result (λ x. MayBeWritten x.metadata) }
@@ -84,6 +92,7 @@ fn beginning_in(alloc: Global, bytes: &[u8]) -> Result<Beginning, IpcError>
 fn read_first<F: Feed>(alloc: Global, feed: &mut F) -> Result<Vec<u8>, IpcError>
     ensures gives { GivesFirst (F.rest feed.old) (F.rest feed.new) result }
     ensures cause { IfErr result (λ e. FileCause e (F.faults feed.old) (F.faults feed.new)) }
+    ensures faults_stay { LeavesFaults (F.faults feed.old) (F.faults feed.new) result }
     ensures kept { FeedKept F.faults F.references feed.old feed.new }
 {
     let frame = read_frame(alloc, feed)?;
@@ -109,6 +118,7 @@ pub fn read_stream_metadata<F: Feed>(
     ensures readable { IfOk result IsReadable }
     ensures may { IfOk result MayBeWritten }
     ensures cause { IfErr result (λ e. FileCause e (F.faults feed.old) (F.faults feed.new)) }
+    ensures faults_stay { LeavesFaults (F.faults feed.old) (F.faults feed.new) result }
     ensures kept { FeedKept F.faults F.references feed.old feed.new }
 {
     let bytes = read_first(alloc, feed)?;

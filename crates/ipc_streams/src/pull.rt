@@ -1,6 +1,7 @@
 //! Bytes of a feed.
 ghost use Rattle.std.specs.Prelude.{◌≡◌, ◌+◌, ◌^◌, ◌<◌, ◌≤◌, length, max, take, drop, IfOk, IfErr};
 ghost use Rattle.std.specs.Io.KnownBytes.{Consumes, IsAtEnd};
+ghost use Rattle.ipc_io.specs.Outside.{LeavesFaults};
 ghost use Rattle.ipc_streams.specs.Feeds.{FeedKept, PullCause, Pulls, Takes};
 
 use arrow_spec::IpcError;
@@ -18,6 +19,7 @@ fn pull_at<F: Feed>(feed: &mut F, bytes: &mut [u8], at: usize) -> Result<usize, 
     ensures put { IfOk result (λ n. Consumes (F.rest feed.old) (F.rest feed.new) (take n (drop at bytes.new))) }
     ensures at_end { IfOk result (λ n. n ≡ 0 → at < length bytes.new → IsAtEnd (F.rest feed.new)) }
     ensures cause { IfErr result (λ e. PullCause e (F.faults feed.old) (F.faults feed.new)) }
+    ensures faults_stay { LeavesFaults (F.faults feed.old) (F.faults feed.new) result }
     ensures kept { FeedKept F.faults F.references feed.old feed.new }
 {
     let count = feed.pull(&mut bytes[at..])?;
@@ -31,6 +33,7 @@ fn pull_piece<F: Feed>(feed: &mut F, bytes: &mut Vec<u8>, most: usize) -> Result
     requires grows { most ≤ max 4096 (length bytes.old.items) }
     ensures pulls { IfOk result (λ n. Pulls (F.rest feed.old) (F.rest feed.new) bytes.old.items bytes.new.items most n) }
     ensures cause { IfErr result (λ e. PullCause e (F.faults feed.old) (F.faults feed.new)) }
+    ensures faults_stay { LeavesFaults (F.faults feed.old) (F.faults feed.new) result }
     ensures kept { FeedKept F.faults F.references feed.old feed.new }
 {
     let start = bytes.len();
@@ -50,6 +53,7 @@ pub(crate) fn pull_up_to<F: Feed>(
     ensures taken { IfOk result (λ v. Takes (F.rest feed.old) (F.rest feed.new) count v.items) }
     ensures short { IfOk result (λ v. length v.items ≤ count) }
     ensures cause { IfErr result (λ e. PullCause e (F.faults feed.old) (F.faults feed.new)) }
+    ensures faults_stay { LeavesFaults (F.faults feed.old) (F.faults feed.new) result }
     ensures kept { FeedKept F.faults F.references feed.old feed.new }
 {
     let mut bytes = Vec::new(alloc);

@@ -1,19 +1,15 @@
 //! The values of dictionaries whose bytes are lent, put into a map by their ids (Arrow Columnar Format, "Dictionary Messages").
-ghost use Rattle.std.specs.Prelude.{◌≡◌, ℤ, ◌∷◌, ◌||◌, ◌⊎◌, not, [], length, map, true, false, is_some, None, Some, IfOk, IfErr, IfSome};
+ghost use Rattle.std.specs.Prelude.{◌≡◌, ℤ, ◌∷◌, ◌||◌, not, [], length, true, false, is_some, Some, IfOk, IfErr, IfSome};
 ghost use Rattle.std.specs.BTreeMap.{get};
-ghost use Rattle.std.specs.Option.{option_map};
 ghost use Rattle.std.specs.Ordering.{int_cmp};
 ghost use Rattle.arrow_spec.specs.Arrays.{Dictionaries};
-ghost use Rattle.arrow_spec.specs.Kinds.{same, uses_in, values_under};
-ghost use Rattle.arrow_spec.specs.declared.error.IpcError.TheVariants.{Memory, OutOfSpec};
-ghost use Rattle.arrow_spec.specs.declared.error.OutOfSpecKind.TheVariants.{InvalidId};
-ghost use Rattle.arrow_types.specs.KindOf.{kind_of};
-ghost use Rattle.ipc_fields.specs.IpcFields.{ids_of, tree_of};
-ghost use Rattle.ipc_fields.specs.Uses.{use_in};
+ghost use Rattle.arrow_spec.specs.Kinds.{same};
+ghost use Rattle.arrow_spec.specs.declared.error.IpcError.TheVariants.{Memory};
+ghost use Rattle.ipc_fields.specs.IpcFields.{ids_of};
 ghost use Rattle.ipc_read_laws.specs.Held.{values_of_id};
 ghost use Rattle.ipc_schema.specs.Views.{header_of};
-ghost use Rattle.ipc_read.specs.Batches.{is_column_kind, kinds_of, schema_fields};
-ghost use Rattle.ipc_read.specs.DictionaryBatches.{message_of, one_column, dictionary_reading};
+ghost use Rattle.ipc_read.specs.Batches.{is_column_kind, schema_fields};
+ghost use Rattle.ipc_read.specs.DictionaryBatches.{message_of, dictionary_reading};
 ghost use Rattle.view_types.specs.Ranges.{Lies};
 ghost use Rattle.view_types.specs.Views.{part_in};
 ghost use Rattle.ipc_fields.specs.Causes.{IsOfBytes};
@@ -21,116 +17,15 @@ ghost use Rattle.ipc_view.specs.Batches.{views_before, AddsViews};
 ghost use Rattle.ipc_view.specs.Dictionaries.{shown_in, ShowsCells};
 ghost use Rattle.ipc_view.specs.Lent.{HoldsLent};
 
-use crate::columns::field_at;
 use crate::dictionaries::DictionaryViews;
 use crate::record_batch::view_record_batch;
 use arrow_spec::{IpcError, MetadataVersion, OutOfSpecKind};
-use arrow_types::{ArrowDataType, ArrowSchema, Field};
-use ipc_fields::uses::{Use, push_child};
-use ipc_fields::{IpcField, IpcSchema};
+use arrow_types::ArrowSchema;
+use ipc_fields::IpcSchema;
+use ipc_read::{use_of, values_schema};
 use ipc_schema::BatchHeader;
 use std::alloc::Global;
 use view_types::{ArrayView, Range};
-
-/// The uses of dictionaries in the columns of a schema, in preorder.
-fn schema_uses(
-    alloc: Global,
-    schema: &ArrowSchema,
-    fields: &[IpcField],
-) -> Result<Vec<Use>, IpcError>
-    ensures uses { IfOk result (λ v. map use_in v.items ≡ uses_in (schema_fields schema.now fields.now)) }
-    ensures memory { IfErr result (λ e. e ≡ Memory) }
-{
-    let mut uses = Vec::new(alloc);
-    for i in 0..schema.len() {
-        push_child(alloc, &mut uses, field_at(schema, i), fields, i)?;
-    }
-    Ok(uses)
-}
-
-/// Whether a use is one of the dictionary under an id.
-fn is_use_of(found: &Use, id: i64) -> bool
-    ensures { result ≡ same (use_in found.now).id id }
-{
-    found.id == id
-}
-
-/// The first use of the dictionary under an id.
-fn first_use(uses: Vec<Use>, id: i64) -> Option<Use>
-    ensures { option_map (λ u. (use_in u).values) result ≡ values_under id (map use_in uses.items) }
-{
-    for found in uses {
-        if is_use_of(&found, id) {
-            return Some(found);
-        }
-    }
-    None
-}
-
-/// The use of the dictionary under an id in the columns of a schema.
-fn use_of(
-    alloc: Global,
-    schema: &ArrowSchema,
-    fields: &[IpcField],
-    id: i64,
-) -> Result<Use, IpcError>
-    ensures found { IfOk result (λ u. values_of_id (schema_fields schema.now fields.now) id ≡ Some (use_in u).values) }
-    ensures err { IfErr result (λ e. (e ≡ Memory) ⊎ ((e ≡ OutOfSpec (InvalidId id)) × (values_of_id (schema_fields schema.now fields.now) id ≡ None))) }
-    ensures cause { IfErr result IsOfBytes }
-{
-    let uses = schema_uses(alloc, schema, fields)?;
-    match first_use(uses, id) {
-        Some(found) => Ok(found),
-        None => Err(IpcError::OutOfSpec(OutOfSpecKind::InvalidId { requested_id: id })),
-    }
-}
-
-/// The IPC field of values whose own type is no dictionary's.
-fn values_field(fields: Vec<IpcField>) -> IpcField
-    ensures { tree_of result ≡ record { id = None; children = ids_of fields.items } }
-{
-    IpcField {
-        fields,
-        dictionary_id: None,
-    }
-}
-
-/// One column of a type, without a name.
-fn column_of(alloc: Global, dtype: ArrowDataType) -> Result<ArrowSchema, IpcError>
-    ensures column { IfOk result (λ s. s ≡ ([], record { name = []; kind = kind_of dtype; nullable = true; metadata = [] }) ∷ []) }
-    ensures memory { IfErr result (λ e. e ≡ Memory) }
-{
-    let mut schema = ArrowSchema::new(alloc);
-    let field = Field::new(alloc, String::new(alloc), dtype, true);
-    drop(schema.insert(String::new(alloc), field)?);
-    Ok(schema)
-}
-
-/// One column of a dictionary's values, without a name, and the ids of its IPC field.
-fn values_schema(
-    alloc: Global,
-    values: Use,
-    is_little_endian: bool,
-) -> Result<(ArrowSchema, IpcSchema), IpcError>
-    ensures kind { IfOk result (λ r. schema_fields r.0 r.1.fields.items ≡ one_column (use_in values).values) }
-    ensures count { IfOk result (λ r. length r.0 ≡ 1) }
-    ensures order { IfOk result (λ r. r.1.is_little_endian ≡ is_little_endian) }
-    ensures values { IfOk result (λ r. kinds_of r.0 ≡ kind_of values.values ∷ []) }
-    ensures memory { IfErr result (λ e. e ≡ Memory) }
-{
-    let Use {
-        values: dtype,
-        fields,
-        ..
-    } = values;
-    let schema = column_of(alloc, dtype)?;
-    let field = values_field(fields);
-    let ipc_schema = IpcSchema {
-        fields: vec![in alloc; field]?,
-        is_little_endian,
-    };
-    Ok((schema, ipc_schema))
-}
 
 /// The only view of a batch of one column.
 fn only_view(views: Vec<ArrayView<'_>>) -> ArrayView<'_>

@@ -1,4 +1,4 @@
-use Rattle.std.proofs.Common.{◌≡◌, ◌<◌, ◌≤◌, Err, ap, arith, length, refl, rules, subst}
+use Rattle.std.proofs.Common.{◌≡◌, ◌<◌, ◌≤◌, Err, ap, arith, length, refl, rules, subst, ◌∙◌}
 use Rattle.std.proofs.lemmas.List.{drop_all}
 use Rattle.ipc_io.proofs.Kept.{source_kept_on}
 use Rattle.ipc_read.proofs.HeldKinds.{nothing_held}
@@ -20,6 +20,7 @@ loop-block-init g c =
       uses = none_used (meta_view c.args.metadata.now) (held_in c.new-dictionaries.result) nothing;
       cost = none_fetched (g.S.Source.content c.args.source.now) (meta_view c.args.metadata.now) _;
       kept = search rules;
+      faults_stay = refl;
     }
 
 pub loop-block-preserved : goal.loop-block-preserved
@@ -36,6 +37,7 @@ loop-block-preserved g c =
       uses = c.in_ok-read_dictionary_block.ensures.uses;
       cost = one_fetched (g.S.Source.content c.args.source.now) _ (meta_view file) _ _ _ _ _ _ c.loop-block.invariant.kept.content (read_so_far (g.S.Source.content c.args.source.now) (meta_view file) _ _ here) cost c.in_ok-read_dictionary_block.ensures.fetched;
       kept = source_kept_on c.loop-block.invariant.kept c.in_ok-read_dictionary_block.ensures.kept;
+      faults_stay = c.in_ok-read_dictionary_block.ensures.faults_stay ∙ c.loop-block.invariant.faults_stay;
     }
 
 pub returns-in_err-read_dictionary_block-clause-reads : goal.returns-in_err-read_dictionary_block-clause-reads

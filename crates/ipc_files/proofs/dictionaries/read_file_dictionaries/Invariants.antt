@@ -1,4 +1,4 @@
-use Rattle.std.proofs.Common.{drop}
+use Rattle.std.proofs.Common.{drop, ◌≡◌}
 use Rattle.std.specs.Prelude.{map}
 use Rattle.ipc_io.specs.Outside.{SourceKept}
 use Rattle.ipc_read.specs.Held.{held_in}
@@ -16,4 +16,5 @@ invariant-loop-block g l = record {
   uses : HoldsUses (meta_view l.metadata) (held_in l.dictionaries);
   cost : CostSoFar (g.S.Source.content l.fn.source) (meta_view l.metadata) (drop l.block-index (map file_block l.metadata.dictionaries.items)) (g.S.Source.fetched l.fn.source) (g.S.Source.fetched l.source);
   kept : SourceKept g.S.Source.content g.S.Source.faults g.S.Source.references l.fn.source l.source;
+  faults_stay : g.S.Source.faults l.source ≡ g.S.Source.faults l.fn.source;
 }

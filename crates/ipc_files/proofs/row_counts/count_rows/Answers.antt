@@ -1,4 +1,4 @@
-use Rattle.std.proofs.Common.{◌≡◌, ◌<◌, ◌≤◌, Err, length, arith, rules}
+use Rattle.std.proofs.Common.{◌≡◌, ◌<◌, ◌≤◌, Err, length, arith, rules, refl, ◌∙◌}
 use Rattle.std.specs.Prelude.{ℤ}
 use Rattle.ipc_io.proofs.Kept.{source_kept_on}
 use Rattle.ipc_files.proofs.BlockRows.{all_counted, count_beyond, count_finished, count_of, count_refused, count_stopped, more_counted, none_counted}
@@ -11,6 +11,7 @@ loop-block-init g c = record {
   counted = none_counted (g.S.Source.content c.args.source.now) c.args.blocks.now _;
   few = search rules;
   kept = search rules;
+  faults_stay = refl;
 }
 
 pub returns-in_err-rows-clause-gives : goal.returns-in_err-rows-clause-gives
@@ -42,6 +43,7 @@ loop-block-preserved g c =
       counted = more_counted (g.S.Source.content c.args.source.now) _ c.args.blocks.now c.loop-block.block-index _ c.loop-block.total c.in_ok-rows.rows _ _ _ within c.loop-block.invariant.kept.content c.loop-block.invariant.counted c.in_ok-rows.ensures.gives (omega arith) c.in_ok-rows.ensures.fetched;
       few = omega arith;
       kept = source_kept_on c.loop-block.invariant.kept c.in_ok-rows.ensures.kept;
+      faults_stay = c.in_ok-rows.ensures.faults_stay ∙ c.loop-block.invariant.faults_stay;
     }
 
 pub returns-clause-gives : goal.returns-clause-gives

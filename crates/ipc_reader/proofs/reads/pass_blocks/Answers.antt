@@ -1,4 +1,4 @@
-use Rattle.std.proofs.Common.{◌≡◌, ◌<◌, ◌≤◌, Err, length, arith, rules}
+use Rattle.std.proofs.Common.{◌≡◌, ◌<◌, ◌≤◌, Err, length, arith, rules, refl, ◌∙◌}
 use Rattle.ipc_io.proofs.Kept.{source_kept_on}
 use Rattle.ipc_files.proofs.BlockMessages.{handed_on}
 use Rattle.ipc_files.proofs.Errors.{is_err}
@@ -10,6 +10,7 @@ loop-block-init g c = record {
   at = search rules;
   passed = none_passed (g.S.Source.content c.args.source.now) c.args.blocks.now c.args.offset _;
   kept = search rules;
+  faults_stay = refl;
 }
 
 pub returns-in_err-rows-clause-gives : goal.returns-in_err-rows-clause-gives
@@ -41,6 +42,7 @@ loop-block-preserved g c =
       at = omega (arith, c.loop-block.invariant.at);
       passed = one_passed (g.S.Source.content c.args.source.now) _ c.args.blocks.now c.args.offset c.loop-block.place c.loop-block.block-index _ c.in_ok-rows.rows _ _ _ c.loop-block.invariant.at within c.loop-block.invariant.kept.content c.loop-block.invariant.passed c.in_ok-rows.ensures.gives c.if-rows-place.false c.in_ok-rows.ensures.fetched;
       kept = source_kept_on c.loop-block.invariant.kept c.in_ok-rows.ensures.kept;
+      faults_stay = c.in_ok-rows.ensures.faults_stay ∙ c.loop-block.invariant.faults_stay;
     }
 
 pub returns-clause-gives : goal.returns-clause-gives

@@ -1,4 +1,4 @@
-use Rattle.std.proofs.Common.{◌≡◌, ap, arith, length, length-append, rules, sym, subst, []}
+use Rattle.std.proofs.Common.{◌≡◌, ap, arith, length, length-append, rules, sym, subst, [], refl, ◌∙◌}
 use Rattle.std.specs.Io.KnownBytes.{Consumes}
 use Rattle.std.proofs.KnownBytes.{Consumes-nil}
 use Rattle.ipc_streams.proofs.Pulled.{feed_kept_on, more_pulled}
@@ -11,6 +11,7 @@ pieces-init g c =
       pulled = subst (Consumes (g.F.Feed.rest c.args.feed.now) (g.F.Feed.rest c.args.feed.now)) (sym none) (Consumes-nil (g.F.Feed.rest c.args.feed.now));
       short = omega (arith, ap length none);
       kept = search rules;
+      faults_stay = refl;
     }
 
 pub pieces-preserved : goal.pieces-preserved
@@ -20,4 +21,5 @@ pieces-preserved g c =
       pulled = more_pulled _ _ _ _ _ _ _ c.pieces.invariant.pulled p;
       short = omega (arith, ap length p.grown, length-append c.pieces.bytes.items p.added, p.count, p.few);
       kept = feed_kept_on c.pieces.invariant.kept c.in_ok-got.ensures.kept;
+      faults_stay = c.in_ok-got.ensures.faults_stay ∙ c.pieces.invariant.faults_stay;
     }

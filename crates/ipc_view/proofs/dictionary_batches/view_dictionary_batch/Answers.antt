@@ -1,4 +1,4 @@
-use Rattle.std.proofs.Common.{◌≡◌, ◌||◌, not, is_some, None, Some, Ok, ℤ, true, false, map, refl, sym, ap, ◌∙◌, subst, to_z, of_z, w64}
+use Rattle.std.proofs.Common.{◌≡◌, ◌||◌, not, is_some, None, Some, Ok, ℤ, true, false, length, map, refl, sym, ap, ◌∙◌, subst, to_z, of_z, w64}
 use Rattle.std.specs.BTreeMap.{get}
 use Rattle.std.specs.Ordering.{int_cmp}
 use Rattle.std.proofs.lemmas.Int.{to_z-of_z}
@@ -10,7 +10,7 @@ use Rattle.ipc_fields.specs.IpcFields.{ids_of}
 use Rattle.ipc_fields.specs.Uses.{use_in}
 use Rattle.ipc_schema.specs.Views.{header_of}
 use Rattle.ipc_read_laws.specs.Held.{values_of_id}
-use Rattle.ipc_read.specs.Batches.{batch_reading, schema_fields}
+use Rattle.ipc_read.specs.Batches.{batch_reading, kinds_of, schema_fields}
 use Rattle.ipc_read.specs.DictionaryBatches.{message_of, one_column}
 use Rattle.ipc_read.proofs.DictionaryReads.{message_refused, no_place, use_found, use_refused, values_column}
 use Rattle.ipc_read.proofs.Refusals.{memory_refuses}
@@ -51,7 +51,7 @@ view_record_batch-requires-clause-columns c =
     let e : to_z w64 (of_z w64 c.args.id) ≡ c.args.id = to_z-of_z w64 c.args.id c.ranges.id in
     let v = c.in_ok-values.values in
     let u = use_found c.args.schema.now c.args.schema.now ipc.fields.items c.as_slice.result.now (to_z w64 (of_z w64 c.args.id)) c.args.id (use_in v).values refl c.as_slice.ensures.value e c.in_ok-values.ensures.found in
-    values_column c.in_ok-columns.columns.0 (values_of_id (schema_fields c.args.schema.now ipc.fields.items) c.args.id) (kind_of v.values) (use_in v).values (ids_of v.fields.items) c.in_ok-columns.ensures.values u refl c.requires.columns
+    values_column c.deref.result.now (values_of_id (schema_fields c.args.schema.now ipc.fields.items) c.args.id) (kind_of v.values) (use_in v).values (ids_of v.fields.items) (ap kinds_of c.deref.ensures ∙ c.in_ok-columns.ensures.values) u refl c.requires.columns
 
 pub returns-in_err-batch-clause-adds : goal.returns-in_err-batch-clause-adds
 returns-in_err-batch-clause-adds c = λ d shows.
@@ -70,10 +70,10 @@ returns-in_err-batch-clause-adds c = λ d shows.
     adds_err c.from_residual-in_err-batch.result c.in_err-batch.field-0.0 d _ _ c.from_residual-in_err-batch.ensures.0 c.from_residual-in_err-batch.ensures.1
     (message_refused c.args.schema.now (ids_of ipc.fields.items) il d c.args.size x c.args.version body false k c.in_err-batch.field-0.0 u (sym (free_as d m c.args.id c.args.is_delta shows) ∙ w)
     (subst (λ o. Refuses c.in_err-batch.field-0.0 (refusals (batch_reading None None o (one_column k) d c.args.size c.args.version x.values body))) c.in_ok-columns.ensures.order
-    (subst (λ fs. Refuses c.in_err-batch.field-0.0 (refusals (batch_reading None None c.in_ok-columns.columns.1.is_little_endian fs d c.args.size c.args.version x.values body))) c.in_ok-columns.ensures.kind h)))
+    (subst (λ fs. Refuses c.in_err-batch.field-0.0 (refusals (batch_reading None None c.in_ok-columns.columns.1.is_little_endian fs d c.args.size c.args.version x.values body))) (ap (λ s. schema_fields s c.in_ok-columns.columns.1.fields.items) c.deref.ensures ∙ c.in_ok-columns.ensures.kind) h)))
 
 pub only_view-requires : goal.only_view-requires
-only_view-requires c = record { one = c.in_ok-batch.ensures.count ∙ c.in_ok-columns.ensures.count }
+only_view-requires c = record { one = c.in_ok-batch.ensures.count ∙ ap length c.deref.ensures ∙ c.in_ok-columns.ensures.count.0 }
 
 pub returns-clause-adds : goal.returns-clause-adds
 returns-clause-adds c = λ d shows.
@@ -96,7 +96,7 @@ returns-clause-adds c = λ d shows.
     adds_held c.hold.result d (shown_in n) _ (shown_in n i ≡ Some (views_before c.args.is_delta (shown_in m i) p)) c.hold.ensures.memory c.hold.ensures.here (λ here.
     message_shown c.args.schema.now (ids_of ipc.fields.items) il d (shown_in m) (shown_in n) c.args.size x c.args.version body k t p u (sym (free_as d m c.args.id c.args.is_delta shows) ∙ w)
     (subst (λ o. batch_reading None None o (one_column k) d c.args.size c.args.version x.values body ≡ Ok t) c.in_ok-columns.ensures.order
-    (subst (λ fs. batch_reading None None c.in_ok-columns.columns.1.is_little_endian fs d c.args.size c.args.version x.values body ≡ Ok t) c.in_ok-columns.ensures.kind h)) cells
+    (subst (λ fs. batch_reading None None c.in_ok-columns.columns.1.is_little_endian fs d c.args.size c.args.version x.values body ≡ Ok t) (ap (λ s. schema_fields s c.in_ok-columns.columns.1.fields.items) c.deref.ensures ∙ c.in_ok-columns.ensures.kind) h)) cells
     (subst (λ z. shown_in n z ≡ Some (views_before c.args.is_delta (shown_in m z) p)) e here) (subst (λ z. (q : ℤ) → same z q ≡ false → shown_in n q ≡ shown_in m q) e c.hold.ensures.others) shows)
 
 pub returns-in_err-values-clause-lent : goal.returns-in_err-values-clause-lent

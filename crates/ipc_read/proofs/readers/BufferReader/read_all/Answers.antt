@@ -41,6 +41,7 @@ loop-number-preserved g c =
           let k = (c.in_ok-bytes.ensures.gives m (i + c.loop-number._number) (v.takes m i l) (told_on v.keeps _ t)).ok in
           (ranges_next m i c.loop-number._number was.0 k.0, p ∙ ap (λ xs. xs ++ c.in_ok-bytes.bytes ∷ []) was.1 ∙ ap (λ x. from_on (buf m) i c.loop-number._number ++ x ∷ []) k.1 ∙ sym (from_on_more (buf m) i c.loop-number._number));
       keeps = keeps_then v.keeps c.in_ok-bytes.ensures.keeps;
+      faults_stay = c.in_ok-bytes.ensures.faults_stay ∙ v.faults_stay;
       fetched = λ m i l.
           let before = v.fetched m i l in
           let here = c.in_ok-bytes.ensures.fetched m (i + c.loop-number._number) (v.takes m i l) in

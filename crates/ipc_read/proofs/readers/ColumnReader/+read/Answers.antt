@@ -448,6 +448,7 @@ read_children-loop-i-init g t c =
       sound = subst (λ ps. fault_each (forest ps) ≡ None) (sym z) refl;
       within = omega arith;
       keeps = search rules;
+      faults_stay = refl;
       fetched = λ m p a. let e = ap (λ q. columns_fetched m fs q (rows_by c.args.rows m)) (first_place_in m fs p) in omega (arith, e);
     }
 
@@ -487,6 +488,7 @@ read_children-loop-i-preserved g t c =
       sound = subst (λ ys. fault_each (forest ys) ≡ None) (sym z) (next_sound ps (parts_of array) c.loop-i.invariant.sound c.len-held.ensures.sound);
       within = omega (arith, below);
       keeps = queues_then c.loop-i.invariant.keeps c.read_tree.ensures.keeps;
+      faults_stay = c.in_ok-array.ensures.faults_stay ∙ c.loop-i.invariant.faults_stay;
       fetched = λ m q a.
           let r = place_in m fs i q in
           let here = c.read_tree.ensures.fetched m r (on m q a) in

@@ -44,5 +44,6 @@ invariant-read_children-loop-i g l = record {
   sound : fault_each (forest (all_parts_of l.arrays.items)) ≡ None;
   within : l.i ≤ length l.children;
   keeps : KeepsQueues g.S.Source.content g.S.Source.faults g.S.Source.references l.fn.self l.self;
+  faults_stay : g.S.Source.faults l.self.buffers.source.now ≡ g.S.Source.faults l.fn.self.buffers.source.now;
   fetched : (m : RecordBatch) (p : Place) → BatchAt l.fn.self.version m p l.fn.self.nodes.now.items l.fn.self.buffers.queue.now.items l.fn.self.variadic.now.items → g.S.Source.fetched l.self.buffers.source.now + columns_fetched m (dropped l.i (column_fields l.children l.fields)) (place_in m (column_fields l.children l.fields) l.i p) (rows_by l.rows m) ≤ g.S.Source.fetched l.fn.self.buffers.source.now + columns_fetched m (column_fields l.children l.fields) p (rows_by l.rows m);
 }

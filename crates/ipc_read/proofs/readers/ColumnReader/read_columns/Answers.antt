@@ -73,6 +73,7 @@ loop-i-preserved-then-not-is_chosen g c =
       kinds_are = kinds_passed asked s i _ f c.field_at-field.ensures is c.loop-i.invariant.kinds_are;
       within = omega arith;
       keeps = queues_then c.loop-i.invariant.keeps c.pass_column.ensures.keeps;
+      faults_stay = c.in_ok-pass_column.ensures.faults_stay ∙ c.loop-i.invariant.faults_stay;
       fetched = λ m a.
           let here = c.pass_column.ensures.fetched in
           let rest = passed_fetched_next m asked fs i c.args.few x e is in
@@ -133,6 +134,7 @@ loop-i-preserved g c =
       kinds_are = ap (λ ps. map kind_in ps ++ chosen asked (i + 1) (kinds_of (drop (i + 1) s))) z ∙ kinds_next asked s i _ _ f c.field_at-field.ensures is c.in_ok-array.ensures.shape.0 c.loop-i.invariant.kinds_are;
       within = omega arith;
       keeps = queues_then c.loop-i.invariant.keeps c.read_column.ensures.keeps;
+      faults_stay = c.in_ok-array.ensures.faults_stay ∙ c.loop-i.invariant.faults_stay;
       fetched = λ m a.
           let here = c.read_column.ensures.fetched m (place_in m fs i first_place) (batch_on c.loop-i.invariant.keeps a.version (c.loop-i.invariant.queues m a)) in
           let rest = chosen_fetched_next m asked fs i c.args.few x e is in
@@ -157,6 +159,7 @@ loop-i-init g c =
       kinds_are = ap (λ ps. map kind_in ps ++ chosen asked 0 (kinds_of c.args.schema.now)) z;
       within = omega arith;
       keeps = search rules;
+      faults_stay = refl;
       fetched = λ m a. let e = ap (λ q. chosen_fetched m asked fs 0 q c.args.few) (first_place_in m fs first_place) in omega (arith, e);
     }
 

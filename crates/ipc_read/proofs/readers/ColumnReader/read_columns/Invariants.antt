@@ -26,5 +26,6 @@ invariant-loop-i g l = record {
   kinds_are : map kind_in (all_parts_of l.arrays.items) ++ chosen (columns_of l.projection) l.i (kinds_of (drop l.i l.schema)) ≡ chosen (columns_of l.projection) 0 (kinds_of l.schema);
   within : l.i ≤ length l.schema;
   keeps : KeepsQueues g.S.Source.content g.S.Source.faults g.S.Source.references l.fn.self l.self;
+  faults_stay : g.S.Source.faults l.self.buffers.source.now ≡ g.S.Source.faults l.fn.self.buffers.source.now;
   fetched : (m : RecordBatch) → BatchAt l.fn.self.version m first_place l.fn.self.nodes.now.items l.fn.self.buffers.queue.now.items l.fn.self.variadic.now.items → g.S.Source.fetched l.self.buffers.source.now + chosen_fetched m (columns_of l.projection) (dropped l.i (schema_fields l.schema l.fields)) l.i (place_in m (schema_fields l.schema l.fields) l.i first_place) l.few ≤ g.S.Source.fetched l.fn.self.buffers.source.now + chosen_fetched m (columns_of l.projection) (schema_fields l.schema l.fields) 0 first_place l.few;
 }

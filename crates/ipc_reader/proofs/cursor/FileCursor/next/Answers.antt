@@ -18,6 +18,7 @@ returns g c =
       projection = read.ensures.projection;
       metadata = read.ensures.metadata;
       cause = read.ensures.cause;
+      faults_stay = read.ensures.faults_stay;
       fetched = read.ensures.fetched;
       stays = λ is. cc;
       kept = read.ensures.kept;

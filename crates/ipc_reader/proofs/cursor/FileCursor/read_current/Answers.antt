@@ -7,7 +7,7 @@ use Rattle.ipc_files.specs.FileViews.{meta_view}
 use Rattle.ipc_files.specs.Selections.{HasFields, IsMade, schema_shown}
 use Rattle.ipc_files.specs.Below.{MayProject, ProjectionInfo}
 use Rattle.ipc_files.specs.Requests.{asked}
-use Rattle.ipc_reader.proofs.HeldDictionaries.{batch_goes, batch_stops, cause_since, fetched_going, fetched_stopping, file_kept, goes_kept, goes_on, ok_none, read_goes, stops_kept}
+use Rattle.ipc_reader.proofs.HeldDictionaries.{batch_goes, batch_stops, cause_since, err_stays, fetched_going, fetched_stopping, file_kept, goes_kept, goes_on, ok_none, read_goes, stays_since, stops_kept}
 use Rattle.ipc_reader.proofs.cursor.FileCursor.read_current.Goals as goal
 
 pub take-requires-clause-made : goal.take-requires-clause-made
@@ -34,6 +34,7 @@ returns-in_err-held g c =
       projection = refl;
       metadata = refl;
       cause = of_err c.from_residual.result err _ e c.in_err-held.ensures.cause;
+      faults_stay = err_stays c.from_residual.result err _ _ e;
       fetched = λ columns block may at. fetched_stopping content k meta (asked columns c.args.self.now.left) block c.args.self.now.left _ _ err c.in_err-held.ensures.held c.in_err-held.ensures.fetched;
       kept = c.in_err-held.ensures.kept;
     }
@@ -65,6 +66,7 @@ returns g c =
       projection = refl;
       metadata = refl;
       cause = cause_since read.result _ _ _ c.in_ok-held.ensures.kept.faults read.ensures.cause;
+      faults_stay = stays_since read.result _ _ _ c.in_ok-held.ensures.faults_stay read.ensures.faults_stay;
       fetched = λ columns block may at. fetched_going content _ k meta (asked columns c.args.self.now.left) block c.args.self.now.left _ _ _ c.in_ok-held.ensures.kept.content c.in_ok-held.ensures.fetched c.in_ok-held.ensures.stays (read.ensures.fetched columns block (subst (MayProject s columns) (sym c.as_ref-2.ensures.value) may) at);
       kept = source_kept_on c.in_ok-held.ensures.kept read.ensures.kept;
     }

@@ -4,7 +4,7 @@ use Rattle.ipc_files.proofs.FetchedDictionaries.{nothing_read}
 use Rattle.ipc_files.proofs.ReadBatches.{kinds_cause}
 use Rattle.ipc_files.proofs.ReadFiles.{of_err}
 use Rattle.ipc_files.specs.FileViews.{meta_view}
-use Rattle.ipc_reader.proofs.HeldDictionaries.{all_held, dictionaries_kept, dictionaries_stop, file_held, kinds_kept, kinds_stop, not_held_uses, not_read_left, ok_none}
+use Rattle.ipc_reader.proofs.HeldDictionaries.{all_held, dictionaries_kept, dictionaries_stop, err_stays, file_held, kinds_kept, kinds_stop, not_held_uses, not_read_left, ok_none}
 use Rattle.ipc_reader.proofs.kept.KeptDictionaries.read.Goals as goal
 
 pub returns-in_err-check_columns : goal.returns-in_err-check_columns
@@ -20,6 +20,7 @@ returns-in_err-check_columns g c =
       uses = ok_none c.from_residual.result c.in_err-check_columns.field-0.0 _ e;
       keeps = not_held_uses meta _ c.requires.not_read;
       cause = of_err c.from_residual.result c.in_err-check_columns.field-0.0 _ e (kinds_cause c.in_err-check_columns.field-0.0 _ _ c.in_err-check_columns.ensures.cause);
+      faults_stay = err_stays c.from_residual.result c.in_err-check_columns.field-0.0 _ _ e;
       fetched = nothing_read (g.S.Source.content c.args.source.now) meta _ _ refl;
       kept = search rules;
     }
@@ -36,6 +37,7 @@ returns-in-Ok g c =
       uses = c.in-Ok.ensures.uses;
       keeps = not_held_uses meta _ c.requires.not_read;
       cause = tt;
+      faults_stay = c.in-Ok.ensures.faults_stay;
       fetched = c.in-Ok.ensures.fetched;
       kept = c.in-Ok.ensures.kept;
     }
@@ -52,6 +54,7 @@ returns-in-Err g c =
       uses = tt;
       keeps = tt;
       cause = c.in-Err.ensures.cause;
+      faults_stay = tt;
       fetched = c.in-Err.ensures.fetched;
       kept = c.in-Err.ensures.kept;
     }

@@ -17,6 +17,7 @@ returns-in-Held g c =
       uses = held_uses meta c.args.self.now c.in-Held.held old c.requires.uses;
       keeps = not_held_uses meta _ c.replace.ensures.after;
       cause = tt;
+      faults_stay = refl;
       fetched = λ is. let e : Held c.in-Held.held ≡ NotRead = sym old ∙ is in cc;
       stays = λ m is. refl;
       kept = search rules;
@@ -35,6 +36,7 @@ returns-in_default g c =
       uses = read.uses;
       keeps = read.keeps;
       cause = read.cause;
+      faults_stay = read.faults_stay;
       fetched = λ is. read.fetched;
       stays = λ m is. let e : NotRead ≡ Held m = sym old ∙ is in cc;
       kept = read.kept;

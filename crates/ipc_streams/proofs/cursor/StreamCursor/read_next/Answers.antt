@@ -1,4 +1,4 @@
-use Rattle.std.proofs.Common.{◌≡◌, ◌<◌, ◌-◌, Err, IfSome, Ok, ap, arith, refl, rules, subst, sym}
+use Rattle.std.proofs.Common.{◌≡◌, ◌<◌, ◌-◌, Err, IfSome, Ok, ◌∙◌, ap, arith, refl, rules, subst, sym}
 use Rattle.ipc_files.specs.Below.{held_in}
 use Rattle.ipc_files.proofs.Errors.{is_err}
 use Rattle.ipc_files.proofs.ReadFiles.{of_err}
@@ -12,6 +12,7 @@ pub messages-init : goal.messages-init
 messages-init g c = record {
   reached = λ s d reads holds. none_taken (g.F.Feed.rest c.args.feed.now) s d (held_in c.args.self.now.dictionaries) holds;
   kept = record { columns = refl; is_finished = refl; feed = search rules };
+  faults_stay = refl;
 }
 
 pub returns-in_err-frame : goal.returns-in_err-frame
@@ -23,6 +24,7 @@ returns-in_err-frame g c =
       arrays = λ s d reads holds. no_value c.from_residual.result x _ e;
       schema = λ s reads. no_value c.from_residual.result x _ e;
       cause = of_err c.from_residual.result x _ e (cause_since x _ _ _ c.messages.invariant.kept.feed.faults c.in_err-frame.ensures.cause);
+      faults_stay = no_value c.from_residual.result x _ e;
       kept = keeps_feed c.messages.invariant.kept c.in_err-frame.ensures.kept;
     }
 
@@ -32,6 +34,7 @@ returns-in-Waiting g c = record {
   arrays = λ s d reads holds. arrays_wait (g.F.Feed.rest c.args.feed.now) s d _ _ _ _ c.messages.left c.in_ok-frame.frame c.in-Waiting.is (c.messages.invariant.reached s d reads holds) c.in_ok-frame.ensures.gives;
   schema = λ s reads. tt;
   cause = tt;
+  faults_stay = c.in_ok-frame.ensures.faults_stay ∙ c.messages.invariant.faults_stay;
   kept = keeps_feed c.messages.invariant.kept c.in_ok-frame.ensures.kept;
 }
 
@@ -41,6 +44,7 @@ returns-in-Ended g c = record {
   arrays = λ s d reads holds. arrays_end (g.F.Feed.rest c.args.feed.now) s d _ _ _ _ c.messages.left c.in_ok-frame.frame c.in-Ended.is (c.messages.invariant.reached s d reads holds) c.in_ok-frame.ensures.gives;
   schema = λ s reads. tt;
   cause = tt;
+  faults_stay = c.in_ok-frame.ensures.faults_stay ∙ c.messages.invariant.faults_stay;
   kept = keeps_feed c.messages.invariant.kept c.in_ok-frame.ensures.kept;
 }
 
@@ -54,6 +58,7 @@ returns-in_err-taken-in-Message g c =
       arrays = λ s d reads holds. no_value c.from_residual-in_err-taken-in-Message.result x _ e;
       schema = λ s reads. no_value c.from_residual-in_err-taken-in-Message.result x _ e;
       cause = of_err c.from_residual-in_err-taken-in-Message.result x _ e (cause_since x _ _ _ (omega (arith, c.messages.invariant.kept.feed.faults, c.in_ok-frame.ensures.kept.faults)) c.in_err-taken-in-Message.ensures.cause);
+      faults_stay = no_value c.from_residual-in_err-taken-in-Message.result x _ e;
       kept = keeps_on (keeps_feed c.messages.invariant.kept c.in_ok-frame.ensures.kept) c.in_err-taken-in-Message.ensures.kept;
     }
 
@@ -67,6 +72,7 @@ returns-in-Some g c =
           c.in_ok-taken-in-Message.taken c.in-Some.is (λ ds held. c.in_ok-taken-in-Message.ensures.arrays s ds (subst (λ k. IsReader k s) (sym kept.columns) reads) held);
       schema = λ s reads. subst (λ k. HasFields c.in-Some.batch (fields_shown k)) kept.columns (subst (λ o. IfSome o (λ x. HasFields x (fields_shown c.messages.self.columns))) c.in-Some.is (c.in_ok-taken-in-Message.ensures.schema s (subst (λ k. IsReader k s) (sym kept.columns) reads)));
       cause = tt;
+      faults_stay = c.in_ok-taken-in-Message.ensures.faults_stay ∙ c.in_ok-frame.ensures.faults_stay ∙ c.messages.invariant.faults_stay;
       kept = keeps_on (keeps_feed kept c.in_ok-frame.ensures.kept) c.in_ok-taken-in-Message.ensures.kept;
     }
 
@@ -84,4 +90,5 @@ messages-preserved g c =
       reached = λ s d reads holds. next_reached (g.F.Feed.rest c.args.feed.now) s d _ _ _ _ _ _ c.messages.left (c.messages.left - 1) c.in_ok-frame.frame c.in-Message.bytes c.deref.result.now (omega arith) (c.messages.invariant.reached s d reads holds) c.in-Message.is c.in_ok-frame.ensures.gives c.deref.ensures.value
           c.in_ok-taken-in-Message.taken c.in-None.is (λ ds held. c.in_ok-taken-in-Message.ensures.gives s ds (subst (λ k. IsReader k s) (sym kept.columns) reads) held) (λ ds held. c.in_ok-taken-in-Message.ensures.arrays s ds (subst (λ k. IsReader k s) (sym kept.columns) reads) held);
       kept = keeps_on (keeps_feed kept c.in_ok-frame.ensures.kept) c.in_ok-taken-in-Message.ensures.kept;
+      faults_stay = c.in_ok-taken-in-Message.ensures.faults_stay ∙ c.in_ok-frame.ensures.faults_stay ∙ c.messages.invariant.faults_stay;
     }

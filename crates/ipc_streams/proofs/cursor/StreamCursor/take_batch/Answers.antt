@@ -56,5 +56,6 @@ returns g c = record {
   dictionaries = refl;
   schema = λ s reads. with_pairs c.in_ok-batch.batch c.with_optional_metadata.result _ (ap (λ (b : Batch). b.schema) c.with_optional_metadata.ensures) (ap (λ (b : Batch). b.arrays) c.with_optional_metadata.ensures) (c.in_ok-batch.ensures.schema s reads);
   cause = tt;
+  faults_stay = c.in_ok-body.ensures.faults_stay;
   kept = record { columns = refl; is_finished = refl; feed = c.in_ok-body.ensures.kept };
 }

@@ -4,7 +4,7 @@ use Rattle.ipc_files.proofs.Errors.{is_err}
 use Rattle.ipc_streams.specs.Starts.{stream_schema}
 use Rattle.ipc_streams.proofs.Handed.{decoded_cause, of_bytes_in}
 use Rattle.ipc_streams.proofs.TakenArrays.{values_leave}
-use Rattle.ipc_streams.proofs.TakenCalls.{values_not_taken, values_told}
+use Rattle.ipc_streams.proofs.TakenCalls.{stays_by, values_not_taken, values_told}
 use Rattle.ipc_streams.proofs.TakenMessages.{given_ok, tables_refused, values_cut, values_given}
 use Rattle.ipc_streams.proofs.cursor.StreamCursor.take_dictionary.Goals as goal
 
@@ -33,5 +33,6 @@ returns g c = record {
       values_leave s (held_in c.args.self.now.dictionaries) c.args.bytes.now m c.args.count c.in_ok-body.body (g.F.Feed.rest c.args.feed.now) _ found body c.in_ok-body.ensures.gives (stream_schema c.args.self.now.columns.metadata) (held_in c.read_dictionary.new.dictionaries) (dictionary_message_of c.in_ok-message.message) c.read_dictionary.result
       reads.schema tag c.in_ok-message.ensures.gives (c.read_dictionary.ensures.held d holds);
   cause = of_bytes_in c.read_dictionary.result _ _ c.read_dictionary.ensures.cause;
+  faults_stay = stays_by c.read_dictionary.result _ _ c.in_ok-body.ensures.faults_stay;
   kept = record { columns = refl; is_finished = refl; feed = c.in_ok-body.ensures.kept };
 }

@@ -52,6 +52,7 @@ returns-then-not-head g c =
       room = λ none. cc;
       schema = λ s reads. c.in_ok-batch.ensures.schema s reads;
       cause = tt;
+      faults_stay = c.in_ok-batch.ensures.faults_stay;
       kept = c.in_ok-batch.ensures.kept;
     }
 
@@ -88,5 +89,6 @@ returns g c =
       room = λ none. more;
       schema = λ s reads. tt;
       cause = tt;
+      faults_stay = c.in_ok-take_dictionary.ensures.faults_stay;
       kept = c.in_ok-take_dictionary.ensures.kept;
     }
